@@ -1,0 +1,49 @@
+-- Points in order, and points that stand twice.
+use Rattle.std.proofs.Common.{◌≡◌, ℕ, zero, suc, ◌+◌, ◌<◌, ◌≤◌, ◌==◌, Bool, true, false, cond, List, [], ◌∷◌, length, get_or, ltb, nat_eq, eqb, refl, sym, ap, ◌∙◌, subst, arith, eq-eqb, ltb-true, ltb-false, le_trans, le_of_eq}
+use Rattle.std.proofs.lemmas.Bool.{cases_Bool}
+use Rattle.std.proofs.lemmas.List.Sums.{get_or-le-sum_by, sum_by-cons}
+use Rattle.std.proofs.lemmas.List.Sorted.{sum_by-IsPermutation}
+use Rattle.std.specs.List.{count_by, sum_by, AllAdjacentBelow}
+use Rattle.std.specs.List.Sorted.{IsPermutation, IsSorted, IsStrictlyIncreasing}
+use Rattle.std.specs.Ordering.{nat_cmp, is_lt}
+use Rattle.std.proofs.lemmas.Bool.Decides.{nat_tests}
+use Rattle.pg_base.specs.Line.{StandsTwice}
+
+not_below : (a b : ℕ) → is_lt (nat_cmp b a) ≡ false → a ≤ b
+not_below a b h = grind (arith, nat_tests)
+
+counted_here : (v : ℕ) (x : ℕ) → x ≡ v → ◌≡◌ {A = ℕ} (cond (x == v) 1 0) 1
+counted_here v x e = ap (λ b. cond b 1 0) (eq-eqb x v e)
+
+count-cons : (v x : ℕ) (xs : List ℕ) → count_by (λ q. q == v) (x ∷ xs) ≡ cond (x == v) 1 0 + count_by (λ q. q == v) xs
+count-cons v x xs = sum_by-cons (λ q. cond (q == v) 1 0) x xs
+
+-- two neighbours that are one point
+count-neighbours : (v : ℕ) (xs : List ℕ) (k : ℕ) → k + 1 < length xs → get_or xs k 0 ≡ v → get_or xs (k + 1) 0 ≡ v → 2 ≤ count_by (λ q. q == v) xs
+count-neighbours v [] k h e f = absurd (omega arith)
+count-neighbours v (x ∷ xs) zero h e f =
+    let one = counted_here v x e in
+    let later : get_or xs 0 0 ≡ v = f in
+    let other = get_or-le-sum_by (λ q. cond (q == v) 1 0) xs 0 0 (omega arith) in
+    let two = counted_here v (get_or xs 0 0) later in
+    omega (arith, one, two, other, count-cons v x xs)
+count-neighbours v (x ∷ xs) (suc k) h e f =
+    let next : suc k + 1 ≡ suc (k + 1) = omega arith in
+    let there : get_or xs (k + 1) 0 ≡ v = subst (λ (i : ℕ). get_or (x ∷ xs) i 0 ≡ v) next f in
+    let rest = count-neighbours v xs k (omega arith) e there in
+    omega (arith, rest, count-cons v x xs)
+
+-- a list in order with two neighbours of which the first isn't below the second
+pub StandsTwice-from_neighbours : (xs points : List ℕ) → IsPermutation points xs → IsSorted nat_cmp xs
+    → (k : ℕ) → k + 1 < length xs → ltb (get_or xs k 0) (get_or xs (k + 1) 0) ≡ false → StandsTwice points
+StandsTwice-from_neighbours xs points moved sorted k h off =
+    let up : get_or xs k 0 ≤ get_or xs (k + 1) 0 = not_below _ _ (sorted k 0 (omega arith) h) in
+    let down : get_or xs (k + 1) 0 ≤ get_or xs k 0 = ltb-false _ _ off in
+    let same : get_or xs (k + 1) 0 ≡ get_or xs k 0 = omega arith in
+    record {
+      point = get_or xs k 0;
+      twice = subst (λ (n : ℕ). 2 ≤ n) (sum_by-IsPermutation (λ q. cond (q == get_or xs k 0) 1 0) points xs moved) (count-neighbours (get_or xs k 0) xs k h refl same);
+    }
+
+pub IsStrictlyIncreasing-from_adjacent : (xs : List ℕ) → AllAdjacentBelow (λ x y. true ≡ ltb x y) xs (length xs) → IsStrictlyIncreasing xs
+IsStrictlyIncreasing-from_adjacent xs all k h = ltb-true _ _ (sym (all k 0 h))

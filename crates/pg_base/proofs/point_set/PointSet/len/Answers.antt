@@ -1,0 +1,23 @@
+use Rattle.std.proofs.Common.{◌≡◌, ◌≤◌, ◌*◌, ◌∙◌, ap, sym, arith, get_or, refl}
+use Rattle.std.specs.FinSet.{len}
+use Rattle.std.proofs.lemmas.Nat.{ones-le}
+use Rattle.pg_base.specs.Words.{members_below}
+use Rattle.pg_base.specs.WordLemmas.{len-members_start, len-members_row}
+use Rattle.pg_base.proofs.point_set.PointSet.len.Goals as goal
+
+pub loop-word-init : goal.loop-word-init
+loop-word-init c = record { counted = sym (len-members_start c.self.inside.words); bound = omega arith }
+
+pub overflow_add-points : goal.overflow_add-points
+overflow_add-points c = omega (arith, ones-le 64 (get_or c.self.inside.words c.loop-word.word-index 0) (c.self.invariant.fit c.loop-word.word-index), c.loop-word.invariant.bound)
+
+pub loop-word-preserved : goal.loop-word-preserved
+loop-word-preserved c = record {
+  counted = rw c.loop-word.invariant.counted (sym (len-members_row c.self.inside.words c.loop-word.word-index (c.self.invariant.fit c.loop-word.word-index)));
+  bound = omega (arith, ones-le 64 (get_or c.self.inside.words c.loop-word.word-index 0) (c.self.invariant.fit c.loop-word.word-index), c.loop-word.invariant.bound);
+}
+
+pub returns : goal.returns
+returns c =
+    let end : 64 * c.loop-word.word-index ≡ 1024 = omega arith in
+    c.loop-word.invariant.counted ∙ ap (λ n. len (members_below c.self.inside.words n)) end ∙ ap len c.self.view_is

@@ -1,0 +1,6 @@
+pub mod Words
+pub mod WordLemmas
+pub mod Points
+pub mod PointLemmas
+pub mod Side
+pub mod Line

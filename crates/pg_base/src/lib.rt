@@ -1,0 +1,24 @@
+//! Points, sides, scores and sets of points: what every crate of posgame speaks of.
+#![tactic(auto)]
+
+mod goal;
+mod grid;
+mod kind;
+mod line;
+mod memory;
+mod pair;
+mod point_set;
+mod points;
+mod score;
+mod side;
+
+pub use goal::Goal;
+pub use grid::Grid;
+pub use kind::Kind;
+pub use line::{Line, LineFault, Lines};
+pub use memory::Memory;
+pub use pair::{Pair, Pairs};
+pub use point_set::PointSet;
+pub use points::Points;
+pub use score::Score;
+pub use side::Side;
