@@ -1,4 +1,5 @@
 pub mod Words
+pub mod Sets
 pub mod WordLemmas
 pub mod Points
 pub mod PointLemmas

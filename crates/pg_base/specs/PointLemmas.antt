@@ -1,5 +1,5 @@
 -- Sets of points that are equal, and what is hashed of one.
-use Rattle.std.specs.Prelude.{◌≡◌, ℕ, Bool, true, ◌&&◌, List, ◌∷◌, length, refl}
+use Rattle.std.specs.Prelude.{◌≡◌, ℕ, Bool, true, ◌&&◌, List, ◌∷◌, length}
 use Rattle.std.proofs.Common.{sym, ap, ◌∙◌, subst, inl, inr}
 use Rattle.std.specs.List.{flat_map}
 use Rattle.std.specs.Bool.{Decides}
@@ -8,7 +8,7 @@ use Rattle.std.specs.Cmp.{IsEquivalence, IsPartialEquivalence, decided, partial_
 use Rattle.std.specs.Hash.{le_bytes}
 use Rattle.std.specs.Hash as fed
 use Rattle.std.specs.FinSet.{FinSet, contains, is_subset, is_subset-contains, contains-is_subset}
-use Rattle.std.proofs.lemmas.Bool.{and_parts, and_from, cases_Bool, true_from_ne_false, false_from_ne_true, false≢true}
+use Rattle.std.proofs.lemmas.Bool.{and_parts, and_from, cases_Bool, false_from_ne_true, false≢true}
 use Rattle.pg_base.specs.Words.{words_of}
 use Rattle.pg_base.specs.WordLemmas.{same_points}
 

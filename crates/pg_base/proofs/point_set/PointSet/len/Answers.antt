@@ -1,4 +1,4 @@
-use Rattle.std.proofs.Common.{◌≡◌, ◌≤◌, ◌*◌, ◌∙◌, ap, sym, arith, get_or, refl}
+use Rattle.std.proofs.Common.{◌≡◌, ◌*◌, ◌∙◌, ap, sym, arith, get_or}
 use Rattle.std.specs.FinSet.{len}
 use Rattle.std.proofs.lemmas.Nat.{ones-le}
 use Rattle.pg_base.specs.Words.{members_below}

@@ -1,4 +1,4 @@
-use Rattle.std.proofs.Common.{◌≡◌, ◌∙◌, sym, ap}
+use Rattle.std.proofs.Common.{◌∙◌, sym, ap}
 use Rattle.std.specs.List.{fold}
 use Rattle.pg_base.specs.Words.{words_of}
 use Rattle.pg_base.specs.WordLemmas.{words_of-members}
