@@ -1,0 +1,80 @@
+-- What every game keeps: it is within the limits, and its parts fit together.
+use Rattle.std.specs.Prelude.{◌≡◌, ◌≢◌, ℕ, ◌+◌, ◌*◌, ◌<◌, ◌≤◌, ◌==◌, true, false, List, length, if◌then◌else◌, Bool, Option, Some}
+use Rattle.std.specs.List.{All, sum_by}
+use Rattle.std.specs.List.Sorted.{IsStrictlyIncreasing}
+use Rattle.std.specs.FinSet.{FinSet, contains}
+use Rattle.std.specs.Ordering.{nat_cmp}
+use Rattle.pg_base.specs.declared.grid.Grid.{Grid}
+use Rattle.pg_base.specs.declared.kind.Kind.{Kind}
+use Rattle.pg_base.specs.declared.kind.Kind.TheVariants.{MakerBreaker, MakerMaker, AvoiderEnforcer, Switching}
+use Rattle.pg_graph.specs.declared.graph.Graph.{Graph}
+use Rattle.pg_game.specs.Field.{field_points}
+use Rattle.pg_game.specs.declared.field.Field.{Field}
+use Rattle.pg_game.specs.declared.field.Field.TheVariants.{Lines, Graph as OnGraph}
+use Rattle.pg_game.specs.declared.field.LineField.{LineField}
+
+-- each point of the set is below the limit
+abbrev pub AreBelow : FinSet nat_cmp → ℕ → Type 0
+AreBelow s limit = (v : ℕ) → contains s v ≡ true → v < limit
+
+-- no point is in both sets
+abbrev pub ShareNone : FinSet nat_cmp → FinSet nat_cmp → Type 0
+ShareNone x y = (v : ℕ) → contains x v ≡ true → contains y v ≡ false
+
+-- how long a line may be: shorter where Y claims several points a turn, so that sums of weights stay small
+abbrev pub longest : ℕ → ℕ
+longest bias = if bias == 1 then 100 else 33
+
+-- a line: ascending points of the game, at least one and not too many
+pub record IsLineOf (points bias : ℕ) (line : List ℕ) : Type 0 where
+  pub some : 1 ≤ length line
+  pub short : length line ≤ longest bias
+  pub ascending : IsStrictlyIncreasing line
+  pub range : All (λ v. v < points) line
+
+-- a field of lines within the limits
+pub record AreLinesOf (bias : ℕ) (f : LineField) : Type 0 where
+  pub some_points : 1 ≤ f.points
+  pub few_points : f.points ≤ 256
+  pub cells : (grid : Grid) → f.grid ≡ Some grid → grid.width * grid.height ≡ f.points
+  pub few_lines : length f.lines ≤ 20000
+  pub few_summed : sum_by length f.lines ≤ 400000
+  pub lines : All (IsLineOf f.points bias) f.lines
+
+-- a multigraph within the limits, with two different terminals
+pub record IsBoard (h : Graph) : Type 0 where
+  pub some_vertices : 2 ≤ h.vertices
+  pub few_vertices : h.vertices ≤ 500
+  pub few_edges : length h.ends ≤ 1000
+  pub ends : All (λ e. (e.0 < h.vertices) × (e.1 < h.vertices)) h.ends
+  pub s_range : h.s < h.vertices
+  pub t_range : h.t < h.vertices
+  pub apart : h.s ≢ h.t
+
+-- whether the kind is played on the edges of a graph
+abbrev pub is_switching : Kind → Bool
+is_switching Switching = true
+is_switching _ = false
+
+-- whether the field is a graph
+abbrev pub is_graph : Field → Bool
+is_graph (Lines f) = false
+is_graph (OnGraph h) = true
+
+-- how many points Y may claim a turn in a game of the kind
+abbrev pub greatest_bias : Kind → ℕ
+greatest_bias MakerBreaker = 7
+greatest_bias AvoiderEnforcer = 7
+greatest_bias MakerMaker = 1
+greatest_bias Switching = 1
+
+-- the parts of a game fit together and are within the limits
+pub record IsFit (kind : Kind) (field : Field) (x y : FinSet nat_cmp) (bias : ℕ) : Type 0 where
+  pub some_bias : 1 ≤ bias
+  pub few_bias : bias ≤ greatest_bias kind
+  pub kind_fits : is_graph field ≡ is_switching kind
+  pub on_lines : (f : LineField) → field ≡ Lines f → AreLinesOf bias f
+  pub on_graph : (h : Graph) → field ≡ OnGraph h → IsBoard h
+  pub x_range : AreBelow x (field_points field)
+  pub y_range : AreBelow y (field_points field)
+  pub disjoint : ShareNone x y

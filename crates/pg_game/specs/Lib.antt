@@ -1,0 +1,6 @@
+pub mod Field
+pub mod Fit
+pub mod Position
+pub mod Game
+pub mod Value
+pub mod Play

@@ -1,0 +1,78 @@
+//! Positions, and why a move is refused.
+ghost use Rattle.std.specs.Prelude.{◌≡◌, ◌<◌};
+ghost use Rattle.pg_game.specs.Position.{is_free, points_of, claims_in_turn, after_with};
+
+use pg_base::{PointSet, Side};
+
+/// The points of each side, the side to move, and how many points it still claims in its turn.
+#[derive(Clone, Copy, Debug, PartialEq, Eq, Hash)]
+pub struct Position {
+    /// X's points.
+    pub x: PointSet,
+    /// Y's points.
+    pub y: PointSet,
+    /// The side to move.
+    pub turn: Side,
+    /// How many points the side to move still claims in this turn: 1 to 7.
+    pub left: u8,
+}
+
+/// Why a move is refused.
+#[derive(Clone, Copy, Debug, PartialEq, Eq)]
+pub enum Illegal {
+    /// There is no such point.
+    Range,
+    /// The point isn't free.
+    Taken,
+    /// The game is over.
+    Over,
+}
+
+impl Position {
+    /// Whether neither side has the point.
+    pub fn is_free(&self, v: u16) -> bool
+        requires { v < 1024 }
+        ensures { result ≡ is_free self.now v }
+    {
+        !self.x.has(v) && !self.y.has(v)
+    }
+
+    /// The points that a side has.
+    pub fn points_of(&self, side: Side) -> &PointSet
+        ensures { result.now ≡ points_of self.now side }
+    {
+        match side {
+            Side::X => &self.x,
+            Side::Y => &self.y,
+        }
+    }
+
+    /// The position after the side to move takes the point, in a game in which Y claims `bias` points a turn.
+    pub fn after(&self, bias: u8, v: u16) -> Position
+        requires { v < 1024 }
+        ensures { result ≡ after_with bias self.now v }
+    {
+        let mut next = *self;
+        match self.turn {
+            Side::X => next.x.put(v),
+            Side::Y => next.y.put(v),
+        }
+        if self.left > 1 {
+            next.left = self.left - 1;
+        } else {
+            next.turn = self.turn.other();
+            next.left = claims_in_turn(bias, next.turn);
+        }
+        next
+    }
+}
+
+/// How many points a side claims in a turn.
+pub(crate) fn claims_in_turn(bias: u8, side: Side) -> u8
+    ensures { result ≡ claims_in_turn bias side }
+{
+    match side {
+        Side::X => 1,
+        Side::Y => bias,
+    }
+}
