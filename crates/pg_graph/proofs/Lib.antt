@@ -1,3 +1,6 @@
 pub mod WalkLemmas
 pub mod Spans
 pub mod GraphLemmas
+mod RootLemmas
+mod LabelLemmas
+mod StepLemmas
