@@ -4,3 +4,4 @@ pub mod GraphLemmas
 mod RootLemmas
 mod LabelLemmas
 mod StepLemmas
+mod SplitLemmas

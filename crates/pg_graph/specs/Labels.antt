@@ -1,5 +1,5 @@
 -- Labels of vertices: one for the vertices that are joined.
-use Rattle.std.specs.Prelude.{◌≡◌, ℕ, ◌<◌, ◌⊎◌, ◌==◌, ◌↔◌, Bool, true, cond, List, length}
+use Rattle.std.specs.Prelude.{◌≡◌, ◌≢◌, ℕ, ◌<◌, ◌⊎◌, ◌==◌, ◌↔◌, Bool, true, cond, List, length}
 use Rattle.pg_base.specs.Sets.{below}
 use Rattle.pg_graph.specs.Walks.{IsJoined}
 use Rattle.pg_graph.specs.Roots.{root_of, IsUpward}
@@ -25,3 +25,7 @@ pub record IsMerged (old new : List ℕ) (u v : ℕ) : Type 0 where
 pub record IsLabelling (a b : ℕ → ℕ) (set : ℕ → Bool) (up : List ℕ) : Type 0 where
   pub upward : IsUpward up
   pub same : (u v : ℕ) → u < length up → v < length up → (root_of up u ≡ root_of up v) ↔ IsJoined a b set u v
+
+-- exactly one of two labels is this one
+abbrev pub IsSplit : ℕ → ℕ → ℕ → Type 0
+IsSplit first second label = ((first ≡ label) × (second ≢ label)) ⊎ ((first ≢ label) × (second ≡ label))

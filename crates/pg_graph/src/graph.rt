@@ -1,6 +1,6 @@
 //! Graphs as lists of edges.
-ghost use Rattle.std.specs.Prelude.{◌≡◌, ◌≤◌, length};
-ghost use Rattle.pg_graph.specs.Graph.{edge_count, first_end_of, second_end_of};
+ghost use Rattle.std.specs.Prelude.{◌≡◌, ◌<◌, ◌≤◌, length};
+ghost use Rattle.pg_graph.specs.Graph.{IsGraph, edge_count, first_end_of, second_end_of};
 
 use std::marker::Model;
 
@@ -31,9 +31,11 @@ impl Graph {
 
     /// The two ends of an edge, or of `e`.
     pub fn ends_of(&self, k: u16) -> (u16, u16)
-        requires few { length self.now.ends ≤ 1000 }
+        requires graph { IsGraph self.now }
         requires edge { k ≤ edge_count self.now }
-        ensures { result ≡ (first_end_of self.now k, second_end_of self.now k) }
+        ensures ends { result ≡ (first_end_of self.now k, second_end_of self.now k) }
+        ensures first { result.0 < self.now.vertices }
+        ensures second { result.1 < self.now.vertices }
     {
         if k < self.edge_count() {
             self.ends.as_slice()[k as usize]

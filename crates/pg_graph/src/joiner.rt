@@ -1,8 +1,8 @@
 //! Which vertices edges join.
-ghost use Rattle.std.specs.Prelude.{◌≡◌, ◌<◌, ◌↔◌, IsTrue, IfOk};
+ghost use Rattle.std.specs.Prelude.{◌≡◌, ℕ, ◌<◌, ◌≤◌, ◌↔◌, true, IsTrue, IfOk, IfSome, IfNone};
 ghost use Rattle.std.specs.FinSet.{contains};
-ghost use Rattle.pg_graph.specs.Graph.{IsGraph, IsJoinedIn};
-ghost use Rattle.pg_graph.specs.Joiner.{IsMadeFor, AreEdges};
+ghost use Rattle.pg_graph.specs.Graph.{IsGraph, IsJoinedIn, IsBridge, edge_count};
+ghost use Rattle.pg_graph.specs.Joiner.{IsMadeFor, AreEdges, Crosses, Parts, IsLowest};
 
 use crate::graph::Graph;
 use crate::joins;
@@ -51,5 +51,61 @@ impl Joiner {
         ensures kept { self.new ≡ self.old }
     {
         joins::joined(&mut self.up, g, set, u, v)
+    }
+
+    /// The lowest candidate with exactly one end joined to u in the set, and None exactly where there is none.
+    pub fn crossing(
+        &mut self,
+        g: &Graph,
+        set: &PointSet,
+        u: u16,
+        candidates: &PointSet,
+    ) -> Option<u16>
+        requires graph { IsGraph g.now }
+        requires made { IsMadeFor self.old g.now }
+        requires set { AreEdges g.now (contains set.now) }
+        requires u { u < g.now.vertices }
+        requires candidates { AreEdges g.now (contains candidates.now) }
+        ensures lowest { IfSome result (λ k. IsLowest (contains candidates.now) (Crosses g.now (contains set.now) u) k) }
+        ensures none { IfNone result ((k : ℕ) → contains candidates.now k ≡ true → Crosses g.now (contains set.now) u k → ⊥) }
+        ensures kept { self.new ≡ self.old }
+    {
+        joins::crossing(&mut self.up, g, set, u, candidates)
+    }
+
+    /// The lowest candidate in the set without which u and v aren't joined, where they are joined in the set.
+    ///
+    /// None comes exactly where they aren't joined or no candidate parts them.
+    pub fn parting(
+        &mut self,
+        g: &Graph,
+        set: &PointSet,
+        u: u16,
+        v: u16,
+        candidates: &PointSet,
+    ) -> Option<u16>
+        requires graph { IsGraph g.now }
+        requires made { IsMadeFor self.old g.now }
+        requires set { AreEdges g.now (contains set.now) }
+        requires u { u < g.now.vertices }
+        requires v { v < g.now.vertices }
+        requires candidates { AreEdges g.now (contains candidates.now) }
+        ensures lowest { IfSome result (λ k. IsLowest (contains candidates.now) (Parts g.now (contains set.now) u v) k) }
+        ensures none { IfNone result ((k : ℕ) → contains candidates.now k ≡ true → Parts g.now (contains set.now) u v k → ⊥) }
+        ensures kept { self.new ≡ self.old }
+    {
+        joins::parting(&mut self.up, g, set, u, v, candidates)
+    }
+
+    /// Whether the ends of f aren't joined in the set without f.
+    pub fn bridge(&mut self, g: &Graph, set: &PointSet, f: u16) -> bool
+        requires graph { IsGraph g.now }
+        requires made { IsMadeFor self.old g.now }
+        requires set { AreEdges g.now (contains set.now) }
+        requires edge { f ≤ edge_count g.now }
+        ensures bridge { IsTrue result ↔ IsBridge g.now (contains set.now) f }
+        ensures kept { self.new ≡ self.old }
+    {
+        joins::bridge(&mut self.up, g, set, f)
     }
 }

@@ -15,18 +15,6 @@ small_ends g set h small j t = let l : j < suc (edge_count g) = small j t in end
 pub loop-k-init : goal.loop-k-init
 loop-k-init c = IsLinked-begin (first_end_of c.args.g.now) (second_end_of c.args.g.now) (contains c.args.set.now) c.part_all.new.up (λ v l. c.part_all.ensures v (omega arith))
 
-pub link-requires-clause-u : goal.link-requires-clause-u
-link-requires-clause-u c =
-    let range = ends_in_range c.args.g.now c.loop-k.k c.requires.graph (omega arith) in
-    let first : c.ends_of-a.result.0 ≡ first_end_of c.args.g.now c.loop-k.k = ap (λ p. p.0) c.ends_of-a.ensures in
-    omega (arith, range.0)
-
-pub link-requires-clause-v : goal.link-requires-clause-v
-link-requires-clause-v c =
-    let range = ends_in_range c.args.g.now c.loop-k.k c.requires.graph (omega arith) in
-    let second : c.ends_of-a.result.1 ≡ second_end_of c.args.g.now c.loop-k.k = ap (λ p. p.1) c.ends_of-a.ensures in
-    omega (arith, range.1)
-
 pub loop-k-preserved : goal.loop-k-preserved
 loop-k-preserved c =
     let g = c.args.g.now in
@@ -38,8 +26,8 @@ loop-k-preserved c =
     elim c.if-has.branch [
       | then-has w ↦
           let size : length up ≡ g.vertices = omega arith in
-          let first : w.ends_of-a.result.0 ≡ a k = ap (λ p. p.0) w.ends_of-a.ensures in
-          let second : w.ends_of-a.result.1 ≡ b k = ap (λ p. p.1) w.ends_of-a.ensures in
+          let first : w.ends_of-a.result.0 ≡ a k = ap (λ p. p.0) w.ends_of-a.ensures.ends in
+          let second : w.ends_of-a.result.1 ≡ b k = ap (λ p. p.1) w.ends_of-a.ensures.ends in
           subst (λ new. IsLinked a b set (k + 1) new) (sym w.up-is)
           (IsLinked-merged a b set k up w.link.new.up
           (subst (λ n. (j : ℕ) → set j ≡ true → (a j < n) × (b j < n)) (sym size) (small_ends g set c.requires.graph c.requires.set))
