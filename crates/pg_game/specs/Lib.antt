@@ -4,3 +4,4 @@ pub mod Position
 pub mod Game
 pub mod Value
 pub mod Play
+pub mod Strategy
