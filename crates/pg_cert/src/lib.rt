@@ -3,8 +3,10 @@
 
 mod cert;
 mod node;
+mod node_fault;
 mod reply;
 
 pub use cert::{Cert, Claim, Claims};
 pub use node::{Body, Node, Nodes};
+pub use node_fault::NodeFault;
 pub use reply::{Replies, Reply};
