@@ -1,5 +1,5 @@
 //! Worked rows, and each public call once.
-ghost use Rattle.std.specs.Prelude.{◌≡◌, ◌++◌, ◌∷◌, [], OnOk};
+ghost use Rattle.std.specs.Prelude.{◌≡◌, ◌++◌, ◌∷◌, [], OnOk, IsTrue, ◌↔◌, codes};
 
 use super::*;
 use std::alloc::Global;
@@ -14,6 +14,54 @@ fn put(list: &mut Vec<u16>, value: u16) -> Result<(), Memory>
 fn put_copy(alloc: Global, list: &mut Vec<Vec<u16>>, points: &[u16]) -> Result<(), Memory> {
     list.push(points.to_vec(alloc)?)?;
     Ok(())
+}
+
+fn are_one_side(a: Side, b: Side) -> bool
+    ensures { IsTrue result ↔ a ≡ b }
+{
+    a == b
+}
+
+fn are_one_goal(a: Goal, b: Goal) -> bool
+    ensures { IsTrue result ↔ a ≡ b }
+{
+    a == b
+}
+
+fn are_one_kind(a: Kind, b: Kind) -> bool
+    ensures { IsTrue result ↔ a ≡ b }
+{
+    a == b
+}
+
+fn are_one_score(a: Score, b: Score) -> bool
+    ensures { IsTrue result ↔ a ≡ b }
+{
+    a == b
+}
+
+fn is_win(claimed: Goal) -> bool
+    ensures { IsTrue result ↔ claimed ≡ Goal.Win }
+{
+    claimed == Goal::Win
+}
+
+fn are_one_pair(a: Pair, b: Pair) -> bool
+    ensures { IsTrue result ↔ a ≡ b }
+{
+    a == b
+}
+
+fn are_one_set(a: &PointSet, b: &PointSet) -> bool
+    ensures { IsTrue result ↔ a.now ≡ b.now }
+{
+    *a == *b
+}
+
+fn say(alloc: Global, side: Side) -> Result<String, Memory>
+    ensures { OnOk result (codes "side y" ≡ codes "side y") }
+{
+    Ok(format!(in alloc; "side {side}")?)
 }
 
 #[test]
