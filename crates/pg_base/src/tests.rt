@@ -1,5 +1,7 @@
 //! Worked rows, and each public call once.
-ghost use Rattle.std.specs.Prelude.{◌≡◌, ◌++◌, ◌∷◌, [], OnOk, IsTrue, ◌↔◌, codes};
+ghost use Rattle.std.specs.Prelude.{◌≡◌, ◌++◌, ◌∷◌, [], OnOk, IsTrue, ◌↔◌, codes, IfOk, string_bytes};
+ghost use Rattle.pg_base.specs.Side.{side_word};
+ghost use Rattle.pg_base.specs.Goal.{goal_word};
 
 use super::*;
 use std::alloc::Global;
@@ -52,16 +54,17 @@ fn are_one_pair(a: Pair, b: Pair) -> bool
     a == b
 }
 
+#[tactic(auto, using(crate::proofs::PointSetLaws::set_equality))]
 fn are_one_set(a: &PointSet, b: &PointSet) -> bool
     ensures { IsTrue result ↔ a.now ≡ b.now }
 {
     *a == *b
 }
 
-fn say(alloc: Global, side: Side) -> Result<String, Memory>
-    ensures { OnOk result (codes "side y" ≡ codes "side y") }
+fn say(alloc: Global, side: Side, claimed: Goal) -> Result<String, Memory>
+    ensures { IfOk result (λ text. string_bytes text ≡ codes "claim " ++ side_word side ++ codes " " ++ goal_word claimed) }
 {
-    Ok(format!(in alloc; "side {side}")?)
+    Ok(format!(in alloc; "claim {side} {claimed}")?)
 }
 
 #[test]
