@@ -1,5 +1,7 @@
 //! Worked rows, and each public call once.
-ghost use Rattle.std.specs.Prelude.{◌≡◌, ◌++◌, ◌∷◌, [], OnOk};
+ghost use Rattle.std.specs.Prelude.{◌≡◌, ◌++◌, ◌∷◌, [], OnOk, IsTrue, ◌↔◌, codes, IfOk, string_bytes};
+ghost use Rattle.pg_base.specs.Side.{side_word};
+ghost use Rattle.pg_base.specs.Goal.{goal_word};
 
 use super::*;
 use std::alloc::Global;
@@ -14,6 +16,55 @@ fn put(list: &mut Vec<u16>, value: u16) -> Result<(), Memory>
 fn put_copy(alloc: Global, list: &mut Vec<Vec<u16>>, points: &[u16]) -> Result<(), Memory> {
     list.push(points.to_vec(alloc)?)?;
     Ok(())
+}
+
+fn are_one_side(a: Side, b: Side) -> bool
+    ensures { IsTrue result ↔ a ≡ b }
+{
+    a == b
+}
+
+fn are_one_goal(a: Goal, b: Goal) -> bool
+    ensures { IsTrue result ↔ a ≡ b }
+{
+    a == b
+}
+
+fn are_one_kind(a: Kind, b: Kind) -> bool
+    ensures { IsTrue result ↔ a ≡ b }
+{
+    a == b
+}
+
+fn are_one_score(a: Score, b: Score) -> bool
+    ensures { IsTrue result ↔ a ≡ b }
+{
+    a == b
+}
+
+fn is_win(claimed: Goal) -> bool
+    ensures { IsTrue result ↔ claimed ≡ Goal.Win }
+{
+    claimed == Goal::Win
+}
+
+fn are_one_pair(a: Pair, b: Pair) -> bool
+    ensures { IsTrue result ↔ a ≡ b }
+{
+    a == b
+}
+
+#[tactic(auto, using(crate::proofs::PointSetLaws::set_equality))]
+fn are_one_set(a: &PointSet, b: &PointSet) -> bool
+    ensures { IsTrue result ↔ a.now ≡ b.now }
+{
+    *a == *b
+}
+
+fn say(alloc: Global, side: Side, claimed: Goal) -> Result<String, Memory>
+    ensures { IfOk result (λ text. string_bytes text ≡ codes "claim " ++ side_word side ++ codes " " ++ goal_word claimed) }
+{
+    Ok(format!(in alloc; "claim {side} {claimed}")?)
 }
 
 #[test]
