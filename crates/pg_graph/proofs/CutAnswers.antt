@@ -129,6 +129,6 @@ module _ (spans : (ℕ → Bool) → ℕ → Bool) (law : IsSpan spans) (e : ℕ
   CutsOwed-parts r free set t e_taken w taken out =
       spans_less spans law set (minus (outside r t.second) e) e
       (λ z h. minus_from (outside r t.second) e z
-        (outside_from r t.second z (w z h) (false_from_ne_true _ (λ k. both_ways _ (taken z h) (t.second_free z k))))
-        (λ q. both_ways _ out (subst (λ k. set k ≡ true) (sym q) h)))
+      (outside_from r t.second z (w z h) (false_from_ne_true _ (λ k. both_ways _ (taken z h) (t.second_free z k))))
+      (λ q. both_ways _ out (subst (λ k. set k ≡ true) (sym q) h)))
       (t.cuts.second_parts (false_from_ne_true _ (λ k. both_ways _ e_taken (t.second_free e k))))

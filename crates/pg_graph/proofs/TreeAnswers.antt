@@ -29,7 +29,7 @@ IsTrees-uncrossed g s a1 a2 x t ax small small1 none =
     let edges : AreEdges g kept = λ z h. elim (either_cases s (minus a1 x) z h) [ inl i ↦ small z i | inr i ↦ small1 z (minus_parts a1 x z i).0 ] in
     let more : spans_in g (either kept a2) x ≡ true = spans_mono (spans_in g) (IsSpan-graph g) (either s a2) (either kept a2) x (λ z h. grind (arith, sets)) (t.second x ax) in
     IsTrees-dropped (spans_in g) (IsSpan-graph g) (edge_count g) s a1 a2 x t
-      (spans_in-complete g kept x edges (uncrossed_joins g kept a2 (first_end_of g x) (second_end_of g x) edges none (spans_in-sound g (either kept a2) x more)))
+    (spans_in-complete g kept x edges (uncrossed_joins g kept a2 (first_end_of g x) (second_end_of g x) edges none (spans_in-sound g (either kept a2) x more)))
 
 -- ---- whoever moves
 
