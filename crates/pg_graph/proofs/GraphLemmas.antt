@@ -3,10 +3,12 @@ use Rattle.std.proofs.Common.{◌≡◌, ◌≢◌, ℕ, ◌<◌, ◌≤◌, ◌
 use Rattle.std.proofs.lemmas.Bool.{cases_eq, cases_lt, cases_Bool, both_ways, and_parts, and_from, or_cases, or_left, or_right, false_from_ne_true, not_from_false, not-true}
 use Rattle.std.proofs.lemmas.List.Elements.{All-get_or}
 use Rattle.pg_base.specs.Sets.{minus, below, IsBelow, IsWithin}
+use Rattle.pg_base.proofs.SetLemmas.{minus_parts}
 use Rattle.pg_base.proofs.BelowLemmas.{below_all, below_parts, below_from, same_sets}
 use Rattle.pg_graph.specs.Walks.{IsJoined, joins, edge_spans, first_end, second_end}
 use Rattle.pg_graph.specs.Span.{IsSpan}
 use Rattle.pg_graph.specs.Graph.{IsGraph, edge_count, with_e, first_end_of, second_end_of, IsJoinedIn, joins_in, spans_in, IsBridge, is_bridge}
+use Rattle.pg_graph.specs.Joiner.{AreEdges}
 use Rattle.pg_graph.specs.declared.graph.Graph.{Graph}
 use Rattle.pg_graph.proofs.WalkLemmas.{joined_more, joins_sound, joins_complete}
 use Rattle.pg_graph.proofs.Spans.{IsSpan-edges}
@@ -159,3 +161,27 @@ ends_in_range g k h l = elim (cases_lt k (edge_count g)) [
       let last : k ≡ edge_count g = omega arith in
       rw last (rw (first_end_of-e g) h.s_range, rw (second_end_of-e g) h.t_range)
 ]
+
+-- a set spans an edge just where it joins its ends
+pub spans_in-sound : (g : Graph) (set : ℕ → Bool) (f : ℕ) → spans_in g set f ≡ true → IsJoinedIn g set (first_end_of g f) (second_end_of g f)
+spans_in-sound g set f h = joins_in-sound g set (first_end_of g f) (second_end_of g f) (sym (spans_in-joins g set f) ∙ h)
+
+pub spans_in-complete : (g : Graph) (set : ℕ → Bool) (f : ℕ) → AreEdges g set → IsJoinedIn g set (first_end_of g f) (second_end_of g f) → spans_in g set f ≡ true
+spans_in-complete g set f small p = spans_in-joins g set f ∙ joins_in-complete g set (first_end_of g f) (second_end_of g f) small p
+
+-- a set spans e just where it joins the terminals
+pub spans_e-sound : (g : Graph) (set : ℕ → Bool) → spans_in g set (edge_count g) ≡ true → IsJoinedIn g set g.s g.t
+spans_e-sound g set h =
+    subst (λ v. IsJoinedIn g set g.s v) (second_end_of-e g) (subst (λ u. IsJoinedIn g set u (second_end_of g (edge_count g))) (first_end_of-e g) (spans_in-sound g set (edge_count g) h))
+
+pub spans_e-complete : (g : Graph) (set : ℕ → Bool) → AreEdges g set → IsJoinedIn g set g.s g.t → spans_in g set (edge_count g) ≡ true
+spans_e-complete g set small p =
+    spans_in-complete g set (edge_count g) small
+    (subst (λ v. IsJoinedIn g set (first_end_of g (edge_count g)) v) (sym (second_end_of-e g)) (subst (λ u. IsJoinedIn g set u g.t) (sym (first_end_of-e g)) p))
+
+-- a bridge is an edge that the rest doesn't span
+pub IsBridge-unspanned : (g : Graph) (set : ℕ → Bool) (f : ℕ) → IsBridge g set f → spans_in g (minus set f) f ≡ false
+IsBridge-unspanned g set f h = false_from_ne_true _ (λ t. h (spans_in-sound g (minus set f) f t))
+
+pub IsBridge-from_unspanned : (g : Graph) (set : ℕ → Bool) (f : ℕ) → AreEdges g set → spans_in g (minus set f) f ≡ false → IsBridge g set f
+IsBridge-from_unspanned g set f small h p = both_ways _ h (spans_in-complete g (minus set f) f (λ z k. small z (minus_parts set f z k).0) p)

@@ -9,6 +9,10 @@ pub mod Bases
 pub mod Classes
 pub mod Trees
 pub mod Cuts
+pub mod EdgeTests
+pub mod FreeLemmas
+pub mod TreeAnswers
+pub mod CutAnswers
 mod RootLemmas
 mod LabelLemmas
 mod StepLemmas

@@ -1,7 +1,7 @@
 -- What a joiner is made for, and what its calls look for.
-use Rattle.std.specs.Prelude.{◌≡◌, ℕ, ◌<◌, Bool, true, suc, ◌⊎◌}
+use Rattle.std.specs.Prelude.{◌≡◌, ℕ, ◌<◌, Bool, true, not, ◌&&◌, ◌||◌, suc, ◌⊎◌}
 use Rattle.pg_base.specs.Sets.{minus, IsBelow}
-use Rattle.pg_graph.specs.Graph.{edge_count, IsJoinedIn, first_end_of, second_end_of}
+use Rattle.pg_graph.specs.Graph.{edge_count, IsJoinedIn, joins_in, first_end_of, second_end_of}
 use Rattle.pg_graph.specs.declared.graph.Graph.{Graph}
 
 -- the numbers of vertices and edges of the graphs that a joiner serves
@@ -24,11 +24,21 @@ Crosses g set u k =
     (IsJoinedIn g set u (first_end_of g k) × (IsJoinedIn g set u (second_end_of g k) → ⊥))
     ⊎ ((IsJoinedIn g set u (first_end_of g k) → ⊥) × IsJoinedIn g set u (second_end_of g k))
 
+-- whether exactly one end of edge k is joined to u
+unfoldable pub crosses : Graph → (ℕ → Bool) → ℕ → ℕ → Bool
+crosses g set u k =
+    (joins_in g set u (first_end_of g k) && not (joins_in g set u (second_end_of g k)))
+    || (not (joins_in g set u (first_end_of g k)) && joins_in g set u (second_end_of g k))
+
 -- the set joins u and v, and without its edge k it doesn't
 pub record Parts (g : Graph) (set : ℕ → Bool) (u v k : ℕ) : Type 0 where
   pub member : set k ≡ true
   pub joined : IsJoinedIn g set u v
   pub parted : IsJoinedIn g (minus set k) u v → ⊥
+
+-- whether the set joins u and v, and without its edge k doesn't
+unfoldable pub parts : Graph → (ℕ → Bool) → ℕ → ℕ → ℕ → Bool
+parts g set u v k = set k && (joins_in g set u v && not (joins_in g (minus set k) u v))
 
 -- the lowest candidate of which the fact is true
 pub record IsLowest (candidates : ℕ → Bool) (Fact : ℕ → Type 0) (k : ℕ) : Type 0 where

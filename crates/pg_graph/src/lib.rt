@@ -8,3 +8,6 @@ mod labels;
 
 pub use graph::{Ends, Graph};
 pub use joiner::Joiner;
+
+#[cfg(test)]
+mod tests;

@@ -1,0 +1,134 @@
+-- Cuts in play: an answer to the loss of an edge keeps two sets that bridge each other.
+use Rattle.std.proofs.Common.{◌≡◌, ◌≢◌, ℕ, Bool, true, false, ◌⊎◌, ◌<◌, suc, inl, inr, refl, sym, subst}
+use Rattle.std.proofs.lemmas.Bool.{both_ways, cases_Bool, false_from_ne_true}
+use Rattle.pg_base.specs.Sets.{plus, minus, outside, IsWithin, IsBelow}
+use Rattle.pg_base.proofs.SetLemmas.{minus_parts, minus_from, outside_parts, outside_from}
+use Rattle.pg_graph.specs.Graph.{edge_count, spans_in, first_end_of, second_end_of}
+use Rattle.pg_graph.specs.Joiner.{AreEdges, Parts}
+use Rattle.pg_graph.specs.Span.{IsSpan, IsCuts}
+use Rattle.pg_graph.specs.declared.graph.Graph.{Graph}
+use Rattle.pg_graph.proofs.FreeLemmas.{still_free, still_free_without, free_again}
+use Rattle.pg_graph.proofs.GraphLemmas.{IsSpan-graph, spans_in-sound, spans_in-complete}
+use Rattle.pg_graph.proofs.Swap.{spans_less}
+use Rattle.pg_graph.proofs.Cuts.{IsCuts-other, IsCuts-dropped, IsCuts-claimed, IsCuts-answered, find_parting}
+
+-- ---- the sets of a graph
+
+-- x is lost, and an edge of the other set that parts its ends is claimed
+pub IsCuts-parted : (g : Graph) (r d1 d2 : ℕ → Bool) (x y : ℕ) → IsCuts (spans_in g) (edge_count g) r d1 d2 → d1 x ≡ true → d2 y ≡ true → y ≢ edge_count g
+    → Parts g (outside r d1) (first_end_of g x) (second_end_of g x) y → IsCuts (spans_in g) (edge_count g) (minus r y) (minus d1 x) (minus d2 y)
+IsCuts-parted g r d1 d2 x y t dx dy ne p =
+    IsCuts-answered (spans_in g) (IsSpan-graph g) (edge_count g) r d1 d2 x y t dx dy ne (false_from_ne_true _ (λ s. p.parted (spans_in-sound g (minus (outside r d1) y) x s)))
+
+-- x is lost, and no edge of the other set parts its ends: they are apart
+pub IsCuts-unparted : (g : Graph) (r d1 d2 : ℕ → Bool) (x : ℕ) → IsCuts (spans_in g) (edge_count g) r d1 d2 → d1 x ≡ true → AreEdges g r
+    → ((y : ℕ) → d2 y ≡ true → Parts g (outside r d1) (first_end_of g x) (second_end_of g x) y → ⊥) → IsCuts (spans_in g) (edge_count g) r (minus d1 x) d2
+IsCuts-unparted g r d1 d2 x t dx small none =
+    elim (cases_Bool (spans_in g (outside r d1) x)) [
+      | inr o ↦ IsCuts-dropped (spans_in g) (IsSpan-graph g) (edge_count g) r d1 d2 x t o
+      | inl s ↦
+          let y = find_parting (spans_in g) (IsSpan-graph g) (edge_count g) r d1 d2 x (suc (edge_count g)) small t dx s in
+          let member : outside r d1 y.0 ≡ true = outside_from r d1 y.0 (t.second_in y.0 y.1) (false_from_ne_true _ (λ h. both_ways _ (t.apart y.0 h) y.1)) in
+          absurd (none y.0 y.1 (record {
+            member = member;
+            joined = spans_in-sound g (outside r d1) x s;
+            parted = λ j. both_ways _ y.2 (spans_in-complete g (minus (outside r d1) y.0) x (λ z h. small z (outside_parts r d1 z (minus_parts (outside r d1) y.0 z h).0).0) j);
+          }))
+    ]
+
+-- ---- whoever moves
+
+-- two sets of free elements that bridge each other; e isn't free
+pub record CutsStand (spans : (ℕ → Bool) → ℕ → Bool) (e : ℕ) (r free : ℕ → Bool) : Type 0 where
+  pub first : ℕ → Bool
+  pub second : ℕ → Bool
+  pub cuts : IsCuts spans e r first second
+  pub first_free : IsWithin first free
+  pub second_free : IsWithin second free
+
+-- the same, but one element of the first set may not be free
+pub record CutsOwed (spans : (ℕ → Bool) → ℕ → Bool) (e : ℕ) (r free : ℕ → Bool) : Type 0 where
+  pub first : ℕ → Bool
+  pub second : ℕ → Bool
+  pub lost : ℕ
+  pub cuts : IsCuts spans e r first second
+  pub first_free : IsWithin (minus first lost) free
+  pub second_free : IsWithin second free
+
+module _ (spans : (ℕ → Bool) → ℕ → Bool) (law : IsSpan spans) (e : ℕ) where
+  pub CutsOwed-stand : (r free : ℕ → Bool) → CutsStand spans e r free → CutsOwed spans e r free
+  CutsOwed-stand r free t = record {
+    first = t.first;
+    second = t.second;
+    lost = e;
+    cuts = t.cuts;
+    first_free = λ z h. t.first_free z (minus_parts t.first e z h).0;
+    second_free = t.second_free;
+  }
+
+  -- the other side takes a free element, which stays in r
+  pub CutsOwed-taken : (r free : ℕ → Bool) (v : ℕ) → CutsStand spans e r free → CutsOwed spans e r (minus free v)
+  CutsOwed-taken r free v t =
+      elim (cases_Bool (t.second v)) [
+        | inl i ↦ record {
+          first = t.second;
+          second = t.first;
+          lost = v;
+          cuts = IsCuts-other spans e r t.first t.second t.cuts;
+          first_free = still_free t.second free v t.second_free;
+          second_free = still_free_without t.first free v t.first_free (false_from_ne_true _ (λ h. both_ways _ (t.cuts.apart v h) i));
+        }
+        | inr o ↦ record {
+          first = t.first;
+          second = t.second;
+          lost = v;
+          cuts = t.cuts;
+          first_free = still_free t.first free v t.first_free;
+          second_free = still_free_without t.second free v t.second_free o;
+        }
+      ]
+
+  -- some free element is an answer, where there is one
+  pub CutsStand-answer : (r free : ℕ → Bool) (n z : ℕ) → IsBelow r n → free e ≡ false → free z ≡ true → CutsOwed spans e r free → (v : ℕ) × (free v ≡ true) × CutsStand spans e (minus r v) (minus free v)
+  CutsStand-answer r free n z small e_taken fz t =
+      let x = t.lost in
+      let left = minus t.first x in
+      elim (cases_Bool (t.first x)) [
+        | inr o ↦ (z, fz, claimed t.first t.cuts (free_again t.first free x t.first_free o))
+        | inl i ↦ elim (cases_Bool (spans (outside r t.first) x)) [
+          | inl s ↦
+              let q = find_parting spans law e r t.first t.second x n small t.cuts i s in (
+                q.0,
+                t.second_free q.0 q.1,
+                record {
+                  first = left;
+                  second = minus t.second q.0;
+                  cuts = IsCuts-answered spans law e r t.first t.second x q.0 t.cuts i q.1 (not_e q.0 (t.second_free q.0 q.1)) q.2;
+                  first_free = still_free_without left free q.0 t.first_free (false_from_ne_true _ (λ h. both_ways _ (t.cuts.apart q.0 (minus_parts t.first x q.0 h).0) q.1));
+                  second_free = still_free t.second free q.0 t.second_free;
+                },
+              )
+          | inr s ↦ (z, fz, claimed left (IsCuts-dropped spans law e r t.first t.second x t.cuts s) t.first_free)
+        ]
+      ]
+    where
+      not_e : (v : ℕ) → free v ≡ true → v ≢ e
+      not_e v h q = both_ways _ e_taken (subst (λ k. free k ≡ true) q h)
+
+      claimed : (a : ℕ → Bool) → IsCuts spans e r a t.second → IsWithin a free → CutsStand spans e (minus r z) (minus free z)
+      claimed a cuts w = record {
+        first = minus a z;
+        second = minus t.second z;
+        cuts = IsCuts-claimed spans law e r a t.second z cuts (not_e z fz);
+        first_free = still_free a free z w;
+        second_free = still_free t.second free z t.second_free;
+      }
+
+  -- a part of r without e and free elements doesn't span e
+  pub CutsOwed-parts : (r free set : ℕ → Bool) → CutsOwed spans e r free → free e ≡ false → IsWithin set r → ((z : ℕ) → set z ≡ true → free z ≡ false) → set e ≡ false → spans set e ≡ false
+  CutsOwed-parts r free set t e_taken w taken out =
+      spans_less spans law set (minus (outside r t.second) e) e
+      (λ z h. minus_from (outside r t.second) e z
+      (outside_from r t.second z (w z h) (false_from_ne_true _ (λ k. both_ways _ (taken z h) (t.second_free z k))))
+      (λ q. both_ways _ out (subst (λ k. set k ≡ true) (sym q) h)))
+      (t.cuts.second_parts (false_from_ne_true _ (λ k. both_ways _ e_taken (t.second_free e k))))
