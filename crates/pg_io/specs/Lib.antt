@@ -1,0 +1,5 @@
+pub mod Causes
+pub mod Files
+pub mod Console
+pub mod Stop
+pub mod Reading

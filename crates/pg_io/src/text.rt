@@ -1,0 +1,47 @@
+//! Bytes by value.
+ghost use Rattle.std.specs.Prelude.{◌≡◌, IfOk};
+
+use pg_base::Memory;
+use std::alloc::Global;
+use std::marker::Model;
+
+/// A list of bytes, in no particular encoding: a name, the contents of a file, a line.
+#[derive(Debug, Drop)]
+pub struct Text {
+    bytes: Vec<u8>,
+}
+
+/// The bytes.
+impl Model for Text {
+    ghost use Rattle.std.specs.Prelude.{ℕ, List};
+
+    ghost Value = { List ℕ };
+
+    ghost view = { λ a. a.bytes.items };
+}
+
+impl Text {
+    /// A text with a copy of these bytes.
+    ///
+    /// `Memory` means that the copy was refused.
+    pub fn new(alloc: Global, bytes: &[u8]) -> Result<Text, Memory>
+        ensures { IfOk result (λ text. text ≡ bytes.now) }
+    {
+        let bytes = bytes.to_vec(alloc)?;
+        Ok(Text { bytes })
+    }
+
+    /// A text of these bytes. It takes no memory.
+    pub fn from_vec(bytes: Vec<u8>) -> Text
+        ensures { result ≡ bytes.items }
+    {
+        Text { bytes }
+    }
+
+    /// The bytes in order.
+    pub fn as_slice(&self) -> &[u8]
+        ensures { result.now ≡ self.now }
+    {
+        self.bytes.as_slice()
+    }
+}
