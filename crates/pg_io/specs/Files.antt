@@ -1,5 +1,5 @@
 -- What calls on files do, where it is told which bytes stand under which names.
-use Rattle.std.specs.Prelude.{◌≡◌, ◌≢◌, ◌⊎◌, ℕ, ◌≤◌, List, [], ◌∷◌, ◌++◌, length, take, Option, Some, None, Result, Ok, Err, IfSome, IsSome, OnOk, OnErr, IfOk, ⊤}
+use Rattle.std.specs.Prelude.{◌≡◌, ◌≢◌, ◌⊎◌, ℕ, List, [], ◌++◌, take, Option, Some, None, Result, Ok, Err, IsSome, ⊤}
 
 -- a list of bytes
 abbrev pub Bytes : Type 0

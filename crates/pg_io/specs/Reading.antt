@@ -1,5 +1,5 @@
 -- Reading a file whole, and storing one.
-use Rattle.std.specs.Prelude.{◌≡◌, ℕ, ◌+◌, List, ◌++◌, take, Option, Some, None, Result, Ok, Err, ⊤}
+use Rattle.std.specs.Prelude.{◌≡◌, ℕ, ◌+◌, ◌++◌, take, Option, Some, None, Result, Ok, Err, ⊤}
 use Rattle.pg_io.specs.declared.stop.Stop.{Stop}
 use Rattle.pg_io.specs.Files.{Bytes, Holding, Making, Stores, MayStore}
 

@@ -25,14 +25,14 @@ fn read_open<F: Files>(
     buf: &mut [u8],
 ) -> Result<Vec<u8>, Stop>
     requires room { 0 < length buf.old }
-    requires small { limit < 2 ^ 32 }
     ensures bytes { IfOk result (λ bytes. IfSome (F.left files.old) (λ left. bytes.items ≡ take (limit + 1) left)) }
     ensures causes { Causes ⊥ (F.read_faults files.old) (F.read_faults files.new) (F.write_faults files.old) (F.write_faults files.new) result }
     ensures held { F.held files.new ≡ F.held files.old }
 {
     let mut bytes = Vec::new(alloc);
     while bytes.len() <= limit {
-        let room = buf.len().min(limit + 1 - bytes.len());
+        let wanted = (limit - bytes.len()).saturating_add(1);
+        let room = buf.len().min(wanted);
         let Ok(count) = files.next(&mut buf[..room]) else {
             return Err(Stop::Read);
         };
@@ -51,7 +51,6 @@ pub fn read_whole<F: Files>(
     name: &str,
     limit: usize,
 ) -> Result<Vec<u8>, Stop>
-    requires small { limit < 2 ^ 32 }
     ensures bytes { IfOk result (λ bytes. IsFile (F.held files.old) name.now limit bytes.items) }
     ensures causes { Causes (IsAbsent (F.held files.old) name.now) (F.read_faults files.old) (F.read_faults files.new) (F.write_faults files.old) (F.write_faults files.new) result }
     ensures held { F.held files.new ≡ F.held files.old }
