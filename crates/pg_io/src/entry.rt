@@ -2,7 +2,7 @@
 use crate::text::Text;
 
 /// What was said to a console, or heard from it.
-#[derive(Debug, Drop)]
+#[derive(Debug, Drop, PartialEq, Eq)]
 pub enum Entry {
     /// These bytes were said.
     Said(Text),
