@@ -1,0 +1,28 @@
+//! Files and a console as traits, in memory and over the system.
+#![tactic(auto)]
+
+mod console;
+mod entry;
+mod failing;
+mod files;
+mod host_console;
+mod host_files;
+mod mem_console;
+mod mem_files;
+mod reading;
+mod stop;
+mod text;
+
+pub use console::Console;
+pub use entry::{Entry, Heard};
+pub use files::{Failed, Files};
+pub use host_console::HostConsole;
+pub use host_files::HostFiles;
+pub use mem_console::MemConsole;
+pub use mem_files::MemFiles;
+pub use reading::{read_whole, store};
+pub use stop::Stop;
+pub use text::Text;
+
+#[cfg(test)]
+mod tests;

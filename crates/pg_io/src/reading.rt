@@ -1,0 +1,81 @@
+//! Reading a file whole, and storing one.
+ghost use Rattle.std.specs.Prelude.{◌≡◌, ◌≢◌, Err, ℕ, ◌+◌, ◌<◌, ◌≤◌, ◌^◌, List, length, take, IfOk, IfSome};
+ghost use Rattle.pg_io.specs.Files.{IsAbsent};
+ghost use Rattle.pg_io.specs.Stop.{Causes};
+ghost use Rattle.pg_io.specs.Reading.{IsFile, Stored};
+
+use crate::files::Files;
+use crate::stop::Stop;
+use std::alloc::{AllocError, Global};
+
+const PIECE: usize = 65_536;
+
+/// Room for a piece of a file. The length is told by a limit alone, so that no proof unfolds the list.
+fn piece(alloc: Global) -> Result<Vec<u8>, AllocError>
+    ensures { IfOk result (λ buf. 0 < length buf.items) }
+{
+    vec![in alloc; 0; PIECE]
+}
+
+/// Reads the open file to its end, or to one byte more than the limit.
+fn read_open<F: Files>(
+    alloc: Global,
+    files: &mut F,
+    limit: usize,
+    buf: &mut [u8],
+) -> Result<Vec<u8>, Stop>
+    requires room { 0 < length buf.old }
+    ensures bytes { IfOk result (λ bytes. IfSome (F.left files.old) (λ left. bytes.items ≡ take (limit + 1) left)) }
+    ensures causes { Causes ⊥ (F.read_faults files.old) (F.read_faults files.new) (F.write_faults files.old) (F.write_faults files.new) result }
+    ensures held { F.held files.new ≡ F.held files.old }
+{
+    let mut bytes = Vec::new(alloc);
+    while bytes.len() <= limit {
+        let wanted = (limit - bytes.len()).saturating_add(1);
+        let room = buf.len().min(wanted);
+        let Ok(count) = files.next(&mut buf[..room]) else {
+            return Err(Stop::Read);
+        };
+        if count == 0 {
+            break;
+        }
+        bytes.extend_from_slice(&buf[..count])?;
+    }
+    Ok(bytes)
+}
+
+/// Reads the file to its end, or to one byte more than the limit.
+pub fn read_whole<F: Files>(
+    alloc: Global,
+    files: &mut F,
+    name: &str,
+    limit: usize,
+) -> Result<Vec<u8>, Stop>
+    ensures bytes { IfOk result (λ bytes. IsFile (F.held files.old) name.now limit bytes.items) }
+    ensures causes { Causes (IsAbsent (F.held files.old) name.now) (F.read_faults files.old) (F.read_faults files.new) (F.write_faults files.old) (F.write_faults files.new) result }
+    ensures held { F.held files.new ≡ F.held files.old }
+{
+    let mut buf = piece(alloc)?;
+    if files.open(name).is_err() {
+        return Err(Stop::Read);
+    }
+    read_open(alloc, files, limit, &mut buf)
+}
+
+/// Stores a file.
+pub fn store<F: Files>(files: &mut F, name: &str, bytes: &[u8]) -> Result<(), Stop>
+    ensures stored { Stored (F.held files.old) (F.held files.new) (name.now, bytes.now) result }
+    ensures causes { Causes ⊥ (F.read_faults files.old) (F.read_faults files.new) (F.write_faults files.old) (F.write_faults files.new) result }
+    ensures fed { result ≢ Err Stop.Memory }
+{
+    if files.create(name).is_err() {
+        return Err(Stop::Write);
+    }
+    if files.append(bytes).is_err() {
+        return Err(Stop::Write);
+    }
+    if files.finish().is_err() {
+        return Err(Stop::Write);
+    }
+    Ok(())
+}
