@@ -5,3 +5,5 @@ pub mod Moves
 pub mod Strategy
 pub mod ValueLaws
 pub mod Limits
+pub mod TerminalLemmas
+pub mod Outcomes

@@ -5,3 +5,4 @@ pub mod Game
 pub mod Value
 pub mod Play
 pub mod Strategy
+pub mod Judge
