@@ -4,3 +4,6 @@ pub mod Scores
 pub mod Moves
 pub mod Strategy
 pub mod ValueLaws
+pub mod Limits
+pub mod TerminalLemmas
+pub mod Outcomes

@@ -5,12 +5,4 @@ pub mod Game
 pub mod Value
 pub mod Play
 pub mod Strategy
-pub mod PositionLemmas
-pub mod Pairs
-pub mod Potential
-pub mod Avoider
-pub mod Trees
-pub mod Threat
-pub mod Decided
-pub mod Settled
-pub mod Class
+pub mod Judge

@@ -2,9 +2,14 @@
 #![tactic(auto)]
 
 mod field;
+mod fit;
 mod game;
+mod joins;
+mod judge;
 mod position;
+mod rules;
 
 pub use field::{Field, LineField};
 pub use game::{Game, Misfit};
+pub use judge::Judge;
 pub use position::{Illegal, Position};
