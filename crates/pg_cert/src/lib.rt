@@ -2,9 +2,12 @@
 #![tactic(auto)]
 
 mod cert;
+mod fault;
 mod node;
 mod reply;
+mod text;
 
 pub use cert::{Cert, Claim, Claims};
+pub use fault::CertFault;
 pub use node::{Body, Node, Nodes};
 pub use reply::{Replies, Reply};
