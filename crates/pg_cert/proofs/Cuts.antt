@@ -7,6 +7,7 @@ use Rattle.std.proofs.lemmas.Bool.Decides.{nat_tests}
 use Rattle.std.proofs.lemmas.List.{take_all, length-take, length-drop, get_or-take}
 use Rattle.std.proofs.lemmas.List.Sums.{fails_before_first, passes_at_first, split_at_first}
 use Rattle.std.proofs.lemmas.List.Splits.{slice_split_at, slice_split_none, length-slice_split}
+use Rattle.pg_cert.specs.Form.{are_none}
 use Rattle.pg_cert.specs.Text.{Bytes, Lacks, parts, pair_of, two_parts, Four, four_of, four_parts}
 
 abbrev is_sign : ℕ → ℕ → Bool
@@ -71,6 +72,14 @@ first_and_others text word others e lacks = cut_parts 32 text word others e lack
 
 pub only_word : (text : Bytes) → Lacks 32 text → parts 32 text ≡ text ∷ []
 only_word text lacks = slice_split_none (is_sign 32) text lacks
+
+are_some : (ws : List Bytes) → 0 < length ws → are_none ws ≡ false
+are_some [] h = absurd (omega arith)
+are_some (w ∷ ws) h = refl
+
+-- a text has at least one word
+pub some_words : (text : Bytes) → are_none (parts 32 text) ≡ false
+some_words text = are_some (parts 32 text) (omega (arith, length-slice_split (is_sign 32) text))
 
 -- ---- four parts
 

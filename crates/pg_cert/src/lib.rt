@@ -3,9 +3,11 @@
 
 mod cert;
 mod fault;
+mod form;
 mod node;
 mod reply;
 mod text;
+mod values;
 
 pub use cert::{Cert, Claim, Claims};
 pub use fault::CertFault;
