@@ -2,11 +2,16 @@
 #![tactic(auto)]
 
 mod cert;
+mod fault;
+mod form;
 mod node;
 mod node_fault;
 mod reply;
+mod text;
+mod values;
 
 pub use cert::{Cert, Claim, Claims};
+pub use fault::CertFault;
 pub use node::{Body, Node, Nodes};
 pub use node_fault::NodeFault;
 pub use reply::{Replies, Reply};
