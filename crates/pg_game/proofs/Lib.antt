@@ -1,0 +1,6 @@
+pub mod Members
+pub mod FreePoints
+pub mod Scores
+pub mod Moves
+pub mod Strategy
+pub mod ValueLaws

@@ -13,3 +13,4 @@ pub mod PositionLemmas
 pub mod Decided
 pub mod Settled
 pub mod Class
+pub mod Strategy

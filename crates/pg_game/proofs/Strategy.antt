@@ -1,0 +1,95 @@
+-- How a side forces a goal by keeping an invariant.
+use Rattle.std.proofs.Common.{◌≡◌, ℕ, zero, suc, ◌<◌, ◌≤◌, Bool, true, false, not, ◌&&◌, ◌||◌, map, length, refl, sym, ap, ◌∙◌, inl, inr, ◌⊎◌, arith}
+use Rattle.std.proofs.lemmas.Bool.{cases_Bool, or_left, or_right, not_from_false, false≢true}
+use Rattle.pg_game.specs.declared.position.Position.{Position}
+use Rattle.pg_base.specs.declared.side.Side.{Side}
+use Rattle.pg_base.specs.Side.{other}
+use Rattle.pg_game.specs.Position.{is_free}
+use Rattle.pg_game.specs.declared.game.Game.{Game}
+use Rattle.pg_base.specs.declared.kind.Kind.{Kind}
+use Rattle.pg_base.specs.declared.kind.Kind.TheVariants.{MakerBreaker, MakerMaker, AvoiderEnforcer, Switching}
+use Rattle.pg_base.specs.declared.goal.Goal.{Goal}
+use Rattle.pg_game.specs.Game.{after, free_points, point_count, is_over, outcome, is_full, is_over_by}
+use Rattle.pg_game.specs.Strategy.{Keeps}
+use Rattle.pg_game.specs.Value.{best, value, value_within, reaches, Forces}
+use Rattle.pg_game.proofs.Scores.{reaches-best, reaches-best_other}
+use Rattle.pg_game.proofs.FreePoints.{length-free_points-after, any-free_points, all-free_points, no_free_points, first_free, none-full}
+use Rattle.pg_game.proofs.Moves.{side_cases}
+use Rattle.pg_game.specs.Field.{field_points, field_joins}
+use Rattle.pg_game.specs.declared.field.Field.{Field}
+use Rattle.pg_game.specs.declared.field.Field.TheVariants.{Lines, Graph as OnGraph}
+use Rattle.pg_graph.specs.Walks.{first_end, second_end}
+use Rattle.pg_graph.proofs.GraphLemmas.{switching_full}
+use Rattle.std.specs.FinSet.{contains}
+
+-- ---- a game that isn't over has a free point
+
+last_of_three : (a b c : Bool) → c ≡ true → (a || (b || c)) ≡ true
+last_of_three a b c h = or_right a _ (or_right b c h)
+
+-- where each edge is taken, those of X join the terminals or those that aren't Y's don't
+full_joins : (field : Field) (x y : ℕ → Bool) → ((v : ℕ) → v < field_points field → (x v ≡ true) ⊎ (y v ≡ true)) → (field_joins field x || not (field_joins field (λ e. not (y e)))) ≡ true
+full_joins (Lines f) x y full = refl
+full_joins (OnGraph h) x y full =
+    elim (switching_full (first_end h.ends) (second_end h.ends) x y (length h.ends) h.s h.t full) [
+      | inl joined ↦ or_left _ _ joined
+      | inr parted ↦ or_right _ _ (not_from_false _ parted)
+    ]
+
+over_by-full : (kind : Kind) (x y t f j c : Bool) → f ≡ true → (j || not c) ≡ true → is_over_by kind x y t f j c ≡ true
+over_by-full MakerBreaker x y t f j c h k = last_of_three x t f h
+over_by-full AvoiderEnforcer x y t f j c h k = last_of_three x t f h
+over_by-full MakerMaker x y t f j c h k = last_of_three x y f h
+over_by-full Switching x y t f j c h k = k
+
+-- where no point is free the game is over
+pub over-where_full : (g : Game) (p : Position) → is_full g p ≡ true → is_over g p ≡ true
+unfolding is_over
+over-where_full g p full = over_by-full g.kind _ _ _ _ _ _ full (full_joins g.field (contains p.x) (contains p.y) (λ v within. taken v (none-full g p full v within)))
+  where
+    taken : (v : ℕ) → is_free p v ≡ false → (contains p.x v ≡ true) ⊎ (contains p.y v ≡ true)
+    taken v none = by (contains p.x v) (contains p.y v) none
+      where
+        by : (a b : Bool) → (not a && not b) ≡ false → (a ≡ true) ⊎ (b ≡ true)
+        by true b h = inl refl
+        by false true h = inr refl
+        by false false h = absurd (false≢true (sym h))
+
+-- where the game isn't over some point is free
+pub free_point : (g : Game) (p : Position) → is_over g p ≡ false → (v : ℕ) × (v < point_count g) × (is_free p v ≡ true)
+free_point g p going = elim (cases_Bool (is_full g p)) [
+  | inl full ↦ absurd (false≢true (sym going ∙ over-where_full g p full))
+  | inr some ↦ first_free g p some
+]
+
+-- ---- keeping an invariant
+
+module _ {I : Position → Type 0} (g : Game) (side : Side) (goal : Goal) (keeps : Keeps g side goal I) where
+  within : (moves : ℕ) (p : Position) → I p → length (free_points g p) ≤ moves → reaches side goal (value_within moves g p) ≡ true
+  unfolding value_within
+  within zero p i few = keeps.ends p i (over-where_full g p (no_free_points g p (omega arith)))
+  within (suc moves) p i few =
+      elim (cases_Bool (is_over g p)) [
+        | inl over ↦ rw over (keeps.ends p i over)
+        | inr going ↦ rw going (elim (side_cases p.turn side) [
+          | inl mine ↦
+              let move = keeps.own p i going mine in
+              let fewer = length-free_points-after g p move.0 move.1 move.2 in
+              let good = within moves (after g p move.0) move.3 (omega arith) in
+              ap (λ (s : Side). reaches side goal (best s (map (λ v. value_within moves g (after g p v)) (free_points g p)))) mine
+              ∙ (reaches-best side goal (λ v. value_within moves g (after g p v)) (free_points g p)
+              ∙ any-free_points g p (λ v. reaches side goal (value_within moves g (after g p v))) move.0 move.1 move.2 good)
+          | inr yours ↦
+              ap (λ (s : Side). reaches side goal (best s (map (λ v. value_within moves g (after g p v)) (free_points g p)))) yours
+              ∙ (reaches-best_other side goal (λ v. value_within moves g (after g p v)) (free_points g p)
+              ∙ all-free_points g p (λ v. reaches side goal (value_within moves g (after g p v)))
+              (λ v range free.
+              let fewer = length-free_points-after g p v range free in
+              within moves (after g p v) (keeps.theirs p i going yours v range free) (omega arith)))
+        ])
+      ]
+
+  -- so the side forces its goal wherever the invariant holds
+  pub Forces-from_keeps : (p : Position) → I p → Forces g p side goal
+  unfolding value
+  Forces-from_keeps p i = within (length (free_points g p)) p i (omega arith)
