@@ -4,3 +4,4 @@ pub mod Scores
 pub mod Moves
 pub mod Strategy
 pub mod ValueLaws
+pub mod Limits

@@ -78,3 +78,9 @@ pub record IsFit (kind : Kind) (field : Field) (x y : FinSet nat_cmp) (bias : �
   pub x_range : AreBelow x (field_points field)
   pub y_range : AreBelow y (field_points field)
   pub disjoint : ShareNone x y
+
+-- a game of the kind is played on such a field, and the field is within the limits
+pub record FieldFits (kind : Kind) (field : Field) (bias : ℕ) : Type 0 where
+  pub kind_fits : is_graph field ≡ is_switching kind
+  pub on_lines : (f : LineField) → field ≡ Lines f → AreLinesOf bias f
+  pub on_graph : (h : Graph) → field ≡ OnGraph h → IsBoard h

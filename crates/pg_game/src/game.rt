@@ -3,6 +3,7 @@ ghost use Rattle.std.specs.Prelude.{◌≡◌, ◌<◌, ◌↔◌, IsOk, IfOk};
 ghost use Rattle.pg_game.specs.Fit.{IsFit};
 
 use crate::field::Field;
+use crate::fit::is_fit;
 use crate::position::{Position, claims_in_turn};
 use pg_base::{Kind, PointSet, Side};
 
@@ -31,6 +32,40 @@ pub struct Misfit;
 
 impl Game {
     ghost use Rattle.pg_game.specs.Game.{point_count, start, with_turn, after, IsGameOf};
+
+    /// The game of these parts, where `bias` is how many points Y claims in a turn.
+    ///
+    /// # Errors
+    ///
+    /// `Misfit` exactly where the parts don't fit together or are beyond the limits: a field of lines has 1 to 256
+    /// points, and cells as many as its grid, at most 20,000 lines of at least one point each, none longer than 100
+    /// points, or 33 where the bias is above 1, and at most 400,000 points in all lines; a graph has 2 to 500 vertices,
+    /// at most 1,000 edges, and two different terminals; marks are points of the game and no mark is both sides'; the
+    /// bias is 1 to 7, and 1 in Maker-Maker and switching. The field is then dropped.
+    pub fn new(
+        kind: Kind,
+        field: Field,
+        x: PointSet,
+        y: PointSet,
+        turn: Side,
+        bias: u8,
+    ) -> Result<Game, Misfit>
+        ensures fits { IsOk result ↔ IsFit kind field x y bias }
+        ensures parts { IfOk result (λ g. IsGameOf g kind field x y turn bias) }
+    {
+        if is_fit(kind, &field, &x, &y, bias) {
+            Ok(Game {
+                kind,
+                field,
+                x,
+                y,
+                turn,
+                bias,
+            })
+        } else {
+            Err(Misfit)
+        }
+    }
 
     /// The number of points or edges.
     pub fn points(&self) -> u16

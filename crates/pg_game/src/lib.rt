@@ -2,6 +2,7 @@
 #![tactic(auto)]
 
 mod field;
+mod fit;
 mod game;
 mod position;
 

@@ -1,12 +1,12 @@
 -- What the edges of a graph join, with the edge e between its terminals.
 use Rattle.std.proofs.Common.{◌≡◌, ◌≢◌, ℕ, ◌<◌, ◌≤◌, ◌+◌, Bool, true, false, not, ◌⊎◌, ◌&&◌, ◌||◌, List, [], ◌∷◌, ◌++◌, length, get_or, refl, arith, inl, inr, sym, ap, ◌∙◌, subst, zero, suc}
-use Rattle.std.proofs.lemmas.Bool.{cases_eq, cases_Bool, both_ways, and_parts, and_from, or_cases, or_left, or_right, false_from_ne_true, not_from_false, not-true}
-use Rattle.std.proofs.lemmas.List.{get_or_past}
+use Rattle.std.proofs.lemmas.Bool.{cases_eq, cases_lt, cases_Bool, both_ways, and_parts, and_from, or_cases, or_left, or_right, false_from_ne_true, not_from_false, not-true}
+use Rattle.std.proofs.lemmas.List.Elements.{All-get_or}
 use Rattle.pg_base.specs.Sets.{minus, below, IsBelow, IsWithin}
 use Rattle.pg_base.proofs.BelowLemmas.{below_all, below_parts, below_from, same_sets}
 use Rattle.pg_graph.specs.Walks.{IsJoined, joins, edge_spans, first_end, second_end}
 use Rattle.pg_graph.specs.Span.{IsSpan}
-use Rattle.pg_graph.specs.Graph.{edge_count, with_e, first_end_of, second_end_of, IsJoinedIn, joins_in, spans_in, IsBridge, is_bridge}
+use Rattle.pg_graph.specs.Graph.{IsGraph, edge_count, with_e, first_end_of, second_end_of, IsJoinedIn, joins_in, spans_in, IsBridge, is_bridge}
 use Rattle.pg_graph.specs.declared.graph.Graph.{Graph}
 use Rattle.pg_graph.proofs.WalkLemmas.{joined_more, joins_sound, joins_complete}
 use Rattle.pg_graph.proofs.Spans.{IsSpan-edges}
@@ -116,7 +116,7 @@ joins_in-sound g set u v h = joins_sound (first_end_of g) (second_end_of g) set 
 pub joins_in-complete : (g : Graph) (set : ℕ → Bool) (u v : ℕ) → IsBelow set (suc (edge_count g)) → IsJoinedIn g set u v → joins_in g set u v ≡ true
 joins_in-complete g set u v small p =
     joins_complete (first_end_of g) (second_end_of g) set (suc (edge_count g)) u v
-      (joined_more (first_end_of g) (second_end_of g) set (below set (suc (edge_count g))) u v (λ z h. below_from set (suc (edge_count g)) z h (small z h)) p)
+    (joined_more (first_end_of g) (second_end_of g) set (below set (suc (edge_count g))) u v (λ z h. below_from set (suc (edge_count g)) z h (small z h)) p)
 
 -- without e the edges of the list are enough
 pub joins_in-edges : (g : Graph) (set : ℕ → Bool) (u v : ℕ) → set (edge_count g) ≡ false → joins_in g set u v ≡ joins (first_end_of g) (second_end_of g) set (edge_count g) u v
@@ -138,3 +138,24 @@ is_bridge-sound g set f small h p =
 
 pub is_bridge-complete : (g : Graph) (set : ℕ → Bool) (f : ℕ) → IsBridge g set f → is_bridge g set f ≡ true
 is_bridge-complete g set f h = not_from_false _ (false_from_ne_true _ (λ t. h (joins_in-sound g (minus set f) (first_end_of g f) (second_end_of g f) t)))
+
+-- ---- the ends as the code reads them
+
+pub ends-edge : (g : Graph) (k : ℕ) → k < edge_count g → ◌≡◌ {A = ℕ × ℕ} (get_or g.ends k (0, 0)) (first_end_of g k, second_end_of g k)
+unfolding first_end second_end
+ends-edge g k l = sym (rw (first_end_of-edge g k l, second_end_of-edge g k l) refl)
+
+pub ends-e : (g : Graph) (k : ℕ) → k ≡ edge_count g → ◌≡◌ {A = ℕ × ℕ} (g.s, g.t) (first_end_of g k, second_end_of g k)
+ends-e g k e = rw e (rw (first_end_of-e g, second_end_of-e g) refl)
+
+-- ends of edges, and of e, are in range
+pub ends_in_range : (g : Graph) (k : ℕ) → IsGraph g → k ≤ edge_count g → (first_end_of g k < g.vertices) × (second_end_of g k < g.vertices)
+unfolding first_end second_end
+ends_in_range g k h l = elim (cases_lt k (edge_count g)) [
+  | inl lt ↦
+      let both = All-get_or (λ e. (e.0 < g.vertices) × (e.1 < g.vertices)) g.ends k (0, 0) lt h.ends_range in
+      (rw (first_end_of-edge g k lt) both.0, rw (second_end_of-edge g k lt) both.1)
+  | inr ge ↦
+      let last : k ≡ edge_count g = omega arith in
+      rw last (rw (first_end_of-e g) h.s_range, rw (second_end_of-e g) h.t_range)
+]

@@ -1,3 +1,15 @@
 pub mod WalkLemmas
 pub mod Spans
 pub mod GraphLemmas
+pub mod Crossing
+pub mod Swap
+pub mod Circuit
+pub mod Rank
+pub mod Bases
+pub mod Classes
+pub mod Trees
+pub mod Cuts
+mod RootLemmas
+mod LabelLemmas
+mod StepLemmas
+mod SplitLemmas

@@ -1,3 +1,6 @@
 pub mod Walks
 pub mod Span
 pub mod Graph
+pub mod Joiner
+pub mod Roots
+pub mod Labels

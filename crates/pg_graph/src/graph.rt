@@ -1,5 +1,6 @@
 //! Graphs as lists of edges.
-ghost use Rattle.std.specs.Prelude.{◌≡◌};
+ghost use Rattle.std.specs.Prelude.{◌≡◌, ◌<◌, ◌≤◌, length};
+ghost use Rattle.pg_graph.specs.Graph.{IsGraph, edge_count, first_end_of, second_end_of};
 
 use std::marker::Model;
 
@@ -17,6 +18,31 @@ pub struct Graph {
     pub t: u16,
     /// The two ends of each edge.
     pub ends: Ends,
+}
+
+impl Graph {
+    /// How many edges there are, which is the number that stands for `e`.
+    pub fn edge_count(&self) -> u16
+        requires { length self.now.ends ≤ 1000 }
+        ensures { result ≡ edge_count self.now }
+    {
+        self.ends.as_slice().len() as u16
+    }
+
+    /// The two ends of an edge, or of `e`.
+    pub fn ends_of(&self, k: u16) -> (u16, u16)
+        requires graph { IsGraph self.now }
+        requires edge { k ≤ edge_count self.now }
+        ensures ends { result ≡ (first_end_of self.now k, second_end_of self.now k) }
+        ensures first { result.0 < self.now.vertices }
+        ensures second { result.1 < self.now.vertices }
+    {
+        if k < self.edge_count() {
+            self.ends.as_slice()[k as usize]
+        } else {
+            (self.s, self.t)
+        }
+    }
 }
 
 /// A list of pairs of vertices.

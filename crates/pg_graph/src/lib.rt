@@ -2,5 +2,9 @@
 #![tactic(auto)]
 
 mod graph;
+mod joiner;
+mod joins;
+mod labels;
 
 pub use graph::{Ends, Graph};
+pub use joiner::Joiner;

@@ -1,0 +1,185 @@
+//! Whether the parts of a game fit together and are within the limits.
+ghost use Rattle.std.specs.Prelude.{◌≡◌, ℕ, ◌+◌, ◌*◌, ◌^◌, ◌<◌, ◌≤◌, ◌↔◌, IsTrue, false, true, length, Some};
+ghost use Rattle.std.specs.List.{All, sum_by};
+ghost use Rattle.pg_base.specs.declared.grid.Grid.{Grid};
+ghost use Rattle.pg_game.specs.Field.{field_points};
+ghost use Rattle.pg_game.specs.declared.field.Field.TheVariants.{Graph as OnGraph};
+ghost use Rattle.pg_graph.specs.declared.graph.Graph.{Graph};
+ghost use Rattle.pg_game.specs.Fit.{IsFit, FieldFits, IsLineOf, AreLinesOf, IsBoard, AreBelow, ShareNone, longest, greatest_bias, is_switching};
+
+use crate::field::{Field, LineField};
+use pg_base::{Grid, Kind, Line, PointSet};
+use pg_graph::Graph;
+
+/// The most points of a field of lines.
+const MOST_POINTS: u16 = 256;
+
+/// The most lines.
+const MOST_LINES: usize = 20_000;
+
+/// The most points of all lines together.
+const MOST_SUMMED: usize = 400_000;
+
+/// The most vertices of a graph.
+const MOST_VERTICES: u16 = 500;
+
+/// The most edges of a graph.
+const MOST_EDGES: usize = 1000;
+
+/// Whether each point of the set is below the limit.
+fn are_below(points: &PointSet, limit: u16) -> bool
+    ensures { IsTrue result ↔ AreBelow points.now limit }
+{
+    points.first_from(limit).is_none()
+}
+
+/// Whether no point is in both sets, of which the first has only points below the limit.
+fn share_none(x: &PointSet, y: &PointSet, limit: u16) -> bool
+    requires few { limit ≤ 1024 }
+    requires below { AreBelow x.now limit }
+    ensures { IsTrue result ↔ ShareNone x.now y.now }
+{
+    for v in 0..limit {
+        if x.has(v) && y.has(v) {
+            return false;
+        }
+    }
+    true
+}
+
+/// How long a line may be.
+fn longest(bias: u8) -> usize
+    ensures { result ≡ longest bias }
+{
+    if bias == 1 { 100 } else { 33 }
+}
+
+/// Whether each point of the line is below the limit.
+fn line_below(line: &Line, limit: u16) -> bool
+    ensures { IsTrue result ↔ All (λ v. v < limit) line.now }
+{
+    line.as_slice().iter().all(|v| *v < limit)
+}
+
+/// Whether the line has points of the game alone, at least one and not too many.
+fn is_line(line: &Line, points: u16, bias: u8) -> bool
+    ensures { IsTrue result ↔ IsLineOf points bias line.now }
+{
+    let len = line.len();
+    if len == 0 || len > longest(bias) {
+        return false;
+    }
+    line_below(line, points)
+}
+
+/// Whether each line has points of the game alone, at least one and not too many.
+fn are_lines(lines: &[Line], points: u16, bias: u8) -> bool
+    ensures { IsTrue result ↔ All (IsLineOf points bias) lines.now }
+{
+    lines.iter().all(|line| is_line(line, points, bias))
+}
+
+/// How many points the lines have together, each counted as often as it stands.
+fn summed(lines: &[Line]) -> usize
+    requires { sum_by length lines.now < 2 ^ 64 }
+    ensures { result ≡ sum_by length lines.now }
+{
+    lines.iter().map(|line| line.len()).sum()
+}
+
+/// Whether the board, where there is one, has so many cells.
+fn has_cells(grid: Option<Grid>, points: u16) -> bool
+    ensures { IsTrue result ↔ ((g : Grid) → grid ≡ Some g → g.width * g.height ≡ points) }
+{
+    match grid {
+        Some(grid) => u32::from(grid.width) * u32::from(grid.height) == u32::from(points),
+        None => true,
+    }
+}
+
+/// Whether the field is within the limits.
+fn is_line_field(field: &LineField, bias: u8) -> bool
+    ensures { IsTrue result ↔ AreLinesOf bias field.now }
+{
+    let lines = field.lines.as_slice();
+    if field.points == 0 || field.points > MOST_POINTS {
+        return false;
+    }
+    if !has_cells(field.grid, field.points) {
+        return false;
+    }
+    if lines.len() > MOST_LINES || !are_lines(lines, field.points, bias) {
+        return false;
+    }
+    summed(lines) <= MOST_SUMMED
+}
+
+/// Whether both ends of each edge are below the limit.
+fn are_ends(ends: &[(u16, u16)], vertices: u16) -> bool
+    ensures { IsTrue result ↔ All (λ e. (e.0 < vertices) × (e.1 < vertices)) ends.now }
+{
+    ends.iter().all(|(a, b)| *a < vertices && *b < vertices)
+}
+
+/// Whether the graph is within the limits and its terminals are two of its vertices.
+fn is_board(graph: &Graph) -> bool
+    ensures { IsTrue result ↔ IsBoard graph.now }
+{
+    let vertices = graph.vertices;
+    let ends = graph.ends.as_slice();
+    if vertices < 2 || vertices > MOST_VERTICES || ends.len() > MOST_EDGES {
+        return false;
+    }
+    if graph.s >= vertices || graph.t >= vertices || graph.s == graph.t {
+        return false;
+    }
+    are_ends(ends, vertices)
+}
+
+/// How many points Y may claim a turn in a game of the kind.
+fn greatest_bias(kind: Kind) -> u8
+    ensures { result ≡ greatest_bias kind }
+{
+    match kind {
+        Kind::MakerBreaker | Kind::AvoiderEnforcer => 7,
+        Kind::MakerMaker | Kind::Switching => 1,
+    }
+}
+
+/// Whether a game of the kind is played on such a field, and this one is within the limits.
+fn field_fits(kind: Kind, field: &Field, bias: u8) -> bool
+    ensures { IsTrue result ↔ FieldFits kind field.now bias }
+{
+    match field {
+        Field::Lines(field) => kind != Kind::Switching && is_line_field(field, bias),
+        Field::Graph(graph) => kind == Kind::Switching && is_board(graph),
+    }
+}
+
+/// The number of points of a field, where it is within the limits.
+fn points_of(field: &Field) -> u16
+    requires { (h : Graph) → field.now ≡ OnGraph h → IsBoard h }
+    ensures { result ≡ field_points field.now }
+{
+    match field {
+        Field::Lines(field) => field.points,
+        Field::Graph(graph) => graph.ends.as_slice().len() as u16,
+    }
+}
+
+/// Whether the parts fit together and are within the limits.
+pub(crate) fn is_fit(kind: Kind, field: &Field, x: &PointSet, y: &PointSet, bias: u8) -> bool
+    ensures { IsTrue result ↔ IsFit kind field.now x.now y.now bias }
+{
+    if bias == 0 || bias > greatest_bias(kind) {
+        return false;
+    }
+    if !field_fits(kind, field, bias) {
+        return false;
+    }
+    let points = points_of(field);
+    if !are_below(x, points) || !are_below(y, points) {
+        return false;
+    }
+    share_none(x, y, points)
+}

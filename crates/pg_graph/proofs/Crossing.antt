@@ -1,0 +1,36 @@
+-- Edges that leave a set of vertices.
+use Rattle.std.proofs.Common.{◌≡◌, ◌≢◌, ℕ, Bool, true, false, ◌⊎◌, List, [], ◌∷◌, refl, inl, inr, sym, ◌∙◌, subst, ap}
+use Rattle.std.proofs.lemmas.Bool.{both_ways, cases_Bool, false_from_ne_true, true_from_ne_false}
+use Rattle.pg_base.specs.Sets.{either}
+use Rattle.pg_base.proofs.SetLemmas.{either_cases}
+use Rattle.pg_graph.specs.Walks.{IsWalk, IsJoined}
+use Rattle.pg_graph.proofs.WalkLemmas.{joined_on, joined_edge, joined_back}
+
+module _ (a b : ℕ → ℕ) where
+  -- a walk that leaves the vertices that pass a test, which no edge of s leaves, has an edge of the other set that leaves them
+  crossing_walk : (s set : ℕ → Bool) (p : ℕ → Bool) → ((k : ℕ) → s k ≡ true → p (a k) ≡ p (b k)) → (ks : List ℕ) (u v : ℕ) → IsWalk a b (either s set) ks u v → p u ≡ true → p v ≡ false
+    → (k : ℕ) × (set k ≡ true) × (p (a k) ≢ p (b k))
+  crossing_walk s set p same [] u v h pu pv = absurd (both_ways _ pv (subst (λ z. p z ≡ true) h pu))
+  crossing_walk s set p same (k ∷ ks) u v h pu pv =
+      elim h.1
+        [ inl q ↦ elim (cases_Bool (p (b k)))
+            [ inl t ↦ crossing_walk s set p same ks (b k) v q.1 t pv
+            | inr o ↦ elim (either_cases s set k h.0)
+                [ inl m ↦ absurd (both_ways _ o (sym (same k m) ∙ subst (λ z. p z ≡ true) (sym q.0) pu))
+                | inr m ↦ (k, m, λ e. both_ways _ o (sym e ∙ subst (λ z. p z ≡ true) (sym q.0) pu)) ] ]
+        | inr q ↦ elim (cases_Bool (p (a k)))
+            [ inl t ↦ crossing_walk s set p same ks (a k) v q.1 t pv
+            | inr o ↦ elim (either_cases s set k h.0)
+                [ inl m ↦ absurd (both_ways _ o (same k m ∙ subst (λ z. p z ≡ true) (sym q.0) pu))
+                | inr m ↦ (k, m, λ e. both_ways _ o (e ∙ subst (λ z. p z ≡ true) (sym q.0) pu)) ] ] ]
+
+  pub find_crossing : (s set : ℕ → Bool) (p : ℕ → Bool) (u v : ℕ) → ((k : ℕ) → s k ≡ true → p (a k) ≡ p (b k)) → IsJoined a b (either s set) u v → p u ≡ true → p v ≡ false
+    → (k : ℕ) × (set k ≡ true) × (p (a k) ≢ p (b k))
+  find_crossing s set p u v same j pu pv = crossing_walk s set p same j.edges u v j.walk pu pv
+
+  -- an edge with just one end joined to u has its ends apart
+  pub crossing_apart : (set : ℕ → Bool) (p : ℕ → Bool) (u k : ℕ) → ((w : ℕ) → p w ≡ true → IsJoined a b set u w) → ((w : ℕ) → IsJoined a b set u w → p w ≡ true) → p (a k) ≢ p (b k) → IsJoined a b set (a k) (b k) → ⊥
+  crossing_apart set p u k there back d j =
+      d (elim (cases_Bool (p (a k)))
+        [ inl t ↦ t ∙ sym (back (b k) (joined_on a b set u (a k) (b k) (there (a k) t) j))
+        | inr o ↦ o ∙ sym (false_from_ne_true _ (λ t. both_ways _ o (back (a k) (joined_on a b set u (b k) (a k) (there (b k) t) (joined_back a b set (a k) (b k) j))))) ])

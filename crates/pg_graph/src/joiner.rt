@@ -1,0 +1,111 @@
+//! Which vertices edges join.
+ghost use Rattle.std.specs.Prelude.{◌≡◌, ℕ, ◌<◌, ◌≤◌, ◌↔◌, true, IsTrue, IfOk, IfSome, IfNone};
+ghost use Rattle.std.specs.FinSet.{contains};
+ghost use Rattle.pg_graph.specs.Graph.{IsGraph, IsJoinedIn, IsBridge, edge_count};
+ghost use Rattle.pg_graph.specs.Joiner.{IsMadeFor, AreEdges, Crosses, Parts, IsLowest};
+
+use crate::graph::Graph;
+use crate::joins;
+use pg_base::{Memory, PointSet};
+use std::alloc::Global;
+use std::marker::Model;
+
+/// Room to work in for graphs with a certain number of vertices and of edges.
+#[derive(Debug, Drop)]
+pub struct Joiner {
+    up: Vec<u16>,
+    edges: u16,
+}
+
+/// The two numbers.
+impl Model for Joiner {
+    ghost use Rattle.std.specs.Prelude.{length};
+    ghost use Rattle.pg_graph.specs.Joiner.{Room};
+
+    ghost Value = { Room };
+
+    ghost view = { λ a. record { vertices = length a.up.items; edges = a.edges } };
+}
+
+impl Joiner {
+    /// A joiner for graphs with as many vertices and edges as this one.
+    pub fn new(alloc: Global, g: &Graph) -> Result<Joiner, Memory>
+        requires graph { IsGraph g.now }
+        ensures { IfOk result (λ joiner. IsMadeFor joiner g.now) }
+    {
+        let up = vec![in alloc; 0; g.vertices as usize]?;
+        Ok(Joiner {
+            up,
+            edges: g.edge_count(),
+        })
+    }
+
+    /// Whether a walk of edges of the set leads from u to v.
+    pub fn joined(&mut self, g: &Graph, set: &PointSet, u: u16, v: u16) -> bool
+        requires graph { IsGraph g.now }
+        requires made { IsMadeFor self.old g.now }
+        requires set { AreEdges g.now (contains set.now) }
+        requires u { u < g.now.vertices }
+        requires v { v < g.now.vertices }
+        ensures joined { IsTrue result ↔ IsJoinedIn g.now (contains set.now) u v }
+        ensures kept { self.new ≡ self.old }
+    {
+        joins::joined(&mut self.up, g, set, u, v)
+    }
+
+    /// The lowest candidate with exactly one end joined to u in the set, and None exactly where there is none.
+    pub fn crossing(
+        &mut self,
+        g: &Graph,
+        set: &PointSet,
+        u: u16,
+        candidates: &PointSet,
+    ) -> Option<u16>
+        requires graph { IsGraph g.now }
+        requires made { IsMadeFor self.old g.now }
+        requires set { AreEdges g.now (contains set.now) }
+        requires u { u < g.now.vertices }
+        requires candidates { AreEdges g.now (contains candidates.now) }
+        ensures lowest { IfSome result (λ k. IsLowest (contains candidates.now) (Crosses g.now (contains set.now) u) k) }
+        ensures none { IfNone result ((k : ℕ) → contains candidates.now k ≡ true → Crosses g.now (contains set.now) u k → ⊥) }
+        ensures kept { self.new ≡ self.old }
+    {
+        joins::crossing(&mut self.up, g, set, u, candidates)
+    }
+
+    /// The lowest candidate in the set without which u and v aren't joined, where they are joined in the set.
+    ///
+    /// None comes exactly where they aren't joined or no candidate parts them.
+    pub fn parting(
+        &mut self,
+        g: &Graph,
+        set: &PointSet,
+        u: u16,
+        v: u16,
+        candidates: &PointSet,
+    ) -> Option<u16>
+        requires graph { IsGraph g.now }
+        requires made { IsMadeFor self.old g.now }
+        requires set { AreEdges g.now (contains set.now) }
+        requires u { u < g.now.vertices }
+        requires v { v < g.now.vertices }
+        requires candidates { AreEdges g.now (contains candidates.now) }
+        ensures lowest { IfSome result (λ k. IsLowest (contains candidates.now) (Parts g.now (contains set.now) u v) k) }
+        ensures none { IfNone result ((k : ℕ) → contains candidates.now k ≡ true → Parts g.now (contains set.now) u v k → ⊥) }
+        ensures kept { self.new ≡ self.old }
+    {
+        joins::parting(&mut self.up, g, set, u, v, candidates)
+    }
+
+    /// Whether the ends of f aren't joined in the set without f.
+    pub fn bridge(&mut self, g: &Graph, set: &PointSet, f: u16) -> bool
+        requires graph { IsGraph g.now }
+        requires made { IsMadeFor self.old g.now }
+        requires set { AreEdges g.now (contains set.now) }
+        requires edge { f ≤ edge_count g.now }
+        ensures bridge { IsTrue result ↔ IsBridge g.now (contains set.now) f }
+        ensures kept { self.new ≡ self.old }
+    {
+        joins::bridge(&mut self.up, g, set, f)
+    }
+}
