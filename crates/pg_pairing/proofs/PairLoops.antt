@@ -1,0 +1,224 @@
+-- The steps of the tests of pairs.
+use Rattle.std.proofs.Common.{◌≡◌, ◌≢◌, ℕ, zero, suc, ◌+◌, ◌<◌, Bool, true, false, cond, not, ◌&&◌, ◌||◌, ◌↔◌, List, [], ◌∷◌, ◌++◌, length, get_or, take, eqb, nat_lt, nat_eq, refl, sym, ap, ◌∙◌, subst, inl, inr, arith, eq-eqb, ne_eqb, eqb-true, ltb-true, lt-ltb, IsTrue, if◌then◌else◌, ◌≤◌, length-take-le, get_or-take, take_all}
+use Rattle.std.proofs.lemmas.Bool.{cond-true, cond-false, cases_Bool, cases_eq, and_parts, and_from, or_parts, or_from, not-true, not_from_false, false≢true, false_from_ne_true}
+use Rattle.std.specs.FinSet.{FinSet, contains, insert}
+use Rattle.std.specs.Ordering.{nat_cmp}
+use Rattle.pg_game.specs.declared.position.Position.{Position}
+use Rattle.pg_game.specs.Position.{is_free}
+use Rattle.pg_base.specs.WordLemmas.{in_insert}
+use Rattle.pg_base.specs.declared.pair.Pair.{Pair}
+use Rattle.pg_game.specs.declared.game.Game.{Game}
+use Rattle.pg_game.specs.Pairs.{has_point, is_open, AreOpenPairs, SharesNone, IsInGame, HoldLines, PairsHold, PairsLeaveNone, is_paired, unpaired}
+use Rattle.pg_pairing.specs.Taking.{CanTake}
+use Rattle.pg_game.specs.Game.{point_count, free_points}
+use Rattle.pg_game.specs.Field.{field_points}
+use Rattle.pg_game.specs.Fit.{AreLinesOf, IsBoard}
+use Rattle.pg_game.specs.declared.field.Field.{Field}
+use Rattle.pg_game.specs.declared.field.Field.TheVariants.{Lines, Graph as OnGraph}
+use Rattle.pg_game.specs.declared.field.LineField.{LineField}
+use Rattle.pg_graph.specs.declared.graph.Graph.{Graph}
+use Rattle.pg_base.specs.declared.kind.Kind.TheVariants.{AvoiderEnforcer}
+use Rattle.std.proofs.lemmas.List.Elements.{filter_agree}
+use Rattle.pg_game.proofs.Members.{false-at, list_any-none}
+use Rattle.pg_base.specs.declared.side.Side.{Side}
+use Rattle.std.specs.List.{filter, range_with_len, list_any, Contains, All, AllPairs}
+use Rattle.std.proofs.lemmas.List.{take_more, get_or_default}
+use Rattle.std.proofs.lemmas.List.Folds.{list_any_more}
+use Rattle.std.proofs.lemmas.List.Elements.{All-nil, All-push, All-get_or, Contains-get_or}
+use Rattle.std.proofs.lemmas.List.Quantifiers.{all_pairs_push}
+
+swap_or : (a b c : Bool) → (b || (a || c)) ≡ ((a || b) || c)
+swap_or true true c = refl
+swap_or true false c = refl
+swap_or false b c = refl
+
+same_eq : (a b : ℕ) → eqb a b ≡ eqb b a
+same_eq a b = elim (cases_eq a b) [ inl e ↦ eq-eqb a b e ∙ sym (eq-eqb b a (sym e)) | inr ne ↦ ne_eqb a b ne ∙ sym (ne_eqb b a (λ e. ne (sym e))) ]
+
+-- one point after the other
+pub CanTake-iff : (points : ℕ) (p : Position) (taken middle : FinSet nat_cmp) (s : Pair) (first second : Bool)
+    → first ≡ (nat_lt s.a points && (is_free p s.a && not (contains taken s.a)))
+    → middle ≡ (if first then insert taken s.a else taken) → first ≡ true
+    → second ≡ (nat_lt s.b points && (is_free p s.b && not (contains middle s.b)))
+    → (IsTrue second → CanTake points p taken s) × (CanTake points p taken s → IsTrue second)
+CanTake-iff points p taken middle s first second is_first is_middle on is_second =
+    let middle_is : middle ≡ insert taken s.a = is_middle ∙ ap (λ b. cond b (insert taken s.a) taken) on in
+    let a_parts = and_parts (nat_lt s.a points) (is_free p s.a && not (contains taken s.a)) (sym is_first ∙ on) in
+    let a_free = and_parts (is_free p s.a) (not (contains taken s.a)) a_parts.1 in
+    let in_middle : contains middle s.b ≡ (eqb s.b s.a || contains taken s.b) = ap (λ t. contains t s.b) middle_is ∙ in_insert taken s.a s.b in (
+      λ yes_second.
+          let b_parts = and_parts (nat_lt s.b points) (is_free p s.b && not (contains middle s.b)) (sym is_second ∙ yes_second) in
+          let b_free = and_parts (is_free p s.b) (not (contains middle s.b)) b_parts.1 in
+          let off = or_parts (eqb s.b s.a) (contains taken s.b) (sym in_middle ∙ not-true _ b_free.1) in
+          record {
+            a_range = ltb-true s.a points a_parts.0;
+            b_range = ltb-true s.b points b_parts.0;
+            free = and_from _ _ a_free.0 b_free.0;
+            different = λ e. false≢true (sym off.0 ∙ eq-eqb s.b s.a (sym e));
+            a_fresh = not-true _ a_free.1;
+            b_fresh = off.1;
+          },
+      λ can.
+          let free = and_parts _ _ can.free in
+          is_second ∙ and_from _ _ (lt-ltb s.b points can.b_range)
+          (and_from _ _ free.1 (not_from_false _ (in_middle ∙ or_from _ _ (ne_eqb s.b s.a (λ e. can.different (sym e))) can.b_fresh))),
+    )
+
+pub taken-both : (taken middle last : FinSet nat_cmp) (s : Pair) (first second : Bool)
+    → middle ≡ (if first then insert taken s.a else taken) → first ≡ true
+    → last ≡ (if second then insert middle s.b else middle)
+    → IsTrue second → (q : ℕ) → contains last q ≡ (has_point q s || contains taken q)
+taken-both taken middle last s first second is_middle on is_last on_second q =
+    ap (λ t. contains t q) (is_last ∙ ap (λ b. cond b (insert middle s.b) middle) on_second) ∙ in_insert middle s.b q
+    ∙ ap (λ t. eqb q s.b || contains t q) (is_middle ∙ ap (λ b. cond b (insert taken s.a) taken) on)
+    ∙ ap (λ b. eqb q s.b || b) (in_insert taken s.a q)
+    ∙ swap_or (eqb q s.a) (eqb q s.b) (contains taken q)
+    ∙ ap (λ b. (b || eqb q s.b) || contains taken q) (same_eq q s.a)
+    ∙ ap (λ b. (eqb s.a q || b) || contains taken q) (same_eq q s.b)
+
+-- ---- the loop over the pairs
+
+pub AreOpenPairs-none : (g : Game) (p : Position) → AreOpenPairs g p []
+AreOpenPairs-none g p = record {
+  range = All-nil (IsInGame g);
+  free = All-nil (λ s. is_open p s ≡ true);
+  different = All-nil (λ s. s.a ≢ s.b);
+  disjoint = λ i j d h k. absurd (omega arith);
+}
+
+-- a point that isn't taken is in no pair before
+fresh-apart : (xs : List Pair) (taken : FinSet nat_cmp) (v : ℕ) → ((q : ℕ) → contains taken q ≡ list_any (has_point q) xs) → contains taken v ≡ false → (t : Pair) → Contains xs t → (t.a ≢ v) × (t.b ≢ v)
+fresh-apart xs taken v is fresh t c =
+    let off = or_parts (eqb t.a v) (eqb t.b v) (false-at (has_point v) xs t (sym (is v) ∙ fresh) c) in
+    (λ e. false≢true (sym off.0 ∙ eq-eqb t.a v e), λ e. false≢true (sym off.1 ∙ eq-eqb t.b v e))
+
+take-next : (xs : List Pair) (i : ℕ) (d : Pair) → i < length xs → take (i + 1) xs ≡ take i xs ++ get_or xs i d ∷ []
+take-next xs i d h = take_more xs i d h
+
+pub AreOpenPairs-more : (g : Game) (p : Position) (xs : List Pair) (i : ℕ) (d : Pair) (points : ℕ) (taken : FinSet nat_cmp)
+    → i < length xs → AreOpenPairs g p (take i xs) → points ≡ point_count g → ((q : ℕ) → contains taken q ≡ list_any (has_point q) (take i xs))
+    → CanTake points p taken (get_or xs i d) → AreOpenPairs g p (take (i + 1) xs)
+AreOpenPairs-more g p xs i d points taken h before count is can =
+    let s = get_or xs i d in
+    subst (λ (ys : List Pair). AreOpenPairs g p ys) (sym (take-next xs i d h)) (record {
+      range = All-push (IsInGame g) (take i xs) s before.range (subst (λ (n : ℕ). s.a < n) count can.a_range, subst (λ (n : ℕ). s.b < n) count can.b_range);
+      free = All-push (λ s. is_open p s ≡ true) (take i xs) s before.free can.free;
+      different = All-push (λ s. s.a ≢ s.b) (take i xs) s before.different can.different;
+      disjoint = all_pairs_push SharesNone (take i xs) s before.disjoint (λ k e lt.
+          let member = Contains-get_or (take i xs) k e lt in
+          let a = fresh-apart (take i xs) taken s.a is can.a_fresh (get_or (take i xs) k e) member in
+          let b = fresh-apart (take i xs) taken s.b is can.b_fresh (get_or (take i xs) k e) member in
+          record { aa = a.0; ab = b.0; ba = a.1; bb = b.1 });
+    })
+
+pub taken-more : (xs : List Pair) (i : ℕ) (d : Pair) (taken next : FinSet nat_cmp) → i < length xs → ((q : ℕ) → contains taken q ≡ list_any (has_point q) (take i xs))
+    → ((q : ℕ) → contains next q ≡ (has_point q (get_or xs i d) || contains taken q)) → (q : ℕ) → contains next q ≡ list_any (has_point q) (take (i + 1) xs)
+taken-more xs i d taken next h is more q =
+    more q ∙ or_comm (has_point q (get_or xs i d)) (contains taken q) ∙ ap (λ b. b || has_point q (get_or xs i d)) (is q) ∙ sym (list_any_more (has_point q) xs i d h)
+  where
+    or_comm : (a b : Bool) → (a || b) ≡ (b || a)
+    or_comm true true = refl
+    or_comm true false = refl
+    or_comm false true = refl
+    or_comm false false = refl
+
+pub CanTake-at : (g : Game) (p : Position) (xs : List Pair) (i : ℕ) (d : Pair) (points : ℕ) (taken : FinSet nat_cmp)
+    → i < length xs → AreOpenPairs g p xs → points ≡ point_count g → ((q : ℕ) → contains taken q ≡ list_any (has_point q) (take i xs))
+    → CanTake points p taken (get_or xs i d)
+CanTake-at g p xs i d points taken h pairs count is =
+    let s = get_or xs i d in
+    let range = All-get_or (IsInGame g) xs i d h pairs.range in
+    record {
+      a_range = subst (λ (n : ℕ). s.a < n) (sym count) range.0;
+      b_range = subst (λ (n : ℕ). s.b < n) (sym count) range.1;
+      free = All-get_or (λ s. is_open p s ≡ true) xs i d h pairs.free;
+      different = All-get_or (λ s. s.a ≢ s.b) xs i d h pairs.different;
+      a_fresh = is s.a ∙ list_any-none (has_point s.a) (take i xs) (λ t c. let out = earlier t c in or_from _ _ (ne_eqb t.a s.a out.aa) (ne_eqb t.b s.a out.ba));
+      b_fresh = is s.b ∙ list_any-none (has_point s.b) (take i xs) (λ t c. let out = earlier t c in or_from _ _ (ne_eqb t.a s.b out.ab) (ne_eqb t.b s.b out.bb));
+    }
+  where
+    earlier : (t : Pair) → Contains (take i xs) t → SharesNone t (get_or xs i d)
+    earlier t c =
+        let len = length-take-le i xs (omega arith) in
+        let below : c.0 < i = omega (arith, c.1, len) in
+        let at : get_or xs c.0 d ≡ t = get_or_default xs c.0 d t (omega arith) ∙ sym (get_or-take i xs c.0 t below) ∙ c.2 in
+        subst (λ (u : Pair). SharesNone u (get_or xs i d)) at (pairs.disjoint c.0 i d below h)
+
+pub AreOpenPairs-all : (g : Game) (p : Position) (xs : List Pair) (i : ℕ) → length xs ≤ i → AreOpenPairs g p (take i xs) → AreOpenPairs g p xs
+AreOpenPairs-all g p xs i h pairs = subst (λ (ys : List Pair). AreOpenPairs g p ys) (take_all i xs h) pairs
+
+-- all the facts of the condition
+pub PairsHold-from : (g : Game) (p : Position) (side : Side) (pairs : List Pair) → AreOpenPairs g p pairs → HoldLines g p side pairs → (g.kind ≡ AvoiderEnforcer → PairsLeaveNone g p pairs) → PairsHold g p side pairs
+PairsHold-from g p side pairs open_pairs lines leaves = record { range = open_pairs.range; free = open_pairs.free; different = open_pairs.different; disjoint = open_pairs.disjoint; held = lines; avoider = leaves }
+
+pub AreOpenPairs-of : (g : Game) (p : Position) (side : Side) (pairs : List Pair) → PairsHold g p side pairs → AreOpenPairs g p pairs
+AreOpenPairs-of g p side pairs h = record { range = h.range; free = h.free; different = h.different; disjoint = h.disjoint }
+
+-- ---- the count of the points left out
+
+-- how many of n numbers from a on pass both tests
+pub passing : (ℕ → Bool) → (ℕ → Bool) → ℕ → ℕ → ℕ
+passing t f a n = length (filter t (filter f (range_with_len a n)))
+
+pub passing-more : (t f : ℕ → Bool) (a n v : ℕ) → a + n ≡ v → f v ≡ true → t v ≡ true → passing t f a (suc n) ≡ passing t f a n + 1
+unfolding passing
+passing-more t f a zero v at on pass =
+    let here : f a ≡ true = ap f (omega arith) ∙ on in
+    let keeps : t a ≡ true = ap t (omega arith) ∙ pass in
+    rw here (rw keeps refl)
+passing-more t f a (suc n) v at on pass =
+    let rest = passing-more t f (a + 1) n v (omega arith) on pass in
+    elim (cases_Bool (f a)) [
+      | inl here ↦ rw here (elim (cases_Bool (t a)) [ inl keeps ↦ rw keeps (omega (arith, rest)) | inr drops ↦ rw drops rest ])
+      | inr off ↦ rw off rest
+    ]
+
+pub passing-same : (t f : ℕ → Bool) (a n v : ℕ) → a + n ≡ v → (f v && t v) ≡ false → passing t f a (suc n) ≡ passing t f a n
+unfolding passing
+passing-same t f a zero v at off =
+    let here : (f a && t a) ≡ false = ap (λ q. f q && t q) (omega arith) ∙ off in
+    elim (cases_Bool (f a)) [
+      | inl on ↦ let drops : t a ≡ false = sym (ap (λ b. b && t a) on) ∙ here in rw on (rw drops refl)
+      | inr out ↦ rw out refl
+    ]
+passing-same t f a (suc n) v at off =
+    let rest = passing-same t f (a + 1) n v (omega arith) off in
+    elim (cases_Bool (f a)) [
+      | inl here ↦ rw here (elim (cases_Bool (t a)) [ inl keeps ↦ rw keeps (ap suc rest) | inr drops ↦ rw drops rest ])
+      | inr out ↦ rw out rest
+    ]
+
+pub passing-none : (t f : ℕ → Bool) (a : ℕ) → passing t f a 0 ≡ 0
+unfolding passing
+passing-none t f a = refl
+
+-- the count as far as the numbers below v, one number further
+pub passing-next : (t f : ℕ → Bool) (v n m : ℕ) → n ≡ passing t f 0 v → m ≡ (if f v && t v then n + 1 else n) → m ≡ passing t f 0 (v + 1)
+passing-next t f v n m is next =
+    let further : suc v ≡ v + 1 = omega arith in
+    next ∙ elim (cases_Bool (f v && t v)) [
+      | inl on ↦
+          let both = and_parts (f v) (t v) on in
+          cond-true (f v && t v) (n + 1) n on ∙ ap (λ k. k + 1) is ∙ sym (passing-more t f 0 v v (omega arith) both.0 both.1) ∙ ap (passing t f 0) further
+      | inr off ↦ cond-false (f v && t v) (n + 1) n off ∙ is ∙ sym (passing-same t f 0 v v (omega arith) off) ∙ ap (passing t f 0) further
+    ]
+
+-- the count over all points of the game
+pub passing-all : (g : Game) (p : Position) (t : ℕ → Bool) (n : ℕ) → n ≡ point_count g → passing t (is_free p) 0 n ≡ length (filter t (free_points g p))
+unfolding passing free_points
+passing-all g p t n e = ap (λ m. length (filter t (filter (is_free p) (range_with_len 0 m)))) e
+
+-- two sets that agree leave the same points out
+pub unpaired-is : (g : Game) (p : Position) (pairs : List Pair) (paired : FinSet nat_cmp) → ((q : ℕ) → contains paired q ≡ is_paired pairs q)
+    → length (filter (λ v. not (contains paired v)) (free_points g p)) ≡ length (unpaired g p pairs)
+unpaired-is g p pairs paired is =
+    ap length (filter_agree (λ v. not (contains paired v)) (λ v. not (is_paired pairs v)) (λ q. ap not (is q)) (free_points g p))
+
+-- ---- the number of points
+
+pub few_points : (g : Game) → point_count g ≤ 1024
+few_points g = few g.field g.fits.on_lines g.fits.on_graph
+  where
+    few : (field : Field) → ((f : LineField) → field ≡ Lines f → AreLinesOf g.bias f) → ((h : Graph) → field ≡ OnGraph h → IsBoard h) → field_points field ≤ 1024
+    few (Lines f) on_lines on_graph = let h = (on_lines f refl).few_points in omega arith
+    few (OnGraph b) on_lines on_graph = let h = (on_graph b refl).few_edges in omega arith

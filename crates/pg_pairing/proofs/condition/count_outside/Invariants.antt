@@ -1,0 +1,11 @@
+use Rattle.std.proofs.Common.{◌≡◌, ◌≤◌, ℕ, not}
+use Rattle.std.specs.FinSet.{contains}
+use Rattle.pg_game.specs.Position.{is_free}
+use Rattle.pg_pairing.proofs.PairLoops.{passing}
+use Rattle.pg_pairing.proofs.condition.count_outside.Given as goal
+
+abbrev pub invariant-loop-v : goal.invariant-loop-v
+invariant-loop-v l = record {
+  counted : l.outside ≡ passing (λ v. not (contains l.points v)) (is_free l.p) 0 l.v;
+  few : l.outside ≤ l.v;
+}

@@ -1,0 +1,164 @@
+//! Whether pairs hold.
+ghost use Rattle.std.specs.Prelude.{◌≡◌, ℕ, ◌<◌, ◌≤◌, ◌↔◌, ◌&&◌, ◌||◌, not, IsTrue, IsSome, IfSome, nat_lt, if◌then◌else◌, length};
+ghost use Rattle.std.specs.List.{All, filter};
+ghost use Rattle.std.specs.FinSet as set;
+ghost use Rattle.pg_base.specs.declared.kind.Kind.TheVariants.{AvoiderEnforcer};
+ghost use Rattle.pg_game.specs.Position.{is_free};
+ghost use Rattle.pg_game.specs.Game.{point_count, lines_of, is_touched, free_points, IsPosition};
+ghost use Rattle.pg_game.specs.Pairs.{PairsHold, PairsLeaveNone, AreOpenPairs, HoldsPair, HoldLines, IsSafe, has_point, is_paired, breaker_of, unpaired_due};
+ghost use Rattle.pg_pairing.specs.Taking.{CanTake};
+
+use pg_base::{Kind, Line, Pair, PointSet, Side};
+use pg_game::{Field, Game, Position};
+
+/// Whether some point of the line is in the set.
+fn touches(points: &PointSet, line: &Line) -> bool
+    requires { All (λ v. v < 1024) line.now }
+    ensures { result ≡ is_touched points.now line.now }
+{
+    line.as_slice().iter().any(|v| points.has(*v))
+}
+
+/// The number of points, which a set of points has room for.
+pub(crate) fn points_of(g: &Game) -> u16
+    ensures points { result ≡ point_count g.now }
+    ensures few { result ≤ 1024 }
+{
+    g.points()
+}
+
+/// The lines, none on a graph.
+fn lines_of(g: &Game) -> &[Line]
+    ensures lines { result.now ≡ lines_of g.now }
+    ensures range { All (All (λ v. v < 1024)) result.now }
+{
+    match &g.field {
+        Field::Lines(field) => field.lines.as_slice(),
+        Field::Graph(_) => &[],
+    }
+}
+
+/// Puts a free point of the game that isn't taken to those that are, and tells whether it could.
+fn take(points: u16, p: &Position, taken: &mut PointSet, v: u16) -> bool
+    requires { points ≤ 1024 }
+    ensures free { result ≡ (nat_lt v points && (is_free p.now v && not (set.contains taken.old v))) }
+    ensures taken { taken.new ≡ (if result then set.insert taken.old v else taken.old) }
+{
+    if v < points && p.is_free(v) && !taken.has(v) {
+        taken.put(v);
+        true
+    } else {
+        false
+    }
+}
+
+/// Puts both points of the pair to those that are taken, and tells whether it could.
+fn take_pair(points: u16, p: &Position, taken: &mut PointSet, s: Pair) -> bool
+    requires { points ≤ 1024 }
+    ensures fits { IsTrue result ↔ CanTake points p.now taken.old s }
+    ensures taken { IsTrue result → (q : ℕ) → set.contains taken.new q ≡ (has_point q s || set.contains taken.old q) }
+{
+    take(points, p, taken, s.a) && take(points, p, taken, s.b)
+}
+
+/// The points of the pairs, where these are of free points of the game, all different.
+fn paired_points(g: &Game, p: &Position, pairs: &[Pair]) -> Option<PointSet>
+    ensures open { IsSome result ↔ AreOpenPairs g.now p.now pairs.now }
+    ensures points { IfSome result (λ paired. (q : ℕ) → set.contains paired q ≡ is_paired pairs.now q) }
+{
+    let points = points_of(g);
+    let mut taken = PointSet::empty();
+    for s in pairs {
+        if !take_pair(points, p, &mut taken, *s) {
+            return None;
+        }
+    }
+    Some(taken)
+}
+
+/// Whether the point is free and not in the set.
+fn is_outside(p: &Position, points: &PointSet, v: u16) -> bool
+    requires { v < 1024 }
+    ensures { result ≡ (is_free p.now v && not (set.contains points.now v)) }
+{
+    p.is_free(v) && !points.has(v)
+}
+
+/// How many free points are not in the set.
+fn count_outside(g: &Game, p: &Position, points: &PointSet) -> u16
+    ensures { result ≡ length (filter (λ v. not (set.contains points.now v)) (free_points g.now p.now)) }
+{
+    let mut outside = 0;
+    for v in 0..points_of(g) {
+        if is_outside(p, points, v) {
+            outside += 1;
+        }
+    }
+    outside
+}
+
+/// How many free points may be in no pair.
+fn unpaired_due(turn: Side) -> u16
+    ensures { result ≡ unpaired_due turn }
+{
+    match turn {
+        Side::X => 1,
+        Side::Y => 0,
+    }
+}
+
+/// Whether, in Avoider-Enforcer, Enforcer claims one point a turn and no free point is left out of the pairs, but one
+/// where Avoider is to move. The set is that of the points in pairs.
+fn leave_none(g: &Game, p: &Position, pairs: &[Pair], paired: &PointSet) -> bool
+    requires { (q : ℕ) → set.contains paired.now q ≡ is_paired pairs.now q }
+    ensures { IsTrue result ↔ (g.now.kind ≡ AvoiderEnforcer → PairsLeaveNone g.now p.now pairs.now) }
+{
+    if g.kind != Kind::AvoiderEnforcer {
+        return true;
+    }
+    if g.bias != 1 {
+        return false;
+    }
+    count_outside(g, p, paired) == unpaired_due(p.turn)
+}
+
+/// Whether the line has one of the points, or holds both points of some pair.
+fn is_safe(own: &PointSet, line: &Line, pairs: &[Pair]) -> bool
+    requires { All (λ v. v < 1024) line.now }
+    ensures { IsTrue result ↔ IsSafe own.now pairs.now line.now }
+{
+    touches(own, line) || pairs.iter().any(|s| line.has(s.a) && line.has(s.b))
+}
+
+/// The side whose points make a line harmless to the claimer.
+fn breaker_of(kind: Kind, side: Side) -> Side
+    ensures { result ≡ breaker_of kind side }
+{
+    match kind {
+        Kind::AvoiderEnforcer => Side::Y,
+        Kind::MakerBreaker | Kind::MakerMaker | Kind::Switching => side,
+    }
+}
+
+/// Whether every line meant holds both points of some pair.
+fn hold_lines(g: &Game, p: &Position, side: Side, pairs: &[Pair]) -> bool
+    ensures { IsTrue result ↔ HoldLines g.now p.now side pairs.now }
+{
+    let own = p.points_of(breaker_of(g.kind, side));
+    lines_of(g).iter().all(|line| is_safe(own, line, pairs))
+}
+
+/// Whether the pairs are of free points, all different, and every line without a point of the side that makes lines
+/// harmless holds both points of some pair. That side is the claimer, but Y in Avoider-Enforcer, where moreover Y
+/// claims one point a turn and no free point is left out of the pairs, but one where X is to move.
+///
+/// The pairing is Hales and Jewett's (Regularity and positional games, 1963).
+pub fn holds(g: &Game, p: &Position, side: Side, pairs: &[Pair]) -> bool
+    requires { IsPosition g.now p.now }
+    ensures exact { IsTrue result ↔ PairsHold g.now p.now side pairs.now }
+{
+    match paired_points(g, p, pairs) {
+        Some(paired) => leave_none(g, p, pairs, &paired) && hold_lines(g, p, side, pairs),
+        None => false,
+    }
+}

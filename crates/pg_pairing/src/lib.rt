@@ -1,0 +1,6 @@
+//! Pairs of free points of which a side needs one each: the test, what it forces, and the answer to a reply.
+#![tactic(auto)]
+
+mod condition;
+
+pub use condition::holds;
