@@ -168,9 +168,13 @@ HasThreat g side p _ = Unit {0}
 abbrev pub IsRoot : Game → Claim → ℕ → Node → Type 0
 IsRoot g c k n = k + 1 ≡ length c.nodes → position_of n ≡ with_turn g c.turn
 
--- what is owed of an allowed body at marks of the game
+-- more than its marks, its children and its place is asked of a node only where its body is allowed and it stands on the game's points
+pub record IsOwed (g : Game) (c : Claim) (n : Node) : Type 0 where
+  pub allowed : is_allowed g.kind g.bias c.side c.goal n.body ≡ true
+  pub in_game : IsInGame g n
+
 abbrev pub Owes : Game → Claim → Node → Type 0 → Type 0
-Owes g c n P = is_allowed g.kind g.bias c.side c.goal n.body ≡ true → IsInGame g n → P
+Owes g c n P = IsOwed g c n → P
 
 -- THE TABLE: what node number k of the claim owes under each fault's name
 abbrev pub Passes : Game → Claim → ℕ → Node → NodeFault → Type 0
