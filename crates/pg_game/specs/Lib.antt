@@ -14,3 +14,4 @@ pub mod Decided
 pub mod Settled
 pub mod Class
 pub mod Strategy
+pub mod Judge
