@@ -9,7 +9,7 @@ use Rattle.std.specs.FinSet.{FinSet, contains}
 use Rattle.std.specs.Ordering.{nat_cmp}
 use Rattle.pg_base.specs.Words.{has_bit, members_below, AreWords}
 use Rattle.pg_base.specs.WordLemmas.{in_members_below, has_bit-at, members-beyond, bit_from_test}
-use Rattle.pg_base.specs.Points.{IsLeastFrom, ShareNone, AreWithin}
+use Rattle.pg_base.specs.Points.{IsLeastFrom, AreBelow, ShareNone, AreWithin}
 
 -- whether the bit is set
 abbrev pub bit_test : ℕ → ℕ → Bool
@@ -52,6 +52,10 @@ pub zero-from_tests : (n : ℕ) → n < 2 ^ 64 → ((j : ℕ) → j < 64 → bit
 zero-from_tests n fit off = same_from_bits_below 64 n 0 fit (lit< tt) (λ j column. off-zero n j (off j column) ∙ sym (bit_at-zero j))
 
 -- ---- points by row and column
+
+-- the points that words stand for are below 1,024
+pub AreBelow-words : (ws : List ℕ) → AreBelow (members_below ws 1024) 1024
+AreBelow-words ws v here = elim (cases_lt v 1024) [ inl lt ↦ lt | inr ge ↦ absurd (both_ways _ (members-beyond ws v ge) here) ]
 
 pub contains-at : (ws : List ℕ) (i j : ℕ) → i < 16 → j < 64 → contains (members_below ws 1024) (64 * i + j) ≡ bit_test (get_or ws i 0) j
 contains-at ws i j row column = in_members_below ws 1024 (64 * i + j) ∙ ap (λ b. b && has_bit ws (64 * i + j)) (lt-ltb (64 * i + j) 1024 (omega arith)) ∙ has_bit-at ws i j column

@@ -106,9 +106,12 @@ impl PointSet {
         points
     }
 
-    /// The least point of the set that is not below `p`; none where each point is below it.
+    /// The least point of the set that is not below `p`; none exactly where each point is below it. Each point
+    /// of a set is below 1,024.
     pub fn first_from(&self, p: u16) -> Option<u16>
         ensures found { IfSome result (λ v. IsLeastFrom self.now p v) }
+        ensures range { IfSome result (λ v. v < 1024) }
+        ensures limit { AreBelow self.now 1024 }
         ensures none { IfNone result ((q : ℕ) → p ≤ q → set.contains self.now q ≡ false) }
     {
         let _words = &self.words;
@@ -126,6 +129,7 @@ impl PointSet {
         requires row { row < 16 }
         requires column { column < 64 }
         ensures found { IfSome result (λ v. IsLeastFrom self.now (64 * row + column) v) }
+        ensures range { IfSome result (λ v. v < 1024) }
         ensures none { IfNone result ((q : ℕ) → 64 * row + column ≤ q → q < 64 * (row + 1) → set.contains self.now q ≡ false) }
     {
         let word = self.words[row as usize] >> column;
