@@ -6,3 +6,5 @@ pub mod Value
 pub mod Play
 pub mod Strategy
 pub mod Judge
+pub mod Walked
+pub mod PositionLemmas
