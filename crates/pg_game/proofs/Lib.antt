@@ -7,3 +7,4 @@ pub mod ValueLaws
 pub mod Limits
 pub mod TerminalLemmas
 pub mod Outcomes
+pub mod Walked

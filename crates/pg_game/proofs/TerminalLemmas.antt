@@ -14,6 +14,7 @@ use Rattle.pg_graph.specs.declared.graph.Graph.{Graph}
 use Rattle.pg_graph.proofs.WalkLemmas.{joins_sound, joins_complete}
 use Rattle.pg_graph.proofs.GraphLemmas.{joins_in-sound, joins_in-complete, joins_in-edges, joins_same, joins-below, first_end_of-edge, second_end_of-edge}
 use Rattle.pg_game.specs.Field.{terminals_joined}
+use Rattle.pg_game.specs.Walked.{AreConnected}
 
 -- only the ends of the edges below n count
 joins_ends : (a b c d : ℕ → ℕ) (set : ℕ → Bool) (n u v : ℕ) → ((k : ℕ) → k < n → a k ≡ c k) → ((k : ℕ) → k < n → b k ≡ d k) → joins a b set n u v ≡ joins c d set n u v
@@ -85,3 +86,12 @@ outside-passed s points v before in_set q = before q ∙ elim (cases_eq q v) [
     and_false : (b : Bool) → (b && false) ≡ false
     and_false true = refl
     and_false false = refl
+
+-- ---- walks
+
+-- the terminals are joined exactly where a walk of edges of the set leads from one to the other
+pub terminals-decides : (h : Graph) (set : ℕ → Bool) → Decides (terminals_joined h set) (AreConnected h set)
+terminals-decides h set = (
+  λ on. joins_sound (first_end h.ends) (second_end h.ends) (below set (edge_count h)) (edge_count h) h.s h.t (joins-below (first_end h.ends) (second_end h.ends) set (edge_count h) h.s h.t ∙ on),
+  λ walk. joins_complete (first_end h.ends) (second_end h.ends) set (edge_count h) h.s h.t walk,
+)

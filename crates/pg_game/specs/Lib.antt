@@ -15,3 +15,5 @@ pub mod Settled
 pub mod Class
 pub mod Strategy
 pub mod Judge
+pub mod Walked
+pub mod PositionLemmas

@@ -1,6 +1,7 @@
 //! Whether a game is over and who has won, and which moves are legal.
 ghost use Rattle.std.specs.Prelude.{◌≡◌, ◌≢◌, Some, None, IfOk, if◌then◌else◌};
-ghost use Rattle.pg_game.specs.Game.{is_over, outcome, IsPosition};
+ghost use Rattle.pg_game.specs.Fit.{AreBelow};
+ghost use Rattle.pg_game.specs.Game.{point_count, is_over, outcome};
 ghost use Rattle.pg_game.specs.Judge.{IsMadeForGame, judged_move};
 
 use crate::field::Field;
@@ -51,10 +52,11 @@ impl Judge {
 
     /// The outcome of the position, and None exactly where it isn't over.
     ///
+    /// X's points must be points of the game, as they are at every position of it.
     /// The time is linear in the points of all lines, or near-linear in the edges.
     pub fn over(&mut self, g: &Game, p: &Position) -> Option<Score>
         requires made { IsMadeForGame self.old g.now }
-        requires position { IsPosition g.now p.now }
+        requires range { AreBelow p.now.x (point_count g.now) }
         ensures result { result ≡ (if is_over g.now p.now then Some (outcome g.now p.now) else None) }
         ensures kept { self.new ≡ self.old }
     {
@@ -69,12 +71,14 @@ impl Judge {
 
     /// The position after the side to move takes the point.
     ///
+    /// X's points must be points of the game, as they are at every position of it.
+    ///
     /// # Errors
     ///
     /// `Range` where the game has no such point, else `Over` where it is over, else `Taken` where the point isn't free.
     pub fn play(&mut self, g: &Game, p: &Position, v: u16) -> Result<Position, Illegal>
         requires made { IsMadeForGame self.old g.now }
-        requires position { IsPosition g.now p.now }
+        requires range { AreBelow p.now.x (point_count g.now) }
         ensures result { result ≡ judged_move g.now p.now v }
         ensures kept { self.new ≡ self.old }
     {

@@ -6,6 +6,7 @@ mod fit;
 mod game;
 mod joins;
 mod judge;
+pub mod laws;
 mod position;
 mod rules;
 
