@@ -4,7 +4,10 @@
 mod cert;
 mod fault;
 mod form;
+mod line;
 mod node;
+mod part;
+mod progress;
 mod reply;
 mod text;
 mod values;
