@@ -2,3 +2,4 @@ pub mod Cuts
 pub mod Digits
 pub mod Odd
 pub mod Following
+pub mod SetLists

@@ -4,8 +4,11 @@
 mod cert;
 mod fault;
 mod form;
+mod line;
 mod node;
 mod node_fault;
+mod part;
+mod progress;
 mod reply;
 mod text;
 mod values;
