@@ -1,1 +1,4 @@
 pub mod PairLoops
+pub mod Filters
+pub mod OpenPairs
+pub mod LeftOut
