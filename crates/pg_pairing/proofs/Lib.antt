@@ -2,3 +2,4 @@ pub mod PairLoops
 pub mod Filters
 pub mod OpenPairs
 pub mod LeftOut
+pub mod AnswerLaws

@@ -70,6 +70,13 @@ open_joined p s v b is fv fb = elim is [
 pub joined_apart : (s : Pair) (v b : ℕ) → Joins s v b → s.a ≢ s.b → v ≢ b
 joined_apart s v b is ne e = elim is [ inl ab ↦ ne (ab.0 ∙ e ∙ sym ab.1) | inr ba ↦ ne (ba.0 ∙ sym e ∙ sym ba.1) ]
 
+-- a point of a pair has one partner
+pub joined_same : (s : Pair) (v b c : ℕ) → s.a ≢ s.b → Joins s v b → Joins s v c → b ≡ c
+joined_same s v b c ne is_b is_c = elim is_b [
+  | inl ab ↦ elim is_c [ inl ac ↦ sym ab.1 ∙ ac.1 | inr ca ↦ absurd (ne (ab.0 ∙ sym ca.1)) ]
+  | inr ba ↦ elim is_c [ inl ac ↦ absurd (ne (ac.0 ∙ sym ba.1)) | inr ca ↦ sym ba.0 ∙ ca.0 ]
+]
+
 -- a point that the pair hasn't is neither of its two
 pub outside_pair : (s : Pair) (v : ℕ) → has_point v s ≡ false → (v ≢ s.a) × (v ≢ s.b)
 outside_pair s v off =
