@@ -1,1 +1,5 @@
 pub mod PairLoops
+pub mod Filters
+pub mod OpenPairs
+pub mod LeftOut
+pub mod AnswerLaws

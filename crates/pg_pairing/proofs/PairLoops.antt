@@ -213,12 +213,3 @@ pub unpaired-is : (g : Game) (p : Position) (pairs : List Pair) (paired : FinSet
     → length (filter (λ v. not (contains paired v)) (free_points g p)) ≡ length (unpaired g p pairs)
 unpaired-is g p pairs paired is =
     ap length (filter_agree (λ v. not (contains paired v)) (λ v. not (is_paired pairs v)) (λ q. ap not (is q)) (free_points g p))
-
--- ---- the number of points
-
-pub few_points : (g : Game) → point_count g ≤ 1024
-few_points g = few g.field g.fits.on_lines g.fits.on_graph
-  where
-    few : (field : Field) → ((f : LineField) → field ≡ Lines f → AreLinesOf g.bias f) → ((h : Graph) → field ≡ OnGraph h → IsBoard h) → field_points field ≤ 1024
-    few (Lines f) on_lines on_graph = let h = (on_lines f refl).few_points in omega arith
-    few (OnGraph b) on_lines on_graph = let h = (on_graph b refl).few_edges in omega arith
