@@ -1,0 +1,5 @@
+pub mod TextLemmas
+pub mod Finds
+pub mod Lines
+pub mod SetLaws
+pub mod LineByLine

@@ -1,0 +1,60 @@
+-- A text is its first line and then the lines behind its line feed.
+use Rattle.std.proofs.Common.{◌≡◌, ℕ, zero, suc, ◌+◌, ◌-◌, ◌<◌, ◌≤◌, Bool, true, false, cond, List, [], ◌∷◌, ◌++◌, length, take, drop, get_or, ltb, eqb, arith, refl, sym, ap, subst, ◌∙◌, inl, inr}
+use Rattle.std.specs.Prelude.{◌==◌, Option, Some, None}
+use Rattle.std.proofs.lemmas.List.{take_all, drop_all, length-drop}
+use borrow.Author.Tests.{ltb-true}
+use Rattle.std.proofs.lemmas.Bool.{ltb-false}
+use Rattle.std.proofs.lemmas.List.Sums.{fails_before_first}
+use Rattle.std.specs.List.{slice_split, position, position_or_len, before_first, after_first, All}
+use Rattle.std.proofs.lemmas.Bool.{cases_lt}
+use Rattle.std.proofs.lemmas.List.Splits.{slice_split_first, slice_split_none, length-slice_split}
+use Rattle.std.proofs.lemmas.Bool.Decides.{nat_tests}
+use Rattle.pg_files.specs.Text.{Bytes, without_empty_end, lines}
+
+abbrev pub is_feed : ℕ → Bool
+is_feed b = b == 10
+
+pub without_empty_end-cons : (part : Bytes) (parts : List Bytes) → 0 < length parts → without_empty_end (part ∷ parts) ≡ part ∷ without_empty_end parts
+without_empty_end-cons part [] h = absurd (omega arith)
+without_empty_end-cons part (next ∷ parts) h = refl
+
+pub cases_position : (b : Bool) (i end : ℕ) → cond b (Some i) None ≡ Some end → (b ≡ true) × (i ≡ end)
+cases_position true i end e = (refl, cc)
+cases_position false i end e = absurd cc
+
+pub cases_no_position : (b : Bool) (i : ℕ) → cond b (Some i) None ≡ None → b ≡ false
+cases_no_position true i e = absurd cc
+cases_no_position false i e = refl
+
+pub feed_some : (text : Bytes) (end : ℕ) → position is_feed text ≡ Some end → (end < length text) × (before_first is_feed text ≡ take end text) × (after_first is_feed text ≡ drop (end + 1) text)
+feed_some text end e =
+    let found = cases_position (ltb (position_or_len is_feed text) (length text)) (position_or_len is_feed text) end e in
+    (omega (arith, ltb-true, found.0, found.1), ap (λ i. take i text) found.1, ap (λ i. drop (i + 1) text) found.1)
+
+pub feed_none : (text : Bytes) → position is_feed text ≡ None → (before_first is_feed text ≡ text) × (after_first is_feed text ≡ [])
+feed_none text e =
+    let none = cases_no_position (ltb (position_or_len is_feed text) (length text)) (position_or_len is_feed text) e in
+    let past : length text ≤ position_or_len is_feed text = omega (arith, ltb-false, none) in
+    (take_all _ _ past, drop_all (position_or_len is_feed text + 1) text (omega arith))
+
+pub no_feed : (text : Bytes) → length text ≤ position_or_len is_feed text → All (λ b. is_feed b ≡ false) text
+no_feed text past = λ i d lt. fails_before_first is_feed text i d (omega arith)
+
+pub one_line : (text : Bytes) → 0 < length text → without_empty_end (text ∷ []) ≡ text ∷ []
+one_line [] h = absurd (omega arith)
+one_line (b ∷ bs) h = let e : eqb (length (b ∷ bs)) 0 ≡ false = grind (arith, nat_tests) in rw e refl
+
+pub lines_cut : (text : Bytes) → 0 < length text → lines text ≡ before_first is_feed text ∷ lines (after_first is_feed text)
+unfolding lines
+lines_cut text some =
+    elim (cases_lt (position_or_len is_feed text) (length text)) [
+      | inl lt ↦ ap without_empty_end (slice_split_first is_feed text 0 lt) ∙ without_empty_end-cons (before_first is_feed text) (slice_split is_feed (after_first is_feed text)) (omega (arith, length-slice_split is_feed (after_first is_feed text)))
+      | inr le ↦
+          let front : before_first is_feed text ≡ text = take_all _ _ le in
+          let behind : after_first is_feed text ≡ [] = drop_all (position_or_len is_feed text + 1) text (omega arith) in
+          let whole : lines text ≡ text ∷ [] = ap without_empty_end (slice_split_none is_feed text (no_feed text le)) ∙ one_line text some in
+          whole ∙ rw (front, behind) refl
+    ]
+
+pub shorter : (text : Bytes) → 0 < length text → length (after_first is_feed text) < length text
+shorter text some = simp length-drop (omega arith)

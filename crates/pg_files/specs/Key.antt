@@ -1,0 +1,87 @@
+-- The keys of a game file, and the words that some of them take.
+use Rattle.std.specs.Prelude.{ℕ, Bool, true, false, not, Option, Some, None, List, [], ◌∷◌, codes, find, if◌then◌else◌}
+use Rattle.std.specs.Str.{bytes_eq}
+use Rattle.pg_files.specs.Text.{Bytes}
+use Rattle.pg_base.specs.declared.kind.Kind.{Kind}
+use Rattle.pg_base.specs.declared.kind.Kind.TheVariants as kinds
+use Rattle.pg_base.specs.declared.side.Side.{Side}
+use Rattle.pg_base.specs.declared.side.Side.TheVariants as sides
+use Rattle.pg_game.specs.Fit.{is_switching}
+use Rattle.pg_files.specs.declared.key.Key.{Key}
+use Rattle.pg_files.specs.declared.key.Key.TheVariants as keys
+
+-- the word that stands for a key
+abbrev pub key_name : Key → Bytes
+key_name keys.Kind = codes "kind"
+key_name keys.Points = codes "points"
+key_name keys.Grid = codes "grid"
+key_name keys.Vertices = codes "vertices"
+key_name keys.Terminals = codes "terminals"
+key_name keys.Line = codes "line"
+key_name keys.Shape = codes "shape"
+key_name keys.Edge = codes "edge"
+key_name keys.X = codes "x"
+key_name keys.Y = codes "y"
+key_name keys.Turn = codes "turn"
+
+-- all keys
+abbrev pub all_keys : List Key
+all_keys = keys.Kind ∷ keys.Points ∷ keys.Grid ∷ keys.Vertices ∷ keys.Terminals ∷ keys.Line ∷ keys.Shape ∷ keys.Edge ∷ keys.X ∷ keys.Y ∷ keys.Turn ∷ []
+
+-- the key that a word stands for
+abbrev pub key_of : Bytes → Option Key
+key_of word = find (λ key. bytes_eq (key_name key) word) all_keys
+
+-- keys stand in the order of their ranks
+abbrev pub rank_of : Key → ℕ
+rank_of keys.Kind = 1
+rank_of keys.Points = 2
+rank_of keys.Grid = 2
+rank_of keys.Vertices = 2
+rank_of keys.Terminals = 3
+rank_of keys.Line = 4
+rank_of keys.Shape = 4
+rank_of keys.Edge = 4
+rank_of keys.X = 5
+rank_of keys.Y = 6
+rank_of keys.Turn = 7
+
+-- whether games of the kind have the key
+abbrev pub belongs : Kind → Key → Bool
+belongs kind keys.Points = not (is_switching kind)
+belongs kind keys.Grid = not (is_switching kind)
+belongs kind keys.Line = not (is_switching kind)
+belongs kind keys.Shape = not (is_switching kind)
+belongs kind keys.Vertices = is_switching kind
+belongs kind keys.Terminals = is_switching kind
+belongs kind keys.Edge = is_switching kind
+belongs kind _ = true
+
+-- the greatest rank below the key's of which a key is needed
+abbrev pub needed_rank : Kind → Key → ℕ
+needed_rank kind keys.Kind = 0
+needed_rank kind keys.Points = 1
+needed_rank kind keys.Grid = 1
+needed_rank kind keys.Vertices = 1
+needed_rank kind keys.Terminals = 2
+needed_rank kind _ = if is_switching kind then 3 else 2
+
+-- the word that stands for a kind
+abbrev pub kind_name : Kind → Bytes
+kind_name kinds.MakerBreaker = codes "maker-breaker"
+kind_name kinds.MakerMaker = codes "maker-maker"
+kind_name kinds.AvoiderEnforcer = codes "avoider-enforcer"
+kind_name kinds.Switching = codes "switching"
+
+-- the kind that a word stands for
+abbrev pub kind_of : Bytes → Option Kind
+kind_of word = find (λ kind. bytes_eq (kind_name kind) word) (kinds.MakerBreaker ∷ kinds.MakerMaker ∷ kinds.AvoiderEnforcer ∷ kinds.Switching ∷ [])
+
+-- the word that stands for a side
+abbrev pub side_name : Side → Bytes
+side_name sides.X = codes "x"
+side_name sides.Y = codes "y"
+
+-- the side that a word stands for
+abbrev pub side_of : Bytes → Option Side
+side_of word = find (λ side. bytes_eq (side_name side) word) (sides.X ∷ sides.Y ∷ [])

@@ -1,0 +1,5 @@
+pub mod Text
+pub mod Key
+pub mod Sets
+pub mod GameFile
+pub mod Views

@@ -1,0 +1,42 @@
+//! What the lines of a game file have said so far.
+ghost use Rattle.std.specs.Prelude.{◌≡◌, ◌≤◌, length, sum_by};
+
+use pg_base::{Grid, Kind, Line, PointSet, Side};
+
+/// What the lines of a game file have said so far.
+#[derive(Debug, Drop)]
+pub struct Draft {
+    /// Whether the header has stood.
+    pub begun: bool,
+    /// The greatest rank of a key, 0 before the first.
+    pub rank: u8,
+    /// The kind, where it is said.
+    pub kind: Option<Kind>,
+    /// How many points a game with lines has, 0 before that is said.
+    pub points: u16,
+    /// The grid whose cells the points are, where there is one.
+    pub grid: Option<Grid>,
+    /// How many vertices there are, 0 before that is said.
+    pub vertices: u16,
+    /// One terminal.
+    pub s: u16,
+    /// The other terminal.
+    pub t: u16,
+    /// The lines in their order.
+    pub lines: Vec<Line>,
+    /// How many points the lines have together.
+    pub total: usize,
+    /// The ends of each edge, in the order given.
+    pub ends: Vec<(u16, u16)>,
+    /// X's marks.
+    pub x: PointSet,
+    /// Y's marks.
+    pub y: PointSet,
+    /// The side to move, where it is said.
+    pub turn: Option<Side>,
+    ghost totalled: { total ≡ sum_by length lines.items },
+    ghost small: { total ≤ 400000 },
+    ghost few_points: { points ≤ 256 },
+    ghost few_vertices: { vertices ≤ 500 },
+    ghost few_edges: { length ends.items ≤ 1000 },
+}
