@@ -9,8 +9,10 @@ mod judge;
 pub mod laws;
 mod position;
 mod rules;
+mod value;
 
 pub use field::{Field, LineField};
 pub use game::{Game, Misfit};
 pub use judge::Judge;
 pub use position::{Illegal, Position};
+pub use value::reaches;
