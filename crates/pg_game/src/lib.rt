@@ -14,3 +14,6 @@ pub use field::{Field, LineField};
 pub use game::{Game, Misfit};
 pub use judge::Judge;
 pub use position::{Illegal, Position};
+
+#[cfg(test)]
+mod tests;
