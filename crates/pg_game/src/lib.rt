@@ -16,3 +16,6 @@ pub use game::{Game, Misfit};
 pub use judge::Judge;
 pub use position::{Illegal, Position};
 pub use value::reaches;
+
+#[cfg(test)]
+mod tests;
