@@ -3,3 +3,4 @@ pub mod Filters
 pub mod OpenPairs
 pub mod LeftOut
 pub mod AnswerLaws
+pub mod PairLaws

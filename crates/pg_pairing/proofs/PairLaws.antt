@@ -1,0 +1,181 @@
+-- Pairs that hold force the claim: a win for Breaker and for Avoider, and a draw at least for either side of Maker-Maker.
+use Rattle.std.proofs.Common.{◌≡◌, ◌≢◌, ℕ, ◌<◌, ◌≤◌, Bool, true, false, List, Option, Some, None, refl, sym, ap, ap₂, ◌∙◌, subst, inl, inr, ◌⊎◌, arith}
+use Rattle.std.proofs.lemmas.Bool.{false≢true}
+use Rattle.pg_base.specs.declared.goal.Goal.{Goal}
+use Rattle.pg_base.specs.declared.goal.Goal.TheVariants.{Win, Draw as AtLeastDraw}
+use Rattle.pg_base.specs.declared.kind.Kind.{Kind}
+use Rattle.pg_base.specs.declared.kind.Kind.TheVariants.{MakerBreaker, MakerMaker, AvoiderEnforcer}
+use Rattle.pg_base.specs.declared.pair.Pair.{Pair}
+use Rattle.pg_base.specs.declared.side.Side.{Side}
+use Rattle.pg_base.specs.declared.side.Side.TheVariants.{X, Y}
+use Rattle.pg_base.specs.Side.{other}
+use Rattle.pg_game.specs.declared.game.Game.{Game}
+use Rattle.pg_game.specs.declared.position.Position.{Position}
+use Rattle.pg_game.specs.Position.{is_free, AreDisjoint, claims_in_turn}
+use Rattle.pg_game.specs.Fit.{greatest_bias}
+use Rattle.pg_game.specs.Game.{point_count, bias_of, has_filled, is_over, is_full, outcome, outcome_by, short_joins, after, IsPosition}
+use Rattle.pg_game.specs.Pairs.{PairsHold, breaker_of, pairs_answer}
+use Rattle.pg_game.specs.Strategy.{Keeps}
+use Rattle.pg_game.specs.Value.{reaches, Forces}
+use Rattle.pg_game.proofs.FreePoints.{is_full-one}
+use Rattle.pg_game.proofs.Moves.{side≢other, turn-replied, IsPosition-after}
+use Rattle.pg_game.proofs.Strategy.{Forces-from_keeps, free_point}
+use Rattle.pg_pairing.specs.Rest.{ArePairsOf, rest, RestHolds, MayClaim, HeldBefore}
+use Rattle.pg_pairing.proofs.OpenPairs.{RestHolds-from, ArePairsOf-from, breaker_of-same, breaker_of-avoider, unfilled-held, unfilled-replied}
+use Rattle.pg_pairing.proofs.AnswerLaws.{avoider_or_not, answer-free, RestHolds-enforcer, keeps_replied, keeps_unreplied}
+
+-- the other side claims one point a turn
+abbrev ClaimsOne : Game → Side → Type 0
+ClaimsOne g side = (p : Position) → IsPosition g p → p.turn ≡ side → p.left ≤ 1
+
+module _ (g : Game) (side : Side) (claims : MayClaim g.kind side) (single : ClaimsOne g (other side)) where
+  -- the other side has just replied to a position where the rest of the pairs held
+  record Replied (p : Position) (pairs : List Pair) : Type 0 where
+    pub reply : Option ℕ
+    pub mine : p.turn ≡ side
+    pub held : HeldBefore g p side pairs reply
+
+  -- the rest of some pairs holds, or did before the other side's last point
+  record Paired (p : Position) : Type 0 where
+    pub position : IsPosition g p
+    pub pairs : List Pair
+    pub are : ArePairsOf g pairs
+    pub state : RestHolds g p side pairs ⊎ Replied p pairs
+
+  -- ---- where the game is over
+
+  unfilled-after : (q : Position) (v : ℕ) (pairs : List Pair) → q.turn ≡ other side → (after g q v).turn ≡ side → v < point_count g → is_free q v ≡ true → AreDisjoint (after g q v)
+      → RestHolds g q side pairs → has_filled g (after g q v) (other (breaker_of g.kind side)) ≡ false
+  unfilled-after q v pairs theirs mine within free disjoint h = elim (avoider_or_not g.kind) [
+    | inl kind ↦
+        let is_x = claims kind in
+        let h_after = RestHolds-enforcer g side q pairs v kind (theirs ∙ ap other is_x) (mine ∙ is_x) h within free in
+        unfilled-held g side (after g q v) disjoint (rest (after g q v) pairs) h_after
+    | inr kind ↦ unfilled-replied g side q v (rest q pairs) (theirs ∙ ap other (sym (breaker_of-same g.kind side kind))) disjoint h
+  ]
+
+  unfilled : (p : Position) → Paired p → has_filled g p (other (breaker_of g.kind side)) ≡ false
+  unfilled p i = elim i.state [
+    | inl h ↦ unfilled-held g side p i.position.disjoint (rest p i.pairs) h
+    | inr r ↦
+        let b = r.held in
+        let P : Position → Type 0 = λ q. q.turn ≡ side → AreDisjoint q → has_filled g q (other (breaker_of g.kind side)) ≡ false in
+        subst P (sym b.leads) (λ mine disjoint. unfilled-after b.before b.reply i.pairs b.theirs mine b.within b.free disjoint b.held) r.mine i.position.disjoint
+  ]
+
+  -- ---- moves
+
+  Answer : Position → Type 0
+  Answer p = (v : ℕ) × (v < point_count g) × (is_free p v ≡ true) × Paired (after g p v)
+
+  -- an answer after which the rest holds
+  answered : (p : Position) → (i : Paired p) → is_over g p ≡ false → (last : Option ℕ) → RestHolds g (after g p (pairs_answer g p i.pairs last)) side i.pairs → Answer p
+  unfolding Answer
+  answered p i going last h =
+      let point = free_point g p going in
+      let here = answer-free g p i.pairs last i.are (is_full-one g p point.0 point.1 point.2) in
+      let w = pairs_answer g p i.pairs last in
+      (w, here.0, here.1, record { position = IsPosition-after g p w i.position here.0 here.1; pairs = i.pairs; are = i.are; state = inl h })
+
+  own : (p : Position) → Paired p → is_over g p ≡ false → p.turn ≡ side → Answer p
+  own p i going mine = elim i.state [
+    | inl h ↦ answered p i going None (keeps_unreplied g side p i.pairs claims i.position i.are mine h)
+    | inr r ↦ answered p i going r.reply (keeps_replied g side p i.pairs r.reply claims i.position i.are mine r.held)
+  ]
+
+  theirs : (p : Position) → Paired p → p.turn ≡ other side → (v : ℕ) → v < point_count g → is_free p v ≡ true → Paired (after g p v)
+  theirs p i yours v within free = elim i.state [
+    | inl h ↦ record {
+      position = IsPosition-after g p v i.position within free;
+      pairs = i.pairs;
+      are = i.are;
+      state = inr (record {
+        reply = Some v;
+        mine = turn-replied g p side v (single p i.position yours) yours;
+        held = record { before = p; reply = v; last_is = refl; theirs = yours; within = within; free = free; leads = refl; held = h };
+      });
+    }
+    | inr r ↦ absurd (side≢other side (sym r.mine ∙ yours))
+  ]
+
+  keeps-paired : (goal : Goal) → ((p : Position) → has_filled g p (other (breaker_of g.kind side)) ≡ false → reaches side goal (outcome g p) ≡ true) → Keeps g side goal Paired
+  unfolding Answer
+  keeps-paired goal good = record {
+    ends = λ p i over. good p (unfilled p i);
+    own = λ p i going mine. own p i going mine;
+    theirs = λ p i going yours v within free. theirs p i yours v within free;
+  }
+
+  Forces-paired : (goal : Goal) → ((p : Position) → has_filled g p (other (breaker_of g.kind side)) ≡ false → reaches side goal (outcome g p) ≡ true)
+      → (p : Position) (pairs : List Pair) → IsPosition g p → PairsHold g p side pairs → Forces g p side goal
+  Forces-paired goal good p pairs position h =
+      Forces-from_keeps g side goal (keeps-paired goal good) p (record { position = position; pairs = pairs; are = ArePairsOf-from g p side pairs h; state = inl (RestHolds-from g p side pairs h) })
+
+-- ---- Maker-Breaker
+
+maker_claims_one : (g : Game) → ClaimsOne g X
+maker_claims_one g p position turn = subst (λ (s : Side). p.left ≤ bias_of g s) turn position.few_left
+
+good-breaker : (g : Game) (p : Position) → g.kind ≡ MakerBreaker → has_filled g p X ≡ false → reaches Y Win (outcome g p) ≡ true
+unfolding outcome
+good-breaker g p kind none = ap₂ (λ (k : Kind) (x : Bool). reaches Y Win (outcome_by k x (has_filled g p Y) (short_joins g p))) kind none
+
+-- Breaker wins, whoever is to move and however many points it claims a turn
+pub Forces-pairs_breaker : (g : Game) (p : Position) (pairs : List Pair) → g.kind ≡ MakerBreaker → IsPosition g p → PairsHold g p Y pairs → Forces g p Y Win
+Forces-pairs_breaker g p pairs kind position h =
+    let guard : breaker_of g.kind Y ≡ Y = ap (λ (k : Kind). breaker_of k Y) kind in
+    Forces-paired g Y (λ e. absurd (breaker≢avoider (sym kind ∙ e))) (maker_claims_one g) Win
+    (λ q none. good-breaker g q kind (sym (ap (λ (s : Side). has_filled g q (other s)) guard) ∙ none)) p pairs position h
+  where
+    breaker≢avoider : MakerBreaker ≢ AvoiderEnforcer
+    breaker≢avoider e = cc
+
+-- ---- Maker-Maker
+
+drawn-x : (x joined : Bool) → reaches X AtLeastDraw (outcome_by MakerMaker x false joined) ≡ true
+drawn-x true joined = refl
+drawn-x false joined = refl
+
+drawn-y : (y joined : Bool) → reaches Y AtLeastDraw (outcome_by MakerMaker false y joined) ≡ true
+drawn-y true joined = refl
+drawn-y false joined = refl
+
+good-draw : (g : Game) (side : Side) (p : Position) → g.kind ≡ MakerMaker → has_filled g p (other side) ≡ false → reaches side AtLeastDraw (outcome g p) ≡ true
+unfolding outcome
+good-draw g X p kind none = ap₂ (λ (k : Kind) (y : Bool). reaches X AtLeastDraw (outcome_by k (has_filled g p X) y (short_joins g p))) kind none ∙ drawn-x (has_filled g p X) (short_joins g p)
+good-draw g Y p kind none = ap₂ (λ (k : Kind) (x : Bool). reaches Y AtLeastDraw (outcome_by k x (has_filled g p Y) (short_joins g p))) kind none ∙ drawn-y (has_filled g p Y) (short_joins g p)
+
+one_bias : (g : Game) (side : Side) → g.bias ≡ 1 → ClaimsOne g side
+one_bias g side one p position turn = few p.turn position.few_left
+  where
+    few : (s : Side) → p.left ≤ claims_in_turn g.bias s → p.left ≤ 1
+    few X h = h
+    few Y h = omega (arith, h, one)
+
+maker_bias : (g : Game) → g.kind ≡ MakerMaker → g.bias ≡ 1
+maker_bias g kind =
+    let few : g.bias ≤ 1 = subst (λ (k : Kind). g.bias ≤ greatest_bias k) kind g.fits.few_bias in
+    omega (arith, few, g.fits.some_bias)
+
+-- either side gets a draw at least, whoever is to move
+pub Forces-pairs_draw : (g : Game) (p : Position) (side : Side) (pairs : List Pair) → g.kind ≡ MakerMaker → IsPosition g p → PairsHold g p side pairs → Forces g p side AtLeastDraw
+Forces-pairs_draw g p side pairs kind position h =
+    let guard : breaker_of g.kind side ≡ side = ap (λ (k : Kind). breaker_of k side) kind in
+    Forces-paired g side (λ e. absurd (maker≢avoider (sym kind ∙ e))) (one_bias g (other side) (maker_bias g kind)) AtLeastDraw
+    (λ q none. good-draw g side q kind (sym (ap (λ (s : Side). has_filled g q (other s)) guard) ∙ none)) p pairs position h
+  where
+    maker≢avoider : MakerMaker ≢ AvoiderEnforcer
+    maker≢avoider e = cc
+
+-- ---- Avoider-Enforcer
+
+good-avoider : (g : Game) (p : Position) → g.kind ≡ AvoiderEnforcer → has_filled g p X ≡ false → reaches X Win (outcome g p) ≡ true
+unfolding outcome
+good-avoider g p kind none = ap₂ (λ (k : Kind) (x : Bool). reaches X Win (outcome_by k x (has_filled g p Y) (short_joins g p))) kind none
+
+-- Avoider wins, whoever is to move
+pub Forces-pairs_avoider : (g : Game) (p : Position) (pairs : List Pair) → g.kind ≡ AvoiderEnforcer → IsPosition g p → PairsHold g p X pairs → Forces g p X Win
+Forces-pairs_avoider g p pairs kind position h =
+    let guard = breaker_of-avoider g.kind X kind in
+    Forces-paired g X (λ e. refl) (one_bias g Y (h.avoider kind).single) Win
+    (λ q none. good-avoider g q kind (sym (ap (λ (s : Side). has_filled g q (other s)) guard) ∙ none)) p pairs position h
