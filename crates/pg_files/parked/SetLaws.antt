@@ -1,12 +1,12 @@
 -- Lists of numbers and their sets.
-use Rattle.std.proofs.Common.{◌≡◌, ◌≢◌, ℕ, zero, suc, ◌+◌, ◌<◌, ◌≤◌, Bool, true, false, cond, not, ◌&&◌, ◌||◌, List, [], ◌∷◌, ◌++◌, length, take, drop, get_or, add-one, drop-cons, refl, sym, ap, ◌∙◌, arith, eqb, ltb, leb, inl, inr, subst}
+use Rattle.std.proofs.Common.{◌≡◌, ◌≢◌, ℕ, zero, suc, ◌+◌, ◌<◌, ◌≤◌, Bool, true, false, cond, not, ◌&&◌, ◌||◌, List, [], ◌∷◌, ◌++◌, length, take, drop, get_or, add-one, drop-cons, refl, sym, ap, ◌∙◌, arith, eqb, ltb, leb, inl, inr, subst, Less}
 use Rattle.std.specs.Prelude.{nat_lt, nat_eq, nat_le, ◌==◌, filter}
-use Rattle.std.specs.List.{list_all, list_any, range_with_len, count_by, AllByRecursion}
+use Rattle.std.specs.List.{list_all, list_any, range_with_len, count_by, AllByRecursion, IsDistinct}
 use Rattle.std.specs.List.Sorted.{IsPermutation, IsStrictlyIncreasing, IsStrictlySortedBy}
 use Rattle.std.specs.FinSet.{FinSet, contains, insert, empty, from_list, from_list_push, contains-from_list_nat, contains-empty, same_set}
-use Rattle.std.specs.Cmp.{nat_cmp_total}
+use Rattle.std.specs.Cmp.{nat_cmp_total, IsEquivalence, decided}
 use Rattle.std.specs.FinMap.{nat_cmp-IsAntisymmetric}
-use Rattle.std.specs.Ordering.{nat_cmp, Less}
+use Rattle.std.specs.Ordering.{nat_cmp}
 use Rattle.std.proofs.lemmas.Bool.{cases_Bool, cases_eq, cases_lt, eq-eqb, ne_eqb, eqb-true, ltb-true, and_parts, or_cases, or_right}
 use Rattle.std.proofs.lemmas.Bool.Decides.{nat_tests}
 use Rattle.std.proofs.lemmas.List.Sums.{sum_by-cons}
@@ -14,10 +14,11 @@ use Rattle.std.proofs.lemmas.List.Sorted.{sum_by-IsPermutation}
 use Rattle.std.proofs.lemmas.List.Kept.{IsStrictlyIncreasing-filter}
 use Rattle.std.proofs.lemmas.List.FromFn.{length-range_with_len, get_or-range_with_len}
 use Rattle.std.proofs.lemmas.Map.Keys.{sorted_from_strictly_increasing}
+use Rattle.std.proofs.lemmas.Map.Made.{length-from_same_keys}
 use Rattle.std.proofs.lemmas.List.{take_more}
 use Rattle.pg_base.specs.Line.{StandsTwice}
 use Rattle.pg_base.specs.WordLemmas.{in_insert, same_points}
-use Rattle.pg_files.specs.Sets.{set_of, ascending, repeats, members}
+use Rattle.pg_files.specs.Sets.{set_of, ascending, repeats, members, members_below}
 
 -- ---- the steps of the loops
 
@@ -59,7 +60,7 @@ has-times : (ns : List ℕ) (q : ℕ) → has ns q ≡ nat_lt 0 (times q ns)
 has-times [] q = refl
 has-times (n ∷ ns) q = elim (cases_Bool (nat_eq n q)) [
   | inl on ↦ rw (times-cons q n ns, on) (let t : ltb 0 (1 + times q ns) ≡ true = grind (arith, nat_tests) in sym t)
-  | inr off ↦ rw (times-cons q n ns, off) (has-times ns q)
+  | inr off ↦ let z : times q ns ≡ 0 + times q ns = omega arith in rw (times-cons q n ns, off) (has-times ns q ∙ ap (λ k. nat_lt 0 k) z)
 ]
 
 pub has-permutation : (ns ms : List ℕ) (q : ℕ) → IsPermutation ns ms → has ms q ≡ has ns q
@@ -74,6 +75,7 @@ none_below x y (n ∷ ns) le h =
 
 -- lists in strict order with the same members are equal
 pub same_sorted : (xs ys : List ℕ) → IsStrictlySortedBy nat_cmp xs → IsStrictlySortedBy nat_cmp ys → ((q : ℕ) → has xs q ≡ has ys q) → xs ≡ ys
+unfolding IsStrictlySortedBy
 same_sorted [] [] p q same = refl
 same_sorted [] (y ∷ ys) p q same = let there : has (y ∷ ys) y ≡ true = rw (eq-eqb y y refl) refl in let here : has [] y ≡ false = refl in absurd (cc (same y))
 same_sorted (x ∷ xs) [] p q same = let there : has (x ∷ xs) x ≡ true = rw (eq-eqb x x refl) refl in let here : has [] x ≡ false = refl in absurd (cc (same x))
@@ -115,9 +117,13 @@ IsStrictlyIncreasing-range a n = λ k h.
     let next = get_or-range_with_len a n (k + 1) 0 (omega arith) in
     omega arith
 
+below-ascend : (n : ℕ) (s : FinSet nat_cmp) → IsStrictlyIncreasing (members_below n s)
+unfolding members_below
+below-ascend n s = IsStrictlyIncreasing-filter (contains s) (range_with_len 0 n) (IsStrictlyIncreasing-range 0 n)
+
 pub members-ascend : (s : FinSet nat_cmp) → IsStrictlyIncreasing (members s)
 unfolding members
-members-ascend s = IsStrictlyIncreasing-filter (contains s) (range_with_len 0 1024) (IsStrictlyIncreasing-range 0 1024)
+members-ascend s = below-ascend 1024 s
 
 in_range_end : (a q : ℕ) → (nat_le a q && nat_lt q (a + 0)) ≡ false
 in_range_end a q = grind (arith, nat_tests)
@@ -147,9 +153,15 @@ has-filter-range p a (suc n) q =
       ]
     ]
 
+has-below_members : (n : ℕ) (s : FinSet nat_cmp) (q : ℕ) → has (members_below n s) q ≡ (contains s q && nat_lt q n)
+unfolding members_below
+has-below_members n s q =
+    let from_zero : (nat_le 0 q && nat_lt q (0 + n)) ≡ nat_lt q n = grind (arith, nat_tests) in
+    has-filter-range (contains s) 0 n q ∙ ap (λ b. contains s q && b) from_zero
+
 pub has-members : (s : FinSet nat_cmp) (q : ℕ) → has (members s) q ≡ (contains s q && nat_lt q 1024)
 unfolding members
-has-members s q = has-filter-range (contains s) 0 1024 q
+has-members s q = has-below_members 1024 s q
 
 -- a member of a list of numbers that are all below a number
 pub has-below : (limit : ℕ) (ns : List ℕ) (q : ℕ) → list_all (λ n. nat_lt n limit) ns ≡ true → has ns q ≡ true → nat_lt q limit ≡ true
@@ -187,6 +199,14 @@ sorted_is_ascending ns line below moved up =
 
 -- ---- repeated numbers
 
+pub or_false : (a b : Bool) → (a || b) ≡ false → (a ≡ false) × (b ≡ false)
+or_false true b e = absurd cc
+or_false false b e = (refl, e)
+
+or_true : (b : Bool) → (b || true) ≡ true
+or_true true = refl
+or_true false = refl
+
 repeats_twice : (s : FinSet nat_cmp) (v : ℕ) (ns : List ℕ) → 2 ≤ cond (contains s v) 1 0 + times v ns → repeats s ns ≡ true
 repeats_twice s v [] two = elim (cases_Bool (contains s v)) [
   | inl on ↦ absurd (omega (arith, rw on at two))
@@ -201,9 +221,9 @@ repeats_twice s v (n ∷ ns) two = elim (cases_Bool (contains s n)) [
     goes s n v ns off two = elim (cases_eq n v) [
       | inl here ↦
           let old : contains s v ≡ false = ap (contains s) (sym here) ∙ off in
-          rw (in_insert s n v, eq-eqb v n (sym here)) (let k : 2 ≤ 1 + times v ns = rw (old, times-cons v n ns, eq-eqb n v here) at two in k)
+          rw (in_insert s n v, eq-eqb v n (sym here)) (let k = rw (old, times-cons v n ns, eq-eqb n v here) at two in omega arith)
       | inr apart ↦
-          rw (in_insert s n v, ne_eqb v n (λ e. apart (sym e))) (let k : 2 ≤ cond (contains s v) 1 0 + times v ns = rw (times-cons v n ns, ne_eqb n v apart) at two in k)
+          rw (in_insert s n v, ne_eqb v n (λ e. apart (sym e))) (let k = rw (times-cons v n ns, ne_eqb n v apart) at two in omega arith)
     ]
 
 pub repeats_from_twice : (ns : List ℕ) → StandsTwice ns → repeats empty ns ≡ true
@@ -213,22 +233,15 @@ repeats_from_twice ns h = repeats_twice empty h.point ns (omega (arith, h.twice)
 pub repeats_apart : (s : FinSet nat_cmp) (ns : List ℕ) (q : ℕ) → repeats s ns ≡ false → contains s q ≡ true → has ns q ≡ false
 repeats_apart s [] q none h = refl
 repeats_apart s (n ∷ ns) q none h =
-    let both = or_parts (contains s n) (repeats (insert s n) ns) none in
+    let both = or_false (contains s n) (repeats (insert s n) ns) none in
     elim (cases_eq n q) [
       | inl here ↦ let there : contains s n ≡ true = ap (contains s) here ∙ h in absurd (cc)
       | inr apart ↦ rw (ne_eqb n q apart) (repeats_apart (insert s n) ns q both.1 (rw (in_insert s n q, h) (or_true (eqb q n))))
     ]
-  where
-    or_parts : (a b : Bool) → (a || b) ≡ false → (a ≡ false) × (b ≡ false)
-    or_parts true b e = absurd cc
-    or_parts false b e = (refl, e)
-
-    or_true : (b : Bool) → (b || true) ≡ true
-    or_true true = refl
-    or_true false = refl
 
 -- a list in strict order repeats nothing of a set that it shares nothing with
 pub repeats_from_sorted : (s : FinSet nat_cmp) (ns : List ℕ) → IsStrictlySortedBy nat_cmp ns → ((q : ℕ) → has ns q ≡ true → contains s q ≡ false) → repeats s ns ≡ false
+unfolding IsStrictlySortedBy
 repeats_from_sorted s [] up apart = refl
 repeats_from_sorted s (n ∷ ns) up apart =
     rw (apart n (rw (eq-eqb n n refl) refl)) (repeats_from_sorted (insert s n) ns up.1 (λ q h. later s n ns q up apart h))
@@ -256,3 +269,47 @@ set_of-members s below = same_points (set_of (members s)) s (λ q. in_set_of (me
 -- a list in strict order of numbers below 1,024 is its own ascending list
 pub ascending_is : (ns : List ℕ) → IsStrictlyIncreasing ns → list_all (λ n. nat_lt n 1024) ns ≡ true → ascending ns ≡ ns
 ascending_is ns up below = sym (members_are (set_of ns) ns up below (λ q. sym (in_set_of ns q)))
+
+-- ---- ascending lists
+
+pub has-ascending : (ns : List ℕ) (q : ℕ) → list_all (λ n. nat_lt n 1024) ns ≡ true → has (ascending ns) q ≡ has ns q
+has-ascending ns q below = has-members (set_of ns) q ∙ ap (λ b. b && nat_lt q 1024) (in_set_of ns q) ∙ sym (within ns q below)
+
+-- whether two numbers are equal, the second first
+abbrev same : ℕ → ℕ → Bool
+same q n = nat_eq n q
+
+same-equivalence : IsEquivalence same
+same-equivalence = decided same (λ q n. (λ h. sym (eqb-true n q h), λ e. eq-eqb n q (sym e)))
+
+has_none : (q : ℕ) (ns : List ℕ) → has ns q ≡ false → AllByRecursion (λ n. same q n ≡ false) ns
+has_none q [] none = tt
+has_none q (n ∷ ns) none = let both = or_false (nat_eq n q) (has ns q) none in (both.0, has_none q ns both.1)
+
+distinct_from_repeats : (s : FinSet nat_cmp) (ns : List ℕ) → repeats s ns ≡ false → IsDistinct same ns
+unfolding IsDistinct
+distinct_from_repeats s [] none = tt
+distinct_from_repeats s (n ∷ ns) none =
+    let both = or_false (contains s n) (repeats (insert s n) ns) none in
+    let held : contains (insert s n) n ≡ true = rw (in_insert s n n, eq-eqb n n refl) refl in
+    (has_none n ns (repeats_apart (insert s n) ns n both.1 held), distinct_from_repeats (insert s n) ns both.1)
+
+repeats_none : (ns : List ℕ) → IsStrictlyIncreasing ns → repeats empty ns ≡ false
+repeats_none ns up = repeats_from_sorted empty ns (sorted_from_strictly_increasing ns up) (λ q h. contains-empty nat_cmp q)
+
+pub length-ascending : (ns : List ℕ) → list_all (λ n. nat_lt n 1024) ns ≡ true → repeats empty ns ≡ false → length (ascending ns) ≡ length ns
+length-ascending ns below different =
+    length-from_same_keys same-equivalence (ascending ns) ns (distinct_from_repeats empty (ascending ns) (repeats_none (ascending ns) (members-ascend (set_of ns)))) (distinct_from_repeats empty ns different)
+        (λ q. has-ascending ns q below)
+
+below_keys : (limit : ℕ) (ms : List ℕ) → ((q : ℕ) → has ms q ≡ true → nat_lt q limit ≡ true) → list_all (λ n. nat_lt n limit) ms ≡ true
+below_keys limit [] from = refl
+below_keys limit (m ∷ ms) from = rw (from m (rw (eq-eqb m m refl) refl)) (below_keys limit ms (λ q h. from q (or_right (nat_eq m q) (has ms q) h)))
+
+pub below-ascending : (limit : ℕ) (ns : List ℕ) → list_all (λ n. nat_lt n limit) ns ≡ true → list_all (λ n. nat_lt n limit) (ascending ns) ≡ true
+below-ascending limit ns below =
+    below_keys limit (ascending ns) (λ q h. has-below limit ns q below (sym (in_set_of ns q) ∙ (and_parts (contains (set_of ns) q) (nat_lt q 1024) (sym (has-members (set_of ns) q) ∙ h)).0))
+
+pub below-members : (limit : ℕ) (s : FinSet nat_cmp) → ((q : ℕ) → contains s q ≡ true → q < limit) → list_all (λ n. nat_lt n limit) (members s) ≡ true
+below-members limit s below =
+    below_keys limit (members s) (λ q h. let lt = below q (and_parts (contains s q) (nat_lt q 1024) (sym (has-members s q) ∙ h)).0 in let t : ltb q limit ≡ true = grind (arith, nat_tests) in t)

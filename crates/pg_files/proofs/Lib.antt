@@ -2,4 +2,5 @@ pub mod TextLemmas
 pub mod Finds
 pub mod Lines
 pub mod SetLaws
+pub mod Sound
 pub mod LineByLine

@@ -43,14 +43,15 @@ pub record Draft : Type 0 where
 abbrev pub nothing : Draft
 nothing = record { begun = false; rank = 0; kind = None; points = 0; grid = None; vertices = 0; s = 0; t = 0; lines = []; ends = []; x = empty; y = empty; turn = None }
 
--- how many points a game of the kind has: those of a switching game are its edges
-abbrev pub points_for : Option Kind → Draft → ℕ
-points_for (Some kinds.Switching) d = length d.ends
-points_for _ d = d.points
+-- how many points a game of the kind has, by the number of points said and that of its edges: the points of a switching
+-- game are its edges
+abbrev pub points_for : Option Kind → ℕ → ℕ → ℕ
+points_for (Some kinds.Switching) points edges = edges
+points_for _ points edges = points
 
 -- how many points there are so far
 abbrev pub points_so_far : Draft → ℕ
-points_so_far d = points_for d.kind d
+points_so_far d = points_for d.kind d.points (length d.ends)
 
 -- ---- the faults of a line
 
@@ -269,6 +270,11 @@ go_on n (Err fault) others = Err (fault, n)
 unfoldable pub reading : ℕ → Draft → List Bytes → Result Draft (Fault × ℕ)
 reading n d [] = Ok d
 reading n d (line ∷ others) = go_on n (after d line) (λ next. reading (n + 1) next others)
+
+-- some lines say this
+pub record IsSaid (d : Draft) : Type 0 where
+  pub said_by : List Bytes
+  pub is_said : reading 1 nothing said_by ≡ Ok d
 
 -- what a game of the kind is played on
 abbrev pub field_of : Kind → Draft → Field

@@ -269,7 +269,8 @@ impl Draft {
     /// The fault of a line of marks with these numbers.
     fn marks_fault(&self, key: Key, numbers: &[u32]) -> Option<Fault>
         requires { IsMarks key }
-        ensures { result ≡ least (numbers_faults (view self.now) key numbers.now) }
+        ensures fault { result ≡ least (numbers_faults (view self.now) key numbers.now) }
+        ensures below { IfNone result (IsTrue (list_all (λ n. nat_lt n 1024) numbers.now)) }
     {
         if !are_below(numbers, self.points_so_far()) {
             return Some(Fault::Range);
@@ -298,7 +299,8 @@ impl Draft {
         if let Some(fault) = self.marks_fault(Key::X, &numbers) {
             return Err(ReadError::Fault(fault));
         }
-        self.x = set_of(&numbers);
+        let marks = set_of(&numbers);
+        self.x = marks;
         self.rank = 5;
         Ok(())
     }
@@ -316,7 +318,8 @@ impl Draft {
         if let Some(fault) = self.marks_fault(Key::Y, &numbers) {
             return Err(ReadError::Fault(fault));
         }
-        self.y = set_of(&numbers);
+        let marks = set_of(&numbers);
+        self.y = marks;
         self.rank = 6;
         Ok(())
     }

@@ -1,0 +1,664 @@
+-- What is read is within the limits.
+use Rattle.std.proofs.Common.{◌≡◌, ◌≢◌, ℕ, zero, suc, ◌+◌, ◌*◌, ◌<◌, ◌≤◌, lit<, lit≤, Bool, true, false, cond, ◌&&◌, ◌||◌, ◌⊎◌, inl, inr, List, [], ◌∷◌, ◌++◌, length, arith, refl, sym, ap, subst, ◌∙◌, Option, Some, None, Result, Ok, Err}
+use Rattle.std.specs.Prelude.{◌==◌, nat_lt, nat_le, not, sum_by, is_none, unwrap_or}
+use Rattle.std.specs.List.{list_all, All, AllByRecursion}
+use Rattle.std.specs.List.Sorted.{IsStrictlyIncreasing}
+use Rattle.std.specs.FinSet.{FinSet, contains, empty, contains-empty}
+use Rattle.std.specs.Ordering.{nat_cmp}
+use Rattle.std.proofs.lemmas.Bool.{cases_lt, cases_Bool, ltb-true, ltb-false, eqb-false, and_parts}
+use Rattle.std.proofs.lemmas.Bool.Decides.{nat_tests}
+use Rattle.std.proofs.lemmas.List.{length-append}
+use Rattle.std.proofs.lemmas.List.Elements.{All-push}
+use Rattle.std.proofs.lemmas.List.Sums.{sum_by_push, AllPass-from_list_all}
+use Rattle.pg_base.specs.declared.grid.Grid.{Grid}
+use Rattle.pg_base.specs.declared.kind.Kind.{Kind}
+use Rattle.pg_base.specs.declared.kind.Kind.TheVariants as kinds
+use Rattle.pg_base.specs.declared.side.Side.{Side}
+use Rattle.pg_graph.specs.declared.graph.Graph.{Graph}
+use Rattle.pg_game.specs.declared.field.Field.{Field}
+use Rattle.pg_game.specs.declared.field.Field.TheVariants as fields
+use Rattle.pg_game.specs.declared.field.LineField.{LineField}
+use Rattle.pg_game.specs.Fit.{AreBelow, ShareNone, IsLineOf, AreLinesOf, IsBoard, IsFit, is_switching, greatest_bias}
+use Rattle.pg_files.specs.Text.{Bytes, words, number, numbers, then_numbers}
+use Rattle.pg_files.specs.Sets.{set_of, ascending, repeats}
+use Rattle.pg_files.specs.Key.{rank_of, key_of, kind_of, belongs, needed_rank}
+use Rattle.pg_files.specs.GameFile.{Draft, least, unless, keyed_faults, keyed_fault, said, with_numbers, keyed, significant, after, numbers_of, first_number, second_number, first, rest, nothing, named, is_header, begins_comment, is_printable, reading, go_on, is_misplaced, is_outside, points_for, field_of}
+use Rattle.pg_files.specs.declared.fault.Fault.{Fault}
+use Rattle.pg_files.specs.declared.fault.Fault.TheVariants as faults
+use Rattle.pg_files.specs.declared.key.Key.{Key}
+use Rattle.pg_files.specs.declared.key.Key.TheVariants as keys
+use Rattle.pg_files.proofs.SetLaws.{has, in_set_of, members-ascend, has-ascending, length-ascending, below-ascending, has-below, below_more, repeats_apart}
+
+-- ---- tables and tests
+
+split : (f : Fault) (b : Bool) (rows : List (Fault × Bool)) → (least rows ≡ None → AllByRecursion (λ row. row.1 ≡ false) rows) → cond b (Some f) (least rows) ≡ None → (b ≡ false) × AllByRecursion (λ row. row.1 ≡ false) rows
+split f true rows others e = absurd cc
+split f false rows others e = (refl, others e)
+
+-- no test of a table holds
+pub none_applies : (rows : List (Fault × Bool)) → least rows ≡ None → AllByRecursion (λ row. row.1 ≡ false) rows
+none_applies [] e = tt
+none_applies (row ∷ rows) e = split row.0 row.1 rows (none_applies rows) e
+
+or_false : (a b : Bool) → (a || b) ≡ false → (a ≡ false) × (b ≡ false)
+or_false true b e = absurd cc
+or_false false b e = (refl, e)
+
+not_false : (a : Bool) → not a ≡ false → a ≡ true
+not_false true e = refl
+not_false false e = absurd cc
+
+pub unless_ok : (fault : Option Fault) (x y : Draft) → unless fault x ≡ Ok y → (fault ≡ None) × (x ≡ y)
+unless_ok None x y e = (refl, cc)
+unless_ok (Some f) x y e = absurd cc
+
+outside_not : (low high n : ℕ) → is_outside low high n ≡ false → (low ≤ n) × (n ≤ high)
+outside_not low high n e = let parts = or_false (nat_lt n low) (nat_lt high n) e in (ltb-false n low parts.0, ltb-false high n parts.1)
+
+-- ---- what holds of a draft
+
+-- the count that a kind of game needs is within its limits
+abbrev pub HasCount : Option Kind → ℕ → ℕ → Type 0
+HasCount (Some kinds.Switching) points vertices = (2 ≤ vertices) × (vertices ≤ 500)
+HasCount _ points vertices = (1 ≤ points) × (points ≤ 256)
+
+-- a switching game has two different terminals
+abbrev pub HasTerminals : Option Kind → ℕ → ℕ → ℕ → Type 0
+HasTerminals (Some kinds.Switching) vertices s t = (s < vertices) × (t < vertices) × (s ≢ t)
+HasTerminals _ vertices s t = Unit {0}
+
+-- nothing has been said before its rank
+pub record IsBefore (d : Draft) : Type 0 where
+  pub kind : d.kind ≡ None → d.rank ≡ 0
+  pub grid : d.rank < 2 → d.grid ≡ None
+  pub lines : d.rank < 4 → (d.lines ≡ []) × (d.ends ≡ [])
+  pub x : d.rank < 5 → d.x ≡ empty
+  pub y : d.rank < 6 → d.y ≡ empty
+  pub turn : d.rank < 7 → d.turn ≡ None
+
+-- the grid and the lines are within the limits
+pub record AreLines (points : ℕ) (grid : Option Grid) (lines : List (List ℕ)) : Type 0 where
+  pub cells : (g : Grid) → grid ≡ Some g → g.width * g.height ≡ points
+  pub each : All (IsLineOf points 1) lines
+  pub count : length lines ≤ 20000
+  pub total : sum_by length lines ≤ 400000
+
+-- the edges are within the limits
+pub record AreEnds (vertices : ℕ) (ends : List (ℕ × ℕ)) : Type 0 where
+  pub each : All (λ e. (e.0 < vertices) × (e.1 < vertices)) ends
+  pub count : length ends ≤ 1000
+
+-- the marks are points and apart
+pub record AreMarks (points : ℕ) (x y : FinSet nat_cmp) : Type 0 where
+  pub x_below : AreBelow x points
+  pub y_below : AreBelow y points
+  pub apart : ShareNone x y
+
+-- what the lines so far have said is within the limits
+pub record IsSound (d : Draft) : Type 0 where
+  pub order : IsBefore d
+  pub count : 2 ≤ d.rank → HasCount d.kind d.points d.vertices
+  pub terminals : 3 ≤ d.rank → HasTerminals d.kind d.vertices d.s d.t
+  pub lines : AreLines d.points d.grid d.lines
+  pub ends : AreEnds d.vertices d.ends
+  pub marks : AreMarks (points_for d.kind d.points (length d.ends)) d.x d.y
+
+-- ---- where a key stands
+
+record IsPlaced (b : Bool) (r k need : ℕ) : Type 0 where
+  fits : b ≡ true
+  up : r ≤ k
+  again : k ≡ r → k ≡ 4
+  need : need ≤ r
+
+placed : (b : Bool) (r k need : ℕ) (lacks : Bool) → (not b || (nat_lt k r || ((k == r && not (k == 4)) || (nat_lt r need || lacks)))) ≡ false → IsPlaced b r k need
+placed b r k need lacks e =
+    let first = or_false (not b) (nat_lt k r || ((k == r && not (k == 4)) || (nat_lt r need || lacks))) e in
+    let second = or_false (nat_lt k r) ((k == r && not (k == 4)) || (nat_lt r need || lacks)) first.1 in
+    let third = or_false (k == r && not (k == 4)) (nat_lt r need || lacks) second.1 in
+    let fourth = or_false (nat_lt r need) lacks third.1 in
+    record { fits = not_false b first.0; up = ltb-false k r second.0; again = grind (arith, nat_tests, third.0); need = ltb-false r need fourth.0 }
+
+-- a rank that the key's isn't equal to
+under : (r k : ℕ) → r ≤ k → (k ≡ r → k ≡ 4) → k ≢ 4 → r < k
+under r k up again four = elim (cases_lt r k) [ inl lt ↦ lt | inr ge ↦ let e : k ≡ r = omega arith in absurd (four (again e)) ]
+
+-- after the count, and after the terminals where the kind needs them
+record IsLater (kind : Option Kind) (r : ℕ) : Type 0 where
+  two : 2 ≤ r
+  terminals : (v s t : ℕ) → (3 ≤ r → HasTerminals kind v s t) → HasTerminals kind v s t
+
+later : (kind : Kind) (r : ℕ) → cond (is_switching kind) 3 2 ≤ r → IsLater (Some kind) r
+later kinds.MakerBreaker r le = record { two = le; terminals = λ v s t h. tt }
+later kinds.MakerMaker r le = record { two = le; terminals = λ v s t h. tt }
+later kinds.AvoiderEnforcer r le = record { two = le; terminals = λ v s t h. tt }
+later kinds.Switching r le = record { two = omega (arith, le); terminals = λ v s t h. h le }
+
+record IsLinesKind (kind : Option Kind) : Type 0 where
+  points : (p e : ℕ) → points_for kind p e ≡ p
+  count : (p v : ℕ) → 1 ≤ p → p ≤ 256 → HasCount kind p v
+  few : (p v : ℕ) → HasCount kind p v → (1 ≤ p) × (p ≤ 256)
+
+lines_kind : (kind : Kind) → not (is_switching kind) ≡ true → IsLinesKind (Some kind)
+lines_kind kinds.MakerBreaker h = record { points = λ p e. refl; count = λ p v a b. (a, b); few = λ p v h. h }
+lines_kind kinds.MakerMaker h = record { points = λ p e. refl; count = λ p v a b. (a, b); few = λ p v h. h }
+lines_kind kinds.AvoiderEnforcer h = record { points = λ p e. refl; count = λ p v a b. (a, b); few = λ p v h. h }
+lines_kind kinds.Switching h = absurd cc
+
+record IsGraphKind (kind : Option Kind) : Type 0 where
+  count : (p v : ℕ) → 2 ≤ v → v ≤ 500 → HasCount kind p v
+  terminals : (v s t : ℕ) → s < v → t < v → s ≢ t → HasTerminals kind v s t
+
+graph_kind : (kind : Kind) → is_switching kind ≡ true → IsGraphKind (Some kind)
+graph_kind kinds.MakerBreaker h = absurd cc
+graph_kind kinds.MakerMaker h = absurd cc
+graph_kind kinds.AvoiderEnforcer h = absurd cc
+graph_kind kinds.Switching h = record { count = λ p v a b. (a, b); terminals = λ v s t a b c. (a, b, c) }
+
+kind_place : (kind : Option Kind) (d : Draft) → is_misplaced kind d keys.Kind ≡ false → (kind ≡ None → d.rank ≡ 0) → d.rank ≡ 0
+kind_place None d h first = first refl
+kind_place (Some kind) d h first = let p = placed true d.rank 1 0 false h in let low = under d.rank 1 p.up p.again (λ e. absurd (cc e)) in omega arith
+
+count_place : (kind : Option Kind) (d : Draft) → is_misplaced kind d keys.Points ≡ false → (d.rank < 2) × (1 ≤ d.rank) × IsLinesKind kind
+count_place None d h = absurd (cc h)
+count_place (Some kind) d h = let p = placed (not (is_switching kind)) d.rank 2 1 false h in (under d.rank 2 p.up p.again (λ e. absurd (cc e)), p.need, lines_kind kind p.fits)
+
+vertices_place : (kind : Option Kind) (d : Draft) → is_misplaced kind d keys.Vertices ≡ false → (d.rank < 2) × (1 ≤ d.rank) × IsGraphKind kind
+vertices_place None d h = absurd (cc h)
+vertices_place (Some kind) d h = let p = placed (is_switching kind) d.rank 2 1 false h in (under d.rank 2 p.up p.again (λ e. absurd (cc e)), p.need, graph_kind kind p.fits)
+
+terminals_place : (kind : Option Kind) (d : Draft) → is_misplaced kind d keys.Terminals ≡ false → (d.rank < 3) × (2 ≤ d.rank) × IsGraphKind kind
+terminals_place None d h = absurd (cc h)
+terminals_place (Some kind) d h = let p = placed (is_switching kind) d.rank 3 2 false h in (under d.rank 3 p.up p.again (λ e. absurd (cc e)), p.need, graph_kind kind p.fits)
+
+line_place : (kind : Option Kind) (d : Draft) → is_misplaced kind d keys.Line ≡ false → (d.rank ≤ 4) × IsLater kind d.rank × IsLinesKind kind
+line_place None d h = absurd (cc h)
+line_place (Some kind) d h = let p = placed (not (is_switching kind)) d.rank 4 (cond (is_switching kind) 3 2) false h in (p.up, later kind d.rank p.need, lines_kind kind p.fits)
+
+edge_place : (kind : Option Kind) (d : Draft) → is_misplaced kind d keys.Edge ≡ false → (d.rank ≤ 4) × IsLater kind d.rank
+edge_place None d h = absurd (cc h)
+edge_place (Some kind) d h = let p = placed (is_switching kind) d.rank 4 (cond (is_switching kind) 3 2) false h in (p.up, later kind d.rank p.need)
+
+x_place : (kind : Option Kind) (d : Draft) → is_misplaced kind d keys.X ≡ false → (d.rank < 5) × IsLater kind d.rank
+x_place None d h = absurd (cc h)
+x_place (Some kind) d h = let p = placed true d.rank 5 (cond (is_switching kind) 3 2) false h in (under d.rank 5 p.up p.again (λ e. absurd (cc e)), later kind d.rank p.need)
+
+y_place : (kind : Option Kind) (d : Draft) → is_misplaced kind d keys.Y ≡ false → (d.rank < 6) × IsLater kind d.rank
+y_place None d h = absurd (cc h)
+y_place (Some kind) d h = let p = placed true d.rank 6 (cond (is_switching kind) 3 2) false h in (under d.rank 6 p.up p.again (λ e. absurd (cc e)), later kind d.rank p.need)
+
+turn_place : (kind : Option Kind) (d : Draft) → is_misplaced kind d keys.Turn ≡ false → (d.rank < 7) × IsLater kind d.rank
+turn_place None d h = absurd (cc h)
+turn_place (Some kind) d h = let p = placed true d.rank 7 (cond (is_switching kind) 3 2) false h in (under d.rank 7 p.up p.again (λ e. absurd (cc e)), later kind d.rank p.need)
+
+-- ---- the parts
+
+none_below : (limit : ℕ) (s : FinSet nat_cmp) → s ≡ empty → AreBelow s limit
+none_below limit s e = λ v h. let none : contains s v ≡ false = ap (λ (u : FinSet nat_cmp). contains u v) e ∙ contains-empty nat_cmp v in absurd cc
+
+no_marks : (limit : ℕ) (x y : FinSet nat_cmp) → x ≡ empty → y ≡ empty → AreMarks limit x y
+no_marks limit x y e f = record {
+  x_below = none_below limit x e;
+  y_below = none_below limit y f;
+  apart = λ v h. ap (λ (u : FinSet nat_cmp). contains u v) f ∙ contains-empty nat_cmp v;
+}
+
+set_below : (limit : ℕ) (ns : List ℕ) → list_all (λ n. nat_lt n limit) ns ≡ true → AreBelow (set_of ns) limit
+set_below limit ns all = λ v h. ltb-true v limit (has-below limit ns v all (sym (in_set_of ns v) ∙ h))
+
+no_lines : (points : ℕ) (grid : Option Grid) (lines : List (List ℕ)) → ((g : Grid) → grid ≡ Some g → g.width * g.height ≡ points) → lines ≡ [] → AreLines points grid lines
+no_lines points grid lines cells e = rw e (record { cells = cells; each = λ i d lt. absurd (omega arith); count = lit≤ tt; total = lit≤ tt })
+
+no_ends : (vertices : ℕ) (ends : List (ℕ × ℕ)) → ends ≡ [] → AreEnds vertices ends
+no_ends vertices ends e = rw e (record { each = λ i d lt. absurd (omega arith); count = lit≤ tt })
+
+line_is : (points : ℕ) (ns : List ℕ) → points ≤ 256 → list_all (λ n. nat_lt n points) ns ≡ true → repeats empty ns ≡ false → 0 < length ns → length ns ≤ 100 → IsLineOf points 1 (ascending ns)
+line_is points ns few below different some short =
+    let small = below_more points ns (omega arith) below in
+    let len = length-ascending ns small different in
+    let all = AllPass-from_list_all (λ n. nat_lt n points) (ascending ns) (below-ascending points ns below) in
+    record { some = omega arith; short = omega arith; ascending = members-ascend (set_of ns); range = λ i d lt. ltb-true _ points (all i d lt) }
+
+more_lines : (points : ℕ) (grid : Option Grid) (lines : List (List ℕ)) (line : List ℕ) → AreLines points grid lines → IsLineOf points 1 line → length lines < 20000 → sum_by length lines + length line ≤ 400000 → AreLines points grid (lines ++ line ∷ [])
+more_lines points grid lines line h one few summed = record {
+  cells = h.cells;
+  each = All-push (IsLineOf points 1) lines line h.each one;
+  count = omega (arith, length-append lines (line ∷ []));
+  total = omega (arith, sum_by_push length lines line);
+}
+
+more_ends : (vertices a b : ℕ) (ends : List (ℕ × ℕ)) → AreEnds vertices ends → a < vertices → b < vertices → length ends < 1000 → AreEnds vertices (ends ++ (a, b) ∷ [])
+more_ends vertices a b ends h first second few = record {
+  each = All-push (λ e. (e.0 < vertices) × (e.1 < vertices)) ends (a, b) h.each (first, second);
+  count = omega (arith, length-append ends ((a, b) ∷ []));
+}
+
+-- words that are numbers are as many numbers
+length-numbers : (ws : List Bytes) → is_none (numbers ws) ≡ false → length (numbers_of ws) ≡ length ws
+unfolding numbers
+length-numbers [] some = refl
+length-numbers (w ∷ ws) some = step (number w) (numbers ws) (length ws) (λ h. length-numbers ws h) some
+  where
+    step : (n : Option ℕ) (ns : Option (List ℕ)) (k : ℕ) → (is_none ns ≡ false → length (unwrap_or ns []) ≡ k) → is_none (then_numbers n ns) ≡ false → length (unwrap_or (then_numbers n ns) []) ≡ suc k
+    step None ns k h some = absurd cc
+    step (Some n) None k h some = absurd cc
+    step (Some n) (Some ns) k h some = ap (λ (m : ℕ). suc m) (h refl)
+
+-- two numbers of which each is below a limit
+two_below : (limit : ℕ) (arguments : List Bytes) → length arguments ≡ 2 → is_none (numbers arguments) ≡ false → list_all (λ n. nat_lt n limit) (numbers_of arguments) ≡ true → (first_number (numbers_of arguments) < limit) × (second_number (numbers_of arguments) < limit)
+two_below limit arguments two some all = pair_below limit (numbers_of arguments) (length-numbers arguments some ∙ two) all
+  where
+    pair_below : (limit : ℕ) (ns : List ℕ) → length ns ≡ 2 → list_all (λ n. nat_lt n limit) ns ≡ true → (first_number ns < limit) × (second_number ns < limit)
+    pair_below limit [] two all = absurd (omega arith)
+    pair_below limit (a ∷ []) two all = absurd (omega arith)
+    pair_below limit (a ∷ b ∷ ns) two all = let x = and_parts (nat_lt a limit) (list_all (λ n. nat_lt n limit) (b ∷ ns)) all in let y = and_parts (nat_lt b limit) (list_all (λ n. nat_lt n limit) ns) x.1 in (ltb-true a limit x.0, ltb-true b limit y.0)
+
+-- ---- each key
+
+has_kind : (d : Draft) → IsBefore d → 1 ≤ d.rank → d.kind ≡ None → ⊥
+has_kind d order low e = let zero : d.rank ≡ 0 = order.kind e in omega arith
+
+sound_turn : (d : Draft) (arguments : List Bytes) → IsSound d → keyed_fault d keys.Turn arguments ≡ None → IsSound (said d keys.Turn arguments)
+sound_turn d arguments sound e =
+    let rows = none_applies (keyed_faults d keys.Turn arguments) e in
+    let at = turn_place d.kind d rows.1.0 in
+    let two = at.1.two in
+    record {
+      order = record {
+        kind = λ none. absurd (has_kind d sound.order (omega arith) none);
+        grid = λ lt. absurd (omega arith);
+        lines = λ lt. absurd (omega arith);
+        x = λ lt. absurd (omega arith);
+        y = λ lt. absurd (omega arith);
+        turn = λ lt. absurd (omega arith);
+      };
+      count = λ h. sound.count two;
+      terminals = λ h. at.1.terminals d.vertices d.s d.t sound.terminals;
+      lines = sound.lines;
+      ends = sound.ends;
+      marks = sound.marks;
+    }
+
+sound_x : (d : Draft) (arguments : List Bytes) → IsSound d → keyed_fault d keys.X arguments ≡ None → IsSound (said d keys.X arguments)
+sound_x d arguments sound e =
+    let rows = none_applies (keyed_faults d keys.X arguments) e in
+    let at = x_place d.kind d rows.1.0 in
+    let two = at.1.two in
+    let below = not_false (list_all (λ n. nat_lt n (points_for d.kind d.points (length d.ends))) (numbers_of arguments)) rows.1.1.1.1.0 in
+    let none = sound.order.y (omega (arith, at.0)) in
+    record {
+      order = record {
+        kind = λ none. absurd (has_kind d sound.order (omega arith) none);
+        grid = λ lt. absurd (omega arith);
+        lines = λ lt. absurd (omega arith);
+        x = λ lt. absurd (omega arith);
+        y = λ lt. none;
+        turn = λ lt. sound.order.turn (omega (arith, at.0));
+      };
+      count = λ h. sound.count two;
+      terminals = λ h. at.1.terminals d.vertices d.s d.t sound.terminals;
+      lines = sound.lines;
+      ends = sound.ends;
+      marks = record {
+        x_below = set_below (points_for d.kind d.points (length d.ends)) (numbers_of arguments) below;
+        y_below = none_below (points_for d.kind d.points (length d.ends)) d.y none;
+        apart = λ v h. ap (λ (u : FinSet nat_cmp). contains u v) none ∙ contains-empty nat_cmp v;
+      };
+    }
+
+sound_y : (d : Draft) (arguments : List Bytes) → IsSound d → keyed_fault d keys.Y arguments ≡ None → IsSound (said d keys.Y arguments)
+sound_y d arguments sound e =
+    let rows = none_applies (keyed_faults d keys.Y arguments) e in
+    let at = y_place d.kind d rows.1.0 in
+    let two = at.1.two in
+    let below = not_false (list_all (λ n. nat_lt n (points_for d.kind d.points (length d.ends))) (numbers_of arguments)) rows.1.1.1.1.0 in
+    record {
+      order = record {
+        kind = λ none. absurd (has_kind d sound.order (omega arith) none);
+        grid = λ lt. absurd (omega arith);
+        lines = λ lt. absurd (omega arith);
+        x = λ lt. absurd (omega arith);
+        y = λ lt. absurd (omega arith);
+        turn = λ lt. sound.order.turn (omega (arith, at.0));
+      };
+      count = λ h. sound.count two;
+      terminals = λ h. at.1.terminals d.vertices d.s d.t sound.terminals;
+      lines = sound.lines;
+      ends = sound.ends;
+      marks = record {
+        x_below = sound.marks.x_below;
+        y_below = set_below (points_for d.kind d.points (length d.ends)) (numbers_of arguments) below;
+        apart = λ v h. in_set_of (numbers_of arguments) v ∙ repeats_apart d.x (numbers_of arguments) v rows.1.1.1.1.1.0 h;
+      };
+    }
+
+sound_line : (d : Draft) (arguments : List Bytes) → IsSound d → keyed_fault d keys.Line arguments ≡ None → IsSound (said d keys.Line arguments)
+sound_line d arguments sound e =
+    let rows = none_applies (keyed_faults d keys.Line arguments) e in
+    let ns = numbers_of arguments in
+    let at = line_place d.kind d rows.1.0 in
+    let two = at.1.two in
+    let count = sound.count two in
+    let same = at.2.points d.points (length d.ends) in
+    let few = (at.2.few d.points d.vertices count).1 in
+    let below = ap (λ n. list_all (λ p. nat_lt p n) ns) (sym same) ∙ not_false (list_all (λ n. nat_lt n (points_for d.kind d.points (length d.ends))) ns) rows.1.1.1.1.0 in
+    let len = or_false (length ns == 0) (nat_lt 100 (length ns)) rows.1.1.1.1.1.1.0 in
+    let some : 0 < length ns = grind (arith, nat_tests, len.0) in
+    let room = or_false (nat_le 20000 (length d.lines)) (nat_lt 400000 (sum_by length d.lines + length ns)) rows.1.1.1.1.1.1.1.0 in
+    let fewer : length d.lines < 20000 = grind (arith, nat_tests, room.0) in
+    let kept = length-ascending ns (below_more d.points ns (omega (arith, few)) below) rows.1.1.1.1.1.0 in
+    record {
+      order = record {
+        kind = λ none. absurd (has_kind d sound.order (omega arith) none);
+        grid = λ lt. absurd (omega arith);
+        lines = λ lt. absurd (omega arith);
+        x = λ lt. sound.order.x (omega (arith, at.0));
+        y = λ lt. sound.order.y (omega (arith, at.0));
+        turn = λ lt. sound.order.turn (omega (arith, at.0));
+      };
+      count = λ h. count;
+      terminals = λ h. at.1.terminals d.vertices d.s d.t sound.terminals;
+      lines = more_lines d.points d.grid d.lines (ascending ns) sound.lines (line_is d.points ns few below rows.1.1.1.1.1.0 some (ltb-false 100 (length ns) len.1)) fewer (omega (arith, kept, ltb-false 400000 (sum_by length d.lines + length ns) room.1));
+      ends = sound.ends;
+      marks = sound.marks;
+    }
+
+sound_edge : (d : Draft) (arguments : List Bytes) → IsSound d → keyed_fault d keys.Edge arguments ≡ None → IsSound (said d keys.Edge arguments)
+sound_edge d arguments sound e =
+    let rows = none_applies (keyed_faults d keys.Edge arguments) e in
+    let ns = numbers_of arguments in
+    let at = edge_place d.kind d rows.1.0 in
+    let two = at.1.two in
+    let form = or_false (not (length arguments == 2)) (is_none (numbers arguments)) rows.1.1.0 in
+    let pair : length arguments ≡ 2 = grind (arith, nat_tests, form.0) in
+    let each = two_below d.vertices arguments pair form.1 (not_false (list_all (λ n. nat_lt n d.vertices) ns) rows.1.1.1.1.0) in
+    let room : nat_le 1000 (length d.ends) ≡ false = rows.1.1.1.1.1.1.1.0 in
+    let fewer : length d.ends < 1000 = grind (arith, nat_tests) in
+    record {
+      order = record {
+        kind = λ none. absurd (has_kind d sound.order (omega arith) none);
+        grid = λ lt. absurd (omega arith);
+        lines = λ lt. absurd (omega arith);
+        x = λ lt. sound.order.x (omega (arith, at.0));
+        y = λ lt. sound.order.y (omega (arith, at.0));
+        turn = λ lt. sound.order.turn (omega (arith, at.0));
+      };
+      count = λ h. sound.count two;
+      terminals = λ h. at.1.terminals d.vertices d.s d.t sound.terminals;
+      lines = sound.lines;
+      ends = more_ends d.vertices (first_number ns) (second_number ns) d.ends sound.ends each.0 each.1 fewer;
+      marks = no_marks _ d.x d.y (sound.order.x (omega (arith, at.0))) (sound.order.y (omega (arith, at.0)));
+    }
+
+sound_terminals : (d : Draft) (arguments : List Bytes) → IsSound d → keyed_fault d keys.Terminals arguments ≡ None → IsSound (said d keys.Terminals arguments)
+sound_terminals d arguments sound e =
+    let rows = none_applies (keyed_faults d keys.Terminals arguments) e in
+    let ns = numbers_of arguments in
+    let at = terminals_place d.kind d rows.1.0 in
+    let two = at.1 in
+    let form = or_false (not (length arguments == 2)) (is_none (numbers arguments)) rows.1.1.0 in
+    let pair : length arguments ≡ 2 = grind (arith, nat_tests, form.0) in
+    let each = two_below d.vertices arguments pair form.1 (not_false (list_all (λ n. nat_lt n d.vertices) ns) rows.1.1.1.1.0) in
+    let one : (first_number ns == second_number ns) ≡ false = rows.1.1.1.1.1.1.1.1.0 in
+    record {
+      order = record {
+        kind = λ none. absurd (has_kind d sound.order (omega arith) none);
+        grid = λ lt. absurd (omega arith);
+        lines = λ lt. sound.order.lines (omega (arith, at.0));
+        x = λ lt. sound.order.x (omega (arith, at.0));
+        y = λ lt. sound.order.y (omega (arith, at.0));
+        turn = λ lt. sound.order.turn (omega (arith, at.0));
+      };
+      count = λ h. sound.count two;
+      terminals = λ h. at.2.terminals d.vertices (first_number ns) (second_number ns) each.0 each.1 (eqb-false (first_number ns) (second_number ns) one);
+      lines = sound.lines;
+      ends = sound.ends;
+      marks = sound.marks;
+    }
+
+sound_vertices : (d : Draft) (arguments : List Bytes) → IsSound d → keyed_fault d keys.Vertices arguments ≡ None → IsSound (said d keys.Vertices arguments)
+sound_vertices d arguments sound e =
+    let rows = none_applies (keyed_faults d keys.Vertices arguments) e in
+    let n = first_number (numbers_of arguments) in
+    let at = vertices_place d.kind d rows.1.0 in
+    let limits = outside_not 2 500 n rows.1.1.1.1.1.1.1.0 in
+    record {
+      order = record {
+        kind = λ none. absurd (has_kind d sound.order at.1 none);
+        grid = λ lt. absurd (omega arith);
+        lines = λ lt. sound.order.lines (omega (arith, at.0));
+        x = λ lt. sound.order.x (omega (arith, at.0));
+        y = λ lt. sound.order.y (omega (arith, at.0));
+        turn = λ lt. sound.order.turn (omega (arith, at.0));
+      };
+      count = λ h. at.2.count d.points n limits.0 limits.1;
+      terminals = λ h. absurd (omega arith);
+      lines = sound.lines;
+      ends = no_ends n d.ends (sound.order.lines (omega (arith, at.0))).1;
+      marks = sound.marks;
+    }
+
+sound_points : (d : Draft) (arguments : List Bytes) → IsSound d → keyed_fault d keys.Points arguments ≡ None → IsSound (said d keys.Points arguments)
+sound_points d arguments sound e =
+    let rows = none_applies (keyed_faults d keys.Points arguments) e in
+    let n = first_number (numbers_of arguments) in
+    let at = count_place d.kind d rows.1.0 in
+    let limits = outside_not 1 256 n rows.1.1.1.1.1.1.1.0 in
+    let bare : d.grid ≡ None = sound.order.grid at.0 in
+    record {
+      order = record {
+        kind = λ none. absurd (has_kind d sound.order at.1 none);
+        grid = λ lt. absurd (omega arith);
+        lines = λ lt. sound.order.lines (omega (arith, at.0));
+        x = λ lt. sound.order.x (omega (arith, at.0));
+        y = λ lt. sound.order.y (omega (arith, at.0));
+        turn = λ lt. sound.order.turn (omega (arith, at.0));
+      };
+      count = λ h. at.2.count n d.vertices limits.0 limits.1;
+      terminals = λ h. absurd (omega arith);
+      lines = no_lines n d.grid d.lines (λ g is. absurd (cc)) (sound.order.lines (omega (arith, at.0))).0;
+      ends = sound.ends;
+      marks = no_marks _ d.x d.y (sound.order.x (omega (arith, at.0))) (sound.order.y (omega (arith, at.0)));
+    }
+
+same_grid : (g h : Grid) → ◌≡◌ {A = Option Grid} (Some g) (Some h) → g ≡ h
+same_grid g h e = cc
+
+sound_grid : (d : Draft) (arguments : List Bytes) → IsSound d → keyed_fault d keys.Grid arguments ≡ None → IsSound (said d keys.Grid arguments)
+sound_grid d arguments sound e =
+    let rows = none_applies (keyed_faults d keys.Grid arguments) e in
+    let w = first_number (numbers_of arguments) in
+    let h = second_number (numbers_of arguments) in
+    let at = count_place d.kind d rows.1.0 in
+    let limits = outside_not 1 256 (w * h) rows.1.1.1.1.1.1.1.0 in
+    record {
+      order = record {
+        kind = λ none. absurd (has_kind d sound.order at.1 none);
+        grid = λ lt. absurd (omega arith);
+        lines = λ lt. sound.order.lines (omega (arith, at.0));
+        x = λ lt. sound.order.x (omega (arith, at.0));
+        y = λ lt. sound.order.y (omega (arith, at.0));
+        turn = λ lt. sound.order.turn (omega (arith, at.0));
+      };
+      count = λ k. at.2.count (w * h) d.vertices limits.0 limits.1;
+      terminals = λ k. absurd (omega arith);
+      lines = no_lines (w * h) (Some (record { width = w; height = h })) d.lines (λ g is. ap (λ (k : Grid). k.width * k.height) (sym (same_grid (record { width = w; height = h }) g is))) (sound.order.lines (omega (arith, at.0))).0;
+      ends = sound.ends;
+      marks = no_marks _ d.x d.y (sound.order.x (omega (arith, at.0))) (sound.order.y (omega (arith, at.0)));
+    }
+
+known : (kind : Option Kind) → is_none kind ≡ false → kind ≡ None → ⊥
+known None known e = absurd cc
+known (Some kind) known e = absurd cc
+
+sound_kind : (d : Draft) (arguments : List Bytes) → IsSound d → keyed_fault d keys.Kind arguments ≡ None → IsSound (said d keys.Kind arguments)
+sound_kind d [] sound e = let rows = none_applies (keyed_faults d keys.Kind []) e in absurd (cc rows.1.1.0)
+sound_kind d (word ∷ others) sound e =
+    let rows = none_applies (keyed_faults d keys.Kind (word ∷ others)) e in
+    let zero = kind_place d.kind d rows.1.0 sound.order.kind in
+    record {
+      order = record {
+        kind = λ none. absurd (known (kind_of word) rows.0 none);
+        grid = λ lt. sound.order.grid (omega arith);
+        lines = λ lt. sound.order.lines (omega arith);
+        x = λ lt. sound.order.x (omega arith);
+        y = λ lt. sound.order.y (omega arith);
+        turn = λ lt. sound.order.turn (omega arith);
+      };
+      count = λ h. absurd (omega arith);
+      terminals = λ h. absurd (omega arith);
+      lines = sound.lines;
+      ends = sound.ends;
+      marks = no_marks _ d.x d.y (sound.order.x (omega arith)) (sound.order.y (omega arith));
+    }
+
+sound_shape : (d : Draft) (arguments : List Bytes) → keyed_fault d keys.Shape arguments ≡ None → IsSound (said d keys.Shape arguments)
+sound_shape d arguments e = let rows = none_applies (keyed_faults d keys.Shape arguments) e in absurd (cc rows.1.1.1.0)
+
+sound_key : (d : Draft) (key : Key) (arguments : List Bytes) → IsSound d → keyed_fault d key arguments ≡ None → IsSound (said d key arguments)
+sound_key d keys.Kind arguments sound e = sound_kind d arguments sound e
+sound_key d keys.Points arguments sound e = sound_points d arguments sound e
+sound_key d keys.Grid arguments sound e = sound_grid d arguments sound e
+sound_key d keys.Vertices arguments sound e = sound_vertices d arguments sound e
+sound_key d keys.Terminals arguments sound e = sound_terminals d arguments sound e
+sound_key d keys.Line arguments sound e = sound_line d arguments sound e
+sound_key d keys.Shape arguments sound e = sound_shape d arguments e
+sound_key d keys.Edge arguments sound e = sound_edge d arguments sound e
+sound_key d keys.X arguments sound e = sound_x d arguments sound e
+sound_key d keys.Y arguments sound e = sound_y d arguments sound e
+sound_key d keys.Turn arguments sound e = sound_turn d arguments sound e
+
+-- ---- lines
+
+pub keyed_ok : (d next : Draft) (key : Key) (arguments : List Bytes) → keyed d key arguments ≡ Ok next → (keyed_fault d key arguments ≡ None) × (said d key arguments ≡ next)
+unfolding keyed
+keyed_ok d next key arguments e = unless_ok (keyed_fault d key arguments) (said d key arguments) next e
+
+abbrev done : Draft → Result Draft Fault
+done x = Ok x
+
+abbrev read_done : Draft → Result Draft (Fault × ℕ)
+read_done x = Ok x
+
+read_is : (x y : Draft) → read_done x ≡ read_done y → x ≡ y
+read_is x y e = cc
+
+sound_named : (d next : Draft) (key : Option Key) (arguments : List Bytes) → IsSound d → named d key arguments ≡ Ok next → IsSound next
+sound_named d next None arguments sound e = absurd cc
+sound_named d next (Some key) arguments sound e =
+    let found = keyed_ok d next key arguments e in
+    subst IsSound found.1 (sound_key d key arguments sound found.0)
+
+begins : (d : Draft) → IsSound d → IsSound (record d { begun = true })
+begins d sound = record {
+  order = record { kind = sound.order.kind; grid = sound.order.grid; lines = sound.order.lines; x = sound.order.x; y = sound.order.y; turn = sound.order.turn };
+  count = sound.count;
+  terminals = sound.terminals;
+  lines = sound.lines;
+  ends = sound.ends;
+  marks = sound.marks;
+}
+
+ok_is : (x y : Draft) → done x ≡ done y → x ≡ y
+ok_is x y e = cc
+
+-- an if-chain, by the way that the test went
+chosen : {A : Type 0} (b : Bool) (x y z : A) → cond b x y ≡ z → ((b ≡ true) × (x ≡ z)) ⊎ ((b ≡ false) × (y ≡ z))
+chosen true x y z e = inl (refl, e)
+chosen false x y z e = inr (refl, e)
+
+sound_significant : (d next : Draft) (ws : List Bytes) → IsSound d → significant d ws ≡ Ok next → IsSound next
+unfolding significant
+sound_significant d next ws sound e =
+    elim (chosen d.begun (named d (key_of (first ws)) (rest ws)) (cond (is_header ws) (Ok (record d { begun = true })) (Err faults.Header)) (Ok next) e) [
+      | inl h ↦ sound_named d next (key_of (first ws)) (rest ws) sound h.1
+      | inr h ↦ elim (chosen (is_header ws) (done (record d { begun = true })) (Err faults.Header) (Ok next) h.1) [
+        | inl k ↦ subst IsSound (ok_is (record d { begun = true }) next k.1) (begins d sound)
+        | inr k ↦ absurd (cc k.1)
+        ]
+      ]
+
+pub sound_after : (d next : Draft) (line : Bytes) → IsSound d → after d line ≡ Ok next → IsSound next
+unfolding after
+sound_after d next line sound e =
+    elim (chosen (not (list_all is_printable line)) (Err faults.Bytes) (cond (begins_comment line || length (words line) == 0) (Ok d) (significant d (words line))) (Ok next) e) [
+      | inl h ↦ absurd (cc h.1)
+      | inr h ↦ elim (chosen (begins_comment line || length (words line) == 0) (done d) (significant d (words line)) (Ok next) h.1) [
+        | inl k ↦ subst IsSound (ok_is d next k.1) sound
+        | inr k ↦ sound_significant d next (words line) sound k.1
+        ]
+      ]
+
+sound_step : (n : ℕ) (r : Result Draft Fault) (others : List Bytes) (last : Draft) → ((next : Draft) → r ≡ Ok next → reading (n + 1) next others ≡ Ok last → IsSound last) → go_on n r (λ next. reading (n + 1) next others) ≡ Ok last → IsSound last
+sound_step n (Ok next) others last h e = h next refl e
+sound_step n (Err f) others last h e = absurd cc
+
+pub sound_reading : (n : ℕ) (d last : Draft) (ls : List Bytes) → IsSound d → reading n d ls ≡ Ok last → IsSound last
+unfolding reading
+sound_reading n d last [] sound e = subst IsSound (read_is d last e) sound
+sound_reading n d last (line ∷ others) sound e = sound_step n (after d line) others last (λ next went f. sound_reading (n + 1) next last others (sound_after d next line sound went) f) e
+
+pub sound_nothing : IsSound nothing
+sound_nothing = record {
+  order = record { kind = λ e. refl; grid = λ lt. refl; lines = λ lt. (refl, refl); x = λ lt. refl; y = λ lt. refl; turn = λ lt. refl };
+  count = λ h. absurd (omega arith);
+  terminals = λ h. absurd (omega arith);
+  lines = no_lines 0 None [] (λ g is. absurd cc) refl;
+  ends = no_ends 0 [] refl;
+  marks = no_marks 0 empty empty refl refl;
+}
+
+-- ---- the game at the end
+
+same_lines : (f g : LineField) → ◌≡◌ {A = Field} (fields.Lines f) (fields.Lines g) → f ≡ g
+same_lines f g e = cc
+
+same_graph : (f g : Graph) → ◌≡◌ {A = Field} (fields.Graph f) (fields.Graph g) → f ≡ g
+same_graph f g e = cc
+
+lines_field : (points : ℕ) (grid : Option Grid) (lines : List (List ℕ)) → 1 ≤ points → points ≤ 256 → AreLines points grid lines → AreLinesOf 1 (record { points = points; grid = grid; lines = lines })
+lines_field points grid lines some few h = record { some_points = some; few_points = few; cells = h.cells; few_lines = h.count; few_summed = h.total; lines = h.each }
+
+graph_field : (v s t : ℕ) (ends : List (ℕ × ℕ)) → 2 ≤ v → v ≤ 500 → s < v → t < v → s ≢ t → AreEnds v ends → IsBoard (record { vertices = v; s = s; t = t; ends = ends })
+graph_field v s t ends some few first second apart h = record { some_vertices = some; few_vertices = few; few_edges = h.count; ends = h.each; s_range = first; t_range = second; apart = apart }
+
+fits_lines : (kind : Kind) (f : LineField) (x y : FinSet nat_cmp) → false ≡ is_switching kind → 1 ≤ greatest_bias kind → AreLinesOf 1 f → AreMarks f.points x y → IsFit kind (fields.Lines f) x y 1
+fits_lines kind f x y is bias h marks = record {
+  some_bias = lit≤ tt;
+  few_bias = bias;
+  kind_fits = is;
+  on_lines = λ g e. subst (λ (k : LineField). AreLinesOf 1 k) (same_lines f g e) h;
+  on_graph = λ g e. absurd cc;
+  x_range = marks.x_below;
+  y_range = marks.y_below;
+  disjoint = marks.apart;
+}
+
+fits_graph : (f : Graph) (x y : FinSet nat_cmp) → IsBoard f → AreMarks (length f.ends) x y → IsFit kinds.Switching (fields.Graph f) x y 1
+fits_graph f x y h marks = record {
+  some_bias = lit≤ tt;
+  few_bias = lit≤ tt;
+  kind_fits = refl;
+  on_lines = λ g e. absurd cc;
+  on_graph = λ g e. subst IsBoard (same_graph f g e) h;
+  x_range = marks.x_below;
+  y_range = marks.y_below;
+  disjoint = marks.apart;
+}
+
+fits_kind : (kind : Kind) (d : Draft) → HasCount (Some kind) d.points d.vertices → HasTerminals (Some kind) d.vertices d.s d.t → AreLines d.points d.grid d.lines → AreEnds d.vertices d.ends → AreMarks (points_for (Some kind) d.points (length d.ends)) d.x d.y
+    → IsFit kind (field_of kind d) d.x d.y 1
+fits_kind kinds.MakerBreaker d count terminals lines ends marks = fits_lines kinds.MakerBreaker _ d.x d.y refl (lit≤ tt) (lines_field d.points d.grid d.lines count.0 count.1 lines) marks
+fits_kind kinds.MakerMaker d count terminals lines ends marks = fits_lines kinds.MakerMaker _ d.x d.y refl (lit≤ tt) (lines_field d.points d.grid d.lines count.0 count.1 lines) marks
+fits_kind kinds.AvoiderEnforcer d count terminals lines ends marks = fits_lines kinds.AvoiderEnforcer _ d.x d.y refl (lit≤ tt) (lines_field d.points d.grid d.lines count.0 count.1 lines) marks
+fits_kind kinds.Switching d count terminals lines ends marks = fits_graph _ d.x d.y (graph_field d.vertices d.s d.t d.ends count.0 count.1 terminals.0 terminals.1 terminals.2 ends) marks
+
+-- a game whose turn has been said is within the limits
+pub fits_sound : (d : Draft) (kind : Kind) (turn : Side) → IsSound d → d.kind ≡ Some kind → d.turn ≡ Some turn → IsFit kind (field_of kind d) d.x d.y 1
+fits_sound d kind turn sound is said =
+    let high : 7 ≤ d.rank = elim (cases_lt d.rank 7) [ inl lt ↦ let none : d.turn ≡ None = sound.order.turn lt in absurd cc | inr ge ↦ ge ] in
+    fits_kind kind d
+        (subst (λ (k : Option Kind). HasCount k d.points d.vertices) is (sound.count (omega arith)))
+        (subst (λ (k : Option Kind). HasTerminals k d.vertices d.s d.t) is (sound.terminals (omega arith)))
+        sound.lines sound.ends
+        (subst (λ (k : Option Kind). AreMarks (points_for k d.points (length d.ends)) d.x d.y) is sound.marks)
