@@ -1,14 +1,13 @@
 -- Sets of points a row of 64 at a time: a word's bits are the points of its row.
-use Rattle.std.proofs.Common.{◌≡◌, ◌≢◌, ℕ, ◌+◌, ◌*◌, ◌/◌, ◌%◌, ◌^◌, ◌<◌, ◌≤◌, ◌-◌, Bool, true, false, not, ◌&&◌, ◌||◌, List, get_or, nat_eq, ltb, bit_and, bit_or, refl, sym, ap, subst, ◌∙◌, inl, inr, ◌⊎◌, arith, w64, lt-ltb, min, max, lit<}
-use Rattle.std.proofs.lemmas.Bool.{cases_Bool, cases_lt, and_from, and_parts, false_from_ne_true, not_from_false, both_ways, not-true}
+use Rattle.std.proofs.Common.{◌≡◌, ◌≢◌, ℕ, ◌+◌, ◌*◌, ◌/◌, ◌%◌, ◌^◌, ◌<◌, ◌≤◌, ◌-◌, Bool, true, false, not, ◌&&◌, ◌||◌, List, get_or, nat_eq, bit_and, bit_or, refl, sym, ap, subst, ◌∙◌, inl, inr, ◌⊎◌, arith, w64, lt-ltb, min, max, lit<}
+use Rattle.std.proofs.lemmas.Bool.{cases_lt, both_ways}
 use Rattle.std.proofs.lemmas.Nat.{and_le_l, pow-add}
 use Rattle.std.proofs.Math.Nat.{div-div-eq-div-mul, div-le_self}
 use Rattle.std.proofs.lemmas.Nat.Bits.{bit_at-lt, bit_at-zero, bit_at_and, bit_at_or, bit_at_not, bit_at_above, bit_at-trailing_zeros, same_from_bits_below}
 use Rattle.std.specs.Int.{bit_at, bit_not, trailing_zeros}
-use Rattle.std.specs.FinSet.{FinSet, contains}
-use Rattle.std.specs.Ordering.{nat_cmp}
+use Rattle.std.specs.FinSet.{contains}
 use Rattle.pg_base.specs.Words.{has_bit, members_below, AreWords}
-use Rattle.pg_base.specs.WordLemmas.{in_members_below, has_bit-at, members-beyond, bit_from_test}
+use Rattle.pg_base.specs.WordLemmas.{in_members_below, has_bit-at, members-beyond}
 use Rattle.pg_base.specs.Points.{IsLeastFrom, AreBelow, ShareNone, AreWithin}
 
 -- whether the bit is set
