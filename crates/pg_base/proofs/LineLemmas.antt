@@ -1,8 +1,10 @@
 -- Points in order, and points that stand twice.
-use Rattle.std.proofs.Common.{◌≡◌, ℕ, zero, suc, ◌+◌, ◌<◌, ◌≤◌, ◌==◌, true, false, cond, List, [], ◌∷◌, length, get_or, ltb, refl, sym, ap, subst, arith, eq-eqb, ltb-true, ltb-false}
+use Rattle.std.proofs.Common.{◌≡◌, ℕ, zero, suc, ◌+◌, ◌<◌, ◌≤◌, ◌==◌, true, false, cond, List, [], ◌∷◌, length, get_or, ltb, refl, sym, ap, subst, arith, Bool, ne_eqb, inl, inr, eq-eqb, ltb-true, ltb-false}
 use Rattle.std.proofs.lemmas.List.Sums.{get_or-le-sum_by, sum_by-cons}
 use Rattle.std.proofs.lemmas.List.Sorted.{sum_by-IsPermutation}
-use Rattle.std.specs.List.{count_by, AllAdjacentBelow}
+use Rattle.std.proofs.lemmas.List.Kept.{AllPairs-from_increasing}
+use Rattle.std.proofs.lemmas.Bool.{cases_eq}
+use Rattle.std.specs.List.{All, AllPairs, count_by, AllAdjacentBelow}
 use Rattle.std.specs.List.Sorted.{IsPermutation, IsSorted, IsStrictlyIncreasing}
 use Rattle.std.specs.Ordering.{nat_cmp, is_lt}
 use Rattle.std.proofs.lemmas.Bool.Decides.{nat_tests}
@@ -46,3 +48,33 @@ StandsTwice-from_neighbours xs points moved sorted k h off =
 
 pub IsStrictlyIncreasing-from_adjacent : (xs : List ℕ) → AllAdjacentBelow (λ x y. true ≡ ltb x y) xs (length xs) → IsStrictlyIncreasing xs
 IsStrictlyIncreasing-from_adjacent xs all k h = ltb-true _ _ (sym (all k 0 h))
+
+-- points that are all above one don't hold it
+count-above : (v : ℕ) (xs : List ℕ) → All (λ y. v < y) xs → count_by (λ q. q == v) xs ≡ 0
+count-above v [] above = refl
+count-above v (x ∷ xs) above =
+    let none : ◌≡◌ {A = ℕ} (cond (x == v) 1 0) 0 = (let one_of : Bool → ℕ = λ b. cond b 1 0 in ap one_of (ne_eqb x v (λ e. let here : v < x = above 0 0 (omega arith) in omega arith))) in
+    omega (arith, none, count-above v xs (λ k d h. above (suc k) d (omega arith)), count-cons v x xs)
+
+count-rising : (v : ℕ) (xs : List ℕ) → AllPairs (λ x y. x < y) xs → count_by (λ q. q == v) xs ≤ 1
+count-rising v [] rising = omega arith
+count-rising v (x ∷ xs) rising = elim (cases_eq x v) [
+  | inl e ↦
+      let higher : All (λ y. v < y) xs = λ k d h. subst (λ (p : ℕ). p < get_or xs k d) e (rising 0 (suc k) d (omega arith) (omega arith)) in
+      let later = count-above v xs higher in
+      omega (arith, counted_here v x e, later, count-cons v x xs)
+  | inr ne ↦
+      let none : ◌≡◌ {A = ℕ} (cond (x == v) 1 0) 0 = (let one_of : Bool → ℕ = λ b. cond b 1 0 in ap one_of (ne_eqb x v ne)) in
+      omega (arith, none, count-rising v xs (λ i j d before inside. rising (suc i) (suc j) d (omega arith) (omega arith)), count-cons v x xs)
+]
+
+-- where points ascend, each stands once at most
+pub count-ascending : (v : ℕ) (xs : List ℕ) → IsStrictlyIncreasing xs → count_by (λ q. q == v) xs ≤ 1
+count-ascending v xs rising = count-rising v xs (AllPairs-from_increasing xs rising)
+
+-- where an order of the points ascends, no point stands twice
+pub not_twice : (xs points : List ℕ) → IsPermutation points xs → IsStrictlyIncreasing xs → StandsTwice points → ⊥
+not_twice xs points moved rising twice =
+    let once = count-ascending twice.point xs rising in
+    let same = sum_by-IsPermutation (λ q. cond (q == twice.point) 1 0) points xs moved in
+    omega (arith, once, same, twice.twice)

@@ -4,4 +4,6 @@ pub mod WordLemmas
 pub mod Points
 pub mod PointLemmas
 pub mod Side
+pub mod Goal
+pub mod Kind
 pub mod Line

@@ -1,4 +1,8 @@
 //! The kinds of positional games.
+ghost use Rattle.std.specs.Prelude.{◌≡◌};
+ghost use Rattle.pg_base.specs.Kind.{kind_word};
+
+use std::fmt::{self, Display, Formatter, Write};
 
 /// A kind of positional game (Hefetz, Krivelevich, Stojaković and Szabó, Positional Games; Lehman 1964 for the
 /// switching game).
@@ -12,4 +16,31 @@ pub enum Kind {
     AvoiderEnforcer,
     /// X, Short, wants to join two vertices by its edges; Y, Cut, wants to part them.
     Switching,
+}
+
+impl Kind {
+    /// The word that names the kind in files and texts: `maker-breaker`, `maker-maker`, `avoider-enforcer` or
+    /// `switching`.
+    pub fn word(self) -> &'static str
+        ensures { result.now ≡ kind_word self }
+    {
+        match self {
+            Kind::MakerBreaker => "maker-breaker",
+            Kind::MakerMaker => "maker-maker",
+            Kind::AvoiderEnforcer => "avoider-enforcer",
+            Kind::Switching => "switching",
+        }
+    }
+}
+
+/// Prints the kind's word.
+impl Display for Kind {
+    ghost use Rattle.std.specs.Prelude.{Some};
+    ghost use Rattle.pg_base.specs.Kind.{kind_word};
+
+    ghost output = { λ kind. Some (kind_word kind) };
+
+    fn fmt<W: Write>(&self, f: &mut Formatter<W>) -> fmt::Result {
+        f.write_str(self.word())
+    }
 }

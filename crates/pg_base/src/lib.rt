@@ -11,6 +11,8 @@ mod point_set;
 mod points;
 mod score;
 mod side;
+#[cfg(test)]
+mod tests;
 
 pub use goal::Goal;
 pub use grid::Grid;

@@ -1,4 +1,4 @@
-// Lines, and lists of lines.
+//! Lines, and lists of lines.
 ghost use Rattle.std.specs.Prelude.{◌≡◌, ◌≢◌, ℕ, ◌<◌, length, slice_index, IfOk, List, IsTrue, ◌↔◌};
 ghost use Rattle.std.specs.List.{Contains};
 ghost use Rattle.std.specs.List.Sorted.{IsPermutation, IsStrictlyIncreasing};
@@ -46,11 +46,12 @@ impl From<AllocError> for LineFault {
 }
 
 impl Line {
-    /// The line of these points.
+    /// The line of these points, which may come in any order; `Repeated` comes exactly where a point stands twice.
     pub fn new(alloc: Global, points: &[u16]) -> Result<Line, LineFault>
         ensures points { IfOk result (λ line. IsPermutation points.now line) }
         ensures ascending { IfOk result IsStrictlyIncreasing }
         ensures repeated { result ≡ Err LineFault.Repeated → StandsTwice points.now }
+        ensures distinct { IfOk result (λ _. ¬ StandsTwice points.now) }
     {
         let mut points = points.to_vec(alloc)?;
         points.sort_unstable();

@@ -1,7 +1,7 @@
-// A set of points below 1,024, a bit for each.
-ghost use Rattle.std.specs.Prelude.{◌≡◌, ℕ, ◌<◌, ◌≤◌, true, false, IfSome, IfNone};
+//! A set of points below 1,024, a bit for each.
+ghost use Rattle.std.specs.Prelude.{◌≡◌, ℕ, ◌<◌, ◌≤◌, ◌+◌, ◌*◌, true, false, not, ◌&&◌, ◌||◌, IfSome, IfNone, IsTrue, ◌↔◌};
 ghost use Rattle.std.specs.FinSet as set;
-ghost use Rattle.pg_base.specs.Points.{IsLeastFrom};
+ghost use Rattle.pg_base.specs.Points.{IsLeastFrom, AreBelow, ShareNone, AreWithin};
 
 use std::hash::{Hash, Hasher};
 use std::marker::Model;
@@ -106,17 +106,94 @@ impl PointSet {
         points
     }
 
-    /// The least point of the set that is not below `p`.
+    /// The least point of the set that is not below `p`; none exactly where each point is below it. Each point
+    /// of a set is below 1,024.
     pub fn first_from(&self, p: u16) -> Option<u16>
         ensures found { IfSome result (λ v. IsLeastFrom self.now p v) }
+        ensures range { IfSome result (λ v. v < 1024) }
+        ensures limit { AreBelow self.now 1024 }
         ensures none { IfNone result ((q : ℕ) → p ≤ q → set.contains self.now q ≡ false) }
     {
         let _words = &self.words;
-        for v in p..1024 {
-            if self.has(v) {
-                return Some(v);
+        for row in p / 64..16 {
+            let found = self.first_in_row(row, p.saturating_sub(64 * row));
+            if found.is_some() {
+                return found;
             }
         }
         None
+    }
+
+    // The least point of the row that is in the set, from a column on.
+    fn first_in_row(&self, row: u16, column: u16) -> Option<u16>
+        requires row { row < 16 }
+        requires column { column < 64 }
+        ensures found { IfSome result (λ v. IsLeastFrom self.now (64 * row + column) v) }
+        ensures range { IfSome result (λ v. v < 1024) }
+        ensures none { IfNone result ((q : ℕ) → 64 * row + column ≤ q → q < 64 * (row + 1) → set.contains self.now q ≡ false) }
+    {
+        let word = self.words[row as usize] >> column;
+        if word == 0 {
+            None
+        } else {
+            Some(64 * row + column + word.trailing_zeros() as u16)
+        }
+    }
+
+    /// Whether each point of the set is below the limit.
+    pub fn is_below(&self, limit: u16) -> bool
+        ensures { IsTrue result ↔ AreBelow self.now limit }
+    {
+        self.first_from(limit).is_none()
+    }
+
+    /// Whether no point is in both sets.
+    pub fn shares_none(&self, other: &PointSet) -> bool
+        ensures { IsTrue result ↔ ShareNone self.now other.now }
+    {
+        let (mine, theirs) = (&self.words, &other.words);
+        for row in 0..16 {
+            if mine[row] & theirs[row] != 0 {
+                return false;
+            }
+        }
+        true
+    }
+
+    /// Whether each point of the set is in the other set.
+    pub fn is_subset(&self, other: &PointSet) -> bool
+        ensures { IsTrue result ↔ AreWithin self.now other.now }
+    {
+        let (mine, theirs) = (&self.words, &other.words);
+        for row in 0..16 {
+            if mine[row] & !theirs[row] != 0 {
+                return false;
+            }
+        }
+        true
+    }
+
+    /// The points that are in one or both of the sets.
+    pub fn union(&self, other: &PointSet) -> PointSet
+        ensures members { (v : ℕ) → set.contains result v ≡ (set.contains self.now v || set.contains other.now v) }
+        ensures union { result ≡ set.union self.now other.now }
+    {
+        let (mut words, theirs) = (self.words, &other.words);
+        for row in 0..16 {
+            words[row] |= theirs[row];
+        }
+        PointSet { words }
+    }
+
+    /// The points of the set that aren't in the other set.
+    pub fn without(&self, other: &PointSet) -> PointSet
+        ensures members { (v : ℕ) → set.contains result v ≡ (set.contains self.now v && not (set.contains other.now v)) }
+        ensures difference { result ≡ set.difference self.now other.now }
+    {
+        let (mut words, theirs) = (self.words, &other.words);
+        for row in 0..16 {
+            words[row] &= !theirs[row];
+        }
+        PointSet { words }
     }
 }

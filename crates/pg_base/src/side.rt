@@ -1,16 +1,20 @@
-// The two sides.
+//! The two sides.
 ghost use Rattle.std.specs.Prelude.{◌≡◌};
-ghost use Rattle.pg_base.specs.Side.{other};
+ghost use Rattle.pg_base.specs.Side.{other, side_word};
 
-/// One of the two sides.
+use std::fmt::{self, Display, Formatter, Write};
+
+/// One of the two sides. X is Maker, Avoider and Short, and Y is Breaker, Enforcer and Cut, in the games of these names.
 #[derive(Clone, Copy, Debug, PartialEq, Eq, PartialOrd, Ord, Hash)]
 pub enum Side {
+    /// The side for which `Score::XWins` is the best result.
     X,
+    /// The side for which `Score::YWins` is the best result.
     Y,
 }
 
 impl Side {
-    /// The other side.
+    /// The other side, which moves after this one.
     pub fn other(self) -> Side
         ensures { result ≡ other self }
     {
@@ -18,5 +22,27 @@ impl Side {
             Side::X => Side::Y,
             Side::Y => Side::X,
         }
+    }
+
+    /// The word that names the side in files and texts: `x` or `y`.
+    pub fn word(self) -> &'static str
+        ensures { result.now ≡ side_word self }
+    {
+        match self {
+            Side::X => "x",
+            Side::Y => "y",
+        }
+    }
+}
+
+/// Prints the side's word.
+impl Display for Side {
+    ghost use Rattle.std.specs.Prelude.{Some};
+    ghost use Rattle.pg_base.specs.Side.{side_word};
+
+    ghost output = { λ side. Some (side_word side) };
+
+    fn fmt<W: Write>(&self, f: &mut Formatter<W>) -> fmt::Result {
+        f.write_str(self.word())
     }
 }

@@ -1,6 +1,6 @@
 -- The free points, before and after a move.
 use Rattle.std.proofs.Common.{◌≡◌, ℕ, zero, suc, ◌+◌, ◌<◌, ◌≤◌, Bool, true, false, not, ◌&&◌, ◌||◌, List, [], ◌∷◌, length, eqb, refl, sym, ap, ◌∙◌, inl, inr, arith, eq-eqb, ne_eqb}
-use Rattle.std.proofs.lemmas.Bool.{cases_Bool, cases_eq, and_from, false≢true, or_left, or_right}
+use Rattle.std.proofs.lemmas.Bool.{and_parts, cases_Bool, cases_eq, and_from, false≢true, or_left, or_right, or_cases}
 use Rattle.std.proofs.lemmas.List.Elements.{filter_agree}
 use Rattle.std.specs.List.{filter, range_with_len, Contains, list_any, list_all}
 use Rattle.std.specs.FinSet.{FinSet, contains}
@@ -84,6 +84,29 @@ all-filter p t a (suc n) each =
     let rest = all-filter p t (a + 1) n (λ v low high. each v (omega arith) (omega arith)) in
     elim (cases_Bool (p a)) [ inl here ↦ rw here (and_from (t a) _ (each a (omega arith) (omega arith) here) rest) | inr off ↦ rw off rest ]
 
+any-filter-from : (p t : ℕ → Bool) (a n : ℕ) → list_any t (filter p (range_with_len a n)) ≡ true → (v : ℕ) × (a ≤ v) × (v < a + n) × (p v ≡ true) × (t v ≡ true)
+any-filter-from p t a zero h = absurd (false≢true h)
+any-filter-from p t a (suc n) h = elim (cases_Bool (p a)) [
+  | inl here ↦ elim (or_cases (t a) _ (rw here at h)) [
+    | inl pass ↦ (a, omega arith, omega arith, here, pass)
+    | inr later ↦ let w = any-filter-from p t (a + 1) n later in (w.0, omega (arith, w.1), omega (arith, w.2), w.3, w.4)
+  ]
+  | inr off ↦ let w = any-filter-from p t (a + 1) n (rw off at h) in (w.0, omega (arith, w.1), omega (arith, w.2), w.3, w.4)
+]
+
+all-filter-from : (p t : ℕ → Bool) (a n : ℕ) → list_all t (filter p (range_with_len a n)) ≡ true → (v : ℕ) → a ≤ v → v < a + n → p v ≡ true → t v ≡ true
+all-filter-from p t a zero h v low high on = absurd (omega arith)
+all-filter-from p t a (suc n) h v low high on = elim (cases_Bool (p a)) [
+  | inl here ↦
+      let parts = and_parts (t a) _ (rw here at h) in
+      elim (cases_eq v a) [ inl e ↦ ap t e ∙ parts.0 | inr ne ↦ all-filter-from p t (a + 1) n parts.1 v (omega arith) (omega arith) on ]
+  | inr off ↦
+      elim (cases_eq v a) [
+        | inl e ↦ absurd (false≢true (sym off ∙ ap p (sym e) ∙ on))
+        | inr ne ↦ all-filter-from p t (a + 1) n (rw off at h) v (omega arith) (omega arith) on
+      ]
+]
+
 -- some free point passes
 pub any-free_points : (g : Game) (p : Position) (t : ℕ → Bool) (v : ℕ) → v < point_count g → is_free p v ≡ true → t v ≡ true → list_any t (free_points g p) ≡ true
 unfolding free_points
@@ -93,6 +116,16 @@ any-free_points g p t v within free pass = any-filter (is_free p) t v 0 (point_c
 pub all-free_points : (g : Game) (p : Position) (t : ℕ → Bool) → ((v : ℕ) → v < point_count g → is_free p v ≡ true → t v ≡ true) → list_all t (free_points g p) ≡ true
 unfolding free_points
 all-free_points g p t each = all-filter (is_free p) t 0 (point_count g) (λ v _ high free. each v (omega arith) free)
+
+-- where some free point passes, one does
+pub any-free_points-from : (g : Game) (p : Position) (t : ℕ → Bool) → list_any t (free_points g p) ≡ true → (v : ℕ) × (v < point_count g) × (is_free p v ≡ true) × (t v ≡ true)
+unfolding free_points
+any-free_points-from g p t h = let w = any-filter-from (is_free p) t 0 (point_count g) h in (w.0, omega (arith, w.2), w.3, w.4)
+
+-- where every free point passes, each does
+pub all-free_points-from : (g : Game) (p : Position) (t : ℕ → Bool) → list_all t (free_points g p) ≡ true → (v : ℕ) → v < point_count g → is_free p v ≡ true → t v ≡ true
+unfolding free_points
+all-free_points-from g p t h v within free = all-filter-from (is_free p) t 0 (point_count g) h v (omega arith) (omega arith) free
 
 -- ---- where nothing is free
 

@@ -5,3 +5,6 @@ pub mod Moves
 pub mod Strategy
 pub mod ValueLaws
 pub mod Limits
+pub mod TerminalLemmas
+pub mod Outcomes
+pub mod Walked

@@ -1,5 +1,5 @@
 -- How a side forces a goal by keeping an invariant.
-use Rattle.std.proofs.Common.{◌≡◌, ℕ, zero, suc, ◌<◌, ◌≤◌, Bool, true, false, not, ◌&&◌, ◌||◌, map, length, refl, sym, ap, ◌∙◌, inl, inr, ◌⊎◌, arith}
+use Rattle.std.proofs.Common.{◌≡◌, ℕ, List, [], ◌∷◌, zero, suc, ◌<◌, ◌≤◌, Bool, true, false, not, ◌&&◌, ◌||◌, map, length, refl, sym, ap, ◌∙◌, inl, inr, ◌⊎◌, arith}
 use Rattle.std.proofs.lemmas.Bool.{cases_Bool, or_left, or_right, not_from_false, false≢true}
 use Rattle.pg_game.specs.declared.position.Position.{Position}
 use Rattle.pg_base.specs.declared.side.Side.{Side}
@@ -10,7 +10,8 @@ use Rattle.pg_base.specs.declared.kind.Kind.{Kind}
 use Rattle.pg_base.specs.declared.kind.Kind.TheVariants.{MakerBreaker, MakerMaker, AvoiderEnforcer, Switching}
 use Rattle.pg_base.specs.declared.goal.Goal.{Goal}
 use Rattle.pg_game.specs.Game.{after, free_points, point_count, is_over, outcome, is_full, is_over_by}
-use Rattle.pg_game.specs.Strategy.{Keeps}
+use Rattle.pg_game.specs.Play.{IsLegalPlay}
+pub use Rattle.pg_game.specs.Strategy.{Keeps}
 use Rattle.pg_game.specs.Value.{best, value, value_within, reaches, Forces}
 use Rattle.pg_game.proofs.Scores.{reaches-best, reaches-best_other}
 use Rattle.pg_game.proofs.FreePoints.{length-free_points-after, any-free_points, all-free_points, no_free_points, first_free, none-full}
@@ -93,3 +94,11 @@ module _ {I : Position → Type 0} (g : Game) (side : Side) (goal : Goal) (keeps
   pub Forces-from_keeps : (p : Position) → I p → Forces g p side goal
   unfolding value
   Forces-from_keeps p i = within (length (free_points g p)) p i (omega arith)
+
+-- a legal play has at most as many moves as points are free
+pub length-legal_play : (g : Game) (p : Position) (moves : List ℕ) → IsLegalPlay g p moves → length moves ≤ length (free_points g p)
+length-legal_play g p [] legal = omega arith
+length-legal_play g p (v ∷ others) legal =
+    let fewer = length-free_points-after g p v legal.1 legal.2 in
+    let rest = length-legal_play g (after g p v) others legal.3 in
+    omega arith

@@ -1,7 +1,7 @@
 -- The value by the rules themselves, and what a side forces by one step.
-use Rattle.std.proofs.Common.{◌≡◌, ℕ, zero, suc, ◌+◌, ◌-◌, ◌<◌, ◌≤◌, Bool, true, false, ◌∷◌, map, length, refl, ap, ◌∙◌, inl, inr, arith}
+use Rattle.std.proofs.Common.{◌≡◌, ℕ, zero, suc, ◌+◌, ◌-◌, ◌<◌, ◌≤◌, Bool, true, false, ◌∷◌, map, length, refl, sym, ap, ◌∙◌, inl, inr, arith}
 use Rattle.std.proofs.lemmas.Bool.{cases_Bool, cond-true, cond-false}
-use Rattle.std.specs.List.{filter, range_with_len}
+use Rattle.std.specs.List.{filter, range_with_len, list_any, list_all}
 use Rattle.pg_game.specs.declared.position.Position.{Position}
 use Rattle.pg_base.specs.declared.side.Side.{Side}
 use Rattle.pg_base.specs.Side.{other}
@@ -12,7 +12,7 @@ use Rattle.pg_base.specs.declared.goal.Goal.{Goal}
 use Rattle.pg_game.specs.Game.{after, free_points, point_count, is_over, outcome}
 use Rattle.pg_game.specs.Value.{best, value, value_within, reaches, Forces}
 use Rattle.pg_game.proofs.Scores.{reaches-best, reaches-best_other}
-use Rattle.pg_game.proofs.FreePoints.{length-free_points-after, any-free_points, all-free_points}
+use Rattle.pg_game.proofs.FreePoints.{length-free_points-after, any-free_points, all-free_points, any-free_points-from, all-free_points-from}
 use Rattle.pg_game.proofs.Strategy.{free_point}
 
 map-filter : (p : ℕ → Bool) (f h : ℕ → Score) (a n : ℕ) → ((v : ℕ) → a ≤ v → v < a + n → p v ≡ true → f v ≡ h v) → map f (filter p (range_with_len a n)) ≡ map h (filter p (range_with_len a n))
@@ -58,6 +58,22 @@ value-step g p going =
 
 -- ---- what a side forces by one step
 
+-- whether the value is good for the mover: some move's is
+pub reaches-own : (g : Game) (p : Position) (side : Side) (goal : Goal) → is_over g p ≡ false → p.turn ≡ side
+    → reaches side goal (value g p) ≡ list_any (λ v. reaches side goal (value g (after g p v))) (free_points g p)
+reaches-own g p side goal going mine =
+    ap (reaches side goal) (value-step g p going)
+    ∙ ap (λ (s : Side). reaches side goal (best s (map (λ v. value g (after g p v)) (free_points g p)))) mine
+    ∙ reaches-best side goal (λ v. value g (after g p v)) (free_points g p)
+
+-- whether the value is good for the side that waits: every move's is
+pub reaches-theirs : (g : Game) (p : Position) (side : Side) (goal : Goal) → is_over g p ≡ false → p.turn ≡ other side
+    → reaches side goal (value g p) ≡ list_all (λ v. reaches side goal (value g (after g p v))) (free_points g p)
+reaches-theirs g p side goal going yours =
+    ap (reaches side goal) (value-step g p going)
+    ∙ ap (λ (s : Side). reaches side goal (best s (map (λ v. value g (after g p v)) (free_points g p)))) yours
+    ∙ reaches-best_other side goal (λ v. value g (after g p v)) (free_points g p)
+
 -- where the game is over and the outcome is good
 pub Forces-over : (g : Game) (p : Position) (side : Side) (goal : Goal) → is_over g p ≡ true → reaches side goal (outcome g p) ≡ true → Forces g p side goal
 Forces-over g p side goal over good = ap (reaches side goal) (value-over g p over) ∙ good
@@ -66,16 +82,22 @@ Forces-over g p side goal over good = ap (reaches side goal) (value-over g p ove
 pub Forces-move : (g : Game) (p : Position) (side : Side) (goal : Goal) → is_over g p ≡ false → p.turn ≡ side
     → (v : ℕ) → v < point_count g → is_free p v ≡ true → Forces g (after g p v) side goal → Forces g p side goal
 Forces-move g p side goal going mine v range free child =
-    ap (reaches side goal) (value-step g p going)
-    ∙ ap (λ (s : Side). reaches side goal (best s (map (λ v. value g (after g p v)) (free_points g p)))) mine
-    ∙ reaches-best side goal (λ v. value g (after g p v)) (free_points g p)
-    ∙ any-free_points g p (λ v. reaches side goal (value g (after g p v))) v range free child
+    reaches-own g p side goal going mine ∙ any-free_points g p (λ v. reaches side goal (value g (after g p v))) v range free child
 
 -- whatever the other side moves
 pub Forces-all : (g : Game) (p : Position) (side : Side) (goal : Goal) → is_over g p ≡ false → p.turn ≡ other side
     → ((v : ℕ) → v < point_count g → is_free p v ≡ true → Forces g (after g p v) side goal) → Forces g p side goal
 Forces-all g p side goal going yours children =
-    ap (reaches side goal) (value-step g p going)
-    ∙ ap (λ (s : Side). reaches side goal (best s (map (λ v. value g (after g p v)) (free_points g p)))) yours
-    ∙ reaches-best_other side goal (λ v. value g (after g p v)) (free_points g p)
-    ∙ all-free_points g p (λ v. reaches side goal (value g (after g p v))) children
+    reaches-theirs g p side goal going yours ∙ all-free_points g p (λ v. reaches side goal (value g (after g p v))) children
+
+-- where the mover forces the goal some move does
+pub Forces-move-from : (g : Game) (p : Position) (side : Side) (goal : Goal) → is_over g p ≡ false → p.turn ≡ side → Forces g p side goal
+    → (v : ℕ) × (v < point_count g) × (is_free p v ≡ true) × Forces g (after g p v) side goal
+Forces-move-from g p side goal going mine forced =
+    any-free_points-from g p (λ v. reaches side goal (value g (after g p v))) (sym (reaches-own g p side goal going mine) ∙ forced)
+
+-- where the side that waits forces the goal every move keeps it
+pub Forces-all-from : (g : Game) (p : Position) (side : Side) (goal : Goal) → is_over g p ≡ false → p.turn ≡ other side → Forces g p side goal
+    → (v : ℕ) → v < point_count g → is_free p v ≡ true → Forces g (after g p v) side goal
+Forces-all-from g p side goal going yours forced =
+    all-free_points-from g p (λ v. reaches side goal (value g (after g p v))) (sym (reaches-theirs g p side goal going yours) ∙ forced)

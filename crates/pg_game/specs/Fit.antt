@@ -4,6 +4,7 @@ use Rattle.std.specs.List.{All, sum_by}
 use Rattle.std.specs.List.Sorted.{IsStrictlyIncreasing}
 use Rattle.std.specs.FinSet.{FinSet, contains}
 use Rattle.std.specs.Ordering.{nat_cmp}
+pub use Rattle.pg_base.specs.Points.{AreBelow, ShareNone}
 use Rattle.pg_base.specs.declared.grid.Grid.{Grid}
 use Rattle.pg_base.specs.declared.kind.Kind.{Kind}
 use Rattle.pg_base.specs.declared.kind.Kind.TheVariants.{MakerBreaker, MakerMaker, AvoiderEnforcer, Switching}
@@ -12,14 +13,6 @@ use Rattle.pg_game.specs.Field.{field_points}
 use Rattle.pg_game.specs.declared.field.Field.{Field}
 use Rattle.pg_game.specs.declared.field.Field.TheVariants.{Lines, Graph as OnGraph}
 use Rattle.pg_game.specs.declared.field.LineField.{LineField}
-
--- each point of the set is below the limit
-abbrev pub AreBelow : FinSet nat_cmp → ℕ → Type 0
-AreBelow s limit = (v : ℕ) → contains s v ≡ true → v < limit
-
--- no point is in both sets
-abbrev pub ShareNone : FinSet nat_cmp → FinSet nat_cmp → Type 0
-ShareNone x y = (v : ℕ) → contains x v ≡ true → contains y v ≡ false
 
 -- how long a line may be: shorter where Y claims several points a turn, so that sums of weights stay small
 abbrev pub longest : ℕ → ℕ

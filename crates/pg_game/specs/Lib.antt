@@ -14,3 +14,6 @@ pub mod Decided
 pub mod Settled
 pub mod Class
 pub mod Strategy
+pub mod Judge
+pub mod Walked
+pub mod PositionLemmas

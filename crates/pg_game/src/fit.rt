@@ -5,7 +5,7 @@ ghost use Rattle.pg_base.specs.declared.grid.Grid.{Grid};
 ghost use Rattle.pg_game.specs.Field.{field_points};
 ghost use Rattle.pg_game.specs.declared.field.Field.TheVariants.{Graph as OnGraph};
 ghost use Rattle.pg_graph.specs.declared.graph.Graph.{Graph};
-ghost use Rattle.pg_game.specs.Fit.{IsFit, FieldFits, IsLineOf, AreLinesOf, IsBoard, AreBelow, ShareNone, longest, greatest_bias, is_switching};
+ghost use Rattle.pg_game.specs.Fit.{IsFit, FieldFits, IsLineOf, AreLinesOf, IsBoard, longest, greatest_bias, is_switching};
 
 use crate::field::{Field, LineField};
 use pg_base::{Grid, Kind, Line, PointSet};
@@ -25,27 +25,6 @@ const MOST_VERTICES: u16 = 500;
 
 /// The most edges of a graph.
 const MOST_EDGES: usize = 1000;
-
-/// Whether each point of the set is below the limit.
-fn are_below(points: &PointSet, limit: u16) -> bool
-    ensures { IsTrue result ↔ AreBelow points.now limit }
-{
-    points.first_from(limit).is_none()
-}
-
-/// Whether no point is in both sets, of which the first has only points below the limit.
-fn share_none(x: &PointSet, y: &PointSet, limit: u16) -> bool
-    requires few { limit ≤ 1024 }
-    requires below { AreBelow x.now limit }
-    ensures { IsTrue result ↔ ShareNone x.now y.now }
-{
-    for v in 0..limit {
-        if x.has(v) && y.has(v) {
-            return false;
-        }
-    }
-    true
-}
 
 /// How long a line may be.
 fn longest(bias: u8) -> usize
@@ -178,8 +157,8 @@ pub(crate) fn is_fit(kind: Kind, field: &Field, x: &PointSet, y: &PointSet, bias
         return false;
     }
     let points = points_of(field);
-    if !are_below(x, points) || !are_below(y, points) {
+    if !x.is_below(points) || !y.is_below(points) {
         return false;
     }
-    share_none(x, y, points)
+    x.shares_none(y)
 }

@@ -1,5 +1,5 @@
 //! Games.
-ghost use Rattle.std.specs.Prelude.{◌≡◌, ◌<◌, ◌↔◌, IsOk, IfOk};
+ghost use Rattle.std.specs.Prelude.{◌≡◌, ◌<◌, ◌≤◌, ◌↔◌, IsOk, IfOk};
 ghost use Rattle.pg_game.specs.Fit.{IsFit};
 
 use crate::field::Field;
@@ -69,7 +69,8 @@ impl Game {
 
     /// The number of points or edges.
     pub fn points(&self) -> u16
-        ensures { result ≡ point_count self.now }
+        ensures count { result ≡ point_count self.now }
+        ensures few { result ≤ 1000 }
     {
         match &self.field {
             Field::Lines(field) => field.points,

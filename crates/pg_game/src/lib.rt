@@ -4,8 +4,16 @@
 mod field;
 mod fit;
 mod game;
+mod joins;
+mod judge;
+pub mod laws;
 mod position;
+mod rules;
 
 pub use field::{Field, LineField};
 pub use game::{Game, Misfit};
+pub use judge::Judge;
 pub use position::{Illegal, Position};
+
+#[cfg(test)]
+mod tests;

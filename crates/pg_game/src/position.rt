@@ -1,5 +1,5 @@
 //! Positions, and why a move is refused.
-ghost use Rattle.std.specs.Prelude.{◌≡◌, ◌<◌};
+ghost use Rattle.std.specs.Prelude.{◌≡◌, ◌<◌, ◌↔◌, IsTrue};
 ghost use Rattle.pg_game.specs.Position.{is_free, points_of, claims_in_turn, after_with};
 
 use pg_base::{PointSet, Side};
@@ -45,6 +45,13 @@ impl Position {
             Side::X => &self.x,
             Side::Y => &self.y,
         }
+    }
+
+    /// Whether the positions are the same, as `==` says.
+    pub fn is_same(&self, other: &Position) -> bool
+        ensures { IsTrue result ↔ (self.now ≡ other.now) }
+    {
+        *self == *other
     }
 
     /// The position after the side to move takes the point, in a game in which Y claims `bias` points a turn.

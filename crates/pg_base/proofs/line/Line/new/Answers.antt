@@ -2,7 +2,7 @@ use Rattle.std.proofs.Common.{◌≡◌, sym, ltb, rules, List, ℕ, subst}
 use Rattle.std.specs.List.{IsAllAdjacentAnswer}
 use Rattle.std.proofs.lemmas.Bool.{MatchBool-at_true, MatchBool-at_false}
 use Rattle.std.proofs.lemmas.List.Sorted.{answers_always}
-use Rattle.pg_base.proofs.LineLemmas.{StandsTwice-from_neighbours, IsStrictlyIncreasing-from_adjacent}
+use Rattle.pg_base.proofs.LineLemmas.{StandsTwice-from_neighbours, IsStrictlyIncreasing-from_adjacent, not_twice}
 use Rattle.pg_base.proofs.line.Line.new.Goals as goal
 
 pub invariant_of-result : goal.invariant_of-result
@@ -22,3 +22,6 @@ returns-else-is_sorted_by-clause-repeated c = λ _.
     let cases = c.is_sorted_by.ensures.cases ltb (answers_always _ _ _ (λ f a r f' k. search rules)) in
     let found = MatchBool-at_false _ _ c.if-is_sorted_by.false (subst (λ (l : List ℕ). IsAllAdjacentAnswer (λ x y b. b ≡ ltb x y) l c.is_sorted_by.result) c.deref.ensures.value cases) in
     StandsTwice-from_neighbours c.sort_unstable.new.self.items c.args.points.now (search rules) c.sort_unstable.ensures.sorted found.0 found.1 (sym (found.2 0))
+
+pub returns-then-is_sorted_by-clause-distinct : goal.returns-then-is_sorted_by-clause-distinct
+returns-then-is_sorted_by-clause-distinct c = not_twice c.sort_unstable.new.self.items c.args.points.now (search rules) (invariant_of-result c)

@@ -1,11 +1,20 @@
-use Rattle.std.proofs.Common.{◌∙◌, sym, ap, arith, inl, inr}
-use Rattle.std.specs.FinSet.{contains}
+use Rattle.std.proofs.Common.{◌∙◌, sym, ap, arith, inl, inr, subst}
+use Rattle.std.specs.FinSet.{FinSet, contains}
+use Rattle.std.specs.Ordering.{nat_cmp}
+use Rattle.pg_base.specs.Points.{AreBelow}
+use Rattle.pg_base.proofs.RowLemmas.{AreBelow-words}
 use Rattle.std.proofs.lemmas.Bool.{cases_lt}
 use Rattle.pg_base.specs.WordLemmas.{members-beyond}
 use Rattle.pg_base.proofs.point_set.PointSet.first_from.Goals as goal
 
 pub returns-clause-none : goal.returns-clause-none
 returns-clause-none c q above = elim (cases_lt q 1024) [
-  | inl within ↦ c.loop-v.invariant q above (omega arith)
+  | inl within ↦ c.loop-row.invariant q above (omega arith)
   | inr beyond ↦ ap (λ s. contains s q) (sym c.self.view_is) ∙ members-beyond c.self.inside.words q beyond
 ]
+
+pub returns-then-is_some-clause-limit : goal.returns-then-is_some-clause-limit
+returns-then-is_some-clause-limit c = subst (λ (s : FinSet nat_cmp). AreBelow s 1024) c.self.view_is (AreBelow-words c.self.inside.words)
+
+pub returns-clause-limit : goal.returns-clause-limit
+returns-clause-limit c = subst (λ (s : FinSet nat_cmp). AreBelow s 1024) c.self.view_is (AreBelow-words c.self.inside.words)

@@ -1,0 +1,189 @@
+//! Worked rows, and each public call once.
+ghost use Rattle.std.specs.Prelude.{◌≡◌, ◌++◌, ◌∷◌, [], OnOk, IsTrue, ◌↔◌, codes, ◌<◌, IfOk, string_bytes};
+ghost use Rattle.std.specs.List.{All};
+ghost use Rattle.pg_base.specs.Side.{side_word};
+ghost use Rattle.pg_base.specs.Goal.{goal_word};
+
+use super::*;
+use std::alloc::Global;
+
+fn put(list: &mut Vec<u16>, value: u16) -> Result<(), Memory>
+    ensures { OnOk result (list.new.items ≡ list.old.items ++ value ∷ []) }
+{
+    list.push(value)?;
+    Ok(())
+}
+
+fn put_copy(alloc: Global, list: &mut Vec<Vec<u16>>, points: &[u16]) -> Result<(), Memory> {
+    list.push(points.to_vec(alloc)?)?;
+    Ok(())
+}
+
+fn are_one_side(a: Side, b: Side) -> bool
+    ensures { IsTrue result ↔ a ≡ b }
+{
+    a == b
+}
+
+fn are_one_goal(a: Goal, b: Goal) -> bool
+    ensures { IsTrue result ↔ a ≡ b }
+{
+    a == b
+}
+
+fn are_one_kind(a: Kind, b: Kind) -> bool
+    ensures { IsTrue result ↔ a ≡ b }
+{
+    a == b
+}
+
+fn are_one_score(a: Score, b: Score) -> bool
+    ensures { IsTrue result ↔ a ≡ b }
+{
+    a == b
+}
+
+fn is_win(claimed: Goal) -> bool
+    ensures { IsTrue result ↔ claimed ≡ Goal.Win }
+{
+    claimed == Goal::Win
+}
+
+fn are_one_pair(a: Pair, b: Pair) -> bool
+    ensures { IsTrue result ↔ a ≡ b }
+{
+    a == b
+}
+
+#[tactic(auto, using(crate::proofs::PointSetLaws::set_equality))]
+fn are_one_set(a: &PointSet, b: &PointSet) -> bool
+    ensures { IsTrue result ↔ a.now ≡ b.now }
+{
+    *a == *b
+}
+
+fn say(alloc: Global, side: Side, claimed: Goal) -> Result<String, Memory>
+    ensures { IfOk result (λ text. string_bytes text ≡ codes "claim " ++ side_word side ++ codes " " ++ goal_word claimed) }
+{
+    Ok(format!(in alloc; "claim {side} {claimed}")?)
+}
+
+#[test]
+fn a_question_mark_makes_memory(rt: HostRuntime) {
+    let mut list = Vec::new(rt.alloc());
+    assert_eq!(rt; put(&mut list, 7), Ok(()));
+    assert_eq!(rt; list[0], 7);
+    let mut lists = Vec::new(rt.alloc());
+    assert_eq!(rt; put_copy(rt.alloc(), &mut lists, &[2, 3]), Ok(()));
+    assert_eq!(rt; lists.len(), 1);
+}
+
+#[test]
+fn words_name_sides_goals_and_kinds(rt: HostRuntime) {
+    assert_eq!(rt; Side::X.other(), Side::Y);
+    assert_eq!(rt; Side::Y.other(), Side::X);
+    let text = say(rt.alloc(), Side::Y, Goal::Win).expect(&rt, "memory");
+    assert_eq!(rt; text.as_str(), "claim y win");
+    assert_eq!(rt; Goal::Draw.word(), "draw");
+    for (kind, word) in [
+        (Kind::MakerBreaker, "maker-breaker"),
+        (Kind::MakerMaker, "maker-maker"),
+        (Kind::AvoiderEnforcer, "avoider-enforcer"),
+        (Kind::Switching, "switching"),
+    ] {
+        assert_eq!(rt; kind.word(), word);
+    }
+    assert!(rt; Score::YWins < Score::Draw && Score::Draw < Score::XWins);
+}
+
+#[test]
+fn equality_of_plain_values(rt: HostRuntime) {
+    assert!(rt; are_one_side(Side::X, Side::X) && !are_one_side(Side::X, Side::Y));
+    assert!(rt; are_one_goal(Goal::Win, Goal::Win) && !is_win(Goal::Draw));
+    assert!(rt; !are_one_kind(Kind::MakerMaker, Kind::MakerBreaker));
+    assert!(rt; !are_one_score(Score::Draw, Score::XWins));
+    assert!(rt; !are_one_pair(Pair { a: 1, b: 2 }, Pair { a: 2, b: 1 }));
+}
+
+#[test]
+fn a_line_has_different_points_in_order(rt: HostRuntime) {
+    assert!(rt; Line::new(rt.alloc(), &[2, 0, 2]).is_err_and(|fault| fault == LineFault::Repeated));
+    let line = Line::new(rt.alloc(), &[3, 1, 2]).expect(&rt, "memory");
+    assert_eq!(rt; line.len(), 3);
+    assert_eq!(rt; line.at(0), 1);
+    assert_eq!(rt; line.at(2), 3);
+    assert!(rt; line.has(2) && !line.has(0));
+    assert_eq!(rt; line.as_slice().len(), 3);
+    let mut members = Vec::new(rt.alloc());
+    members.push(line).expect(&rt, "memory");
+    assert_eq!(rt; Lines::from_vec(members).as_slice().len(), 1);
+}
+
+#[test]
+fn lists_keep_their_members(rt: HostRuntime) {
+    let mut points = Vec::new(rt.alloc());
+    put(&mut points, 7).expect(&rt, "memory");
+    assert_eq!(rt; Points::from_vec(points).as_slice()[0], 7);
+    let mut pairs = Vec::new(rt.alloc());
+    pairs.push(Pair { a: 4, b: 9 }).expect(&rt, "memory");
+    assert_eq!(rt; Pairs::from_vec(pairs).as_slice()[0].b, 9);
+}
+
+// The set of these points.
+fn set_of(points: &[u16]) -> PointSet
+    requires { All (λ v. v < 1024) points.now }
+{
+    let mut set = PointSet::empty();
+    for point in points {
+        set.put(*point);
+    }
+    set
+}
+
+#[test]
+fn points_go_in_and_out(rt: HostRuntime) {
+    let mut set = PointSet::empty();
+    assert_eq!(rt; set.len(), 0);
+    assert_eq!(rt; set.first_from(0), None);
+    for point in [0, 63, 64, 1023] {
+        set.put(point);
+        assert!(rt; set.has(point));
+    }
+    assert_eq!(rt; set.len(), 4);
+    assert!(rt; !set.has(1) && !set.has(65) && !set.has(127) && !set.has(1022));
+    set.take(64);
+    assert!(rt; !set.has(64) && set.has(63) && set.has(0));
+    assert_eq!(rt; set.len(), 3);
+}
+
+#[test]
+fn the_first_point_from_a_point_on(rt: HostRuntime) {
+    let set = set_of(&[0, 63, 64, 1023]);
+    for (from, first) in [
+        (0, 0),
+        (1, 63),
+        (63, 63),
+        (64, 64),
+        (65, 1023),
+        (1023, 1023),
+    ] {
+        assert_eq!(rt; set.first_from(from), Some(first), "from {from}");
+    }
+    for from in [1024, 65535] {
+        assert_eq!(rt; set.first_from(from), None, "from {from}");
+    }
+    assert!(rt; set.is_below(1024) && !set.is_below(1023));
+}
+
+#[test]
+fn sets_beside_sets(rt: HostRuntime) {
+    let (low, high, both) = (
+        set_of(&[0, 63]),
+        set_of(&[64, 1023]),
+        set_of(&[0, 63, 64, 1023]),
+    );
+    assert!(rt; low.shares_none(&high) && !low.shares_none(&both));
+    assert!(rt; low.is_subset(&both) && !both.is_subset(&low));
+    assert!(rt; are_one_set(&low.union(&high), &both));
+    assert!(rt; are_one_set(&both.without(&low), &high));
+}

@@ -1,0 +1,81 @@
+//! Laws of the rules. Each function is empty: what it promises is a law of the definitions alone.
+ghost use Rattle.std.specs.Prelude.{◌≡◌, ◌↔◌, ℕ, ◌<◌, ◌≤◌, Bool, true, false, List, map, length, IsTrue, ◌+◌};
+ghost use Rattle.pg_base.specs.Side.{other};
+ghost use Rattle.pg_base.specs.declared.goal.Goal.{Goal};
+ghost use Rattle.pg_base.specs.declared.side.Side.{Side};
+ghost use Rattle.pg_graph.specs.declared.graph.Graph.{Graph};
+ghost use Rattle.pg_game.specs.Field.{terminals_joined};
+ghost use Rattle.pg_game.specs.Game.{point_count, free_points, after, bias_of, start, with_turn, is_over, outcome, IsPosition};
+ghost use Rattle.pg_game.specs.Play.{IsLegalPlay, played};
+ghost use Rattle.pg_game.specs.Position.{is_free};
+ghost use Rattle.pg_game.specs.PositionLemmas.{equal_positions};
+ghost use Rattle.pg_game.specs.Strategy.{Keeps};
+ghost use Rattle.pg_game.specs.Value.{value, best, Forces};
+ghost use Rattle.pg_game.specs.Walked.{AreConnected, IsJoiningGame};
+ghost use Rattle.pg_game.specs.declared.field.Field.TheVariants.{Graph as OnGraph};
+ghost use Rattle.pg_game.specs.declared.game.Game.{Game};
+ghost use Rattle.pg_game.specs.declared.position.Position.{Position};
+
+/// Where the game is over its value is its outcome.
+pub fn value_is_outcome_when_over()
+    ensures { (g : Game) → (p : Position) → is_over g p ≡ true → value g p ≡ outcome g p }
+{}
+
+/// Where the game isn't over its value is the best for the side to move of the values after a move. With the law
+/// above this determines the value: the number of moves by which it is defined plays no part.
+pub fn value_is_best_move()
+    ensures { (g : Game) → (p : Position) → is_over g p ≡ false → value g p ≡ best p.turn (map (λ v. value g (after g p v)) (free_points g p)) }
+{}
+
+/// The side to move forces a goal exactly where it does after some move.
+pub fn mover_forces_by_a_move()
+    ensures { (g : Game) → (p : Position) → (side : Side) → (goal : Goal) → is_over g p ≡ false → p.turn ≡ side → Forces g p side goal ↔ ((v : ℕ) × (v < point_count g) × (is_free p v ≡ true) × Forces g (after g p v) side goal) }
+{}
+
+/// The side that waits forces a goal exactly where it does after every move.
+pub fn waiter_forces_by_all_moves()
+    ensures { (g : Game) → (p : Position) → (side : Side) → (goal : Goal) → is_over g p ≡ false → p.turn ≡ other side → Forces g p side goal ↔ ((v : ℕ) → v < point_count g → is_free p v ≡ true → Forces g (after g p v) side goal) }
+{}
+
+/// A side that keeps an invariant up to its goal forces the goal wherever the invariant holds.
+pub fn kept_invariants_force()
+    ensures { (g : Game) → (side : Side) → (goal : Goal) → (test : Position → Bool) → Keeps g side goal (λ p. IsTrue (test p)) → (p : Position) → IsTrue (test p) → Forces g p side goal }
+{}
+
+/// Where the game isn't over some point is free.
+pub fn some_point_is_free()
+    ensures { (g : Game) → (p : Position) → is_over g p ≡ false → (v : ℕ) × (v < point_count g) × (is_free p v ≡ true) }
+{}
+
+/// Each move leaves one free point fewer, so a play has at most as many moves as points were free.
+pub fn games_end()
+    ensures fewer { (g : Game) → (p : Position) → (v : ℕ) → v < point_count g → is_free p v ≡ true → length (free_points g (after g p v)) < length (free_points g p) }
+    ensures plays { (g : Game) → (p : Position) → (moves : List ℕ) → IsLegalPlay g p moves → length moves ≤ length (free_points g p) }
+{}
+
+/// A game's marks are a position with either side's whole turn to come, and legal moves lead from positions to positions.
+pub fn positions_stay()
+    ensures start { (g : Game) → IsPosition g (start g) }
+    ensures turn { (g : Game) → (turn : Side) → IsPosition g (with_turn g turn) }
+    ensures after { (g : Game) → (p : Position) → (v : ℕ) → IsPosition g p → v < point_count g → is_free p v ≡ true → IsPosition g (after g p v) }
+    ensures played { (g : Game) → (p : Position) → (moves : List ℕ) → IsPosition g p → IsLegalPlay g p moves → IsPosition g (played g p moves) }
+{}
+
+/// A side that claims more than one point stays to move and claims one fewer; with its last point the turn passes, and
+/// the other side has a whole turn.
+pub fn turns_pass()
+    ensures stays { (g : Game) → (p : Position) → (v : ℕ) → 1 < p.left → ((after g p v).turn ≡ p.turn) × ((after g p v).left + 1 ≡ p.left) }
+    ensures passes { (g : Game) → (p : Position) → (v : ℕ) → p.left ≤ 1 → ((after g p v).turn ≡ other p.turn) × ((after g p v).left ≡ bias_of g (other p.turn)) }
+{}
+
+/// A game on a graph is decided by walks of edges (Lehman 1964): X has won where a walk of its edges joins the
+/// terminals, Y where no walk of edges that aren't Y's does.
+pub fn joining_is_by_walks()
+    ensures tests { (h : Graph) → (set : ℕ → Bool) → (terminals_joined h set ≡ true) ↔ AreConnected h set }
+    ensures games { (g : Game) → (h : Graph) → g.field ≡ OnGraph h → IsJoiningGame g h }
+{}
+
+/// Positions are equal by `==` exactly where they are the same.
+pub fn equal_positions_are_same()
+    ensures { (p : Position) → (q : Position) → IsTrue (equal_positions p q) ↔ (p ≡ q) }
+{}
