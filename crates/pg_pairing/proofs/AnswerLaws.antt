@@ -1,9 +1,9 @@
 -- The answer by pairs is a free point, and the rest of the pairs holds after it.
-use Rattle.std.proofs.Common.{◌≡◌, ◌≢◌, ℕ, ◌+◌, ◌<◌, ◌≤◌, Bool, true, false, not, ◌&&◌, ◌||◌, List, [], ◌∷◌, length, Option, Some, None, unwrap_or, eqb, eqb-true, eq-eqb, refl, sym, ap, ◌∙◌, subst, inl, inr, ◌⊎◌, arith}
+use Rattle.std.proofs.Common.{◌≡◌, ◌≢◌, ℕ, ◌<◌, Bool, true, false, not, List, [], ◌∷◌, Option, Some, None, unwrap_or, eqb, eqb-true, refl, sym, ap, ◌∙◌, subst, inl, inr, ◌⊎◌, arith}
 use Rattle.std.proofs.lemmas.Bool.{cases_Bool, and_parts, and_from, or_from, not-true, not_from_false, false≢true}
 use Rattle.std.proofs.lemmas.List.Elements.{All-contains}
 use Rattle.std.proofs.lemmas.Option.{same_Some, none-some}
-use Rattle.std.specs.List.{filter, find, Contains, All, list_any}
+use Rattle.std.specs.List.{find, Contains, All}
 use Rattle.pg_base.specs.declared.kind.Kind.{Kind}
 use Rattle.pg_base.specs.declared.kind.Kind.TheVariants.{MakerBreaker, MakerMaker, AvoiderEnforcer, Switching}
 use Rattle.pg_base.specs.declared.pair.Pair.{Pair}
@@ -13,8 +13,8 @@ use Rattle.pg_base.specs.Side.{other}
 use Rattle.pg_game.specs.declared.game.Game.{Game}
 use Rattle.pg_game.specs.declared.position.Position.{Position}
 use Rattle.pg_game.specs.Position.{is_free}
-use Rattle.pg_game.specs.Game.{point_count, free_points, is_full, is_empty, after, IsPosition}
-use Rattle.pg_game.specs.Pairs.{is_open, has_point, is_paired, is_loose, IsInGame, PairsHold, PairsLeaveNone, breaker_of, unpaired_due, first_some, other_point, partner, if_free, free_partner, lowest_free, pairs_answer}
+use Rattle.pg_game.specs.Game.{point_count, free_points, is_full, after, IsPosition}
+use Rattle.pg_game.specs.Pairs.{is_open, has_point, is_paired, is_loose, IsInGame, PairsHold, unpaired_due, first_some, partner, if_free, free_partner, lowest_free, pairs_answer}
 use Rattle.pg_game.proofs.Members.{Contains-head, Contains-tail, list_any-none, list_any-one, Contains-filter}
 use Rattle.pg_game.proofs.Moves.{free-stays, free-was, turn-after_x}
 use Rattle.pg_game.proofs.FreePoints.{any-free_points, first_free}
@@ -46,6 +46,16 @@ partner-none (s ∷ pairs) v e = elim (cases_Bool (eqb s.a v)) [
     | inr off ↦ or_from _ _ (or_from _ _ not_a off) (partner-none pairs v (rw off at (rw not_a at e)))
   ]
 ]
+
+-- a partner is as low as the points of the pairs
+pub partner_below : (pairs : List Pair) (v b : ℕ) → All (λ s. (s.a < 1024) × (s.b < 1024)) pairs → partner pairs v ≡ Some b → b < 1024
+partner_below pairs v b below e =
+    let found = partner-some pairs v b e in
+    let here = All-contains (λ s. (s.a < 1024) × (s.b < 1024)) pairs found.0 below found.1 in
+    elim found.2 [
+      | inl ab ↦ subst (λ (n : ℕ). n < 1024) ab.1 here.1
+      | inr ba ↦ subst (λ (n : ℕ). n < 1024) ba.0 here.0
+    ]
 
 if_free-some : (p : Position) (r : Option ℕ) (b : ℕ) → if_free p r ≡ Some b → (r ≡ Some b) × (is_free p b ≡ true)
 if_free-some p None b e = absurd (none-some b e)
@@ -151,9 +161,20 @@ module _ (g : Game) where
         ]
       ]
 
-  answer-partner : (p : Position) (pairs : List Pair) (last : Option ℕ) (b : ℕ) → free_partner p pairs last ≡ Some b → pairs_answer g p pairs last ≡ b
+  -- the three cases of the answer
+  pub answer-partner : (p : Position) (pairs : List Pair) (last : Option ℕ) (b : ℕ) → free_partner p pairs last ≡ Some b → pairs_answer g p pairs last ≡ b
   unfolding pairs_answer
   answer-partner p pairs last b e = ap (λ o. unwrap_or (first_some o (first_some (find (is_loose p pairs) (free_points g p)) (lowest_free g p))) 0) e
+
+  pub answer-loose : (p : Position) (pairs : List Pair) (last : Option ℕ) (v : ℕ) → free_partner p pairs last ≡ None → find (is_loose p pairs) (free_points g p) ≡ Some v
+      → pairs_answer g p pairs last ≡ v
+  unfolding pairs_answer
+  answer-loose p pairs last v none e = λ i. unwrap_or (first_some (none i) (first_some (e i) (lowest_free g p))) 0
+
+  pub answer-lowest : (p : Position) (pairs : List Pair) (last : Option ℕ) → free_partner p pairs last ≡ None → find (is_loose p pairs) (free_points g p) ≡ None
+      → pairs_answer g p pairs last ≡ unwrap_or (lowest_free g p) 0
+  unfolding pairs_answer
+  answer-lowest p pairs last none no_loose = λ i. unwrap_or (first_some (none i) (first_some (no_loose i) (lowest_free g p))) 0
 
   -- without a free partner the reply is in no pair that was open before it
   unpaired-reply : (q : Position) (v : ℕ) (pairs : List Pair) → ArePairsOf g pairs → is_free q v ≡ true → free_partner (after g q v) pairs (Some v) ≡ None → is_paired (rest q pairs) v ≡ false
@@ -279,3 +300,10 @@ module _ (g : Game) where
       | inl kind ↦ RestHolds-avoider p pairs None kind position (mine ∙ claims kind) are h (λ c e. absurd (none-some c e))
       | inr kind ↦ RestHolds-own p pairs (pairs_answer g p pairs None) kind mine h
     ]
+
+    -- in Maker-Breaker, where the rest holds, it holds after any point of the claimer
+    pub keeps_in_turn : (p : Position) (pairs : List Pair) (w : ℕ) → g.kind ≡ MakerBreaker → p.turn ≡ side → RestHolds g p side pairs → RestHolds g (after g p w) side pairs
+    keeps_in_turn p pairs w kind mine h = RestHolds-own p pairs w (λ e. breaker≢avoider (sym kind ∙ e)) mine h
+      where
+        breaker≢avoider : MakerBreaker ≢ AvoiderEnforcer
+        breaker≢avoider e = cc

@@ -1,10 +1,10 @@
 -- Lists without the elements that fail a test, and counts of numbers.
-use Rattle.std.proofs.Common.{◌≡◌, ◌≢◌, ℕ, zero, suc, ◌+◌, ◌<◌, ◌≤◌, Bool, true, false, not, ◌&&◌, ◌||◌, List, [], ◌∷◌, length, get_or, Option, Some, None, eqb, refl, sym, ap, ◌∙◌, subst, inl, inr, ◌⊎◌, arith, eq-eqb, ne_eqb}
-use Rattle.std.proofs.lemmas.Bool.{cases_Bool, cases_eq, and_parts, false≢true}
+use Rattle.std.proofs.Common.{◌≡◌, ℕ, zero, suc, ◌+◌, ◌<◌, ◌≤◌, Bool, true, false, not, ◌&&◌, ◌||◌, List, [], ◌∷◌, length, Some, None, cond, eqb, refl, sym, ap, ◌∙◌, subst, inl, inr, arith, eq-eqb, ne_eqb}
+use Rattle.std.proofs.lemmas.Bool.{cases_Bool, cases_eq, false≢true}
 use Rattle.std.proofs.lemmas.List.Elements.{All-head, All-tail, All-contains, All-filter, All-contains_itself, filter_passes}
 use Rattle.std.proofs.lemmas.List.FromFn.{length-range_with_len, get_or-range_with_len}
 use Rattle.std.proofs.lemmas.Option.{same_Some, none-some}
-use Rattle.std.specs.List.{filter, find, range_with_len, Contains, All, AllPairs, list_any}
+use Rattle.std.specs.List.{filter, find, range_with_len, Contains, All, list_any}
 use Rattle.pg_game.proofs.Members.{Contains-head, Contains-tail}
 
 module _ {X : Type 0} where
@@ -127,3 +127,38 @@ one_without t b a (suc n) on low high = elim (cases_eq a b) [
       let tail = one_without t b (a + 1) n on (omega arith) (omega arith) in
       rw (ne_eqb a b ne) (elim (cases_Bool (t a)) [ inl here ↦ rw here (omega (arith, tail)) | inr off ↦ rw off tail ])
 ]
+
+-- ---- the first that passes
+
+module _ {X : Type 0} where
+  pub find_both : (t f : X → Bool) (xs : List X) → find t (filter f xs) ≡ find (λ x. f x && t x) xs
+  find_both t f [] = refl
+  find_both t f (x ∷ xs) =
+      let tail = find_both t f xs in
+      elim (cases_Bool (f x)) [
+        | inl on ↦ rw on (elim (cases_Bool (t x)) [ inl here ↦ rw here refl | inr out ↦ rw out tail ])
+        | inr off ↦ rw off tail
+      ]
+
+  pub find_agree : (t u : X → Bool) → ((x : X) → t x ≡ u x) → (xs : List X) → find t xs ≡ find u xs
+  find_agree t u agree [] = refl
+  find_agree t u agree (x ∷ xs) = λ i. cond (agree x i) (Some x) (find_agree t u agree xs i)
+
+first_from : (t : ℕ → Bool) (v a n : ℕ) → a ≤ v → v < a + n → t v ≡ true → ((w : ℕ) → a ≤ w → w < v → t w ≡ false) → find t (range_with_len a n) ≡ Some v
+first_from t v a zero low high on none = absurd (omega arith)
+first_from t v a (suc n) low high on none = elim (cases_eq a v) [
+  | inl e ↦ let here : t a ≡ true = ap t e ∙ on in rw here (ap Some e)
+  | inr ne ↦ rw (none a (omega arith) (omega arith)) (first_from t v (a + 1) n (omega arith) (omega arith) on (λ w above below. none w (omega arith) below))
+]
+
+none_from : (t : ℕ → Bool) (a n : ℕ) → ((w : ℕ) → a ≤ w → w < a + n → t w ≡ false) → find t (range_with_len a n) ≡ None
+none_from t a zero none = refl
+none_from t a (suc n) none = rw (none a (omega arith) (omega arith)) (none_from t (a + 1) n (λ w above below. none w (omega arith) (omega arith)))
+
+-- the first number below n that passes both tests
+pub first_below : (t f : ℕ → Bool) (v n : ℕ) → v < n → (f v && t v) ≡ true → ((w : ℕ) → w < v → (f w && t w) ≡ false) → find t (filter f (range_with_len 0 n)) ≡ Some v
+first_below t f v n high on none =
+    find_both t f (range_with_len 0 n) ∙ first_from (λ w. f w && t w) v 0 n (omega arith) (omega arith) on (λ w above below. none w below)
+
+pub none_below : (t f : ℕ → Bool) (n : ℕ) → ((w : ℕ) → w < n → (f w && t w) ≡ false) → find t (filter f (range_with_len 0 n)) ≡ None
+none_below t f n none = find_both t f (range_with_len 0 n) ∙ none_from (λ w. f w && t w) 0 n (λ w above below. none w (omega arith))

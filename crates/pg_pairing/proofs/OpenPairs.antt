@@ -1,27 +1,26 @@
 -- Pairs whose points are free, and that those which are left go on holding after moves.
-use Rattle.std.proofs.Common.{◌≡◌, ◌≢◌, ℕ, ◌+◌, ◌<◌, ◌≤◌, Bool, true, false, not, ◌&&◌, ◌||◌, List, [], ◌∷◌, length, Option, Some, None, eqb, refl, sym, ap, ap₂, ◌∙◌, subst, inl, inr, ◌⊎◌, arith, eq-eqb, ne_eqb, eqb-true}
-use Rattle.std.proofs.lemmas.Bool.{cases_Bool, cases_eq, and_parts, and_from, or_parts, or_from, or_cases, or_left, or_right, not-true, not_from_false, false≢true}
+use Rattle.std.proofs.Common.{◌≡◌, ◌≢◌, ℕ, true, false, List, eqb, refl, sym, ap, ◌∙◌, subst, inl, inr, ◌⊎◌, eq-eqb, ne_eqb, eqb-true}
+use Rattle.std.proofs.lemmas.Bool.{cases_Bool, cases_eq, and_parts, and_from, or_parts, or_from, or_cases, or_left, or_right, false≢true}
 use Rattle.std.proofs.lemmas.List.Elements.{All-filter, filter_passes, All-contains}
 use Rattle.std.proofs.lemmas.List.Kept.{AllPairs-filter}
-use Rattle.std.specs.List.{filter, Contains, All, Any, AllPairs, list_any, list_all, range_with_len}
-use Rattle.std.specs.FinSet.{FinSet, contains, insert}
+use Rattle.std.specs.List.{filter, Contains, Any, AllPairs}
+use Rattle.std.specs.FinSet.{FinSet, contains}
 use Rattle.std.specs.Ordering.{nat_cmp}
 use Rattle.pg_base.specs.declared.kind.Kind.{Kind}
 use Rattle.pg_base.specs.declared.kind.Kind.TheVariants.{MakerBreaker, MakerMaker, AvoiderEnforcer, Switching}
 use Rattle.pg_base.specs.declared.pair.Pair.{Pair}
 use Rattle.pg_base.specs.declared.side.Side.{Side}
-use Rattle.pg_base.specs.declared.side.Side.TheVariants.{X, Y}
+use Rattle.pg_base.specs.declared.side.Side.TheVariants.{Y}
 use Rattle.pg_base.specs.Side.{other}
 use Rattle.pg_game.specs.declared.game.Game.{Game}
 use Rattle.pg_game.specs.declared.position.Position.{Position}
 use Rattle.pg_game.specs.Position.{is_free, points_of, AreDisjoint}
-use Rattle.pg_game.specs.Game.{is_touched, is_filled, has_filled, lines_of, point_count, free_points, after, IsPosition}
-use Rattle.pg_game.specs.Pairs.{is_open, has_point, is_paired, IsInGame, SharesNone, HoldsPair, HoldLines, PairsHold, PairsLeaveNone, breaker_of, unpaired, unpaired_due}
-use Rattle.pg_game.proofs.Members.{true-at, false-at, list_any-none, list_any-one, member-from_any, Contains-filter, All-from_members, apart-or_same}
-use Rattle.pg_game.proofs.Moves.{points_of-waiter, points-stay, own-point, free-of, free-stays, free-was, apart, turn-after_x}
-use Rattle.pg_game.proofs.FreePoints.{is_free-after}
+use Rattle.pg_game.specs.Game.{is_touched, is_filled, has_filled, lines_of, after}
+use Rattle.pg_game.specs.Pairs.{is_open, has_point, is_paired, IsInGame, SharesNone, HoldsPair, PairsHold, PairsLeaveNone, breaker_of}
+use Rattle.pg_game.proofs.Members.{true-at, false-at, list_any-none, Contains-filter, All-from_members, apart-or_same}
+use Rattle.pg_game.proofs.Moves.{points_of-waiter, points-stay, own-point, free-of, free-stays, free-was, apart}
 use Rattle.pg_pairing.specs.Rest.{ArePairsOf, rest, RestHolds}
-use Rattle.pg_pairing.proofs.Filters.{filter_all, filter_narrower, filter_both, filter_member, filter_agree-range, in_range, one_equal, one_without, some_length, below_range}
+use Rattle.pg_pairing.proofs.Filters.{filter_all, filter_narrower}
 
 -- ---- pairs
 

@@ -1,6 +1,5 @@
 -- Pairs that hold force the claim: a win for Breaker and for Avoider, and a draw at least for either side of Maker-Maker.
 use Rattle.std.proofs.Common.{◌≡◌, ◌≢◌, ℕ, ◌<◌, ◌≤◌, Bool, true, false, List, Option, Some, None, refl, sym, ap, ap₂, ◌∙◌, subst, inl, inr, ◌⊎◌, arith}
-use Rattle.std.proofs.lemmas.Bool.{false≢true}
 use Rattle.pg_base.specs.declared.goal.Goal.{Goal}
 use Rattle.pg_base.specs.declared.goal.Goal.TheVariants.{Win, Draw as AtLeastDraw}
 use Rattle.pg_base.specs.declared.kind.Kind.{Kind}
@@ -13,7 +12,7 @@ use Rattle.pg_game.specs.declared.game.Game.{Game}
 use Rattle.pg_game.specs.declared.position.Position.{Position}
 use Rattle.pg_game.specs.Position.{is_free, AreDisjoint, claims_in_turn}
 use Rattle.pg_game.specs.Fit.{greatest_bias}
-use Rattle.pg_game.specs.Game.{point_count, bias_of, has_filled, is_over, is_full, outcome, outcome_by, short_joins, after, IsPosition}
+use Rattle.pg_game.specs.Game.{point_count, bias_of, has_filled, is_over, outcome, outcome_by, short_joins, after, IsPosition}
 use Rattle.pg_game.specs.Pairs.{PairsHold, breaker_of, pairs_answer}
 use Rattle.pg_game.specs.Strategy.{Keeps}
 use Rattle.pg_game.specs.Value.{reaches, Forces}

@@ -1,6 +1,6 @@
 -- The steps of the tests of pairs.
-use Rattle.std.proofs.Common.{◌≡◌, ◌≢◌, ℕ, zero, suc, ◌+◌, ◌<◌, Bool, true, false, cond, not, ◌&&◌, ◌||◌, ◌↔◌, List, [], ◌∷◌, ◌++◌, length, get_or, take, eqb, nat_lt, nat_eq, refl, sym, ap, ◌∙◌, subst, inl, inr, arith, eq-eqb, ne_eqb, eqb-true, ltb-true, lt-ltb, IsTrue, if◌then◌else◌, ◌≤◌, length-take-le, get_or-take, take_all}
-use Rattle.std.proofs.lemmas.Bool.{cond-true, cond-false, cases_Bool, cases_eq, and_parts, and_from, or_parts, or_from, not-true, not_from_false, false≢true, false_from_ne_true}
+use Rattle.std.proofs.Common.{◌≡◌, ◌≢◌, ℕ, zero, suc, ◌+◌, ◌<◌, Bool, true, false, cond, not, ◌&&◌, ◌||◌, List, [], ◌∷◌, ◌++◌, length, get_or, take, eqb, nat_lt, refl, sym, ap, ◌∙◌, subst, inl, inr, arith, eq-eqb, ne_eqb, ltb-true, lt-ltb, IsTrue, if◌then◌else◌, ◌≤◌, length-take-le, get_or-take, take_all}
+use Rattle.std.proofs.lemmas.Bool.{cond-true, cond-false, cases_Bool, cases_eq, and_parts, and_from, or_parts, or_from, not-true, not_from_false, false≢true}
 use Rattle.std.specs.FinSet.{FinSet, contains, insert}
 use Rattle.std.specs.Ordering.{nat_cmp}
 use Rattle.pg_game.specs.declared.position.Position.{Position}
@@ -11,17 +11,11 @@ use Rattle.pg_game.specs.declared.game.Game.{Game}
 use Rattle.pg_game.specs.Pairs.{has_point, is_open, AreOpenPairs, SharesNone, IsInGame, HoldLines, PairsHold, PairsLeaveNone, is_paired, unpaired}
 use Rattle.pg_pairing.specs.Taking.{CanTake}
 use Rattle.pg_game.specs.Game.{point_count, free_points}
-use Rattle.pg_game.specs.Field.{field_points}
-use Rattle.pg_game.specs.Fit.{AreLinesOf, IsBoard}
-use Rattle.pg_game.specs.declared.field.Field.{Field}
-use Rattle.pg_game.specs.declared.field.Field.TheVariants.{Lines, Graph as OnGraph}
-use Rattle.pg_game.specs.declared.field.LineField.{LineField}
-use Rattle.pg_graph.specs.declared.graph.Graph.{Graph}
 use Rattle.pg_base.specs.declared.kind.Kind.TheVariants.{AvoiderEnforcer}
 use Rattle.std.proofs.lemmas.List.Elements.{filter_agree}
 use Rattle.pg_game.proofs.Members.{false-at, list_any-none}
 use Rattle.pg_base.specs.declared.side.Side.{Side}
-use Rattle.std.specs.List.{filter, range_with_len, list_any, Contains, All, AllPairs}
+use Rattle.std.specs.List.{filter, range_with_len, list_any, Contains}
 use Rattle.std.proofs.lemmas.List.{take_more, get_or_default}
 use Rattle.std.proofs.lemmas.List.Folds.{list_any_more}
 use Rattle.std.proofs.lemmas.List.Elements.{All-nil, All-push, All-get_or, Contains-get_or}
@@ -213,3 +207,19 @@ pub unpaired-is : (g : Game) (p : Position) (pairs : List Pair) (paired : FinSet
     → length (filter (λ v. not (contains paired v)) (free_points g p)) ≡ length (unpaired g p pairs)
 unpaired-is g p pairs paired is =
     ap length (filter_agree (λ v. not (contains paired v)) (λ v. not (is_paired pairs v)) (λ q. ap not (is q)) (free_points g p))
+
+-- ---- the points of open pairs
+
+-- after both points of an open pair are put into a set
+pub opened-more : (p : Position) (before middle last : FinSet nat_cmp) (s : Pair) → middle ≡ insert before s.a → last ≡ insert middle s.b → is_open p s ≡ true
+    → (q : ℕ) → contains last q ≡ (contains before q || (is_open p s && has_point q s))
+opened-more p before middle last s is_middle is_last on q =
+    taken-both before middle last s true true is_middle refl is_last refl q
+    ∙ or_turned (has_point q s) (contains before q)
+    ∙ ap (λ b. contains before q || (b && has_point q s)) (sym on)
+  where
+    or_turned : (a b : Bool) → (a || b) ≡ (b || a)
+    or_turned true true = refl
+    or_turned true false = refl
+    or_turned false true = refl
+    or_turned false false = refl

@@ -2,10 +2,12 @@
 ghost use Rattle.std.specs.Prelude.{◌≡◌, ℕ, ◌<◌, ◌≤◌, ◌↔◌, ◌&&◌, ◌||◌, not, IsTrue, IsSome, IfSome, nat_lt, if◌then◌else◌, length};
 ghost use Rattle.std.specs.List.{All, filter};
 ghost use Rattle.std.specs.FinSet as set;
+ghost use Rattle.pg_base.specs.declared.goal.Goal.TheVariants.{Win, Draw};
 ghost use Rattle.pg_base.specs.declared.kind.Kind.TheVariants.{AvoiderEnforcer};
 ghost use Rattle.pg_game.specs.Position.{is_free};
 ghost use Rattle.pg_game.specs.Game.{point_count, lines_of, is_touched, free_points, IsPosition};
 ghost use Rattle.pg_game.specs.Pairs.{PairsHold, PairsLeaveNone, AreOpenPairs, HoldsPair, HoldLines, IsSafe, has_point, is_paired, breaker_of, unpaired_due};
+ghost use Rattle.pg_game.specs.Value.{Forces};
 ghost use Rattle.pg_pairing.specs.Taking.{CanTake};
 
 use pg_base::{Kind, Line, Pair, PointSet, Side};
@@ -77,7 +79,7 @@ fn paired_points(g: &Game, p: &Position, pairs: &[Pair]) -> Option<PointSet>
 }
 
 /// Whether the point is free and not in the set.
-fn is_outside(p: &Position, points: &PointSet, v: u16) -> bool
+pub(crate) fn is_outside(p: &Position, points: &PointSet, v: u16) -> bool
     requires { v < 1024 }
     ensures { result ≡ (is_free p.now v && not (set.contains points.now v)) }
 {
@@ -152,10 +154,16 @@ fn hold_lines(g: &Game, p: &Position, side: Side, pairs: &[Pair]) -> bool
 /// harmless holds both points of some pair. That side is the claimer, but Y in Avoider-Enforcer, where moreover Y
 /// claims one point a turn and no free point is left out of the pairs, but one where X is to move.
 ///
+/// Where it answers true, Y wins in Maker-Breaker, whatever the bias; the claimer gets at least a draw in Maker-Maker;
+/// and X wins in Avoider-Enforcer. Who is to move makes no difference. It takes no memory.
+///
 /// The pairing is Hales and Jewett's (Regularity and positional games, 1963).
 pub fn holds(g: &Game, p: &Position, side: Side, pairs: &[Pair]) -> bool
     requires { IsPosition g.now p.now }
     ensures exact { IsTrue result ↔ PairsHold g.now p.now side pairs.now }
+    ensures breaker { IsTrue result → g.now.kind ≡ Kind.MakerBreaker → side ≡ Side.Y → Forces g.now p.now side Win }
+    ensures draw { IsTrue result → g.now.kind ≡ Kind.MakerMaker → Forces g.now p.now side Draw }
+    ensures avoider { IsTrue result → g.now.kind ≡ Kind.AvoiderEnforcer → side ≡ Side.X → Forces g.now p.now side Win }
 {
     match paired_points(g, p, pairs) {
         Some(paired) => leave_none(g, p, pairs, &paired) && hold_lines(g, p, side, pairs),

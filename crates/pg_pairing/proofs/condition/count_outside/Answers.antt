@@ -1,10 +1,8 @@
-use Rattle.std.proofs.Common.{◌≡◌, ◌≤◌, ◌+◌, ◌&&◌, ℕ, suc, not, Bool, true, false, refl, sym, ap, ◌∙◌, arith, List, length, cond, if◌then◌else◌}
+use Rattle.std.proofs.Common.{◌≡◌, ◌+◌, ◌&&◌, ℕ, not, Bool, sym, ◌∙◌, arith}
 use Rattle.std.proofs.lemmas.Bool.{cond-true, cond-false}
-use Rattle.std.specs.List.{filter}
 use Rattle.std.specs.FinSet.{contains}
 use Rattle.pg_game.specs.Position.{is_free}
-use Rattle.pg_game.specs.Game.{free_points}
-use Rattle.pg_pairing.proofs.PairLoops.{passing, passing-none, passing-next, passing-all}
+use Rattle.pg_pairing.proofs.PairLoops.{passing-none, passing-next, passing-all}
 use Rattle.pg_pairing.proofs.condition.count_outside.Goals.{then-is_outside, else-is_outside}
 use Rattle.pg_pairing.proofs.condition.count_outside.Goals as goal
 

@@ -1,4 +1,4 @@
-use Rattle.std.proofs.Common.{◌≡◌, ◌≤◌, ℕ, not}
+use Rattle.std.proofs.Common.{◌≡◌, ◌≤◌, not}
 use Rattle.std.specs.FinSet.{contains}
 use Rattle.pg_game.specs.Position.{is_free}
 use Rattle.pg_pairing.proofs.PairLoops.{passing}

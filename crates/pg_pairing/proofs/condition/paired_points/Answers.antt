@@ -1,11 +1,8 @@
-use Rattle.std.proofs.Common.{◌≡◌, ◌∙◌, sym, ap, ℕ, get_or, refl, subst, Bool, true, IsTrue, List}
+use Rattle.std.proofs.Common.{◌∙◌, sym, ap, refl}
 use Rattle.std.proofs.lemmas.Bool.{false≢true}
-use Rattle.std.proofs.lemmas.List.{take_all}
 use Rattle.std.specs.FinSet.{contains, contains-empty}
 use Rattle.std.specs.Ordering.{nat_cmp}
-use Rattle.pg_base.specs.declared.pair.Pair.{Pair}
-use Rattle.pg_game.specs.Pairs.{AreOpenPairs, has_point}
-use Rattle.pg_pairing.proofs.PairLoops.{AreOpenPairs-none, AreOpenPairs-more, CanTake-at, taken-more, AreOpenPairs-all}
+use Rattle.pg_pairing.proofs.PairLoops.{AreOpenPairs-none, AreOpenPairs-more, CanTake-at, taken-more}
 use Rattle.pg_pairing.proofs.condition.paired_points.Goals as goal
 
 pub loop-s-init : goal.loop-s-init

@@ -1,4 +1,4 @@
-use Rattle.std.proofs.Common.{◌≡◌, ◌≤◌, ℕ, ◌+◌, subst, sym, arith}
+use Rattle.std.proofs.Common.{arith}
 use Rattle.pg_game.proofs.Limits.{point_count-le}
 use Rattle.pg_pairing.proofs.condition.points_of.Goals as goal
 

@@ -1,7 +1,3 @@
-use Rattle.std.proofs.Common.{◌≡◌, ◌<◌, ◌≢◌, ℕ, Bool, true, false, not, ◌&&◌, ◌||◌, nat_lt, ◌∙◌, sym, ap, eqb, ltb, ltb-true, lt-ltb, eq-eqb, ne_eqb, eqb-true, cond, inl, inr}
-use Rattle.std.specs.FinSet.{contains, insert}
-use Rattle.pg_base.specs.WordLemmas.{in_insert}
-use Rattle.pg_game.specs.Pairs.{has_point}
 use Rattle.pg_pairing.proofs.PairLoops.{CanTake-iff, taken-both}
 use Rattle.pg_pairing.proofs.condition.take_pair.Goals as goal
 
