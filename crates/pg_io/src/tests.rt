@@ -107,23 +107,6 @@ fn a_listed_call_fails(rt: HostRuntime) -> Result<(), Fail> {
 }
 
 #[test]
-fn reads_a_file_whole_up_to_a_limit(rt: HostRuntime) -> Result<(), Fail> {
-    let mut files = games(rt.alloc(), vec![in rt.alloc(); 12]?)?;
-    for (limit, want) in [
-        (9, "three"),
-        (5, "three"),
-        (4, "three"),
-        (3, "thre"),
-        (0, "t"),
-    ] {
-        let bytes = read_whole(rt.alloc(), &mut files, "game", limit)?;
-        assert_eq!(rt; bytes.as_slice(), want.as_bytes(), "limit {limit}");
-    }
-    assert_eq!(rt; files.open("game"), Err(Failed), "twelve calls were made");
-    Ok(())
-}
-
-#[test]
 fn tells_what_ended_the_reading_or_the_storing(rt: HostRuntime) -> Result<(), Fail> {
     let mut files = games(rt.alloc(), vec![in rt.alloc(); 2, 5]?)?;
     let missing = read_whole(rt.alloc(), &mut files, "report", 9);
@@ -134,66 +117,6 @@ fn tells_what_ended_the_reading_or_the_storing(rt: HostRuntime) -> Result<(), Fa
     assert!(rt; files.bytes_of("report").is_none());
     assert_eq!(rt; store(&mut files, "report", b"one"), Ok(()));
     assert!(rt; holds(&files, "report", b"one"));
-    Ok(())
-}
-
-#[test]
-fn hears_lines(rt: HostRuntime) -> Result<(), Fail> {
-    let mut console = console(rt.alloc(), b"ab\n\ncdefgh\nij", vec![in rt.alloc(); 7]?)?;
-    let mut buf = [0u8; 4];
-    assert_eq!(rt; console.hear(&mut buf), Ok(Heard::Line(2)));
-    assert_eq!(rt; &buf[..2], b"ab".as_slice());
-    assert_eq!(rt; console.rest(), b"\ncdefgh\nij".as_slice());
-    let answers = [
-        Heard::Line(0),
-        Heard::Long,
-        Heard::Line(2),
-        Heard::Line(2),
-        Heard::End,
-    ];
-    for answer in answers {
-        assert_eq!(rt; console.hear(&mut buf), Ok(answer));
-    }
-    assert_eq!(rt; &buf[..2], b"ij".as_slice());
-    assert_eq!(rt; console.say(b"done\n"), Ok(()));
-    assert_eq!(rt;
-        console.say(b"lost\n"),
-        Err(Failed),
-        "the call with number 7"
-    );
-    let want = [
-        Entry::Heard(Text::new(rt.alloc(), b"ab")?),
-        Entry::Heard(Text::new(rt.alloc(), b"")?),
-        Entry::Skipped(Text::new(rt.alloc(), b"cdef")?),
-        Entry::Heard(Text::new(rt.alloc(), b"gh")?),
-        Entry::Heard(Text::new(rt.alloc(), b"ij")?),
-        Entry::Ended,
-        Entry::Said(Text::new(rt.alloc(), b"done\n")?),
-    ];
-    assert_eq!(rt; console.entries(), want.as_slice());
-    Ok(())
-}
-
-#[test]
-fn a_line_as_long_as_the_buffer_is_heard_in_two(rt: HostRuntime) -> Result<(), Fail> {
-    let cases = [
-        (63, true, [Heard::Line(63), Heard::End, Heard::End]),
-        (64, true, [Heard::Long, Heard::Line(0), Heard::End]),
-        (65, true, [Heard::Long, Heard::Line(1), Heard::End]),
-        (63, false, [Heard::Line(63), Heard::End, Heard::End]),
-        (64, false, [Heard::Long, Heard::End, Heard::End]),
-    ];
-    for (length, has_feed, answers) in cases {
-        let mut line = vec![in rt.alloc(); b'1'; length]?;
-        if has_feed {
-            line.push(b'\n')?;
-        }
-        let mut console = console(rt.alloc(), &line, Vec::new(rt.alloc()))?;
-        let mut buf = [0u8; 64];
-        for answer in answers {
-            assert_eq!(rt; console.hear(&mut buf), Ok(answer), "a line of {length}");
-        }
-    }
     Ok(())
 }
 
