@@ -4,3 +4,4 @@ pub mod Lines
 pub mod SetLaws
 pub mod Sound
 pub mod LineByLine
+pub mod PrintLemmas

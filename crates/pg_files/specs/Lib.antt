@@ -3,3 +3,4 @@ pub mod Key
 pub mod Sets
 pub mod GameFile
 pub mod Views
+pub mod Print

@@ -5,9 +5,11 @@ mod draft;
 mod fault;
 mod key;
 mod line;
+mod printing;
 mod reading;
 mod sets;
 mod text;
 
 pub use fault::GameFault;
+pub use printing::print_game;
 pub use reading::read_game;
