@@ -27,3 +27,6 @@ spaced_numbers (n ∷ ns) = ap (λ (t : Bytes). (32 ∷ decimal n) ++ t) (spaced
 
 pub numbers_text : (key : Key) (ns : List ℕ) (old : Bytes) → (old ++ (key_name key ++ flat_map (λ n. 32 ∷ decimal n) ns)) ++ 10 ∷ [] ≡ old ++ spelled (numbered key ns)
 numbers_text key ns old = rw (spaced_numbers ns) (append_assoc old (key_name key ++ flat_map (λ n. 32 ∷ decimal n) ns) (10 ∷ []))
+
+pub joined_three : (old : Bytes) (v t : List Bytes) (es : List (List Bytes)) → ((old ++ spelled v) ++ spelled t) ++ flat_map spelled es ≡ old ++ flat_map spelled (v ∷ t ∷ es)
+joined_three old v t es = simp append_assoc

@@ -327,13 +327,18 @@ filter-range-more p a (suc n) =
       | inr off ↦ rw off others
     ]
 
+one-more : (s : FinSet nat_cmp) (n : ℕ) → filter (contains s) (range_with_len 0 (suc n)) ≡ filter (contains s) (range_with_len 0 n) ++ cond (contains s n) (n ∷ []) []
+one-more s n =
+    let e : 0 + n ≡ n = omega arith in
+    filter-range-more (contains s) 0 n ∙ ap (λ k. filter (contains s) (range_with_len 0 n) ++ cond (contains s k) (k ∷ []) []) e
+
 pub members_with : (s : FinSet nat_cmp) (n : ℕ) → contains s n ≡ true → members_below (n + 1) s ≡ members_below n s ++ n ∷ []
 unfolding members_below
-members_with s n on = rw add-one (filter-range-more (contains s) 0 n ∙ rw on refl)
+members_with s n on = rw add-one (one-more s n ∙ ap (λ b. filter (contains s) (range_with_len 0 n) ++ cond b (n ∷ []) []) on)
 
 pub members_without : (s : FinSet nat_cmp) (n : ℕ) → contains s n ≡ false → members_below (n + 1) s ≡ members_below n s
 unfolding members_below
-members_without s n off = rw add-one (filter-range-more (contains s) 0 n ∙ rw off (append-nil (filter (contains s) (range_with_len 0 n))))
+members_without s n off = rw add-one (one-more s n ∙ ap (λ b. filter (contains s) (range_with_len 0 n) ++ cond b (n ∷ []) []) off ∙ append-nil (filter (contains s) (range_with_len 0 n)))
 
 pub members_all : (s : FinSet nat_cmp) → members s ≡ members_below 1024 s
 unfolding members

@@ -4,12 +4,14 @@ ghost use Rattle.std.specs.List.{flat_map};
 ghost use Rattle.pg_files.specs.Sets.{members};
 ghost use Rattle.pg_files.specs.Print.{spelled, numbered, worded, marked, size_words, edge_words, field_words, printed};
 ghost use Rattle.pg_files.specs.declared.key.Key.TheVariants as keys;
+ghost use Rattle.pg_game.specs.declared.field.Field.TheVariants as fields;
 ghost use Rattle.pg_files.specs.Views.{entry};
 
 use crate::key::{Key, kind_name, side_name};
 use crate::sets::members;
 use pg_base::{Grid, Line, Memory};
-use pg_game::{Field, Game};
+use pg_game::{Field, Game, LineField};
+use pg_graph::Graph;
 use std::alloc::{AllocError, Global};
 use std::fmt::Write;
 
@@ -74,20 +76,32 @@ fn put_edges(out: &mut String, edges: &[(u16, u16)]) -> Result<(), AllocError>
     Ok(())
 }
 
+/// Lines and what their points are.
+fn put_line_field(out: &mut String, field: &LineField) -> Result<(), AllocError>
+    ensures { OnOk result (string_bytes out.new ≡ string_bytes out.old ++ flat_map spelled (field_words (fields.Lines field.now))) }
+{
+    put_size(out, field.points, field.grid)?;
+    put_lines(out, field.lines.as_slice())?;
+    Ok(())
+}
+
+/// A graph with its terminals.
+fn put_graph(out: &mut String, graph: &Graph) -> Result<(), AllocError>
+    ensures { OnOk result (string_bytes out.new ≡ string_bytes out.old ++ flat_map spelled (field_words (fields.Graph graph.now))) }
+{
+    put_numbers(out, Key::Vertices, &[graph.vertices])?;
+    put_numbers(out, Key::Terminals, &[graph.s, graph.t])?;
+    put_edges(out, graph.ends.as_slice())?;
+    Ok(())
+}
+
 /// What a game is played on.
 fn put_field(out: &mut String, field: &Field) -> Result<(), AllocError>
     ensures { OnOk result (string_bytes out.new ≡ string_bytes out.old ++ flat_map spelled (field_words field.now)) }
 {
     match field {
-        Field::Lines(lines) => {
-            put_size(out, lines.points, lines.grid)?;
-            put_lines(out, lines.lines.as_slice())
-        }
-        Field::Graph(graph) => {
-            put_numbers(out, Key::Vertices, &[graph.vertices])?;
-            put_numbers(out, Key::Terminals, &[graph.s, graph.t])?;
-            put_edges(out, graph.ends.as_slice())
-        }
+        Field::Lines(field) => put_line_field(out, field),
+        Field::Graph(graph) => put_graph(out, graph),
     }
 }
 
