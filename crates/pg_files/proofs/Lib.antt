@@ -5,3 +5,4 @@ pub mod SetLaws
 pub mod Sound
 pub mod LineByLine
 pub mod PrintLemmas
+pub mod FirstFault

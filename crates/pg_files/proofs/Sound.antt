@@ -19,10 +19,10 @@ use Rattle.pg_game.specs.declared.field.Field.{Field}
 use Rattle.pg_game.specs.declared.field.Field.TheVariants as fields
 use Rattle.pg_game.specs.declared.field.LineField.{LineField}
 use Rattle.pg_game.specs.Fit.{AreBelow, ShareNone, IsLineOf, AreLinesOf, IsBoard, IsFit, is_switching, greatest_bias}
-use Rattle.pg_files.specs.Text.{Bytes, words, number, numbers, then_numbers}
+use Rattle.pg_files.specs.Text.{Bytes, lines, words, number, numbers, then_numbers}
 use Rattle.pg_files.specs.Sets.{set_of, ascending, repeats}
 use Rattle.pg_files.specs.Key.{rank_of, key_of, kind_of, belongs, needed_rank}
-use Rattle.pg_files.specs.GameFile.{Draft, least, unless, keyed_faults, keyed_fault, said, with_numbers, keyed, significant, after, numbers_of, first_number, second_number, first, rest, nothing, named, is_header, begins_comment, is_printable, reading, go_on, is_misplaced, is_outside, points_for, field_of}
+use Rattle.pg_files.specs.GameFile.{Draft, least, unless, keyed_faults, keyed_fault, said, with_numbers, keyed, significant, after, numbers_of, first_number, second_number, first, rest, nothing, named, is_header, begins_comment, is_printable, reading, go_on, is_misplaced, is_outside, points_for, field_of, Entry, game, ended, game_of}
 use Rattle.pg_files.specs.declared.fault.Fault.{Fault}
 use Rattle.pg_files.specs.declared.fault.Fault.TheVariants as faults
 use Rattle.pg_files.specs.declared.key.Key.{Key}
@@ -666,3 +666,38 @@ fits_sound d kind turn sound is said =
         (subst (λ (k : Option Kind). HasTerminals k d.vertices d.s d.t) is (sound.terminals (omega arith)))
         sound.lines sound.ends
         (subst (λ (k : Option Kind). AreMarks (points_for k d.points (length d.ends)) d.x d.y) is sound.marks)
+
+-- ---- a whole file
+
+abbrev entry_of : Draft → Kind → Side → Entry
+entry_of d kind turn = record { kind = kind; field = field_of kind d; x = d.x; y = d.y; turn = turn }
+
+abbrev right : Entry → Result Entry (Fault × ℕ)
+right g = Ok g
+
+right_is : (g h : Entry) → right g ≡ right h → g ≡ h
+right_is g h e = cc
+
+abbrev IsFitting : Entry → Type 0
+IsFitting g = IsFit g.kind g.field g.x g.y 1
+
+game_of_fits : (d : Draft) (kind : Option Kind) (turn : Option Side) (g : Entry) → IsSound d → d.kind ≡ kind → d.turn ≡ turn → game_of d kind turn ≡ Ok g → IsFitting g
+game_of_fits d (Some kind) (Some turn) g sound is said e = subst IsFitting (right_is (entry_of d kind turn) g e) (fits_sound d kind turn sound is said)
+game_of_fits d (Some kind) None g sound is said e = absurd cc
+game_of_fits d None turn g sound is said e = absurd cc
+
+end_fits : (begun : Bool) (d : Draft) (g : Entry) → IsSound d → cond begun (game_of d d.kind d.turn) (Err (faults.Header, 0)) ≡ Ok g → IsFitting g
+end_fits true d g sound e = game_of_fits d d.kind d.turn g sound refl refl e
+end_fits false d g sound e = absurd cc
+
+ended_fits : (read : Result Draft (Fault × ℕ)) (g : Entry) → ((d : Draft) → read ≡ Ok d → IsSound d) → ended read ≡ Ok g → IsFitting g
+ended_fits (Ok d) g sound e = end_fits d.begun d g (sound d refl) e
+ended_fits (Err f) g sound e = absurd cc
+
+size_fits : (big : Bool) (read : Result Draft (Fault × ℕ)) (g : Entry) → ((d : Draft) → read ≡ Ok d → IsSound d) → cond big (Err (faults.Size, 0)) (ended read) ≡ Ok g → IsFitting g
+size_fits true read g sound e = absurd cc
+size_fits false read g sound e = ended_fits read g sound e
+
+pub fits_game : (text : Bytes) (g : Entry) → game text ≡ Ok g → IsFit g.kind g.field g.x g.y 1
+unfolding game
+fits_game text g e = size_fits (nat_lt 4194304 (length text)) (reading 1 nothing (lines text)) g (λ d h. sound_reading 1 nothing d (lines text) sound_nothing h) e

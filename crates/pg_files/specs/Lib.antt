@@ -4,3 +4,4 @@ pub mod Sets
 pub mod GameFile
 pub mod Views
 pub mod Print
+pub mod Laws
