@@ -4,3 +4,5 @@ pub mod Lines
 pub mod SetLaws
 pub mod Sound
 pub mod LineByLine
+pub mod PrintLemmas
+pub mod FirstFault

@@ -35,11 +35,11 @@ ends seen (errors.Fault fault) n d text line total some e fails so_far =
 abbrev pair : Fault → ℕ → Fault × ℕ
 pair fault n = (fault, n)
 
-abbrev bad : Fault → ℕ → Result Draft (Fault × ℕ)
+abbrev pub bad : Fault → ℕ → Result Draft (Fault × ℕ)
 bad fault n = Err (fault, n)
 
 -- What a fault of the file is: the lines before it have none, and it is the least fault of its line.
-pub record IsFirstFault (d : Draft) (ls : List Bytes) (fault : Fault) (at : ℕ) : Type 0 where
+pub record IsFaultAfter (d : Draft) (ls : List Bytes) (fault : Fault) (at : ℕ) : Type 0 where
   pub before : List Bytes
   pub line : Bytes
   pub behind : List Bytes
@@ -49,14 +49,14 @@ pub record IsFirstFault (d : Draft) (ls : List Bytes) (fault : Fault) (at : ℕ)
   pub here : after draft line ≡ Err fault
   pub number : at ≡ length before
 
-err_is : (f g : Fault) (n m : ℕ) → bad f n ≡ bad g m → (f ≡ g) × (n ≡ m)
+pub err_is : (f g : Fault) (n m : ℕ) → bad f n ≡ bad g m → (f ≡ g) × (n ≡ m)
 err_is f g n m e =
     let p : pair f n ≡ pair g m = cc in
     (ap (λ (x : Fault × ℕ). x.0) p, ap (λ (x : Fault × ℕ). x.1) p)
 
 first_of : (d : Draft) (n : ℕ) (line : Bytes) (others : List Bytes) (fault : Fault) (m : ℕ) (r : Result Draft Fault) → after d line ≡ r
-  → ((next : Draft) → reading (n + 1) next others ≡ Err (fault, m) → (i : ℕ) × (m ≡ n + 1 + i) × IsFirstFault next others fault i)
-  → go_on n r (λ next. reading (n + 1) next others) ≡ Err (fault, m) → (i : ℕ) × (m ≡ n + i) × IsFirstFault d (line ∷ others) fault i
+  → ((next : Draft) → reading (n + 1) next others ≡ Err (fault, m) → (i : ℕ) × (m ≡ n + 1 + i) × IsFaultAfter next others fault i)
+  → go_on n r (λ next. reading (n + 1) next others) ≡ Err (fault, m) → (i : ℕ) × (m ≡ n + i) × IsFaultAfter d (line ∷ others) fault i
 unfolding reading
 first_of d n line others fault m (Ok next) e go h =
     let rec = go next h in
@@ -66,7 +66,7 @@ first_of d n line others fault m (Err g) e go h =
     let same : (g ≡ fault) × (n ≡ m) = err_is g fault n m h in
     (0, omega (arith, same.1), record { before = []; line = line; behind = others; draft = d; cut = refl; sound = λ k. refl; here = e ∙ ap (λ (x : Fault). Err x) same.0; number = refl })
 
-pub first_fault : (d : Draft) (n : ℕ) (ls : List Bytes) (fault : Fault) (m : ℕ) → reading n d ls ≡ Err (fault, m) → (i : ℕ) × (m ≡ n + i) × IsFirstFault d ls fault i
+pub first_fault : (d : Draft) (n : ℕ) (ls : List Bytes) (fault : Fault) (m : ℕ) → reading n d ls ≡ Err (fault, m) → (i : ℕ) × (m ≡ n + i) × IsFaultAfter d ls fault i
 unfolding reading
 first_fault d n [] fault m h = absurd cc
 first_fault d n (line ∷ others) fault m h = first_of d n line others fault m (after d line) refl (λ next. first_fault next (n + 1) others fault m) h

@@ -15,7 +15,7 @@ use Rattle.std.proofs.lemmas.List.Kept.{IsStrictlyIncreasing-filter}
 use Rattle.std.proofs.lemmas.List.FromFn.{length-range_with_len, get_or-range_with_len}
 use Rattle.std.proofs.lemmas.Map.Keys.{sorted_from_strictly_increasing}
 use Rattle.std.proofs.lemmas.Map.Made.{length-from_same_keys}
-use Rattle.std.proofs.lemmas.List.{take_more}
+use Rattle.std.proofs.lemmas.List.{take_more, append-nil}
 use Rattle.pg_base.specs.Line.{StandsTwice}
 use Rattle.pg_base.specs.WordLemmas.{in_insert, same_points}
 use Rattle.pg_files.specs.Sets.{set_of, ascending, repeats, members, members_below}
@@ -313,3 +313,37 @@ below-ascending limit ns below =
 pub below-members : (limit : ℕ) (s : FinSet nat_cmp) → ((q : ℕ) → contains s q ≡ true → q < limit) → list_all (λ n. nat_lt n limit) (members s) ≡ true
 below-members limit s below =
     below_keys limit (members s) (λ q h. let lt = below q (and_parts (contains s q) (nat_lt q 1024) (sym (has-members s q) ∙ h)).0 in let t : ltb q limit ≡ true = grind (arith, nat_tests) in t)
+
+-- ---- the members one by one
+
+filter-range-more : (p : ℕ → Bool) (a n : ℕ) → filter p (range_with_len a (suc n)) ≡ filter p (range_with_len a n) ++ cond (p (a + n)) ((a + n) ∷ []) []
+filter-range-more p a zero = let e : a + 0 ≡ a = omega arith in elim (cases_Bool (p a)) [ inl on ↦ rw (e, on) refl | inr off ↦ rw (e, off) refl ]
+filter-range-more p a (suc n) =
+    let e : a + 1 + n ≡ a + suc n = omega arith in
+    let more = ap (λ k. filter p (range_with_len (a + 1) n) ++ cond (p k) (k ∷ []) []) e in
+    let others = filter-range-more p (a + 1) n ∙ more in
+    elim (cases_Bool (p a)) [
+      | inl on ↦ rw on (ap (λ (t : List ℕ). a ∷ t) others)
+      | inr off ↦ rw off others
+    ]
+
+one-more : (s : FinSet nat_cmp) (n : ℕ) → filter (contains s) (range_with_len 0 (suc n)) ≡ filter (contains s) (range_with_len 0 n) ++ cond (contains s n) (n ∷ []) []
+one-more s n =
+    let e : 0 + n ≡ n = omega arith in
+    filter-range-more (contains s) 0 n ∙ ap (λ k. filter (contains s) (range_with_len 0 n) ++ cond (contains s k) (k ∷ []) []) e
+
+pub members_with : (s : FinSet nat_cmp) (n : ℕ) → contains s n ≡ true → members_below (n + 1) s ≡ members_below n s ++ n ∷ []
+unfolding members_below
+members_with s n on = rw add-one (one-more s n ∙ ap (λ b. filter (contains s) (range_with_len 0 n) ++ cond b (n ∷ []) []) on)
+
+pub members_without : (s : FinSet nat_cmp) (n : ℕ) → contains s n ≡ false → members_below (n + 1) s ≡ members_below n s
+unfolding members_below
+members_without s n off = rw add-one (one-more s n ∙ ap (λ b. filter (contains s) (range_with_len 0 n) ++ cond b (n ∷ []) []) off ∙ append-nil (filter (contains s) (range_with_len 0 n)))
+
+pub members_all : (s : FinSet nat_cmp) → members s ≡ members_below 1024 s
+unfolding members
+members_all s = refl
+
+pub members_start : (s : FinSet nat_cmp) → members_below 0 s ≡ []
+unfolding members_below
+members_start s = refl

@@ -19,10 +19,10 @@ use Rattle.pg_game.specs.declared.field.Field.{Field}
 use Rattle.pg_game.specs.declared.field.Field.TheVariants as fields
 use Rattle.pg_game.specs.declared.field.LineField.{LineField}
 use Rattle.pg_game.specs.Fit.{AreBelow, ShareNone, IsLineOf, AreLinesOf, IsBoard, IsFit, is_switching, greatest_bias}
-use Rattle.pg_files.specs.Text.{Bytes, words, number, numbers, then_numbers}
+use Rattle.pg_files.specs.Text.{Bytes, lines, words, number, numbers, then_numbers}
 use Rattle.pg_files.specs.Sets.{set_of, ascending, repeats}
 use Rattle.pg_files.specs.Key.{rank_of, key_of, kind_of, belongs, needed_rank}
-use Rattle.pg_files.specs.GameFile.{Draft, least, unless, keyed_faults, keyed_fault, said, with_numbers, keyed, significant, after, numbers_of, first_number, second_number, first, rest, nothing, named, is_header, begins_comment, is_printable, reading, go_on, is_misplaced, is_outside, points_for, field_of}
+use Rattle.pg_files.specs.GameFile.{Draft, least, unless, keyed_faults, keyed_fault, said, with_numbers, keyed, significant, after, numbers_of, first_number, second_number, first, rest, nothing, named, is_header, begins_comment, is_printable, reading, go_on, is_misplaced, is_outside, points_for, field_of, Entry, game, ended, game_of}
 use Rattle.pg_files.specs.declared.fault.Fault.{Fault}
 use Rattle.pg_files.specs.declared.fault.Fault.TheVariants as faults
 use Rattle.pg_files.specs.declared.key.Key.{Key}
@@ -109,7 +109,7 @@ record IsPlaced (b : Bool) (r k need : ℕ) : Type 0 where
   fits : b ≡ true
   up : r ≤ k
   again : k ≡ r → k ≡ 4
-  need : need ≤ r
+  needed : need ≤ r
 
 placed : (b : Bool) (r k need : ℕ) (lacks : Bool) → (not b || (nat_lt k r || ((k == r && not (k == 4)) || (nat_lt r need || lacks)))) ≡ false → IsPlaced b r k need
 placed b r k need lacks e =
@@ -117,7 +117,7 @@ placed b r k need lacks e =
     let second = or_false (nat_lt k r) ((k == r && not (k == 4)) || (nat_lt r need || lacks)) first.1 in
     let third = or_false (k == r && not (k == 4)) (nat_lt r need || lacks) second.1 in
     let fourth = or_false (nat_lt r need) lacks third.1 in
-    record { fits = not_false b first.0; up = ltb-false k r second.0; again = grind (arith, nat_tests, third.0); need = ltb-false r need fourth.0 }
+    record { fits = not_false b first.0; up = ltb-false k r second.0; again = grind (arith, nat_tests, third.0); needed = ltb-false r need fourth.0 }
 
 -- a rank that the key's isn't equal to
 under : (r k : ℕ) → r ≤ k → (k ≡ r → k ≡ 4) → k ≢ 4 → r < k
@@ -159,37 +159,41 @@ kind_place : (kind : Option Kind) (d : Draft) → is_misplaced kind d keys.Kind 
 kind_place None d h first = first refl
 kind_place (Some kind) d h first = let p = placed true d.rank 1 0 false h in let low = under d.rank 1 p.up p.again (λ e. absurd (cc e)) in omega arith
 
-count_place : (kind : Option Kind) (d : Draft) → is_misplaced kind d keys.Points ≡ false → (d.rank < 2) × (1 ≤ d.rank) × IsLinesKind kind
-count_place None d h = absurd (cc h)
-count_place (Some kind) d h = let p = placed (not (is_switching kind)) d.rank 2 1 false h in (under d.rank 2 p.up p.again (λ e. absurd (cc e)), p.need, lines_kind kind p.fits)
+points_place : (kind : Option Kind) (d : Draft) → is_misplaced kind d keys.Points ≡ false → (d.rank < 2) × (1 ≤ d.rank) × IsLinesKind kind
+points_place None d h = absurd (cc h)
+points_place (Some kind) d h = let p = placed (not (is_switching kind)) d.rank 2 1 false h in (under d.rank 2 p.up p.again (λ e. absurd (cc e)), p.needed, lines_kind kind p.fits)
+
+grid_place : (kind : Option Kind) (d : Draft) → is_misplaced kind d keys.Grid ≡ false → (d.rank < 2) × (1 ≤ d.rank) × IsLinesKind kind
+grid_place None d h = absurd (cc h)
+grid_place (Some kind) d h = let p = placed (not (is_switching kind)) d.rank 2 1 false h in (under d.rank 2 p.up p.again (λ e. absurd (cc e)), p.needed, lines_kind kind p.fits)
 
 vertices_place : (kind : Option Kind) (d : Draft) → is_misplaced kind d keys.Vertices ≡ false → (d.rank < 2) × (1 ≤ d.rank) × IsGraphKind kind
 vertices_place None d h = absurd (cc h)
-vertices_place (Some kind) d h = let p = placed (is_switching kind) d.rank 2 1 false h in (under d.rank 2 p.up p.again (λ e. absurd (cc e)), p.need, graph_kind kind p.fits)
+vertices_place (Some kind) d h = let p = placed (is_switching kind) d.rank 2 1 false h in (under d.rank 2 p.up p.again (λ e. absurd (cc e)), p.needed, graph_kind kind p.fits)
 
 terminals_place : (kind : Option Kind) (d : Draft) → is_misplaced kind d keys.Terminals ≡ false → (d.rank < 3) × (2 ≤ d.rank) × IsGraphKind kind
 terminals_place None d h = absurd (cc h)
-terminals_place (Some kind) d h = let p = placed (is_switching kind) d.rank 3 2 false h in (under d.rank 3 p.up p.again (λ e. absurd (cc e)), p.need, graph_kind kind p.fits)
+terminals_place (Some kind) d h = let p = placed (is_switching kind) d.rank 3 2 false h in (under d.rank 3 p.up p.again (λ e. absurd (cc e)), p.needed, graph_kind kind p.fits)
 
 line_place : (kind : Option Kind) (d : Draft) → is_misplaced kind d keys.Line ≡ false → (d.rank ≤ 4) × IsLater kind d.rank × IsLinesKind kind
 line_place None d h = absurd (cc h)
-line_place (Some kind) d h = let p = placed (not (is_switching kind)) d.rank 4 (cond (is_switching kind) 3 2) false h in (p.up, later kind d.rank p.need, lines_kind kind p.fits)
+line_place (Some kind) d h = let p = placed (not (is_switching kind)) d.rank 4 (cond (is_switching kind) 3 2) false h in (p.up, later kind d.rank p.needed, lines_kind kind p.fits)
 
 edge_place : (kind : Option Kind) (d : Draft) → is_misplaced kind d keys.Edge ≡ false → (d.rank ≤ 4) × IsLater kind d.rank
 edge_place None d h = absurd (cc h)
-edge_place (Some kind) d h = let p = placed (is_switching kind) d.rank 4 (cond (is_switching kind) 3 2) false h in (p.up, later kind d.rank p.need)
+edge_place (Some kind) d h = let p = placed (is_switching kind) d.rank 4 (cond (is_switching kind) 3 2) false h in (p.up, later kind d.rank p.needed)
 
 x_place : (kind : Option Kind) (d : Draft) → is_misplaced kind d keys.X ≡ false → (d.rank < 5) × IsLater kind d.rank
 x_place None d h = absurd (cc h)
-x_place (Some kind) d h = let p = placed true d.rank 5 (cond (is_switching kind) 3 2) false h in (under d.rank 5 p.up p.again (λ e. absurd (cc e)), later kind d.rank p.need)
+x_place (Some kind) d h = let p = placed true d.rank 5 (cond (is_switching kind) 3 2) false h in (under d.rank 5 p.up p.again (λ e. absurd (cc e)), later kind d.rank p.needed)
 
 y_place : (kind : Option Kind) (d : Draft) → is_misplaced kind d keys.Y ≡ false → (d.rank < 6) × IsLater kind d.rank
 y_place None d h = absurd (cc h)
-y_place (Some kind) d h = let p = placed true d.rank 6 (cond (is_switching kind) 3 2) false h in (under d.rank 6 p.up p.again (λ e. absurd (cc e)), later kind d.rank p.need)
+y_place (Some kind) d h = let p = placed true d.rank 6 (cond (is_switching kind) 3 2) false h in (under d.rank 6 p.up p.again (λ e. absurd (cc e)), later kind d.rank p.needed)
 
 turn_place : (kind : Option Kind) (d : Draft) → is_misplaced kind d keys.Turn ≡ false → (d.rank < 7) × IsLater kind d.rank
 turn_place None d h = absurd (cc h)
-turn_place (Some kind) d h = let p = placed true d.rank 7 (cond (is_switching kind) 3 2) false h in (under d.rank 7 p.up p.again (λ e. absurd (cc e)), later kind d.rank p.need)
+turn_place (Some kind) d h = let p = placed true d.rank 7 (cond (is_switching kind) 3 2) false h in (under d.rank 7 p.up p.again (λ e. absurd (cc e)), later kind d.rank p.needed)
 
 -- ---- the parts
 
@@ -442,7 +446,7 @@ sound_points : (d : Draft) (arguments : List Bytes) → IsSound d → keyed_faul
 sound_points d arguments sound e =
     let rows = none_applies (keyed_faults d keys.Points arguments) e in
     let n = first_number (numbers_of arguments) in
-    let at = count_place d.kind d rows.1.0 in
+    let at = points_place d.kind d rows.1.0 in
     let limits = outside_not 1 256 n rows.1.1.1.1.1.1.1.0 in
     let bare : d.grid ≡ None = sound.order.grid at.0 in
     record {
@@ -469,7 +473,7 @@ sound_grid d arguments sound e =
     let rows = none_applies (keyed_faults d keys.Grid arguments) e in
     let w = first_number (numbers_of arguments) in
     let h = second_number (numbers_of arguments) in
-    let at = count_place d.kind d rows.1.0 in
+    let at = grid_place d.kind d rows.1.0 in
     let limits = outside_not 1 256 (w * h) rows.1.1.1.1.1.1.1.0 in
     record {
       order = record {
@@ -488,8 +492,8 @@ sound_grid d arguments sound e =
     }
 
 known : (kind : Option Kind) → is_none kind ≡ false → kind ≡ None → ⊥
-known None known e = absurd cc
-known (Some kind) known e = absurd cc
+known None some e = absurd cc
+known (Some kind) some e = absurd cc
 
 sound_kind : (d : Draft) (arguments : List Bytes) → IsSound d → keyed_fault d keys.Kind arguments ≡ None → IsSound (said d keys.Kind arguments)
 sound_kind d [] sound e = let rows = none_applies (keyed_faults d keys.Kind []) e in absurd (cc rows.1.1.0)
@@ -662,3 +666,38 @@ fits_sound d kind turn sound is said =
         (subst (λ (k : Option Kind). HasTerminals k d.vertices d.s d.t) is (sound.terminals (omega arith)))
         sound.lines sound.ends
         (subst (λ (k : Option Kind). AreMarks (points_for k d.points (length d.ends)) d.x d.y) is sound.marks)
+
+-- ---- a whole file
+
+abbrev entry_of : Draft → Kind → Side → Entry
+entry_of d kind turn = record { kind = kind; field = field_of kind d; x = d.x; y = d.y; turn = turn }
+
+abbrev right : Entry → Result Entry (Fault × ℕ)
+right g = Ok g
+
+right_is : (g h : Entry) → right g ≡ right h → g ≡ h
+right_is g h e = cc
+
+abbrev IsFitting : Entry → Type 0
+IsFitting g = IsFit g.kind g.field g.x g.y 1
+
+game_of_fits : (d : Draft) (kind : Option Kind) (turn : Option Side) (g : Entry) → IsSound d → d.kind ≡ kind → d.turn ≡ turn → game_of d kind turn ≡ Ok g → IsFitting g
+game_of_fits d (Some kind) (Some turn) g sound is said e = subst IsFitting (right_is (entry_of d kind turn) g e) (fits_sound d kind turn sound is said)
+game_of_fits d (Some kind) None g sound is said e = absurd cc
+game_of_fits d None turn g sound is said e = absurd cc
+
+end_fits : (begun : Bool) (d : Draft) (g : Entry) → IsSound d → cond begun (game_of d d.kind d.turn) (Err (faults.Header, 0)) ≡ Ok g → IsFitting g
+end_fits true d g sound e = game_of_fits d d.kind d.turn g sound refl refl e
+end_fits false d g sound e = absurd cc
+
+ended_fits : (read : Result Draft (Fault × ℕ)) (g : Entry) → ((d : Draft) → read ≡ Ok d → IsSound d) → ended read ≡ Ok g → IsFitting g
+ended_fits (Ok d) g sound e = end_fits d.begun d g (sound d refl) e
+ended_fits (Err f) g sound e = absurd cc
+
+size_fits : (big : Bool) (read : Result Draft (Fault × ℕ)) (g : Entry) → ((d : Draft) → read ≡ Ok d → IsSound d) → cond big (Err (faults.Size, 0)) (ended read) ≡ Ok g → IsFitting g
+size_fits true read g sound e = absurd cc
+size_fits false read g sound e = ended_fits read g sound e
+
+pub fits_game : (text : Bytes) (g : Entry) → game text ≡ Ok g → IsFit g.kind g.field g.x g.y 1
+unfolding game
+fits_game text g e = size_fits (nat_lt 4194304 (length text)) (reading 1 nothing (lines text)) g (λ d h. sound_reading 1 nothing d (lines text) sound_nothing h) e

@@ -3,3 +3,5 @@ pub mod Key
 pub mod Sets
 pub mod GameFile
 pub mod Views
+pub mod Print
+pub mod Laws

@@ -4,10 +4,14 @@
 mod draft;
 mod fault;
 mod key;
+mod laws;
 mod line;
+mod printing;
 mod reading;
 mod sets;
 mod text;
 
-pub use fault::GameFault;
+pub use fault::{Fault, GameFault};
+pub use laws::{first_fault_is_told, what_is_read_fits};
+pub use printing::print_game;
 pub use reading::read_game;

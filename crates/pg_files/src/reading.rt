@@ -61,7 +61,10 @@ fn finish(draft: Draft) -> Result<Game, GameFault>
     if !draft.begun {
         return Err(Fault::Header.at(0));
     }
-    let (Some(kind), Some(turn)) = (draft.kind, draft.turn) else {
+    let Some(kind) = draft.kind else {
+        return Err(Fault::Ends.at(0));
+    };
+    let Some(turn) = draft.turn else {
         return Err(Fault::Ends.at(0));
     };
     let (x, y) = (draft.x, draft.y);

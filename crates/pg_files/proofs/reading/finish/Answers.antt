@@ -1,6 +1,13 @@
-use Rattle.std.proofs.Common.{rules}
+use Rattle.std.proofs.Common.{◌≡◌, sym, subst}
+use Rattle.pg_game.specs.declared.field.Field.{Field}
+use Rattle.pg_game.specs.Fit.{IsFit}
+use Rattle.pg_files.specs.GameFile.{nothing}
+use Rattle.pg_files.specs.Views.{view}
 use Rattle.pg_files.proofs.Sound.{fits_sound, sound_reading, sound_nothing}
 use Rattle.pg_files.proofs.reading.finish.Goals as goal
 
-pub invariant_of-Game : goal.invariant_of-Game
-invariant_of-Game c = ?
+pub invariant_of-result : goal.invariant_of-result
+invariant_of-result c =
+    let d = view c.args.draft in
+    let sound = sound_reading 1 nothing d c.requires.said_by sound_nothing c.requires.is_said in
+    record { fits = subst (λ (f : Field). IsFit c.in-Some.kind f c.args.draft.x c.args.draft.y 1) (sym c.field_of-field.ensures) (fits_sound d c.in-Some.kind c.in-Some-turn.turn sound c.in-Some.is c.in-Some-turn.is) }

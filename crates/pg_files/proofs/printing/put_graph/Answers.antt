@@ -1,0 +1,12 @@
+use Rattle.std.proofs.Common.{◌≡◌, ◌++◌, ◌∷◌, [], ap, sym, ◌∙◌, map, append_assoc}
+use Rattle.std.specs.Prelude.{string_bytes}
+use Rattle.std.specs.List.{flat_map}
+use Rattle.pg_files.specs.Print.{spelled, edge_words, numbered}
+use Rattle.pg_files.specs.declared.key.Key.TheVariants as keys
+use Rattle.pg_files.proofs.PrintLemmas.{edges_text, joined_three}
+use Rattle.pg_files.proofs.printing.put_graph.Goals as goal
+
+pub returns : goal.returns
+returns c =
+    let g = c.args.graph.now in
+    rw (c.in_ok-put_edges.ensures, c.in_ok-put_numbers-2.ensures, c.in_ok-put_numbers.ensures, c.as_slice.ensures, ← edges_text g.ends) (joined_three _ (numbered keys.Vertices (g.vertices ∷ [])) (numbered keys.Terminals (g.s ∷ g.t ∷ [])) (map edge_words g.ends))

@@ -1,0 +1,61 @@
+-- The printed text of a game.
+use Rattle.std.specs.Prelude.{ℕ, List, [], ◌∷◌, ◌++◌, map, codes, Option, Some, None}
+use Rattle.std.specs.List.{flat_map}
+use Rattle.std.specs.Fmt.{decimal}
+use Rattle.pg_base.specs.declared.grid.Grid.{Grid}
+use Rattle.pg_game.specs.declared.field.Field.{Field}
+use Rattle.pg_game.specs.declared.field.Field.TheVariants as fields
+use Rattle.pg_files.specs.Text.{Bytes}
+use Rattle.pg_files.specs.Sets.{members}
+use Rattle.pg_files.specs.Key.{key_name, kind_name, side_name}
+use Rattle.pg_files.specs.GameFile.{Entry}
+use Rattle.pg_files.specs.declared.key.Key.{Key}
+use Rattle.pg_files.specs.declared.key.Key.TheVariants as keys
+
+-- words with a space between each two
+abbrev pub spaced : List Bytes → Bytes
+spaced [] = []
+spaced (word ∷ others) = word ++ flat_map (λ w. 32 ∷ w) others
+
+-- a line of words with its line feed
+abbrev pub spelled : List Bytes → Bytes
+spelled ws = spaced ws ++ 10 ∷ []
+
+-- the words of a key and numbers
+abbrev pub numbered : Key → List ℕ → List Bytes
+numbered key ns = key_name key ∷ map decimal ns
+
+-- the words of a key and a word
+abbrev pub worded : Key → Bytes → List Bytes
+worded key word = key_name key ∷ word ∷ []
+
+-- a line of marks, where there are any
+abbrev pub marked : Key → List ℕ → List (List Bytes)
+marked key [] = []
+marked key (n ∷ ns) = numbered key (n ∷ ns) ∷ []
+
+-- the words of the first line
+abbrev pub header : List Bytes
+header = codes "posgame" ∷ codes "1" ∷ []
+
+-- the grid where there is one, else the number of points
+abbrev pub size_words : ℕ → Option Grid → List Bytes
+size_words points None = numbered keys.Points (points ∷ [])
+size_words points (Some grid) = numbered keys.Grid (grid.width ∷ grid.height ∷ [])
+
+-- the words of an edge
+abbrev pub edge_words : ℕ × ℕ → List Bytes
+edge_words ends = numbered keys.Edge (ends.0 ∷ ends.1 ∷ [])
+
+-- the lines that say what a game is played on
+abbrev pub field_words : Field → List (List Bytes)
+field_words (fields.Lines f) = size_words f.points f.grid ∷ map (numbered keys.Line) f.lines
+field_words (fields.Graph h) = numbered keys.Vertices (h.vertices ∷ []) ∷ numbered keys.Terminals (h.s ∷ h.t ∷ []) ∷ map edge_words h.ends
+
+-- the lines of a game, each as its words
+abbrev pub printed_lines : Entry → List (List Bytes)
+printed_lines g = header ∷ worded keys.Kind (kind_name g.kind) ∷ (field_words g.field ++ (marked keys.X (members g.x) ++ (marked keys.Y (members g.y) ++ worded keys.Turn (side_name g.turn) ∷ [])))
+
+-- The printed text of a game.
+unfoldable pub printed : Entry → Bytes
+printed g = flat_map spelled (printed_lines g)

@@ -1,0 +1,125 @@
+//! The text of a game.
+ghost use Rattle.std.specs.Prelude.{◌≡◌, ◌++◌, [], ◌∷◌, OnOk, IfOk, string_bytes};
+ghost use Rattle.std.specs.List.{flat_map};
+ghost use Rattle.pg_files.specs.Sets.{members};
+ghost use Rattle.pg_files.specs.Print.{spelled, numbered, worded, marked, size_words, edge_words, field_words, printed};
+ghost use Rattle.pg_files.specs.declared.key.Key.TheVariants as keys;
+ghost use Rattle.pg_game.specs.declared.field.Field.TheVariants as fields;
+ghost use Rattle.pg_files.specs.Views.{entry};
+
+use crate::key::{Key, kind_name, side_name};
+use crate::sets::members;
+use pg_base::{Grid, Line, Memory};
+use pg_game::{Field, Game, LineField};
+use pg_graph::Graph;
+use std::alloc::{AllocError, Global};
+use std::fmt::Write;
+
+/// A line of a key and numbers.
+fn put_numbers(out: &mut String, key: Key, numbers: &[u16]) -> Result<(), AllocError>
+    ensures { OnOk result (string_bytes out.new ≡ string_bytes out.old ++ spelled (numbered key numbers.now)) }
+{
+    out.push_str(key.name())?;
+    for n in numbers {
+        write!(out, " {n}")?;
+    }
+    out.push_str("\n")?;
+    Ok(())
+}
+
+/// A line of a key and marks, where there are any.
+fn put_marks(out: &mut String, key: Key, marks: &[u16]) -> Result<(), AllocError>
+    ensures { OnOk result (string_bytes out.new ≡ string_bytes out.old ++ flat_map spelled (marked key marks.now)) }
+{
+    if marks.is_empty() {
+        return Ok(());
+    }
+    put_numbers(out, key, marks)
+}
+
+/// A line of a key and a word.
+fn put_word(out: &mut String, key: Key, word: &str) -> Result<(), AllocError>
+    ensures { OnOk result (string_bytes out.new ≡ string_bytes out.old ++ spelled (worded key word.now)) }
+{
+    let name = key.name();
+    write!(out, "{name} {word}\n")?;
+    Ok(())
+}
+
+/// The grid where there is one, else the number of points.
+fn put_size(out: &mut String, points: u16, grid: Option<Grid>) -> Result<(), AllocError>
+    ensures { OnOk result (string_bytes out.new ≡ string_bytes out.old ++ spelled (size_words points grid)) }
+{
+    match grid {
+        Some(grid) => put_numbers(out, Key::Grid, &[grid.width, grid.height]),
+        None => put_numbers(out, Key::Points, &[points]),
+    }
+}
+
+/// The lines of a game.
+fn put_lines(out: &mut String, lines: &[Line]) -> Result<(), AllocError>
+    ensures { OnOk result (string_bytes out.new ≡ string_bytes out.old ++ flat_map (λ line. spelled (numbered keys.Line line)) lines.now) }
+{
+    for line in lines {
+        put_numbers(out, Key::Line, line.as_slice())?;
+    }
+    Ok(())
+}
+
+/// The edges of a game.
+fn put_edges(out: &mut String, edges: &[(u16, u16)]) -> Result<(), AllocError>
+    ensures { OnOk result (string_bytes out.new ≡ string_bytes out.old ++ flat_map (λ ends. spelled (edge_words ends)) edges.now) }
+{
+    for ends in edges {
+        put_numbers(out, Key::Edge, &[ends.0, ends.1])?;
+    }
+    Ok(())
+}
+
+/// Lines and what their points are.
+fn put_line_field(out: &mut String, field: &LineField) -> Result<(), AllocError>
+    ensures { OnOk result (string_bytes out.new ≡ string_bytes out.old ++ flat_map spelled (field_words (fields.Lines field.now))) }
+{
+    put_size(out, field.points, field.grid)?;
+    put_lines(out, field.lines.as_slice())?;
+    Ok(())
+}
+
+/// A graph with its terminals.
+fn put_graph(out: &mut String, graph: &Graph) -> Result<(), AllocError>
+    ensures { OnOk result (string_bytes out.new ≡ string_bytes out.old ++ flat_map spelled (field_words (fields.Graph graph.now))) }
+{
+    put_numbers(out, Key::Vertices, &[graph.vertices])?;
+    put_numbers(out, Key::Terminals, &[graph.s, graph.t])?;
+    put_edges(out, graph.ends.as_slice())?;
+    Ok(())
+}
+
+/// What a game is played on.
+fn put_field(out: &mut String, field: &Field) -> Result<(), AllocError>
+    ensures { OnOk result (string_bytes out.new ≡ string_bytes out.old ++ flat_map spelled (field_words field.now)) }
+{
+    match field {
+        Field::Lines(field) => put_line_field(out, field),
+        Field::Graph(graph) => put_graph(out, graph),
+    }
+}
+
+/// The text of a game: reading it gives the game back, where Y claims one point a turn.
+///
+/// The marks of each side stand in ascending order, and a side without marks has no line.
+#[tactic(auto, unfolding(crate::specs::Print::printed))]
+pub fn print_game(alloc: Global, g: &Game) -> Result<Vec<u8>, Memory>
+    ensures { IfOk result (λ text. text.items ≡ printed (entry g.now)) }
+{
+    let x = members(alloc, &g.x)?;
+    let y = members(alloc, &g.y)?;
+    let mut out = String::new(alloc);
+    out.push_str("posgame 1\n")?;
+    put_word(&mut out, Key::Kind, kind_name(g.kind))?;
+    put_field(&mut out, &g.field)?;
+    put_marks(&mut out, Key::X, &x)?;
+    put_marks(&mut out, Key::Y, &y)?;
+    put_word(&mut out, Key::Turn, side_name(g.turn))?;
+    Ok(out.into_bytes())
+}
