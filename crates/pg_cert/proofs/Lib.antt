@@ -5,3 +5,4 @@ pub mod Following
 pub mod SetLists
 pub mod Growing
 pub mod Stands
+pub mod WholeFile
