@@ -5,6 +5,7 @@ ghost use Rattle.pg_cert.specs.Views.{number_of, at_line};
 ghost use Rattle.pg_cert.specs.declared.fault.ReadError.TheVariants.{Memory as NoMemory};
 ghost use Rattle.pg_cert.specs.declared.fault.CertFault.TheVariants.{Memory};
 
+use pg_base::Memory as NoMoreMemory;
 use std::alloc::{AllocError, AllocFailed};
 
 /// What is wrong with a line, in the order of the faults' numbers.
@@ -93,6 +94,14 @@ impl From<AllocError> for CertFault {
     ghost from_gives = { λ _ fault. fault ≡ Memory };
 
     fn from(_: AllocError) -> CertFault {
+        CertFault::Memory
+    }
+}
+
+impl From<NoMoreMemory> for CertFault {
+    ghost from_gives = { λ _ fault. fault ≡ Memory };
+
+    fn from(_: NoMoreMemory) -> CertFault {
         CertFault::Memory
     }
 }
