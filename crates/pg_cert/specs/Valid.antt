@@ -107,8 +107,8 @@ pub record IsNodeOf (nodes : List Node) (child : ℕ) (q : Position) : Type 0 wh
   pub position : position_of node ≡ q
 
 -- where the point is free, the child has the position after it
-abbrev pub FollowsMove : Game → List Node → Position → ℕ → ℕ → Type 0
-FollowsMove g nodes p v child = v < point_count g → is_free p v ≡ true → IsNodeOf nodes child (after g p v)
+pub record FollowsMove (g : Game) (nodes : List Node) (p : Position) (v child : ℕ) : Type 0 where
+  pub leads : v < point_count g → is_free p v ≡ true → IsNodeOf nodes child (after g p v)
 
 -- the children of the free points that the body names have the positions after them
 abbrev pub FollowMoves : Game → List Node → Position → Body → Type 0
