@@ -6,3 +6,5 @@ pub mod SetLists
 pub mod Growing
 pub mod Stands
 pub mod WholeFile
+pub mod Printed
+pub mod NodeLimits

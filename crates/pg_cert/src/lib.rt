@@ -7,6 +7,7 @@ mod form;
 mod line;
 mod node;
 mod part;
+mod printing;
 mod progress;
 mod reader;
 mod reading;
@@ -17,5 +18,9 @@ mod values;
 pub use cert::{Cert, Claim, Claims};
 pub use fault::CertFault;
 pub use node::{Body, Node, Nodes};
+pub use printing::{print_cert, print_node};
 pub use reading::read_cert;
 pub use reply::{Replies, Reply};
+
+#[cfg(test)]
+mod tests;
