@@ -8,3 +8,5 @@ pub mod Stands
 pub mod WholeFile
 pub mod Printed
 pub mod NodeLimits
+pub mod CertLimits
+pub mod FirstFaults

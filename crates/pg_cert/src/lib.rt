@@ -19,7 +19,7 @@ pub use cert::{Cert, Claim, Claims};
 pub use fault::CertFault;
 pub use node::{Body, Node, Nodes};
 pub use printing::{print_cert, print_node};
-pub use reading::read_cert;
+pub use reading::{names_the_first_fault, read_cert, reads_within_limits};
 pub use reply::{Replies, Reply};
 
 #[cfg(test)]
