@@ -6,3 +6,7 @@ pub mod SetLists
 pub mod Growing
 pub mod Stands
 pub mod WholeFile
+pub mod Printed
+pub mod NodeLimits
+pub mod CertLimits
+pub mod FirstFaults

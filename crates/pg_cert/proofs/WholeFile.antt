@@ -23,7 +23,7 @@ pub gathered_none : gathered [] ≡ none_gathered
 unfolding gathered
 gathered_none = refl
 
-gathered_more : (ps qs : List Part) → gathered (ps ++ qs) ≡ fold with_part (gathered ps) qs
+pub gathered_more : (ps qs : List Part) → gathered (ps ++ qs) ≡ fold with_part (gathered ps) qs
 unfolding gathered
 gathered_more ps qs = fold-append with_part none_gathered ps qs
 

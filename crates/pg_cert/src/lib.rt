@@ -8,6 +8,7 @@ mod line;
 mod node;
 mod node_fault;
 mod part;
+mod printing;
 mod progress;
 mod reader;
 mod reading;
@@ -20,4 +21,9 @@ pub use fault::CertFault;
 pub use node::{Body, Node, Nodes};
 pub use node_fault::NodeFault;
 pub use reading::read_cert;
+pub use printing::{print_cert, print_node};
+pub use reading::{names_the_first_fault, read_cert, reads_within_limits};
 pub use reply::{Replies, Reply};
+
+#[cfg(test)]
+mod tests;

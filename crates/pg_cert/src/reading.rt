@@ -1,9 +1,13 @@
 //! A certificate from the bytes of its file.
 
-ghost use Rattle.std.specs.Prelude.{◌≡◌, IfOk, fold};
+ghost use Rattle.std.specs.Prelude.{◌≡◌, ℕ, List, IfOk, fold};
 ghost use Rattle.pg_cert.specs.Views.{IsReadAs};
 ghost use Rattle.pg_cert.specs.CertFile.{certificate, with_part, none_gathered, closed, listed};
 ghost use Rattle.pg_cert.specs.Gatherer.{view};
+ghost use Rattle.pg_cert.specs.Limits.{IsWithinLimits};
+ghost use Rattle.pg_cert.specs.FirstFault.{IsFirstFault};
+ghost use Rattle.pg_cert.specs.declared.cert.Cert.{Cert};
+ghost use Rattle.pg_cert.specs.declared.fault.Fault.{Fault};
 
 use crate::cert::{Cert, Claim, Claims};
 use crate::fault::{CertFault, Fault};
@@ -74,6 +78,7 @@ impl Gatherer {
 /// The certificate of a file.
 pub fn read_cert(alloc: Global, bytes: &[u8]) -> Result<Cert, CertFault>
     ensures read { IsReadAs result (certificate bytes.now) }
+    ensures limits { IfOk result IsWithinLimits }
 {
     if bytes.len() > GREATEST_FILE {
         return Err(Fault::Size.at(0));
@@ -92,3 +97,14 @@ pub fn read_cert(alloc: Global, bytes: &[u8]) -> Result<Cert, CertFault>
         claims: Claims::from_vec(claims),
     })
 }
+
+/// What reading gives is within the limits of the format.
+pub fn reads_within_limits()
+    ensures { (text : List ℕ) (c : Cert) → certificate text ≡ Ok c → IsWithinLimits c }
+{}
+
+/// A fault that reading gives is the first: the file is too large; or the lines before the one it names have none, and
+/// there it is the least; or no line has one, and the file ends too early.
+pub fn names_the_first_fault()
+    ensures { (text : List ℕ) (fault : Fault) (number : ℕ) → certificate text ≡ Err (fault, number) → IsFirstFault text fault number }
+{}

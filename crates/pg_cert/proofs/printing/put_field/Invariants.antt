@@ -1,0 +1,12 @@
+use Rattle.std.proofs.Common.{◌≡◌, ◌++◌, map}
+use Rattle.std.specs.Prelude.{string_bytes}
+use Rattle.std.specs.Fmt.{decimal}
+use Rattle.pg_cert.specs.Print.{spaced, points_below}
+use Rattle.pg_cert.proofs.Printed.{is_begun}
+use Rattle.pg_cert.proofs.printing.put_field.Given as goal
+
+abbrev pub invariant-loop-p : goal.invariant-loop-p
+invariant-loop-p l = record {
+  out : string_bytes l.out ≡ string_bytes l.fn.out ++ spaced (map decimal (points_below l.set l.p));
+  begun : l.begun ≡ is_begun (points_below l.set l.p);
+}

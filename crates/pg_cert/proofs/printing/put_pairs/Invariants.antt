@@ -1,0 +1,7 @@
+use Rattle.std.proofs.Common.{◌≡◌, ◌++◌, take, map, length}
+use Rattle.std.specs.Prelude.{string_bytes}
+use Rattle.pg_cert.specs.Print.{behind_spaces, pair_word}
+use Rattle.pg_cert.proofs.printing.put_pairs.Given as goal
+
+abbrev pub invariant-loop-pair : goal.invariant-loop-pair
+invariant-loop-pair l = string_bytes l.out ≡ string_bytes l.fn.out ++ behind_spaces (map pair_word (take l.pair-index l.pairs))

@@ -1,0 +1,8 @@
+use Rattle.std.proofs.Common.{◌≡◌, ◌++◌, map}
+use Rattle.std.specs.Prelude.{string_bytes}
+use Rattle.std.specs.Fmt.{decimal}
+use Rattle.pg_cert.specs.Print.{behind_spaces, points_below}
+use Rattle.pg_cert.proofs.printing.put_set.Given as goal
+
+abbrev pub invariant-loop-p : goal.invariant-loop-p
+invariant-loop-p l = string_bytes l.out ≡ string_bytes l.fn.out ++ behind_spaces (map decimal (points_below l.set l.p))

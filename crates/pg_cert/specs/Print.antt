@@ -1,0 +1,124 @@
+-- The printed text of a certificate.
+use Rattle.std.specs.Prelude.{ℕ, zero, suc, Bool, true, false, if◌then◌else◌, List, [], ◌∷◌, ◌++◌, length, map, codes}
+use Rattle.std.specs.FinSet.{FinSet, contains}
+use Rattle.std.specs.Fmt.{decimal}
+use Rattle.std.specs.List.{flat_map}
+use Rattle.std.specs.Ordering.{nat_cmp}
+use Rattle.pg_base.specs.declared.side.Side.{Side}
+use Rattle.pg_base.specs.declared.side.Side.TheVariants as sides
+use Rattle.pg_base.specs.declared.goal.Goal.{Goal}
+use Rattle.pg_base.specs.declared.goal.Goal.TheVariants as goals
+use Rattle.pg_base.specs.declared.pair.Pair.{Pair}
+use Rattle.pg_cert.specs.Text.{Bytes}
+use Rattle.pg_cert.specs.declared.reply.Reply.{Reply}
+use Rattle.pg_cert.specs.declared.node.Body.{Body}
+use Rattle.pg_cert.specs.declared.node.Body.TheVariants as bodies
+use Rattle.pg_cert.specs.declared.node.Node.{Node}
+use Rattle.pg_cert.specs.declared.cert.Claim.{Claim}
+use Rattle.pg_cert.specs.declared.cert.Cert.{Cert}
+
+-- words, each behind a space
+abbrev pub behind_spaces : List Bytes → Bytes
+behind_spaces ws = flat_map (λ w. 32 ∷ w) ws
+
+-- words with a space between each two
+abbrev pub spaced : List Bytes → Bytes
+spaced [] = []
+spaced (word ∷ others) = word ++ behind_spaces others
+
+-- the number, if the test holds
+abbrev pub one_where : Bool → ℕ → List ℕ
+one_where true n = n ∷ []
+one_where false n = []
+
+-- the first number, behind a space if others stand before it
+abbrev pub separated : Bool → List ℕ → Bytes
+separated begun [] = []
+separated true (n ∷ ns) = 32 ∷ decimal n
+separated false (n ∷ ns) = decimal n
+
+-- the members below n, in ascending order
+unfoldable pub points_below : FinSet nat_cmp → ℕ → List ℕ
+points_below s zero = []
+points_below s (suc n) = points_below s n ++ one_where (contains s n) n
+
+-- the points of a set as words
+abbrev pub set_words : FinSet nat_cmp → List Bytes
+set_words s = map decimal (points_below s 1024)
+
+-- the word of a side
+abbrev pub side_name : Side → Bytes
+side_name sides.X = codes "x"
+side_name sides.Y = codes "y"
+
+-- the word of a goal
+abbrev pub goal_name : Goal → Bytes
+goal_name goals.Win = codes "win"
+goal_name goals.Draw = codes "draw"
+
+-- a point and a child as a word
+abbrev pub reply_word : Reply → Bytes
+reply_word r = decimal r.point ++ 58 ∷ decimal r.child
+
+-- two points as a word
+abbrev pub pair_word : Pair → Bytes
+pair_word p = decimal p.a ++ 45 ∷ decimal p.b
+
+-- the word `e`, if the first set holds the further edge
+abbrev pub e_words : Bool → List Bytes
+e_words true = codes "e" ∷ []
+e_words false = []
+
+-- two sets of edges as words
+abbrev pub edge_words : Bool → FinSet nat_cmp → FinSet nat_cmp → List Bytes
+edge_words e first second = e_words e ++ (set_words first ++ codes "/" ∷ set_words second)
+
+-- the first word of a body
+abbrev pub body_name : Body → Bytes
+body_name bodies.Over = codes "over"
+body_name (bodies.Move v j) = codes "move"
+body_name (bodies.All rs) = codes "all"
+body_name (bodies.Pairs ps) = codes "pairs"
+body_name bodies.Potential = codes "potential"
+body_name (bodies.Trees e first second) = codes "trees"
+body_name (bodies.Cuts e first second) = codes "cuts"
+body_name (bodies.Threat ps) = codes "threat"
+
+-- the words behind it
+abbrev pub body_words : Body → List Bytes
+body_words bodies.Over = []
+body_words (bodies.Move v j) = decimal v ∷ decimal j ∷ []
+body_words (bodies.All rs) = map reply_word rs
+body_words (bodies.Pairs ps) = map pair_word ps
+body_words bodies.Potential = []
+body_words (bodies.Trees e first second) = edge_words e first second
+body_words (bodies.Cuts e first second) = edge_words e first second
+body_words (bodies.Threat ps) = map decimal ps
+
+-- a body
+abbrev pub body_text : Body → Bytes
+body_text body = spaced (body_name body ∷ body_words body)
+
+-- a node line with its line feed
+unfoldable pub node_text : Node → Bytes
+node_text n = spaced (set_words n.x) ++ 124 ∷ (spaced (set_words n.y) ++ 124 ∷ (side_name n.turn ++ 124 ∷ (body_text n.body ++ 10 ∷ [])))
+
+-- the words of a claim line
+abbrev pub claim_words : Claim → List Bytes
+claim_words c = codes "claim" ∷ side_name c.turn ∷ side_name c.side ∷ goal_name c.goal ∷ []
+
+-- the words of a `nodes` line
+abbrev pub count_words : ℕ → List Bytes
+count_words n = codes "nodes" ∷ decimal n ∷ []
+
+-- a claim line, its `nodes` line and its node lines
+unfoldable pub claim_text : Claim → Bytes
+claim_text c = spaced (claim_words c) ++ 10 ∷ (spaced (count_words (length c.nodes)) ++ 10 ∷ flat_map node_text c.nodes)
+
+-- the first line
+abbrev pub header : Bytes
+header = codes "posgame-cert 1"
+
+-- the text of a certificate
+unfoldable pub printed_certificate : Cert → Bytes
+printed_certificate c = header ++ 10 ∷ flat_map claim_text c.claims

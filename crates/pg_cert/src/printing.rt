@@ -1,0 +1,249 @@
+//! The text of a certificate.
+
+ghost use Rattle.std.specs.Prelude.{◌≡◌, ◌<◌, ◌||◌, true, ◌++◌, ◌∷◌, [], map, OnOk, IfOk, string_bytes};
+ghost use Rattle.std.specs.FinSet.{contains};
+ghost use Rattle.std.specs.Fmt.{decimal};
+ghost use Rattle.std.specs.List.{flat_map};
+ghost use Rattle.pg_cert.specs.Limits.{IsNode, IsWithinLimits};
+ghost use Rattle.pg_cert.specs.Print.{one_where, separated, spaced, behind_spaces, set_words, side_name, goal_name, reply_word, pair_word, e_words, edge_words, body_name, body_words, body_text, node_text, claim_text, printed_certificate};
+
+use crate::cert::{Cert, Claim};
+use crate::node::{Body, Node};
+use crate::reply::Reply;
+use pg_base::{Goal, Memory, Pair, PointSet, Side};
+use std::alloc::{AllocError, Global};
+use std::fmt::Write;
+
+/// Puts a point where it is in the set, behind a space unless it is the first; tells whether a point was put.
+fn put_next(out: &mut String, set: &PointSet, p: u16, begun: bool) -> Result<bool, AllocError>
+    requires { p < 1024 }
+    ensures text { OnOk result (string_bytes out.new ≡ string_bytes out.old ++ separated begun (one_where (contains set.now p) p)) }
+    ensures begun { IfOk result (λ now. now ≡ (begun || contains set.now p)) }
+{
+    if !set.has(p) {
+        return Ok(begun);
+    }
+    if begun {
+        write!(out, " {p}")?;
+        return Ok(true);
+    }
+    write!(out, "{p}")?;
+    Ok(true)
+}
+
+/// Puts the points of a set, with a space between each two.
+fn put_field(out: &mut String, set: &PointSet) -> Result<(), AllocError>
+    ensures { OnOk result (string_bytes out.new ≡ string_bytes out.old ++ spaced (set_words set.now)) }
+{
+    let mut begun = false;
+    for p in 0..1024 {
+        begun = put_next(out, set, p, begun)?;
+    }
+    Ok(())
+}
+
+/// Puts a point behind a space where it is in the set.
+fn put_member(out: &mut String, set: &PointSet, p: u16) -> Result<(), AllocError>
+    requires { p < 1024 }
+    ensures { OnOk result (string_bytes out.new ≡ string_bytes out.old ++ separated true (one_where (contains set.now p) p)) }
+{
+    if !set.has(p) {
+        return Ok(());
+    }
+    write!(out, " {p}")?;
+    Ok(())
+}
+
+/// Puts the points of a set, each behind a space.
+fn put_set(out: &mut String, set: &PointSet) -> Result<(), AllocError>
+    ensures { OnOk result (string_bytes out.new ≡ string_bytes out.old ++ behind_spaces (set_words set.now)) }
+{
+    for p in 0..1024 {
+        put_member(out, set, p)?;
+    }
+    Ok(())
+}
+
+/// Puts points, each behind a space.
+fn put_points(out: &mut String, points: &[u16]) -> Result<(), AllocError>
+    ensures { OnOk result (string_bytes out.new ≡ string_bytes out.old ++ behind_spaces (map decimal points.now)) }
+{
+    for p in points {
+        write!(out, " {p}")?;
+    }
+    Ok(())
+}
+
+/// Puts replies, each behind a space.
+fn put_replies(out: &mut String, replies: &[Reply]) -> Result<(), AllocError>
+    ensures { OnOk result (string_bytes out.new ≡ string_bytes out.old ++ behind_spaces (map reply_word replies.now)) }
+{
+    for reply in replies {
+        let point = reply.point;
+        let child = reply.child;
+        write!(out, " {point}:{child}")?;
+    }
+    Ok(())
+}
+
+/// Puts pairs, each behind a space.
+fn put_pairs(out: &mut String, pairs: &[Pair]) -> Result<(), AllocError>
+    ensures { OnOk result (string_bytes out.new ≡ string_bytes out.old ++ behind_spaces (map pair_word pairs.now)) }
+{
+    for pair in pairs {
+        let a = pair.a;
+        let b = pair.b;
+        write!(out, " {a}-{b}")?;
+    }
+    Ok(())
+}
+
+/// Puts the word that says that the first set holds the further edge.
+fn put_e(out: &mut String, with_e: bool) -> Result<(), AllocError>
+    ensures { OnOk result (string_bytes out.new ≡ string_bytes out.old ++ behind_spaces (e_words with_e)) }
+{
+    if with_e {
+        out.push_str(" e")?;
+    }
+    Ok(())
+}
+
+/// Puts two sets of edges.
+fn put_edges(out: &mut String, with_e: bool, first: &PointSet, second: &PointSet) -> Result<(), AllocError>
+    ensures { OnOk result (string_bytes out.new ≡ string_bytes out.old ++ behind_spaces (edge_words with_e first.now second.now)) }
+{
+    put_e(out, with_e)?;
+    put_set(out, first)?;
+    out.push_str(" /")?;
+    put_set(out, second)
+}
+
+/// The word of a side.
+fn side_name(side: Side) -> &'static str
+    ensures { result.now ≡ side_name side }
+{
+    match side {
+        Side::X => "x",
+        Side::Y => "y",
+    }
+}
+
+/// The word of a goal.
+fn goal_name(goal: Goal) -> &'static str
+    ensures { result.now ≡ goal_name goal }
+{
+    match goal {
+        Goal::Win => "win",
+        Goal::Draw => "draw",
+    }
+}
+
+/// The first word of a body.
+fn body_name(body: &Body) -> &'static str
+    ensures { result.now ≡ body_name body.now }
+{
+    match body {
+        Body::Over => "over",
+        Body::Move { .. } => "move",
+        Body::All(_) => "all",
+        Body::Pairs(_) => "pairs",
+        Body::Potential => "potential",
+        Body::Trees { .. } => "trees",
+        Body::Cuts { .. } => "cuts",
+        Body::Threat(_) => "threat",
+    }
+}
+
+/// Puts the words of a body behind the first.
+fn put_words(out: &mut String, body: &Body) -> Result<(), AllocError>
+    ensures { OnOk result (string_bytes out.new ≡ string_bytes out.old ++ behind_spaces (body_words body.now)) }
+{
+    match body {
+        Body::Over | Body::Potential => Ok(()),
+        Body::Move { point, child } => put_move(out, *point, *child),
+        Body::All(replies) => put_replies(out, replies.as_slice()),
+        Body::Pairs(pairs) => put_pairs(out, pairs.as_slice()),
+        Body::Trees { with_e, first, second } | Body::Cuts { with_e, first, second } => put_edges(out, *with_e, first, second),
+        Body::Threat(points) => put_points(out, points.as_slice()),
+    }
+}
+
+/// Puts a point and a child, each behind a space.
+fn put_move(out: &mut String, point: u16, child: u32) -> Result<(), AllocError>
+    ensures { OnOk result (string_bytes out.new ≡ string_bytes out.old ++ behind_spaces (decimal point ∷ decimal child ∷ [])) }
+{
+    write!(out, " {point} {child}")?;
+    Ok(())
+}
+
+/// Puts a node line.
+#[tactic(auto, unfolding(crate::specs::Print::node_text))]
+fn put_node(out: &mut String, n: &Node) -> Result<(), AllocError>
+    ensures { OnOk result (string_bytes out.new ≡ string_bytes out.old ++ node_text n.now) }
+{
+    put_field(out, &n.x)?;
+    out.push_str("|")?;
+    put_field(out, &n.y)?;
+    let turn = side_name(n.turn);
+    let name = body_name(&n.body);
+    write!(out, "|{turn}|{name}")?;
+    put_words(out, &n.body)?;
+    out.push_str("\n")?;
+    Ok(())
+}
+
+/// Puts node lines.
+fn put_nodes(out: &mut String, nodes: &[Node]) -> Result<(), AllocError>
+    ensures { OnOk result (string_bytes out.new ≡ string_bytes out.old ++ flat_map node_text nodes.now) }
+{
+    for node in nodes {
+        put_node(out, node)?;
+    }
+    Ok(())
+}
+
+/// Puts a claim with its nodes.
+#[tactic(auto, unfolding(crate::specs::Print::claim_text))]
+fn put_claim(out: &mut String, claim: &Claim) -> Result<(), AllocError>
+    ensures { OnOk result (string_bytes out.new ≡ string_bytes out.old ++ claim_text claim.now) }
+{
+    let turn = side_name(claim.turn);
+    let side = side_name(claim.side);
+    let goal = goal_name(claim.goal);
+    let nodes = claim.nodes.as_slice();
+    let count = nodes.len();
+    write!(out, "claim {turn} {side} {goal}\nnodes {count}\n")?;
+    put_nodes(out, nodes)
+}
+
+/// Puts claims with their nodes.
+fn put_claims(out: &mut String, claims: &[Claim]) -> Result<(), AllocError>
+    ensures { OnOk result (string_bytes out.new ≡ string_bytes out.old ++ flat_map claim_text claims.now) }
+{
+    for claim in claims {
+        put_claim(out, claim)?;
+    }
+    Ok(())
+}
+
+/// The text of a certificate within the limits of the format, with a line feed after every line.
+#[tactic(auto, unfolding(crate::specs::Print::printed_certificate))]
+pub fn print_cert(alloc: Global, c: &Cert) -> Result<Vec<u8>, Memory>
+    requires { IsWithinLimits c.now }
+    ensures { IfOk result (λ text. text.items ≡ printed_certificate c.now) }
+{
+    let mut out = String::new(alloc);
+    out.push_str("posgame-cert 1\n")?;
+    put_claims(&mut out, c.claims.as_slice())?;
+    Ok(out.into_bytes())
+}
+
+/// The line of a node of a certificate, with its line feed.
+pub fn print_node(alloc: Global, n: &Node) -> Result<Vec<u8>, Memory>
+    requires { IsNode n.now }
+    ensures { IfOk result (λ text. text.items ≡ node_text n.now) }
+{
+    let mut out = String::new(alloc);
+    put_node(&mut out, n)?;
+    Ok(out.into_bytes())
+}
