@@ -16,4 +16,3 @@ pub mod Class
 pub mod Strategy
 pub mod Judge
 pub mod Walked
-pub mod PositionLemmas
