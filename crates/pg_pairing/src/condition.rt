@@ -21,14 +21,6 @@ fn touches(points: &PointSet, line: &Line) -> bool
     line.as_slice().iter().any(|v| points.has(*v))
 }
 
-/// The number of points, which a set of points has room for.
-pub(crate) fn points_of(g: &Game) -> u16
-    ensures points { result ≡ point_count g.now }
-    ensures few { result ≤ 1024 }
-{
-    g.points()
-}
-
 /// The lines, none on a graph.
 fn lines_of(g: &Game) -> &[Line]
     ensures lines { result.now ≡ lines_of g.now }
@@ -64,11 +56,11 @@ fn take_pair(points: u16, p: &Position, taken: &mut PointSet, s: Pair) -> bool
 }
 
 /// The points of the pairs, where these are of free points of the game, all different.
-fn paired_points(g: &Game, p: &Position, pairs: &[Pair]) -> Option<PointSet>
+pub(crate) fn paired_points(g: &Game, p: &Position, pairs: &[Pair]) -> Option<PointSet>
     ensures open { IsSome result ↔ AreOpenPairs g.now p.now pairs.now }
     ensures points { IfSome result (λ paired. (q : ℕ) → set.contains paired q ≡ is_paired pairs.now q) }
 {
-    let points = points_of(g);
+    let points = g.points();
     let mut taken = PointSet::empty();
     for s in pairs {
         if !take_pair(points, p, &mut taken, *s) {
@@ -91,7 +83,7 @@ fn count_outside(g: &Game, p: &Position, points: &PointSet) -> u16
     ensures { result ≡ length (filter (λ v. not (set.contains points.now v)) (free_points g.now p.now)) }
 {
     let mut outside = 0;
-    for v in 0..points_of(g) {
+    for v in 0..g.points() {
         if is_outside(p, points, v) {
             outside += 1;
         }

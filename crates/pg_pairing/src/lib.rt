@@ -2,9 +2,11 @@
 #![tactic(auto)]
 
 mod condition;
-mod law;
+pub mod laws;
 mod reply;
 
 pub use condition::holds;
-pub use law::{pairing_forces_a_draw, pairing_forces_avoider, pairing_forces_breaker};
 pub use reply::answer;
+
+#[cfg(test)]
+mod tests;

@@ -10,7 +10,7 @@ ghost use Rattle.pg_game.specs.Game.{point_count, free_points, is_full, after, I
 ghost use Rattle.pg_game.specs.Pairs.{is_open, has_point, is_loose, partner, free_partner, lowest_free, pairs_answer};
 ghost use Rattle.pg_pairing.specs.Rest.{ArePairsOf, RestHolds, MayClaim, HeldBefore};
 
-use crate::condition::{is_outside, points_of};
+use crate::condition::is_outside;
 use pg_base::{Pair, PointSet};
 use pg_game::{Game, Position};
 
@@ -66,7 +66,7 @@ fn open_points(p: &Position, pairs: &[Pair]) -> PointSet
 fn lowest_outside(g: &Game, p: &Position, points: &PointSet) -> Option<u16>
     ensures { result ≡ find (λ v. not (set.contains points.now v)) (free_points g.now p.now) }
 {
-    for v in 0..points_of(g) {
+    for v in 0..g.points() {
         if is_outside(p, points, v) {
             return Some(v);
         }
@@ -83,7 +83,7 @@ fn lowest_loose(g: &Game, p: &Position, pairs: &[Pair]) -> Option<u16>
 }
 
 /// The lowest free point.
-fn lowest_free(g: &Game, p: &Position) -> Option<u16>
+pub(crate) fn lowest_free(g: &Game, p: &Position) -> Option<u16>
     ensures { result ≡ lowest_free g.now p.now }
 {
     lowest_outside(g, p, &PointSet::empty())

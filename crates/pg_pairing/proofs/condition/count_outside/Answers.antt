@@ -29,5 +29,5 @@ loop-v-preserved c =
 
 pub returns : goal.returns
 returns c =
-    let at : c.loop-v.v ≡ c.points_of-v-end.result = omega (arith, c.loop-v-test.false, c.loop-v.auto.v-end) in
-    c.loop-v.invariant.counted ∙ passing-all c.args.g.now c.args.p.now (λ v. not (contains c.args.points.now v)) c.loop-v.v (at ∙ c.points_of-v-end.ensures.points)
+    let at : c.loop-v.v ≡ c.points-v-end.result = omega (arith, c.loop-v-test.false, c.loop-v.auto.v-end) in
+    c.loop-v.invariant.counted ∙ passing-all c.args.g.now c.args.p.now (λ v. not (contains c.args.points.now v)) c.loop-v.v (at ∙ c.points-v-end.ensures.count)
