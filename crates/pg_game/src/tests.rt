@@ -77,18 +77,41 @@ fn over(alloc: Global, g: &Game, x: &[u16], y: &[u16]) -> Result<Option<Score>, 
     Ok(judge.over(g, &p))
 }
 
-/// What a judge answers to a move.
-fn play(
+/// X's points, Y's points, and the outcome with them.
+type Row = (&'static [u16], &'static [u16], Option<Score>);
+
+/// Whether each row has its outcome.
+fn have_outcomes(alloc: Global, g: &Game, rows: &[Row]) -> Result<bool, Fail> {
+    for &(x, y, outcome) in rows {
+        if over(alloc, g, x, y)? != outcome {
+            return Ok(false);
+        }
+    }
+    Ok(true)
+}
+
+/// What a judge answers to each move of a list: the side that is then to move and what it still claims, or why the move
+/// is refused. A refused move changes nothing.
+fn have_answers(
     alloc: Global,
     g: &Game,
-    p: &Position,
-    v: u16,
-) -> Result<Result<Position, Illegal>, Fail> {
+    moves: &[(u16, Result<(Side, u8), Illegal>)],
+) -> Result<bool, Fail> {
     let mut judge = Judge::new(alloc, g)?;
-    if !p.x.is_below(g.points()) {
-        return Ok(Err(Illegal::Range));
+    let mut p = g.start();
+    for &(v, want) in moves {
+        if !p.x.is_below(g.points()) {
+            return Ok(false);
+        }
+        let answer = judge.play(g, &p, v);
+        if let Ok(next) = answer {
+            p = next;
+        }
+        if answer.map(|next| (next.turn, next.left)) != want {
+            return Ok(false);
+        }
     }
-    Ok(judge.play(g, p, v))
+    Ok(true)
 }
 
 /// Three in a row on nine cells.
@@ -106,105 +129,126 @@ const ROWS: [&[u16]; 8] = [
 /// Two lines that share a point, of three points.
 const TWO: [&[u16]; 2] = [&[0, 1], &[0, 2]];
 
+const WON: Option<Score> = Some(Score::XWins);
+
+const DRAWN: Option<Score> = Some(Score::Draw);
+
+const LOST: Option<Score> = Some(Score::YWins);
+
+const BREAKER_ON_TWO: [Row; 5] = [
+    (&[], &[], None),
+    (&[0], &[1], None),
+    (&[0, 2], &[1], WON),
+    (&[], &[0], LOST),
+    (&[0], &[1, 2], LOST),
+];
+
+const AVOIDER_ON_TWO: [Row; 3] = [(&[0], &[1], None), (&[0, 2], &[1], LOST), (&[], &[0], WON)];
+
+const BREAKER_ON_ROWS: [Row; 2] = [
+    (&[0, 2, 3, 7, 8], &[1, 4, 5, 6], LOST),
+    (&[0, 1], &[3, 4, 5], None),
+];
+
+const RACE_ON_ROWS: [Row; 4] = [
+    (&[0, 4], &[1], None),
+    (&[0, 2, 3, 7, 8], &[1, 4, 5, 6], DRAWN),
+    (&[0, 1], &[3, 4, 5], LOST),
+    (&[0, 1, 2], &[3, 4, 5], WON),
+];
+
 #[test]
-fn maker_breaker_on_two_lines(rt: HostRuntime) -> Result<(), Fail> {
-    let g = game_of(rt.alloc(), Kind::MakerBreaker, 3, &TWO, 1)?;
-    assert_eq!(rt; over(rt.alloc(), &g, &[], &[])?, None);
-    assert_eq!(rt; over(rt.alloc(), &g, &[0], &[1])?, None);
-    assert_eq!(rt; over(rt.alloc(), &g, &[0, 2], &[1])?, Some(Score::XWins));
-    assert_eq!(rt; over(rt.alloc(), &g, &[], &[0])?, Some(Score::YWins));
-    assert_eq!(rt; over(rt.alloc(), &g, &[0], &[1, 2])?, Some(Score::YWins));
+fn outcomes_on_lines(rt: HostRuntime) -> Result<(), Fail> {
+    let alloc = rt.alloc();
+    for (kind, points, lines, rows) in [
+        (Kind::MakerBreaker, 3, &TWO[..], &BREAKER_ON_TWO[..]),
+        (Kind::AvoiderEnforcer, 3, &TWO[..], &AVOIDER_ON_TWO[..]),
+        (Kind::MakerBreaker, 9, &ROWS[..], &BREAKER_ON_ROWS[..]),
+        (Kind::MakerMaker, 9, &ROWS[..], &RACE_ON_ROWS[..]),
+        (Kind::MakerBreaker, 1, &[], &[(&[], &[], LOST)]),
+        (Kind::AvoiderEnforcer, 1, &[], &[(&[], &[], WON)]),
+        (
+            Kind::MakerMaker,
+            1,
+            &[],
+            &[(&[], &[], None), (&[0], &[], DRAWN)],
+        ),
+    ] {
+        let g = game_of(alloc, kind, points, lines, 1)?;
+        assert!(rt; have_outcomes(alloc, &g, rows)?, "{points} points");
+    }
     Ok(())
 }
 
-#[test]
-fn avoider_enforcer_turns_the_winner(rt: HostRuntime) -> Result<(), Fail> {
-    let g = game_of(rt.alloc(), Kind::AvoiderEnforcer, 3, &TWO, 1)?;
-    assert_eq!(rt; over(rt.alloc(), &g, &[0], &[1])?, None);
-    assert_eq!(rt; over(rt.alloc(), &g, &[0, 2], &[1])?, Some(Score::YWins));
-    assert_eq!(rt; over(rt.alloc(), &g, &[], &[0])?, Some(Score::XWins));
-    Ok(())
-}
+const ON_BRIDGE: [Row; 4] = [
+    (&[], &[], None),
+    (&[0, 2], &[1, 3], None),
+    (&[0, 2, 4], &[1, 3], WON),
+    (&[1], &[0, 2, 4], LOST),
+];
+
+const ON_PARALLELS: [Row; 3] = [(&[0], &[1], None), (&[2], &[1], WON), (&[], &[1, 2], LOST)];
 
 #[test]
-fn three_in_a_row(rt: HostRuntime) -> Result<(), Fail> {
-    let x: [u16; 5] = [0, 2, 3, 7, 8];
-    let y: [u16; 4] = [1, 4, 5, 6];
-    let race = game_of(rt.alloc(), Kind::MakerMaker, 9, &ROWS, 1)?;
-    assert_eq!(rt; over(rt.alloc(), &race, &[0, 4], &[1])?, None);
-    assert_eq!(rt; over(rt.alloc(), &race, &x, &y)?, Some(Score::Draw));
-    assert_eq!(rt; over(rt.alloc(), &race, &[0, 1], &[2, 4, 6])?, Some(Score::YWins));
-    assert_eq!(rt; over(rt.alloc(), &race, &[0, 1, 2], &[3, 4, 5])?, Some(Score::XWins));
-    let breaker = game_of(rt.alloc(), Kind::MakerBreaker, 9, &ROWS, 1)?;
-    assert_eq!(rt; over(rt.alloc(), &breaker, &x, &y)?, Some(Score::YWins));
-    assert_eq!(rt; over(rt.alloc(), &breaker, &[0, 1], &[3, 4, 5])?, None);
-    Ok(())
-}
-
-#[test]
-fn without_lines(rt: HostRuntime) -> Result<(), Fail> {
-    let breaker = game_of(rt.alloc(), Kind::MakerBreaker, 1, &[], 1)?;
-    assert_eq!(rt; over(rt.alloc(), &breaker, &[], &[])?, Some(Score::YWins));
-    let avoider = game_of(rt.alloc(), Kind::AvoiderEnforcer, 1, &[], 1)?;
-    assert_eq!(rt; over(rt.alloc(), &avoider, &[], &[])?, Some(Score::XWins));
-    let race = game_of(rt.alloc(), Kind::MakerMaker, 1, &[], 1)?;
-    assert_eq!(rt; over(rt.alloc(), &race, &[], &[])?, None);
-    assert_eq!(rt; over(rt.alloc(), &race, &[0], &[])?, Some(Score::Draw));
-    Ok(())
-}
-
-#[test]
-fn switching(rt: HostRuntime) -> Result<(), Fail> {
-    let bridge = graph_game_of(rt.alloc(), 4, &[(0, 2), (0, 3), (2, 3), (2, 1), (3, 1)])?;
-    assert_eq!(rt; bridge.points(), 5);
-    assert_eq!(rt; over(rt.alloc(), &bridge, &[], &[])?, None);
-    assert_eq!(rt; over(rt.alloc(), &bridge, &[0, 2], &[1, 3])?, None);
-    assert_eq!(rt; over(rt.alloc(), &bridge, &[0, 2, 4], &[1, 3])?, Some(Score::XWins));
-    assert_eq!(rt; over(rt.alloc(), &bridge, &[1], &[0, 2, 4])?, Some(Score::YWins));
-    let parallel = graph_game_of(rt.alloc(), 2, &[(0, 0), (0, 1), (1, 0)])?;
-    assert_eq!(rt; over(rt.alloc(), &parallel, &[0], &[1])?, None);
-    assert_eq!(rt; over(rt.alloc(), &parallel, &[2], &[1])?, Some(Score::XWins));
-    assert_eq!(rt; over(rt.alloc(), &parallel, &[], &[1, 2])?, Some(Score::YWins));
-    let empty = graph_game_of(rt.alloc(), 2, &[])?;
-    assert_eq!(rt; over(rt.alloc(), &empty, &[], &[])?, Some(Score::YWins));
+fn outcomes_on_graphs(rt: HostRuntime) -> Result<(), Fail> {
+    let alloc = rt.alloc();
+    for (vertices, ends, rows) in [
+        (
+            4,
+            &[(0, 2), (0, 3), (2, 3), (2, 1), (3, 1)][..],
+            &ON_BRIDGE[..],
+        ),
+        (2, &[(0, 0), (0, 1), (1, 0)], &ON_PARALLELS),
+        (2, &[], &[(&[], &[], LOST)]),
+    ] {
+        let g = graph_game_of(alloc, vertices, ends)?;
+        assert!(rt; have_outcomes(alloc, &g, rows)?, "{vertices} vertices");
+    }
     Ok(())
 }
 
 #[test]
 fn legal_moves(rt: HostRuntime) -> Result<(), Fail> {
-    let g = game_of(rt.alloc(), Kind::MakerBreaker, 3, &TWO, 1)?;
-    let p = g.start();
-    assert_eq!(rt; play(rt.alloc(), &g, &p, 3)?, Err(Illegal::Range));
-    let p = play(rt.alloc(), &g, &p, 0)??;
-    assert_eq!(rt; p.turn, Side::Y);
-    assert!(rt; p.points_of(Side::X).has(0));
-    assert_eq!(rt; play(rt.alloc(), &g, &p, 0)?, Err(Illegal::Taken));
-    let p = play(rt.alloc(), &g, &p, 1)??;
-    let p = play(rt.alloc(), &g, &p, 2)??;
-    assert_eq!(rt; play(rt.alloc(), &g, &p, 0)?, Err(Illegal::Over));
-    assert_eq!(rt; play(rt.alloc(), &g, &p, 3)?, Err(Illegal::Range));
+    let alloc = rt.alloc();
+    let g = game_of(alloc, Kind::MakerBreaker, 3, &TWO, 1)?;
+    assert!(rt;
+        have_answers(
+            alloc,
+            &g,
+            &[
+                (3, Err(Illegal::Range)),
+                (0, Ok((Side::Y, 1))),
+                (0, Err(Illegal::Taken)),
+                (1, Ok((Side::X, 1))),
+                (2, Ok((Side::Y, 1))),
+                (0, Err(Illegal::Over)),
+                (3, Err(Illegal::Range)),
+            ]
+        )?
+    );
     Ok(())
 }
 
 #[test]
 fn turns_of_several_points(rt: HostRuntime) -> Result<(), Fail> {
-    let lines: [&[u16]; 3] = [&[0, 1], &[0, 2], &[0, 3]];
-    for bias in [2, 3] {
-        let g = game_of(rt.alloc(), Kind::MakerBreaker, 4, &lines, bias)?;
-        let mut p = play(rt.alloc(), &g, &g.start(), 0)??;
-        let whole = g.with_turn(Side::Y);
-        assert_eq!(rt; whole.left, bias);
-        for v in 1..3 {
-            assert_eq!(rt; (p.turn, u16::from(p.left)), (Side::Y, u16::from(bias) - v + 1));
-            p = play(rt.alloc(), &g, &p, v)??;
-        }
-        if bias == 2 {
-            assert_eq!(rt; (p.turn, p.left), (Side::X, 1));
-        } else {
-            assert_eq!(rt; (p.turn, p.left), (Side::Y, 1));
-        }
-        assert!(rt; !p.is_same(&whole));
-    }
+    let alloc = rt.alloc();
+    let lines: [&[u16]; 2] = [&[0, 1, 2], &[3, 4, 5]];
+    let g = game_of(alloc, Kind::MakerBreaker, 6, &lines, 3)?;
+    assert!(rt;
+        have_answers(
+            alloc,
+            &g,
+            &[
+                (0, Ok((Side::Y, 3))),
+                (3, Ok((Side::Y, 2))),
+                (4, Ok((Side::Y, 1))),
+                (5, Ok((Side::X, 1))),
+                (1, Ok((Side::Y, 3))),
+            ]
+        )?
+    );
+    assert_eq!(rt; g.with_turn(Side::Y).left, 3);
+    assert!(rt; g.start().is_same(&g.with_turn(Side::X)));
     Ok(())
 }
 
