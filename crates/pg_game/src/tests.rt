@@ -1,52 +1,46 @@
 //! Rows worked by hand.
-ghost use Rattle.std.specs.Prelude.{◌≡◌, ◌≤◌, IfOk, IfSome};
+ghost use Rattle.std.specs.Prelude.{◌≡◌, ◌≤◌};
+ghost use Rattle.pg_base.specs.Points.{AreBelow};
 
-use crate::{Field, Game, Illegal, Judge, LineField, Misfit, Position};
-use pg_base::{Grid, Kind, Line, LineFault, Lines, Memory, PointSet, Score, Side};
+use crate::{Field, Game, Illegal, Judge, LineField, Position, laws};
+use pg_base::{Grid, Kind, Line, Lines, PointSet, Score, Side};
 use pg_graph::{Ends, Graph};
 use std::alloc::Global;
 use std::test::Fail;
 
-/// The set of these points, which are below 1,024.
-fn set_of(points: &[u16]) -> PointSet {
+/// Those of the points that are below the limit.
+fn set_of(limit: u16, points: &[u16]) -> PointSet
+    requires { limit ≤ 1024 }
+    ensures { AreBelow result limit }
+{
     let mut set = PointSet::empty();
     for &v in points {
-        if v < 1024 {
+        if v < limit {
             set.put(v);
         }
     }
     set
 }
 
-/// The lines of these points.
-fn lines_of(alloc: Global, lines: &[&[u16]]) -> Result<Lines, LineFault> {
+/// Points and lines.
+fn field_of(
+    alloc: Global,
+    points: u16,
+    grid: Option<Grid>,
+    lines: &[&[u16]],
+) -> Result<Field, Fail> {
     let mut members = Vec::new(alloc);
-    for points in lines {
-        members.push(Line::new(alloc, points)?)?;
+    for line in lines {
+        members.push(Line::new(alloc, line)?)?;
     }
-    Ok(Lines::from_vec(members))
-}
-
-/// A field of these points and lines.
-fn field_of(alloc: Global, points: u16, lines: &[&[u16]]) -> Result<Field, LineFault> {
     Ok(Field::Lines(LineField {
         points,
-        grid: None,
-        lines: lines_of(alloc, lines)?,
+        grid,
+        lines: Lines::from_vec(members),
     }))
 }
 
-/// A graph with the terminals 0 and 1.
-fn graph_of(alloc: Global, vertices: u16, ends: &[(u16, u16)]) -> Result<Field, Memory> {
-    Ok(Field::Graph(Graph {
-        vertices,
-        s: 0,
-        t: 1,
-        ends: Ends::from_vec(ends.to_vec(alloc)?),
-    }))
-}
-
-/// A game on lines without marks.
+/// A game on lines, without marks.
 fn game_of(
     alloc: Global,
     kind: Kind,
@@ -54,42 +48,265 @@ fn game_of(
     lines: &[&[u16]],
     bias: u8,
 ) -> Result<Game, Fail> {
-    let field = field_of(alloc, points, lines)?;
-    Ok(Game::new(
-        kind,
-        field,
-        PointSet::empty(),
-        PointSet::empty(),
-        Side::X,
-        bias,
-    )?)
+    let field = field_of(alloc, points, None, lines)?;
+    let none = PointSet::empty();
+    Ok(Game::new(kind, field, none, none, Side::X, bias)?)
 }
 
-/// A position with X's and Y's points and one point left to claim.
-fn at(x: &[u16], y: &[u16], turn: Side) -> Position {
-    Position {
-        x: set_of(x),
-        y: set_of(y),
-        turn,
+/// A game on a graph with the terminals 0 and 1, without marks.
+fn graph_game_of(alloc: Global, vertices: u16, ends: &[(u16, u16)]) -> Result<Game, Fail> {
+    let field = Field::Graph(Graph {
+        vertices,
+        s: 0,
+        t: 1,
+        ends: Ends::from_vec(ends.to_vec(alloc)?),
+    });
+    let none = PointSet::empty();
+    Ok(Game::new(Kind::Switching, field, none, none, Side::X, 1)?)
+}
+
+/// The outcome of a position.
+fn over(alloc: Global, g: &Game, x: &[u16], y: &[u16]) -> Result<Option<Score>, Fail> {
+    let mut judge = Judge::new(alloc, g)?;
+    let p = Position {
+        x: set_of(g.points(), x),
+        y: set_of(g.points(), y),
+        turn: Side::X,
         left: 1,
+    };
+    Ok(judge.over(g, &p))
+}
+
+/// X's points, Y's points, and the outcome with them.
+type Row = (&'static [u16], &'static [u16], Option<Score>);
+
+/// Whether each row has its outcome.
+fn have_outcomes(alloc: Global, g: &Game, rows: &[Row]) -> Result<bool, Fail> {
+    for &(x, y, outcome) in rows {
+        if over(alloc, g, x, y)? != outcome {
+            return Ok(false);
+        }
     }
+    Ok(true)
+}
+
+/// What a judge answers to each move of a list: the side that is then to move and what it still claims, or why the move
+/// is refused. A refused move changes nothing.
+fn have_answers(
+    alloc: Global,
+    g: &Game,
+    moves: &[(u16, Result<(Side, u8), Illegal>)],
+) -> Result<bool, Fail> {
+    let mut judge = Judge::new(alloc, g)?;
+    let mut p = g.start();
+    for &(v, want) in moves {
+        if !p.x.is_below(g.points()) {
+            return Ok(false);
+        }
+        let answer = judge.play(g, &p, v);
+        if let Ok(next) = answer {
+            p = next;
+        }
+        if answer.map(|next| (next.turn, next.left)) != want {
+            return Ok(false);
+        }
+    }
+    Ok(true)
+}
+
+/// Three in a row on nine cells.
+const ROWS: [&[u16]; 8] = [
+    &[0, 1, 2],
+    &[3, 4, 5],
+    &[6, 7, 8],
+    &[0, 3, 6],
+    &[1, 4, 7],
+    &[2, 5, 8],
+    &[0, 4, 8],
+    &[2, 4, 6],
+];
+
+/// Two lines that share a point, of three points.
+const TWO: [&[u16]; 2] = [&[0, 1], &[0, 2]];
+
+const WON: Option<Score> = Some(Score::XWins);
+
+const DRAWN: Option<Score> = Some(Score::Draw);
+
+const LOST: Option<Score> = Some(Score::YWins);
+
+const BREAKER_ON_TWO: [Row; 5] = [
+    (&[], &[], None),
+    (&[0], &[1], None),
+    (&[0, 2], &[1], WON),
+    (&[], &[0], LOST),
+    (&[0], &[1, 2], LOST),
+];
+
+const AVOIDER_ON_TWO: [Row; 3] = [(&[0], &[1], None), (&[0, 2], &[1], LOST), (&[], &[0], WON)];
+
+const BREAKER_ON_ROWS: [Row; 2] = [
+    (&[0, 2, 3, 7, 8], &[1, 4, 5, 6], LOST),
+    (&[0, 1], &[3, 4, 5], None),
+];
+
+const RACE_ON_ROWS: [Row; 4] = [
+    (&[0, 4], &[1], None),
+    (&[0, 2, 3, 7, 8], &[1, 4, 5, 6], DRAWN),
+    (&[0, 1], &[3, 4, 5], LOST),
+    (&[0, 1, 2], &[3, 4, 5], WON),
+];
+
+#[test]
+fn outcomes_on_lines(rt: HostRuntime) -> Result<(), Fail> {
+    let alloc = rt.alloc();
+    for (kind, points, lines, rows) in [
+        (Kind::MakerBreaker, 3, &TWO[..], &BREAKER_ON_TWO[..]),
+        (Kind::AvoiderEnforcer, 3, &TWO[..], &AVOIDER_ON_TWO[..]),
+        (Kind::MakerBreaker, 9, &ROWS[..], &BREAKER_ON_ROWS[..]),
+        (Kind::MakerMaker, 9, &ROWS[..], &RACE_ON_ROWS[..]),
+        (Kind::MakerBreaker, 1, &[], &[(&[], &[], LOST)]),
+        (Kind::AvoiderEnforcer, 1, &[], &[(&[], &[], WON)]),
+        (
+            Kind::MakerMaker,
+            1,
+            &[],
+            &[(&[], &[], None), (&[0], &[], DRAWN)],
+        ),
+    ] {
+        let g = game_of(alloc, kind, points, lines, 1)?;
+        assert!(rt; have_outcomes(alloc, &g, rows)?, "{points} points");
+    }
+    Ok(())
+}
+
+const ON_BRIDGE: [Row; 4] = [
+    (&[], &[], None),
+    (&[0, 2], &[1, 3], None),
+    (&[0, 2, 4], &[1, 3], WON),
+    (&[1], &[0, 2, 4], LOST),
+];
+
+const ON_PARALLELS: [Row; 3] = [(&[0], &[1], None), (&[2], &[1], WON), (&[], &[1, 2], LOST)];
+
+#[test]
+fn outcomes_on_graphs(rt: HostRuntime) -> Result<(), Fail> {
+    let alloc = rt.alloc();
+    for (vertices, ends, rows) in [
+        (
+            4,
+            &[(0, 2), (0, 3), (2, 3), (2, 1), (3, 1)][..],
+            &ON_BRIDGE[..],
+        ),
+        (2, &[(0, 0), (0, 1), (1, 0)], &ON_PARALLELS),
+        (2, &[], &[(&[], &[], LOST)]),
+    ] {
+        let g = graph_game_of(alloc, vertices, ends)?;
+        assert!(rt; have_outcomes(alloc, &g, rows)?, "{vertices} vertices");
+    }
+    Ok(())
 }
 
 #[test]
-fn three_points_two_lines(rt: HostRuntime) -> Result<(), Fail> {
-    let g = game_of(rt.alloc(), Kind::MakerBreaker, 3, &[&[0, 1], &[0, 2]], 1)?;
-    let mut judge = Judge::new(rt.alloc(), &g)?;
-    let p = g.start();
-    assert_eq!(rt; g.points(), 3);
-    assert_eq!(rt; judge.play(&g, &p, 3), Err(Illegal::Range));
-    let p = judge.play(&g, &p, 0)?;
-    assert!(rt; p.is_same(&at(&[0], &[], Side::Y)));
-    assert_eq!(rt; judge.play(&g, &p, 0), Err(Illegal::Taken));
-    let p = judge.play(&g, &p, 2)?;
-    assert_eq!(rt; judge.over(&g, &p), None);
-    let p = judge.play(&g, &p, 1)?;
-    assert_eq!(rt; judge.over(&g, &p), Some(Score::XWins));
-    assert_eq!(rt; judge.play(&g, &p, 0), Err(Illegal::Over));
-    assert_eq!(rt; judge.play(&g, &p, 3), Err(Illegal::Range));
+fn legal_moves(rt: HostRuntime) -> Result<(), Fail> {
+    let alloc = rt.alloc();
+    let g = game_of(alloc, Kind::MakerBreaker, 3, &TWO, 1)?;
+    assert!(rt;
+        have_answers(
+            alloc,
+            &g,
+            &[
+                (3, Err(Illegal::Range)),
+                (0, Ok((Side::Y, 1))),
+                (0, Err(Illegal::Taken)),
+                (1, Ok((Side::X, 1))),
+                (2, Ok((Side::Y, 1))),
+                (0, Err(Illegal::Over)),
+                (3, Err(Illegal::Range)),
+            ]
+        )?
+    );
     Ok(())
+}
+
+#[test]
+fn turns_of_several_points(rt: HostRuntime) -> Result<(), Fail> {
+    let alloc = rt.alloc();
+    let lines: [&[u16]; 2] = [&[0, 1, 2], &[3, 4, 5]];
+    let g = game_of(alloc, Kind::MakerBreaker, 6, &lines, 3)?;
+    assert!(rt;
+        have_answers(
+            alloc,
+            &g,
+            &[
+                (0, Ok((Side::Y, 3))),
+                (3, Ok((Side::Y, 2))),
+                (4, Ok((Side::Y, 1))),
+                (5, Ok((Side::X, 1))),
+                (1, Ok((Side::Y, 3))),
+            ]
+        )?
+    );
+    assert_eq!(rt; g.with_turn(Side::Y).left, 3);
+    assert!(rt; g.start().is_same(&g.with_turn(Side::X)));
+    Ok(())
+}
+
+#[test]
+fn misfits(rt: HostRuntime) -> Result<(), Fail> {
+    let long: [u16; 34] = std::array::from_fn(|i| i as u16);
+    let none = PointSet::empty();
+    for (kind, points, line, bias, fits) in [
+        (Kind::MakerBreaker, 40, &long[..], 1, true),
+        (Kind::MakerBreaker, 40, &long[..], 2, false),
+        (Kind::MakerBreaker, 40, &long[1..], 7, true),
+        (Kind::MakerBreaker, 33, &long[..], 1, false),
+        (Kind::MakerBreaker, 40, &long[..1], 8, false),
+        (Kind::MakerBreaker, 40, &long[..1], 0, false),
+        (Kind::MakerBreaker, 40, &long[..0], 1, false),
+        (Kind::MakerBreaker, 256, &long[..1], 1, true),
+        (Kind::MakerBreaker, 257, &long[..1], 1, false),
+        (Kind::MakerMaker, 40, &long[..1], 2, false),
+        (Kind::AvoiderEnforcer, 40, &long[..1], 7, true),
+        (Kind::Switching, 40, &long[..1], 1, false),
+    ] {
+        let field = field_of(rt.alloc(), points, None, &[line])?;
+        let made = Game::new(kind, field, none, none, Side::Y, bias);
+        assert_eq!(rt; made.is_ok(), fits, "{points} points, bias {bias}");
+    }
+    Ok(())
+}
+
+#[test]
+fn misfits_of_grids_and_marks(rt: HostRuntime) -> Result<(), Fail> {
+    let four = set_of(10, &[4]);
+    let none = PointSet::empty();
+    for (width, points, x, y, fits) in [
+        (3, 9, none, none, true),
+        (3, 8, none, none, false),
+        (3, 9, four, none, true),
+        (3, 9, four, four, false),
+        (1, 3, none, four, false),
+    ] {
+        let grid = Some(Grid { width, height: 3 });
+        let field = field_of(rt.alloc(), points, grid, &[&[0, 1]])?;
+        let made = Game::new(Kind::MakerMaker, field, x, y, Side::X, 1);
+        assert_eq!(rt; made.is_ok(), fits, "{width} columns, {points} points");
+    }
+    Ok(())
+}
+
+#[test]
+fn laws_can_be_named(_rt: HostRuntime) {
+    laws::value_is_outcome_when_over();
+    laws::value_is_best_move();
+    laws::mover_forces_by_a_move();
+    laws::waiter_forces_by_all_moves();
+    laws::kept_invariants_force();
+    laws::some_point_is_free();
+    laws::games_end();
+    laws::positions_stay();
+    laws::turns_pass();
+    laws::joining_is_by_walks();
+    laws::equal_positions_are_same();
 }
