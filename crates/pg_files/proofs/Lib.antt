@@ -6,3 +6,7 @@ pub mod Sound
 pub mod LineByLine
 pub mod PrintLemmas
 pub mod FirstFault
+pub mod Words
+pub mod RoundTrip
+pub mod PrintSize
+pub mod RoundTripFile

@@ -9,7 +9,7 @@ use Rattle.std.specs.FinMap.{nat_cmp-IsAntisymmetric}
 use Rattle.std.specs.Ordering.{nat_cmp}
 use Rattle.std.proofs.lemmas.Bool.{cases_Bool, cases_eq, cases_lt, eq-eqb, ne_eqb, eqb-true, ltb-true, and_parts, or_cases, or_right}
 use Rattle.std.proofs.lemmas.Bool.Decides.{nat_tests}
-use Rattle.std.proofs.lemmas.List.Sums.{sum_by-cons}
+use Rattle.std.proofs.lemmas.List.Sums.{sum_by-cons, length-filter, count_by-le-length}
 use Rattle.std.proofs.lemmas.List.Sorted.{sum_by-IsPermutation}
 use Rattle.std.proofs.lemmas.List.Kept.{IsStrictlyIncreasing-filter}
 use Rattle.std.proofs.lemmas.List.FromFn.{length-range_with_len, get_or-range_with_len}
@@ -294,7 +294,7 @@ distinct_from_repeats s (n ∷ ns) none =
     let held : contains (insert s n) n ≡ true = rw (in_insert s n n, eq-eqb n n refl) refl in
     (has_none n ns (repeats_apart (insert s n) ns n both.1 held), distinct_from_repeats (insert s n) ns both.1)
 
-repeats_none : (ns : List ℕ) → IsStrictlyIncreasing ns → repeats empty ns ≡ false
+pub repeats_none : (ns : List ℕ) → IsStrictlyIncreasing ns → repeats empty ns ≡ false
 repeats_none ns up = repeats_from_sorted empty ns (sorted_from_strictly_increasing ns up) (λ q h. contains-empty nat_cmp q)
 
 pub length-ascending : (ns : List ℕ) → list_all (λ n. nat_lt n 1024) ns ≡ true → repeats empty ns ≡ false → length (ascending ns) ≡ length ns
@@ -347,3 +347,20 @@ members_all s = refl
 pub members_start : (s : FinSet nat_cmp) → members_below 0 s ≡ []
 unfolding members_below
 members_start s = refl
+
+-- ---- printed marks
+
+members_below-length : (n : ℕ) (s : FinSet nat_cmp) → length (members_below n s) ≤ n
+unfolding members_below
+members_below-length n s = omega (arith, length-filter (contains s) (range_with_len 0 n), count_by-le-length (contains s) (range_with_len 0 n), length-range_with_len 0 n)
+
+pub members-length : (s : FinSet nat_cmp) → length (members s) ≤ 1024
+unfolding members
+members-length s = members_below-length 1024 s
+
+-- the members of a set that has none of another's
+pub members-apart : (s t : FinSet nat_cmp) → ((q : ℕ) → contains s q ≡ true → contains t q ≡ false) → repeats s (members t) ≡ false
+members-apart s t apart = repeats_from_sorted s (members t) (sorted_from_strictly_increasing (members t) (members-ascend t)) (λ q h. free q (and_parts (contains t q) (nat_lt q 1024) (sym (has-members t q) ∙ h)).0)
+  where
+    free : (q : ℕ) → contains t q ≡ true → contains s q ≡ false
+    free q held = elim (cases_Bool (contains s q)) [ inl on ↦ let no = apart q on in absurd cc | inr off ↦ off ]

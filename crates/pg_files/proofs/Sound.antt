@@ -134,18 +134,18 @@ later kinds.MakerMaker r le = record { two = le; terminals = λ v s t h. tt }
 later kinds.AvoiderEnforcer r le = record { two = le; terminals = λ v s t h. tt }
 later kinds.Switching r le = record { two = omega (arith, le); terminals = λ v s t h. h le }
 
-record IsLinesKind (kind : Option Kind) : Type 0 where
-  points : (p e : ℕ) → points_for kind p e ≡ p
-  count : (p v : ℕ) → 1 ≤ p → p ≤ 256 → HasCount kind p v
-  few : (p v : ℕ) → HasCount kind p v → (1 ≤ p) × (p ≤ 256)
+pub record IsLinesKind (kind : Option Kind) : Type 0 where
+  pub points : (p e : ℕ) → points_for kind p e ≡ p
+  pub count : (p v : ℕ) → 1 ≤ p → p ≤ 256 → HasCount kind p v
+  pub few : (p v : ℕ) → HasCount kind p v → (1 ≤ p) × (p ≤ 256)
 
-lines_kind : (kind : Kind) → not (is_switching kind) ≡ true → IsLinesKind (Some kind)
+pub lines_kind : (kind : Kind) → not (is_switching kind) ≡ true → IsLinesKind (Some kind)
 lines_kind kinds.MakerBreaker h = record { points = λ p e. refl; count = λ p v a b. (a, b); few = λ p v h. h }
 lines_kind kinds.MakerMaker h = record { points = λ p e. refl; count = λ p v a b. (a, b); few = λ p v h. h }
 lines_kind kinds.AvoiderEnforcer h = record { points = λ p e. refl; count = λ p v a b. (a, b); few = λ p v h. h }
 lines_kind kinds.Switching h = absurd cc
 
-record IsGraphKind (kind : Option Kind) : Type 0 where
+pub record IsGraphKind (kind : Option Kind) : Type 0 where
   count : (p v : ℕ) → 2 ≤ v → v ≤ 500 → HasCount kind p v
   terminals : (v s t : ℕ) → s < v → t < v → s ≢ t → HasTerminals kind v s t
 
@@ -620,7 +620,7 @@ same_lines f g e = cc
 same_graph : (f g : Graph) → ◌≡◌ {A = Field} (fields.Graph f) (fields.Graph g) → f ≡ g
 same_graph f g e = cc
 
-lines_field : (points : ℕ) (grid : Option Grid) (lines : List (List ℕ)) → 1 ≤ points → points ≤ 256 → AreLines points grid lines → AreLinesOf 1 (record { points = points; grid = grid; lines = lines })
+pub lines_field : (points : ℕ) (grid : Option Grid) (lines : List (List ℕ)) → 1 ≤ points → points ≤ 256 → AreLines points grid lines → AreLinesOf 1 (record { points = points; grid = grid; lines = lines })
 lines_field points grid lines some few h = record { some_points = some; few_points = few; cells = h.cells; few_lines = h.count; few_summed = h.total; lines = h.each }
 
 graph_field : (v s t : ℕ) (ends : List (ℕ × ℕ)) → 2 ≤ v → v ≤ 500 → s < v → t < v → s ≢ t → AreEnds v ends → IsBoard (record { vertices = v; s = s; t = t; ends = ends })

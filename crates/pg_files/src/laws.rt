@@ -3,6 +3,9 @@ ghost use Rattle.std.specs.Prelude.{◌≡◌, ℕ, ◌<◌, List, Ok, Err};
 ghost use Rattle.pg_game.specs.Fit.{IsFit};
 ghost use Rattle.pg_files.specs.declared.fault.Fault.{Fault};
 ghost use Rattle.pg_files.specs.GameFile.{Entry, game};
+ghost use Rattle.pg_game.specs.declared.game.Game.{Game};
+ghost use Rattle.pg_files.specs.Print.{printed};
+ghost use Rattle.pg_files.specs.Views.{entry};
 ghost use Rattle.pg_files.specs.Laws.{IsFirstFault, IsWholeFault};
 
 /// A fault with a line is the least of that line, and no line before it has one. A fault of the whole file means that
@@ -16,5 +19,11 @@ pub fn first_fault_is_told()
 /// A game that is read is within the limits, and its parts fit together.
 pub fn what_is_read_fits()
     ensures { (text : List ℕ) (g : Entry) → game text ≡ Ok g → IsFit g.kind g.field g.x g.y 1 }
+{
+}
+
+/// Reading what is printed gives the game back, where Y claims one point a turn.
+pub fn printed_game_is_read()
+    ensures { (g : Game) → g.bias ≡ 1 → game (printed (entry g)) ≡ Ok (entry g) }
 {
 }

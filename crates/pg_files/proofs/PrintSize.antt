@@ -1,0 +1,206 @@
+-- A printed game is within the limit of a file, and its lines are words.
+use Rattle.std.proofs.Common.{◌≡◌, ℕ, zero, suc, ◌+◌, ◌*◌, ◌^◌, ◌<◌, ◌≤◌, lit<, lit≤, Bool, true, false, List, [], ◌∷◌, ◌++◌, length, map, arith, refl, sym, ap, ◌∙◌, inl, inr}
+use Rattle.std.specs.Prelude.{nat_lt, sum_by, Option, Some, None}
+use Rattle.std.specs.Fmt.{decimal}
+use Rattle.std.specs.List.{list_all, flat_map, All, AllByRecursion}
+use Rattle.std.proofs.lemmas.Bool.{ltb-true}
+use Rattle.std.proofs.lemmas.Fmt.{length-decimal-le}
+use Rattle.std.proofs.lemmas.List.{length-append}
+use Rattle.std.proofs.lemmas.List.Elements.{All-tail}
+use Rattle.std.proofs.lemmas.List.Sums.{sum_by-cons}
+use Rattle.std.proofs.lemmas.List.Concat.{flat_map-append}
+use Rattle.pg_base.specs.declared.grid.Grid.{Grid}
+use Rattle.pg_base.specs.declared.kind.Kind.{Kind}
+use Rattle.pg_base.specs.declared.kind.Kind.TheVariants as kinds
+use Rattle.pg_base.specs.declared.side.Side.{Side}
+use Rattle.pg_base.specs.declared.side.Side.TheVariants as sides
+use Rattle.pg_graph.specs.declared.graph.Graph.{Graph}
+use Rattle.pg_game.specs.declared.field.Field.{Field}
+use Rattle.pg_game.specs.declared.field.Field.TheVariants as fields
+use Rattle.pg_game.specs.declared.field.LineField.{LineField}
+use Rattle.pg_game.specs.Field.{field_points}
+use Rattle.pg_game.specs.Fit.{IsLineOf, AreLinesOf, IsBoard, IsFit}
+use Rattle.pg_files.specs.Text.{Bytes}
+use Rattle.pg_files.specs.Sets.{members}
+use Rattle.pg_files.specs.Print.{spaced, spelled, header, numbered, worded, marked, size_words, edge_words, field_words, printed, printed_lines}
+use Rattle.pg_files.specs.Key.{key_name, kind_name, side_name}
+use Rattle.pg_files.specs.GameFile.{Entry}
+use Rattle.pg_files.specs.declared.key.Key.{Key}
+use Rattle.pg_files.specs.declared.key.Key.TheVariants as keys
+use Rattle.pg_files.proofs.TextLemmas.{both_true}
+use Rattle.pg_files.proofs.Words.{is_word, decimals_are_words}
+use Rattle.pg_files.proofs.SetLaws.{members-length, below-members}
+use Rattle.pg_files.proofs.RoundTrip.{AreSmall, smaller, one_small, two_small, all_below, factors, key_is_word, kind_is_word, side_is_word}
+
+-- ---- what is printed is small numbers
+
+-- the field's numbers have three digits at most, and they are not too many
+pub record IsSmallField (field : Field) : Type 0 where
+  pub on_lines : (f : LineField) → field ≡ fields.Lines f → AreLinesOf 1 f
+  pub on_graph : (h : Graph) → field ≡ fields.Graph h → IsBoard h
+
+lines_small : (points : ℕ) (ls : List (List ℕ)) → points ≤ 256 → All (IsLineOf points 1) ls → AllByRecursion AreSmall ls
+lines_small points [] few fits = tt
+lines_small points (l ∷ ls) few fits =
+    let here = fits 0 [] (omega arith) in
+    (smaller points l (omega arith) (all_below points l here.range), lines_small points ls few (All-tail (IsLineOf points 1) l ls fits))
+
+edges_small : (v : ℕ) (es : List (ℕ × ℕ)) → v ≤ 500 → All (λ e. (e.0 < v) × (e.1 < v)) es → AllByRecursion (λ e. AreSmall (e.0 ∷ e.1 ∷ [])) es
+edges_small v [] few fits = tt
+edges_small v (e ∷ es) few fits =
+    let here = fits 0 (0, 0) (omega arith) in
+    (two_small e.0 e.1 (omega arith) (omega arith), edges_small v es few (All-tail (λ e. (e.0 < v) × (e.1 < v)) e es fits))
+
+-- ---- words
+
+abbrev pub AreWords : List Bytes → Type 0
+AreWords ws = list_all is_word ws ≡ true
+
+numbered_words : (key : Key) (ns : List ℕ) → AreSmall ns → AreWords (numbered key ns)
+numbered_words key ns small = rw (key_is_word key) (decimals_are_words ns small)
+
+lines_words : (ls : List (List ℕ)) → AllByRecursion AreSmall ls → AllByRecursion AreWords (map (numbered keys.Line) ls)
+lines_words [] small = tt
+lines_words (l ∷ ls) small = (numbered_words keys.Line l small.0, lines_words ls small.1)
+
+edges_words : (es : List (ℕ × ℕ)) → AllByRecursion (λ e. AreSmall (e.0 ∷ e.1 ∷ [])) es → AllByRecursion AreWords (map edge_words es)
+edges_words [] small = tt
+edges_words (e ∷ es) small = (numbered_words keys.Edge (e.0 ∷ e.1 ∷ []) small.0, edges_words es small.1)
+
+marks_words : (key : Key) (ns : List ℕ) → AreSmall ns → AllByRecursion AreWords (marked key ns)
+marks_words key [] small = tt
+marks_words key (n ∷ ns) small = (numbered_words key (n ∷ ns) small, tt)
+
+both_words : (a b : List (List Bytes)) → AllByRecursion AreWords a → AllByRecursion AreWords b → AllByRecursion AreWords (a ++ b)
+both_words [] b p q = q
+both_words (x ∷ a) b p q = (p.0, both_words a b p.1 q)
+
+-- ---- lengths
+
+others_len : (ns : List ℕ) → AreSmall ns → length (flat_map (λ (w : Bytes). 32 ∷ w) (map decimal ns)) ≤ 4 * length ns
+others_len [] e = lit≤ tt
+others_len (n ∷ ns) e =
+    let both = both_true (nat_lt n 1000) (list_all (λ n. nat_lt n 1000) ns) e in
+    let below = ltb-true n 1000 both.0 in
+    let here : length (decimal n) ≤ 3 = length-decimal-le 3 n (lit< tt) (omega (arith, below)) (omega (arith, below)) in
+    let cut : length (decimal n ++ flat_map (λ (w : Bytes). 32 ∷ w) (map decimal ns)) ≡ length (decimal n) + length (flat_map (λ (w : Bytes). 32 ∷ w) (map decimal ns)) = length-append (decimal n) (flat_map (λ (w : Bytes). 32 ∷ w) (map decimal ns)) in
+    omega (arith, cut, here, others_len ns both.1)
+
+key_len : (key : Key) → length (key_name key) ≤ 9
+key_len keys.Kind = lit≤ tt
+key_len keys.Points = lit≤ tt
+key_len keys.Grid = lit≤ tt
+key_len keys.Vertices = lit≤ tt
+key_len keys.Terminals = lit≤ tt
+key_len keys.Line = lit≤ tt
+key_len keys.Shape = lit≤ tt
+key_len keys.Edge = lit≤ tt
+key_len keys.X = lit≤ tt
+key_len keys.Y = lit≤ tt
+key_len keys.Turn = lit≤ tt
+
+numbered_len : (key : Key) (ns : List ℕ) → AreSmall ns → length (spelled (numbered key ns)) ≤ 10 + 4 * length ns
+numbered_len key ns small =
+    let a : length (spelled (numbered key ns)) ≡ length (spaced (numbered key ns)) + 1 = length-append (spaced (numbered key ns)) (10 ∷ []) in
+    let b : length (spaced (numbered key ns)) ≡ length (key_name key) + length (flat_map (λ (w : Bytes). 32 ∷ w) (map decimal ns)) = length-append (key_name key) (flat_map (λ (w : Bytes). 32 ∷ w) (map decimal ns)) in
+    omega (arith, a, b, key_len key, others_len ns small)
+
+kind_line_len : (kind : Kind) → length (spelled (worded keys.Kind (kind_name kind))) ≤ 24
+kind_line_len kinds.MakerBreaker = lit≤ tt
+kind_line_len kinds.MakerMaker = lit≤ tt
+kind_line_len kinds.AvoiderEnforcer = lit≤ tt
+kind_line_len kinds.Switching = lit≤ tt
+
+turn_line_len : (side : Side) → length (spelled (worded keys.Turn (side_name side))) ≤ 9
+turn_line_len sides.X = lit≤ tt
+turn_line_len sides.Y = lit≤ tt
+
+lines_len : (ls : List (List ℕ)) → AllByRecursion AreSmall ls → length (flat_map spelled (map (numbered keys.Line) ls)) ≤ 10 * length ls + 4 * sum_by length ls
+lines_len [] small = lit≤ tt
+lines_len (l ∷ ls) small =
+    let a : length (spelled (numbered keys.Line l) ++ flat_map spelled (map (numbered keys.Line) ls)) ≡ length (spelled (numbered keys.Line l)) + length (flat_map spelled (map (numbered keys.Line) ls)) = length-append (spelled (numbered keys.Line l)) (flat_map spelled (map (numbered keys.Line) ls)) in
+    let b : sum_by length (l ∷ ls) ≡ length l + sum_by length ls = sum_by-cons length l ls in
+    omega (arith, a, b, numbered_len keys.Line l small.0, lines_len ls small.1)
+
+edges_len : (es : List (ℕ × ℕ)) → AllByRecursion (λ e. AreSmall (e.0 ∷ e.1 ∷ [])) es → length (flat_map spelled (map edge_words es)) ≤ 18 * length es
+edges_len [] small = lit≤ tt
+edges_len (e ∷ es) small =
+    let a : length (spelled (edge_words e) ++ flat_map spelled (map edge_words es)) ≡ length (spelled (edge_words e)) + length (flat_map spelled (map edge_words es)) = length-append (spelled (edge_words e)) (flat_map spelled (map edge_words es)) in
+    omega (arith, a, numbered_len keys.Edge (e.0 ∷ e.1 ∷ []) small.0, edges_len es small.1)
+
+marks_len : (key : Key) (ns : List ℕ) → AreSmall ns → length ns ≤ 1024 → length (flat_map spelled (marked key ns)) ≤ 5000
+marks_len key [] small short = lit≤ tt
+marks_len key (n ∷ ns) small short =
+    let a : length (spelled (numbered key (n ∷ ns)) ++ []) ≡ length (spelled (numbered key (n ∷ ns))) + 0 = length-append (spelled (numbered key (n ∷ ns))) [] in
+    omega (arith, a, numbered_len key (n ∷ ns) small)
+
+size_small : (points : ℕ) (grid : Option Grid) → 1 ≤ points → points ≤ 256 → ((g : Grid) → grid ≡ Some g → g.width * g.height ≡ points) → (AreWords (size_words points grid)) × (length (spelled (size_words points grid)) ≤ 18)
+size_small points None some few cells = let small = one_small points (omega arith) in (numbered_words keys.Points (points ∷ []) small, omega (arith, numbered_len keys.Points (points ∷ []) small))
+size_small points (Some g) some few cells =
+    let sides = factors g.width g.height points (cells g refl) some in
+    let small = two_small g.width g.height (omega (arith, sides.0)) (omega (arith, sides.1)) in
+    (numbered_words keys.Grid (g.width ∷ g.height ∷ []) small, omega (arith, numbered_len keys.Grid (g.width ∷ g.height ∷ []) small))
+
+-- ---- the field
+
+abbrev pub IsShortField : Field → Type 0
+IsShortField field = AllByRecursion AreWords (field_words field) × (length (flat_map spelled (field_words field)) ≤ 2000000)
+
+field_of_lines : (f : LineField) → AreLinesOf 1 f → IsShortField (fields.Lines f)
+field_of_lines f h =
+    let some = h.some_points in
+    let few = h.few_points in
+    let lines = h.few_lines in
+    let total = h.few_summed in
+    let size = size_small f.points f.grid some few h.cells in
+    let small = lines_small f.points f.lines few h.lines in
+    let a : length (spelled (size_words f.points f.grid) ++ flat_map spelled (map (numbered keys.Line) f.lines)) ≡ length (spelled (size_words f.points f.grid)) + length (flat_map spelled (map (numbered keys.Line) f.lines)) = length-append (spelled (size_words f.points f.grid)) (flat_map spelled (map (numbered keys.Line) f.lines)) in
+    ((size.0, lines_words f.lines small), omega (arith, a, size.1, lines_len f.lines small))
+
+field_of_graph : (h : Graph) → IsBoard h → IsShortField (fields.Graph h)
+field_of_graph h b =
+    let few = b.few_vertices in
+    let edges = b.few_edges in
+    let first = b.s_range in
+    let second = b.t_range in
+    let small = edges_small h.vertices h.ends few b.ends in
+    let one = one_small h.vertices (omega arith) in
+    let two = two_small h.s h.t (omega arith) (omega arith) in
+    let tail = flat_map spelled (map edge_words h.ends) in
+    let v = spelled (numbered keys.Vertices (h.vertices ∷ [])) in
+    let t = spelled (numbered keys.Terminals (h.s ∷ h.t ∷ [])) in
+    let a : length (v ++ (t ++ tail)) ≡ length v + length (t ++ tail) = length-append v (t ++ tail) in
+    let b : length (t ++ tail) ≡ length t + length tail = length-append t tail in
+    ((numbered_words keys.Vertices (h.vertices ∷ []) one, (numbered_words keys.Terminals (h.s ∷ h.t ∷ []) two, edges_words h.ends small)), omega (arith, a, b, numbered_len keys.Vertices (h.vertices ∷ []) one, numbered_len keys.Terminals (h.s ∷ h.t ∷ []) two, edges_len h.ends small))
+
+few_points : (field : Field) → IsSmallField field → (field_points field ≤ 1000) × IsShortField field
+few_points (fields.Lines f) h = let fit = h.on_lines f refl in (omega (arith, fit.few_points), field_of_lines f fit)
+few_points (fields.Graph g) h = let fit = h.on_graph g refl in (fit.few_edges, field_of_graph g fit)
+
+-- ---- the file
+
+parts_len : (h k t : List Bytes) (d e f : List (List Bytes)) → length (flat_map spelled (h ∷ k ∷ (d ++ (e ++ (f ++ t ∷ [])))))
+    ≡ length (spelled h) + (length (spelled k) + (length (flat_map spelled d) + (length (flat_map spelled e) + (length (flat_map spelled f) + length (spelled t)))))
+parts_len h k t d e f = simp (flat_map-append, length-append) (omega arith)
+
+sum_len : (whole a b d e f t : ℕ) → whole ≡ a + (b + (d + (e + (f + t)))) → a ≤ 10 → b ≤ 24 → d ≤ 2000000 → e ≤ 5000 → f ≤ 5000 → t ≤ 9 → whole ≤ 4194304
+sum_len whole a b d e f t is ha hb hd he hf ht = omega arith
+
+printed_parts : (g : Entry) → printed g ≡ flat_map spelled (printed_lines g)
+unfolding printed
+printed_parts g = refl
+
+pub printed_small : (g : Entry) → IsFit g.kind g.field g.x g.y 1 → AllByRecursion AreWords (printed_lines g) × (length (printed g) ≤ 4194304)
+printed_small g fit =
+    let field = few_points g.field (record { on_lines = fit.on_lines; on_graph = fit.on_graph }) in
+    let x = smaller (field_points g.field) (members g.x) field.0 (below-members (field_points g.field) g.x fit.x_range) in
+    let y = smaller (field_points g.field) (members g.y) field.0 (below-members (field_points g.field) g.y fit.y_range) in
+    let parts = parts_len header (worded keys.Kind (kind_name g.kind)) (worded keys.Turn (side_name g.turn)) (field_words g.field) (marked keys.X (members g.x)) (marked keys.Y (members g.y)) in
+    let kind_words : AreWords (worded keys.Kind (kind_name g.kind)) = rw (kind_is_word g.kind) refl in
+    let turn_words : AreWords (worded keys.Turn (side_name g.turn)) = rw (side_is_word g.turn) refl in
+    (
+      (refl, (kind_words, both_words (field_words g.field) (marked keys.X (members g.x) ++ (marked keys.Y (members g.y) ++ worded keys.Turn (side_name g.turn) ∷ [])) field.1.0
+          (both_words (marked keys.X (members g.x)) (marked keys.Y (members g.y) ++ worded keys.Turn (side_name g.turn) ∷ []) (marks_words keys.X (members g.x) x)
+          (both_words (marked keys.Y (members g.y)) (worded keys.Turn (side_name g.turn) ∷ []) (marks_words keys.Y (members g.y) y) (turn_words, tt))))),
+      sum_len (length (printed g)) _ _ _ _ _ _ (ap length (printed_parts g) ∙ parts) (lit≤ tt) (kind_line_len g.kind) field.1.1 (marks_len keys.X (members g.x) x (members-length g.x)) (marks_len keys.Y (members g.y) y (members-length g.y)) (turn_line_len g.turn),
+    )
