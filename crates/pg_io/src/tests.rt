@@ -107,6 +107,23 @@ fn a_listed_call_fails(rt: HostRuntime) -> Result<(), Fail> {
 }
 
 #[test]
+fn reads_a_file_whole_up_to_a_limit(rt: HostRuntime) -> Result<(), Fail> {
+    let mut files = games(rt.alloc(), vec![in rt.alloc(); 12]?)?;
+    for (limit, want) in [
+        (9, "three"),
+        (5, "three"),
+        (4, "three"),
+        (3, "thre"),
+        (0, "t"),
+    ] {
+        let bytes = read_whole(rt.alloc(), &mut files, "game", limit)?;
+        assert_eq!(rt; bytes.as_slice(), want.as_bytes(), "limit {limit}");
+    }
+    assert_eq!(rt; files.open("game"), Err(Failed), "twelve calls were made");
+    Ok(())
+}
+
+#[test]
 fn tells_what_ended_the_reading_or_the_storing(rt: HostRuntime) -> Result<(), Fail> {
     let mut files = games(rt.alloc(), vec![in rt.alloc(); 2, 5]?)?;
     let missing = read_whole(rt.alloc(), &mut files, "report", 9);
@@ -117,6 +134,25 @@ fn tells_what_ended_the_reading_or_the_storing(rt: HostRuntime) -> Result<(), Fa
     assert!(rt; files.bytes_of("report").is_none());
     assert_eq!(rt; store(&mut files, "report", b"one"), Ok(()));
     assert!(rt; holds(&files, "report", b"one"));
+    Ok(())
+}
+
+#[test]
+fn hears_lines(rt: HostRuntime) -> Result<(), Fail> {
+    let mut console = console(rt.alloc(), b"ab\ncdefgh", vec![in rt.alloc(); 5]?)?;
+    let mut buf = [0u8; 4];
+    assert_eq!(rt; console.hear(&mut buf), Ok(Heard::Line(2)));
+    assert_eq!(rt; console.rest(), b"cdefgh".as_slice());
+    assert_eq!(rt; console.hear(&mut buf), Ok(Heard::Long));
+    assert_eq!(rt; console.hear(&mut buf), Ok(Heard::Line(2)));
+    assert!(rt; buf.starts_with(b"gh"));
+    assert_eq!(rt; console.hear(&mut buf), Ok(Heard::End));
+    assert_eq!(rt; console.say(b"1"), Ok(()));
+    assert_eq!(rt; console.say(b"2"), Err(Failed), "the call with number 5");
+    let log = format!(in rt.alloc(); "{:?}", console.entries())?;
+    let want = "[Heard(Text { bytes: [97, 98] }), Skipped(Text { bytes: [99, 100, 101, 102] }), \
+        Heard(Text { bytes: [103, 104] }), Ended, Said(Text { bytes: [49] })]";
+    assert_eq!(rt; log.as_str(), want);
     Ok(())
 }
 
