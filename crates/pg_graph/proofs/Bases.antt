@@ -1,9 +1,9 @@
 -- Spanning over a fixed set, and circuits within a base.
-use Rattle.std.proofs.Common.{◌≡◌, ℕ, Bool, true, false, ◌⊎◌, inl, inr, refl, arith, sym, ◌≢◌, ◌<◌, subst, suc, zero, not, ◌&&◌}
-use Rattle.std.proofs.lemmas.Bool.{both_ways, cases_Bool, cases_eq, false_from_ne_true, true_from_ne_false, and_parts, and_from, not-true, not_from_false}
-use Rattle.pg_base.specs.Sets.{plus, minus, either, outside, IsWithin, IsBelow}
-use Rattle.pg_graph.specs.Span.{IsSpan, IsBase, circuit}
-use Rattle.pg_base.proofs.SetLemmas.{minus_parts, minus_from, plus_cases, plus_old, plus_new, either_cases, either_left, either_right, outside_parts, outside_from, sets}
+use Rattle.std.proofs.Common.{◌≡◌, ℕ, Bool, true, false, inl, inr, arith, sym, ◌≢◌, subst}
+use Rattle.std.proofs.lemmas.Bool.{both_ways, cases_eq, false_from_ne_true, true_from_ne_false}
+use Rattle.pg_base.specs.Sets.{plus, minus, either, IsWithin}
+use Rattle.pg_graph.specs.Span.{IsSpan, circuit}
+use Rattle.pg_base.proofs.SetLemmas.{minus_parts, minus_from, plus_cases, plus_old, plus_new, either_cases, either_left, either_right, sets}
 use Rattle.pg_graph.proofs.Swap.{spans_mono, spans_less, spans_trade}
 use Rattle.pg_graph.proofs.Circuit.{spans_through, circuit_parts, circuit_from}
 

@@ -1,10 +1,9 @@
 -- Edges that leave a set of vertices.
-use Rattle.std.proofs.Common.{◌≡◌, ◌≢◌, ℕ, Bool, true, false, ◌⊎◌, List, [], ◌∷◌, refl, inl, inr, sym, ◌∙◌, subst, ap}
-use Rattle.std.proofs.lemmas.Bool.{both_ways, cases_Bool, false_from_ne_true, true_from_ne_false}
+use Rattle.std.proofs.Common.{◌≡◌, ◌≢◌, ℕ, Bool, true, false, List, [], ◌∷◌, inl, inr, sym, ◌∙◌, subst}
+use Rattle.std.proofs.lemmas.Bool.{both_ways, cases_Bool}
 use Rattle.pg_base.specs.Sets.{either}
 use Rattle.pg_base.proofs.SetLemmas.{either_cases}
 use Rattle.pg_graph.specs.Walks.{IsWalk, IsJoined}
-use Rattle.pg_graph.proofs.WalkLemmas.{joined_on, joined_edge, joined_back}
 
 module _ (a b : ℕ → ℕ) where
   -- a walk that leaves the vertices that pass a test, which no edge of s leaves, has an edge of the other set that leaves them

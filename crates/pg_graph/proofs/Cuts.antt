@@ -1,11 +1,11 @@
 -- Two sets that bridge each other, after an edge was lost and one was claimed.
-use Rattle.std.proofs.Common.{◌≡◌, ℕ, Bool, true, false, ◌⊎◌, inl, inr, refl, arith, sym, ◌≢◌, ◌<◌, subst, suc, zero, not, ◌&&◌}
+use Rattle.std.proofs.Common.{◌≡◌, ℕ, Bool, true, false, inl, inr, arith, ◌≢◌, ◌<◌, subst, not, ◌&&◌}
 use Rattle.std.proofs.lemmas.Bool.{both_ways, cases_Bool, cases_eq, false_from_ne_true, true_from_ne_false, and_parts, and_from, not-true, not_from_false}
-use Rattle.pg_base.specs.Sets.{plus, minus, either, outside, cut_below, IsWithin, IsBelow}
+use Rattle.pg_base.specs.Sets.{plus, minus, outside, cut_below, IsWithin, IsBelow}
 use Rattle.pg_graph.specs.Span.{IsSpan, IsCuts}
-use Rattle.pg_base.proofs.SetLemmas.{minus_parts, minus_from, plus_cases, plus_old, plus_new, either_cases, either_left, either_right, outside_parts, outside_from, sets, find_below}
+use Rattle.pg_base.proofs.SetLemmas.{minus_parts, minus_from, plus_cases, plus_old, plus_new, outside_parts, outside_from, sets, find_below}
 use Rattle.pg_graph.proofs.Swap.{spans_mono, spans_less, spans_trade}
-use Rattle.pg_graph.proofs.Circuit.{spans_through, spans_cut, cut_parts, cut_from}
+use Rattle.pg_graph.proofs.Circuit.{spans_cut, cut_parts}
 
 pub IsCuts-other : (spans : (ℕ → Bool) → ℕ → Bool) (e : ℕ) (r d1 d2 : ℕ → Bool) → IsCuts spans e r d1 d2 → IsCuts spans e r d2 d1
 IsCuts-other spans e r d1 d2 t = record {

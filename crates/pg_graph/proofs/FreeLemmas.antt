@@ -1,5 +1,5 @@
 -- Members of sets that stay free while one element is taken.
-use Rattle.std.proofs.Common.{◌≡◌, ◌≢◌, ℕ, Bool, true, false, sym, subst}
+use Rattle.std.proofs.Common.{◌≡◌, ℕ, Bool, true, false, sym, subst}
 use Rattle.std.proofs.lemmas.Bool.{both_ways}
 use Rattle.pg_base.specs.Sets.{minus, IsWithin}
 use Rattle.pg_base.proofs.SetLemmas.{minus_parts, minus_from}

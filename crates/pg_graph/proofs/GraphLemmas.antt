@@ -1,11 +1,11 @@
 -- What the edges of a graph join, with the edge e between its terminals.
-use Rattle.std.proofs.Common.{◌≡◌, ◌≢◌, ℕ, ◌<◌, ◌≤◌, ◌+◌, Bool, true, false, not, ◌⊎◌, ◌&&◌, ◌||◌, List, [], ◌∷◌, ◌++◌, length, get_or, refl, arith, inl, inr, sym, ap, ◌∙◌, subst, zero, suc}
-use Rattle.std.proofs.lemmas.Bool.{cases_eq, cases_lt, cases_Bool, both_ways, and_parts, and_from, or_cases, or_left, or_right, false_from_ne_true, not_from_false, not-true}
+use Rattle.std.proofs.Common.{◌≡◌, ℕ, ◌<◌, ◌≤◌, Bool, true, false, not, ◌⊎◌, ◌||◌, List, [], ◌∷◌, ◌++◌, length, get_or, refl, arith, inl, inr, sym, ap, ◌∙◌, subst, zero, suc}
+use Rattle.std.proofs.lemmas.Bool.{cases_lt, cases_Bool, both_ways, and_parts, and_from, or_cases, or_left, or_right, false_from_ne_true, not_from_false, not-true}
 use Rattle.std.proofs.lemmas.List.Elements.{All-get_or}
-use Rattle.pg_base.specs.Sets.{minus, below, IsBelow, IsWithin}
+use Rattle.pg_base.specs.Sets.{minus, below, IsBelow}
 use Rattle.pg_base.proofs.SetLemmas.{minus_parts}
-use Rattle.pg_base.proofs.BelowLemmas.{below_all, below_parts, below_from, same_sets}
-use Rattle.pg_graph.specs.Walks.{IsJoined, joins, edge_spans, first_end, second_end}
+use Rattle.pg_base.proofs.BelowLemmas.{below_parts, below_from}
+use Rattle.pg_graph.specs.Walks.{joins, edge_spans, first_end, second_end}
 use Rattle.pg_graph.specs.Span.{IsSpan}
 use Rattle.pg_graph.specs.Graph.{IsGraph, edge_count, with_e, first_end_of, second_end_of, IsJoinedIn, joins_in, spans_in, IsBridge, is_bridge}
 use Rattle.pg_graph.specs.Joiner.{AreEdges}
@@ -119,6 +119,15 @@ pub joins_in-complete : (g : Graph) (set : ℕ → Bool) (u v : ℕ) → IsBelow
 joins_in-complete g set u v small p =
     joins_complete (first_end_of g) (second_end_of g) set (suc (edge_count g)) u v
     (joined_more (first_end_of g) (second_end_of g) set (below set (suc (edge_count g))) u v (λ z h. below_from set (suc (edge_count g)) z h (small z h)) p)
+
+-- a test of the edges of the list says what walks over those of its edges say
+pub joins_edges-sound : (g : Graph) (set : ℕ → Bool) (u v : ℕ) → joins (first_end_of g) (second_end_of g) set (edge_count g) u v ≡ true → IsJoinedIn g (below set (edge_count g)) u v
+joins_edges-sound g set u v h =
+    let m = edge_count g in
+    joins_sound (first_end_of g) (second_end_of g) (below set m) m u v (joins-below (first_end_of g) (second_end_of g) set m u v ∙ h)
+
+pub joins_edges-complete : (g : Graph) (set : ℕ → Bool) (u v : ℕ) → IsJoinedIn g (below set (edge_count g)) u v → joins (first_end_of g) (second_end_of g) set (edge_count g) u v ≡ true
+joins_edges-complete g set u v p = joins_complete (first_end_of g) (second_end_of g) set (edge_count g) u v p
 
 -- without e the edges of the list are enough
 pub joins_in-edges : (g : Graph) (set : ℕ → Bool) (u v : ℕ) → set (edge_count g) ≡ false → joins_in g set u v ≡ joins (first_end_of g) (second_end_of g) set (edge_count g) u v

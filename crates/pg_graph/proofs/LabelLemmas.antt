@@ -1,7 +1,7 @@
 -- Labels of vertices, an edge at a time.
-use Rattle.std.proofs.Common.{◌≡◌, ◌≢◌, ℕ, ◌<◌, ◌≤◌, ◌+◌, Bool, true, false, ◌⊎◌, eqb, cond, List, [], ◌∷◌, refl, arith, inl, inr, sym, ap, ◌∙◌, subst, zero, suc}
-use Rattle.std.proofs.lemmas.Bool.{cases_eq, cases_lt, cases_Bool, both_ways, eq-eqb, ne_eqb, cond_both, eqb-true}
-use Rattle.pg_base.specs.Sets.{below, IsWithin, IsBelow}
+use Rattle.std.proofs.Common.{◌≡◌, ℕ, ◌<◌, ◌+◌, Bool, true, false, ◌⊎◌, eqb, cond, List, [], ◌∷◌, refl, arith, inl, inr, sym, ap, ◌∙◌, subst}
+use Rattle.std.proofs.lemmas.Bool.{cases_eq, both_ways, eq-eqb, ne_eqb, cond_both, eqb-true}
+use Rattle.pg_base.specs.Sets.{below, IsBelow}
 use Rattle.pg_base.proofs.BelowLemmas.{below_parts, below_from}
 use Rattle.pg_graph.specs.Walks.{IsWalk, IsJoined}
 use Rattle.pg_graph.specs.Labels.{IsLabelled}

@@ -1,8 +1,7 @@
 -- Tops that stand for joined vertices, a link at a time.
-use Rattle.std.proofs.Common.{◌≡◌, ◌≢◌, ℕ, ◌<◌, ◌≤◌, ◌+◌, Bool, true, false, ◌⊎◌, eqb, cond, List, length, get_or, refl, arith, inl, inr, sym, ap, ◌∙◌, subst}
-use Rattle.std.proofs.Math.ListN.{set, length-set}
+use Rattle.std.proofs.Common.{◌≡◌, ℕ, ◌<◌, ◌≤◌, ◌+◌, Bool, true, false, ◌⊎◌, eqb, cond, List, length, get_or, arith, sym, ap, ◌∙◌, subst}
+use Rattle.std.proofs.Math.ListN.{set}
 use Rattle.pg_base.specs.Sets.{IsBelow}
-use Rattle.pg_graph.specs.Walks.{IsJoined}
 use Rattle.pg_graph.specs.Labels.{IsLabelled, IsLinked, IsMerged, IsLabelling}
 use Rattle.pg_graph.specs.Roots.{root_of, IsUpward, SameRoots}
 use Rattle.pg_graph.proofs.RootLemmas.{root-linked, root-top, top_from_root}

@@ -1,11 +1,10 @@
 -- Two sets that span each other, after an edge was lost and one was claimed.
-use Rattle.std.proofs.Common.{◌≡◌, ℕ, Bool, true, false, ◌⊎◌, inl, inr, refl, arith, sym, ◌≢◌, ◌<◌, subst, suc, zero}
-use Rattle.std.proofs.lemmas.Bool.{both_ways, cases_Bool, cases_eq, false_from_ne_true, true_from_ne_false}
-use Rattle.pg_base.specs.Sets.{plus, minus, either, outside, IsWithin, IsBelow}
+use Rattle.std.proofs.Common.{◌≡◌, ℕ, Bool, true, false, inl, inr, arith, subst}
+use Rattle.std.proofs.lemmas.Bool.{both_ways, cases_eq, false_from_ne_true}
+use Rattle.pg_base.specs.Sets.{plus, minus, either, IsWithin}
 use Rattle.pg_graph.specs.Span.{IsSpan, IsTrees}
-use Rattle.pg_base.proofs.SetLemmas.{minus_parts, minus_from, plus_cases, plus_old, plus_new, either_cases, either_left, either_right, outside_parts, outside_from, sets}
-use Rattle.pg_graph.proofs.Swap.{spans_mono, spans_less, spans_trade}
-use Rattle.pg_graph.proofs.Circuit.{spans_through}
+use Rattle.pg_base.proofs.SetLemmas.{minus_parts, minus_from, plus_new, either_cases, either_left, sets}
+use Rattle.pg_graph.proofs.Swap.{spans_mono, spans_trade}
 
 pub IsTrees-other : (spans : (ℕ → Bool) → ℕ → Bool) (e : ℕ) (s a1 a2 : ℕ → Bool) → IsTrees spans e s a1 a2 → IsTrees spans e s a2 a1
 IsTrees-other spans e s a1 a2 t = record {

@@ -1,11 +1,10 @@
 -- Vertices that walks join, and the test that says the same.
-use Rattle.std.proofs.Common.{◌≡◌, ◌≢◌, ℕ, ◌<◌, ◌≤◌, ◌+◌, Bool, true, false, ◌⊎◌, ◌&&◌, ◌||◌, eqb, List, [], ◌∷◌, ◌++◌, refl, arith, inl, inr, sym, ap, ◌∙◌, subst, zero, suc}
-use Rattle.std.proofs.lemmas.Bool.{cases_eq, cases_lt, cases_Bool, false_from_ne_true, true_from_ne_false, both_ways, and_parts, and_from, or_cases, or_left, or_right, eqb-true, eq-eqb}
-use Rattle.pg_base.specs.Sets.{plus, minus, either, below, IsWithin, IsBelow}
-use Rattle.pg_graph.specs.Span.{IsSpan}
-use Rattle.pg_base.proofs.SetLemmas.{plus_cases, plus_old, plus_new, either_cases, either_left, either_right, sets}
+use Rattle.std.proofs.Common.{◌≡◌, ℕ, ◌<◌, Bool, true, ◌⊎◌, List, [], ◌∷◌, ◌++◌, refl, arith, inl, inr, sym, ap, ◌∙◌, subst, zero, suc}
+use Rattle.std.proofs.lemmas.Bool.{cases_Bool, and_parts, and_from, or_cases, or_left, or_right, eqb-true, eq-eqb}
+use Rattle.pg_base.specs.Sets.{plus, below, IsWithin}
+use Rattle.pg_base.proofs.SetLemmas.{plus_cases, sets}
 use Rattle.pg_base.proofs.BelowLemmas.{below_parts, below_from}
-use Rattle.pg_graph.specs.Walks.{IsWalk, IsJoined, joins, edge_spans}
+use Rattle.pg_graph.specs.Walks.{IsWalk, IsJoined, joins}
 
 module _ (a b : ℕ → ℕ) where
   walk-append : (set : ℕ → Bool) (ks ls : List ℕ) (u v w : ℕ) → IsWalk a b set ks u v → IsWalk a b set ls v w → IsWalk a b set (ks ++ ls) u w

@@ -1,4 +1,4 @@
-use Rattle.std.proofs.Common.{◌≡◌, ℕ, ◌<◌, ◌↔◌, arith, sym, ◌∙◌, ap, length, subst, not, eqb, IsTrue}
+use Rattle.std.proofs.Common.{◌≡◌, ◌↔◌, arith, ◌∙◌, ap, subst, not, eqb, IsTrue}
 use Rattle.std.proofs.Math.Bool.{beq}
 use Rattle.pg_graph.specs.Graph.{first_end_of, second_end_of}
 use Rattle.pg_graph.specs.Labels.{IsSplit}

@@ -1,4 +1,4 @@
-use Rattle.std.proofs.Common.{◌≡◌, ℕ, ◌<◌, ◌↔◌, Bool, true, arith, sym, ◌∙◌, ap, subst, IsTrue, suc}
+use Rattle.std.proofs.Common.{◌≡◌, ◌↔◌, sym, ◌∙◌, ap, subst, IsTrue, suc}
 use Rattle.std.specs.FinSet.{contains}
 use Rattle.pg_base.specs.Sets.{minus, IsBelow}
 use Rattle.pg_base.proofs.PointSetLaws.{contains-remove_minus}

@@ -1,4 +1,4 @@
-use Rattle.std.proofs.Common.{rules, ◌≡◌, ℕ, ◌<◌, ◌≤◌, ◌+◌, Bool, true, false, List, length, get_or, arith, subst, sym, ap, ◌∙◌, suc}
+use Rattle.std.proofs.Common.{◌≡◌, ℕ, ◌<◌, ◌+◌, Bool, true, length, arith, subst, sym, ap, suc}
 use Rattle.std.specs.FinSet.{contains}
 use Rattle.pg_base.specs.Sets.{IsBelow}
 use Rattle.pg_graph.specs.Graph.{IsGraph, edge_count, first_end_of, second_end_of}

@@ -1,4 +1,3 @@
-use Rattle.std.proofs.Common.{ℕ}
 use Rattle.std.specs.FinSet.{contains}
 use Rattle.pg_graph.specs.Graph.{first_end_of, second_end_of}
 use Rattle.pg_graph.specs.Labels.{IsLinked}

@@ -1,4 +1,4 @@
-use Rattle.std.proofs.Common.{◌≡◌, arith, ◌<◌, ◌≤◌, length, sym, ◌∙◌, inl, inr}
+use Rattle.std.proofs.Common.{◌≡◌, arith, sym, ◌∙◌, inl, inr}
 use Rattle.pg_graph.specs.Roots.{root_of}
 use Rattle.pg_graph.proofs.RootLemmas.{root-top}
 use Rattle.pg_graph.proofs.StepLemmas.{merged}

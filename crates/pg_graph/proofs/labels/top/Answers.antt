@@ -1,6 +1,5 @@
-use Rattle.std.proofs.Common.{rules, ◌≡◌, ◌≢◌, ◌<◌, ◌≤◌, ℕ, arith, length, slice_index, get_or, sym, ◌∙◌}
+use Rattle.std.proofs.Common.{◌≡◌, ◌≤◌, arith, length, get_or, sym, ◌∙◌}
 use Rattle.std.proofs.Math.ListN.{set, length-set}
-use Rattle.pg_graph.specs.Roots.{root_of, IsUpward, SameRoots}
 use Rattle.pg_graph.proofs.RootLemmas.{root-halved, root-top, root-up, IsUpward-set}
 use Rattle.pg_graph.proofs.labels.top.Goals as goal
 

@@ -1,4 +1,3 @@
-use Rattle.std.proofs.Common.{ℕ}
 use Rattle.std.specs.FinSet.{contains}
 use Rattle.pg_base.specs.Sets.{IsBelow}
 use Rattle.pg_graph.proofs.tests.set_of.Given as goal

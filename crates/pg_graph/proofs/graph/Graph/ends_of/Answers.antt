@@ -1,5 +1,4 @@
-use Rattle.std.proofs.Common.{◌≡◌, ℕ, ◌<◌, arith, List, get_or, ap, ◌∙◌, subst, sym}
-use Rattle.pg_graph.specs.Graph.{first_end_of, second_end_of}
+use Rattle.std.proofs.Common.{ℕ, ◌<◌, arith, List, get_or, ap, ◌∙◌, subst, sym}
 use Rattle.pg_graph.proofs.GraphLemmas.{ends-edge, ends-e, ends_in_range}
 use Rattle.pg_graph.proofs.graph.Graph.ends_of.Goals as goal
 
