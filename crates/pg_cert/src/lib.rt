@@ -20,8 +20,7 @@ pub use cert::{Cert, Claim, Claims};
 pub use fault::CertFault;
 pub use node::{Body, Node, Nodes};
 pub use node_fault::NodeFault;
-pub use reading::read_cert;
-pub use printing::{print_cert, print_node};
+pub use printing::{print_cert, print_node, reads_back};
 pub use reading::{names_the_first_fault, read_cert, reads_within_limits};
 pub use reply::{Replies, Reply};
 
