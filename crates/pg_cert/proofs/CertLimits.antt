@@ -161,7 +161,7 @@ node_ends p q g node e f h fits =
     } in
     subst (AreTold q.claims q.nodes) (sym is) told
 
-behind_more : (others : ℕ) → behind (suc others) ≡ due.Node others
+pub behind_more : (others : ℕ) → behind (suc others) ≡ due.Node others
 behind_more others =
     let some : (suc others == 0) ≡ false = grind (arith, nat_tests) in
     let less : suc others - 1 ≡ others = omega arith in

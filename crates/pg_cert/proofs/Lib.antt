@@ -10,3 +10,6 @@ pub mod Printed
 pub mod NodeLimits
 pub mod CertLimits
 pub mod FirstFaults
+pub mod Words
+pub mod NodeBack
+pub mod Back

@@ -170,7 +170,7 @@ not_false : (b : Bool) → not b ≡ false → b ≡ true
 not_false true e = refl
 not_false false e = absurd cc
 
-odd_len : (ws : List Bytes) → (are_odd ws ≡ true → length ws % 2 ≡ 1) × (are_odd ws ≡ false → length ws % 2 ≡ 0)
+pub odd_len : (ws : List Bytes) → (are_odd ws ≡ true → length ws % 2 ≡ 1) × (are_odd ws ≡ false → length ws % 2 ≡ 0)
 odd_len [] = (λ e. absurd (false≢true e), λ e. refl)
 odd_len (w ∷ ws) =
     let h = odd_len ws in

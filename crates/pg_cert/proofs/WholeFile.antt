@@ -31,7 +31,7 @@ pub too_large : (text : Bytes) → 268435456 < length text → certificate text 
 unfolding certificate
 too_large text more = let t : nat_lt 268435456 (length text) ≡ true = grind (arith, nat_tests) in rw t refl
 
-fits_file : (text : Bytes) → length text ≤ 268435456 → certificate text ≡ unless_faulty (fault_of text) (parts_of text)
+pub fits_file : (text : Bytes) → length text ≤ 268435456 → certificate text ≡ unless_faulty (fault_of text) (parts_of text)
 unfolding certificate
 fits_file text few = let t : nat_lt 268435456 (length text) ≡ false = grind (arith, nat_tests) in rw t refl
 

@@ -1,9 +1,11 @@
 //! The text of a certificate.
 
-ghost use Rattle.std.specs.Prelude.{◌≡◌, ◌<◌, ◌||◌, true, ◌++◌, ◌∷◌, [], map, OnOk, IfOk, string_bytes};
+ghost use Rattle.std.specs.Prelude.{◌≡◌, ◌<◌, ◌≤◌, length, ◌||◌, true, ◌++◌, ◌∷◌, [], map, OnOk, IfOk, string_bytes};
 ghost use Rattle.std.specs.FinSet.{contains};
 ghost use Rattle.std.specs.Fmt.{decimal};
 ghost use Rattle.std.specs.List.{flat_map};
+ghost use Rattle.pg_cert.specs.CertFile.{certificate};
+ghost use Rattle.pg_cert.specs.declared.cert.Cert.{Cert};
 ghost use Rattle.pg_cert.specs.Limits.{IsNode, IsWithinLimits};
 ghost use Rattle.pg_cert.specs.Print.{one_where, separated, spaced, behind_spaces, set_words, side_name, goal_name, reply_word, pair_word, e_words, edge_words, body_name, body_words, body_text, node_text, claim_text, printed_certificate};
 
@@ -247,3 +249,8 @@ pub fn print_node(alloc: Global, n: &Node) -> Result<Vec<u8>, Memory>
     put_node(&mut out, n)?;
     Ok(out.into_bytes())
 }
+
+/// A printed certificate reads back as itself, where its text isn't too large for a file.
+pub fn reads_back()
+    ensures { (c : Cert) → IsWithinLimits c → length (printed_certificate c) ≤ 268435456 → certificate (printed_certificate c) ≡ Ok c }
+{}
