@@ -95,24 +95,24 @@ sound_numbered head p g (Some n) next sound e =
       | inr h ↦ elim (chosen (nat_lt 100000 n || nat_lt 200000 (p.nodes + n)) (Err faults.Limit) (done made) (Ok next) h.1) [
         | inl k ↦ err_not faults.Limit next (IsKept g next) k.1
         | inr k ↦
-          let limits = or_false (nat_lt 100000 n) (nat_lt 200000 (p.nodes + n)) k.0 in
-          let some : 0 < n = grind (arith, nat_tests, h.0) in
-          let few : n ≤ 100000 = ltb-false 100000 n limits.0 in
-          let room : p.nodes + n ≤ 200000 = ltb-false 200000 (p.nodes + n) limits.1 in
-          subst (IsKept g) (ok_is made next k.1) (record {
-            head = head;
-            is = refl;
-            claims = sound.0;
-            before = p.nodes;
-            counted = sound.1;
-            few = sound.2;
-            whole = sound.3;
-            nodes = tt;
-            total = omega arith;
-            sum = omega arith;
-            room = room;
-          })
-        ]
+            let limits = or_false (nat_lt 100000 n) (nat_lt 200000 (p.nodes + n)) k.0 in
+            let some : 0 < n = grind (arith, nat_tests, h.0) in
+            let few : n ≤ 100000 = ltb-false 100000 n limits.0 in
+            let room : p.nodes + n ≤ 200000 = ltb-false 200000 (p.nodes + n) limits.1 in
+            subst (IsKept g) (ok_is made next k.1) (record {
+              head = head;
+              is = refl;
+              claims = sound.0;
+              before = p.nodes;
+              counted = sound.1;
+              few = sound.2;
+              whole = sound.3;
+              nodes = tt;
+              total = omega arith;
+              sum = omega arith;
+              room = room;
+            })
+      ]
     ]
 
 sound_counted : (head : Head) (p : Progress) (g : Gathered) (word : Option Bytes) (next : Next) → IsSound (due.Count head) p g → counted head p word ≡ Ok next → IsKept g next

@@ -126,7 +126,7 @@ pub first_fault : (text : Bytes) (fault : Fault) (number : ℕ) → certificate 
 unfolding certificate
 first_fault text fault number e = elim (chosen (nat_lt 268435456 (length text)) (failed (faults.Size, 0)) (unless_faulty (fault_of text) (parts_of text)) (failed (fault, number)) e) [
   | inl h ↦
-    let p : bad faults.Size 0 ≡ bad fault number = ap (bad_or (bad faults.Size 0)) h.1 in
-    inl (record { large = ltb-true 268435456 (length text) h.0; fault_is = sym (ap (λ (x : Bad). x.0) p); whole_file = sym (ap (λ (x : Bad). x.1) p) })
+      let p : bad faults.Size 0 ≡ bad fault number = ap (bad_or (bad faults.Size 0)) h.1 in
+      inl (record { large = ltb-true 268435456 (length text) h.0; fault_is = sym (ap (λ (x : Bad). x.0) p); whole_file = sym (ap (λ (x : Bad). x.1) p) })
   | inr h ↦ inr (fault_is text fault number (bad_is (fault_of text) (parts_of text) (fault, number) h.1))
 ]

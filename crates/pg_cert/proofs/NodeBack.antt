@@ -395,7 +395,11 @@ pub node_lacks_feed : (n : Node) → IsNode n → Lacks 10 (node_line_text n)
 node_lacks_feed n h =
     let P = λ (b : ℕ). (b == 10) ≡ false in
     All-from_recursion P (node_line_text n)
-    (all_append P (spaced (set_words n.x)) _ (quiet_text _ (spaced_quiet (set_words n.x) (set_are_words n.x)))
-    (refl, all_append P (spaced (set_words n.y)) _ (quiet_text _ (spaced_quiet (set_words n.y) (set_are_words n.y)))
-    (refl, all_append P (side_name n.turn) _ (quiet_text _ (word_quiet (side_name n.turn) (side_is_word n.turn)))
-    (refl, quiet_text (body_text n.body) (body_quiet n.body h.body)))))
+    (all_append P (spaced (set_words n.x)) _ (quiet_text _ (spaced_quiet (set_words n.x) (set_are_words n.x))) (
+      refl,
+      all_append P (spaced (set_words n.y)) _ (quiet_text _ (spaced_quiet (set_words n.y) (set_are_words n.y))) (
+        refl,
+        all_append P (side_name n.turn) _ (quiet_text _ (word_quiet (side_name n.turn) (side_is_word n.turn)))
+            (refl, quiet_text (body_text n.body) (body_quiet n.body h.body)),
+      ),
+    ))

@@ -13,7 +13,9 @@ use crate::node::{Body, Node};
 use crate::part::Head;
 use crate::reply::Replies;
 use crate::text::{four_parts, has_sign, two_parts};
-use crate::values::{ascending, child, field_words, meets, pairs, point, points, replies, set_of, two_sets};
+use crate::values::{
+    ascending, child, field_words, meets, pairs, point, points, replies, set_of, two_sets,
+};
 use pg_base::{Goal, Pairs, Points};
 use std::alloc::Global;
 

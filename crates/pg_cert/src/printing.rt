@@ -111,7 +111,12 @@ fn put_e(out: &mut String, with_e: bool) -> Result<(), AllocError>
 }
 
 /// Puts two sets of edges.
-fn put_edges(out: &mut String, with_e: bool, first: &PointSet, second: &PointSet) -> Result<(), AllocError>
+fn put_edges(
+    out: &mut String,
+    with_e: bool,
+    first: &PointSet,
+    second: &PointSet,
+) -> Result<(), AllocError>
     ensures { OnOk result (string_bytes out.new ≡ string_bytes out.old ++ behind_spaces (edge_words with_e first.now second.now)) }
 {
     put_e(out, with_e)?;
@@ -165,7 +170,16 @@ fn put_words(out: &mut String, body: &Body) -> Result<(), AllocError>
         Body::Move { point, child } => put_move(out, *point, *child),
         Body::All(replies) => put_replies(out, replies.as_slice()),
         Body::Pairs(pairs) => put_pairs(out, pairs.as_slice()),
-        Body::Trees { with_e, first, second } | Body::Cuts { with_e, first, second } => put_edges(out, *with_e, first, second),
+        Body::Trees {
+            with_e,
+            first,
+            second,
+        }
+        | Body::Cuts {
+            with_e,
+            first,
+            second,
+        } => put_edges(out, *with_e, first, second),
         Body::Threat(points) => put_points(out, points.as_slice()),
     }
 }

@@ -66,10 +66,16 @@ fn claim_lines(rt: HostRuntime) -> Result<(), Fail> {
         ("claim x y win\nnodes 1", (5, 4)),
         ("claim x y win\nnodes 1\n", (5, 4)),
         ("claim x y win\nnodes 1\nclaim x y win", (5, 4)),
-        ("claim x y win\nnodes 1\n||x|potential\n||x|potential", (5, 5)),
+        (
+            "claim x y win\nnodes 1\n||x|potential\n||x|potential",
+            (5, 5),
+        ),
         ("claim x y win\nnodes 1\n||x|potential\nnodes 1", (3, 5)),
         ("claim x y win\nnodes 1\n||x|potential\n\n", (3, 5)),
-        ("claim x y win\nnodes 1\n||x|potential\nclaim y x draw", (3, 6)),
+        (
+            "claim x y win\nnodes 1\n||x|potential\nclaim y x draw",
+            (3, 6),
+        ),
         ("claim x y win\nnodes 1\n||x|potential", (0, 0)),
         ("claim x y win\nnodes 1\n||x|potential\n", (0, 0)),
     ];
@@ -163,7 +169,11 @@ fn the_ninth_claim(rt: HostRuntime) -> Result<(), Fail> {
         eight.push_str("claim x y win\nnodes 1\n||x|over\n")?;
     }
     assert_eq!(rt; behind_header(&rt, &eight)?, (0, 0));
-    let rows = [("claim x y win", (6, 26)), ("claim x y", (3, 26)), ("||x|over", (5, 26))];
+    let rows = [
+        ("claim x y win", (6, 26)),
+        ("claim x y", (3, 26)),
+        ("||x|over", (5, 26)),
+    ];
     for (line, expected) in rows {
         let text = format!(in rt.alloc(); "{eight}{line}")?;
         assert_eq!(rt; behind_header(&rt, &text)?, expected);
@@ -173,7 +183,8 @@ fn the_ninth_claim(rt: HostRuntime) -> Result<(), Fail> {
 
 #[test]
 fn reads_and_prints_back(rt: HostRuntime) -> Result<(), Fail> {
-    let text = b"posgame-cert 1\nclaim x x win\nnodes 3\n0 5|1 1023|y|over\n|3|x|move 4 0\n||y|all 0:1 7:0\nclaim y x draw\nnodes 6\n||x|pairs 1-0 2-3\n||x|potential\n||x|trees e 0 2 / 1\n||x|cuts / 0 9\n||x|threat 4 2 0\n||y|all\n";
+    let text =
+        b"posgame-cert 1\nclaim x x win\nnodes 3\n0 5|1 1023|y|over\n|3|x|move 4 0\n||y|all 0:1 7:0\nclaim y x draw\nnodes 6\n||x|pairs 1-0 2-3\n||x|potential\n||x|trees e 0 2 / 1\n||x|cuts / 0 9\n||x|threat 4 2 0\n||y|all\n";
     let cert = read_cert(rt.alloc(), text).ok().ok_or("a certificate")?;
     let printed = print_cert(rt.alloc(), &cert)?;
     assert_eq!(rt; printed.as_slice(), text.as_slice());

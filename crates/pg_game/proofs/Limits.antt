@@ -1,17 +1,15 @@
 -- What every game keeps: how many points there are, and what its lines are.
-use Rattle.std.proofs.Common.{◌≡◌, ℕ, ◌+◌, ◌*◌, ◌^◌, ◌<◌, ◌≤◌, ◌==◌, Bool, true, false, cond, List, [], ◌∷◌, length, get_or, refl, sym, ap, ◌∙◌, subst, inl, inr, arith}
-use Rattle.std.proofs.lemmas.Bool.{cases_Bool, cond-true, cond-false}
+use Rattle.std.proofs.Common.{ℕ, ◌^◌, ◌<◌, ◌≤◌, ◌==◌, List, length, refl, inl, inr, arith}
+use Rattle.std.proofs.lemmas.Bool.{cases_Bool}
 use Rattle.std.proofs.lemmas.List.Elements.{All-weaker}
 use Rattle.std.proofs.lemmas.List.Sums.{sum_by-le}
 use Rattle.std.specs.List.{All, sum_by}
-use Rattle.std.specs.List.Sorted.{IsStrictlyIncreasing}
 use Rattle.pg_base.specs.declared.kind.Kind.{Kind}
 use Rattle.pg_game.specs.declared.field.Field.{Field}
 use Rattle.pg_game.specs.declared.field.Field.TheVariants.{Lines, Graph as OnGraph}
-use Rattle.pg_game.specs.declared.field.LineField.{LineField}
 use Rattle.pg_game.specs.declared.game.Game.{Game}
 use Rattle.pg_game.specs.Field.{field_points, field_lines}
-use Rattle.pg_game.specs.Fit.{IsLineOf, AreLinesOf, FieldFits, longest}
+use Rattle.pg_game.specs.Fit.{IsLineOf, FieldFits, longest}
 use Rattle.pg_game.specs.Game.{point_count, lines_of}
 
 longest-le : (bias : ℕ) → longest bias ≤ 100

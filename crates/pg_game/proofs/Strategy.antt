@@ -3,13 +3,12 @@ use Rattle.std.proofs.Common.{◌≡◌, ℕ, List, [], ◌∷◌, zero, suc, �
 use Rattle.std.proofs.lemmas.Bool.{cases_Bool, or_left, or_right, not_from_false, false≢true}
 use Rattle.pg_game.specs.declared.position.Position.{Position}
 use Rattle.pg_base.specs.declared.side.Side.{Side}
-use Rattle.pg_base.specs.Side.{other}
 use Rattle.pg_game.specs.Position.{is_free}
 use Rattle.pg_game.specs.declared.game.Game.{Game}
 use Rattle.pg_base.specs.declared.kind.Kind.{Kind}
 use Rattle.pg_base.specs.declared.kind.Kind.TheVariants.{MakerBreaker, MakerMaker, AvoiderEnforcer, Switching}
 use Rattle.pg_base.specs.declared.goal.Goal.{Goal}
-use Rattle.pg_game.specs.Game.{after, free_points, point_count, is_over, outcome, is_full, is_over_by}
+use Rattle.pg_game.specs.Game.{after, free_points, point_count, is_over, is_full, is_over_by}
 use Rattle.pg_game.specs.Play.{IsLegalPlay}
 pub use Rattle.pg_game.specs.Strategy.{Keeps}
 use Rattle.pg_game.specs.Value.{best, value, value_within, reaches, Forces}

@@ -1,14 +1,13 @@
 -- The terminals of a graph are joined where walks join them.
-use Rattle.std.proofs.Common.{◌≡◌, ◌≢◌, ℕ, eqb, ltb, eq-eqb, ne_eqb, zero, suc, ◌<◌, ◌≤◌, ◌+◌, Bool, true, false, not, ◌&&◌, ◌||◌, length, refl, sym, ap, ◌∙◌, subst, inl, inr, arith}
+use Rattle.std.proofs.Common.{◌≡◌, ◌≢◌, ℕ, eqb, ltb, eq-eqb, ne_eqb, zero, suc, ◌<◌, ◌+◌, Bool, true, false, not, ◌&&◌, ◌||◌, refl, sym, ap, ◌∙◌, inl, inr, arith}
 use Rattle.std.specs.Bool.{Decides}
 use Rattle.std.specs.Prelude.{◌↔◌, IsTrue}
-use Rattle.std.proofs.lemmas.Bool.{cases_Bool, cases_eq, cases_lt, both_ways, false_from_ne_true, and_parts, and_from, or_left, not_from_false, lt-ltb, le-ltb}
+use Rattle.std.proofs.lemmas.Bool.{cases_Bool, cases_eq, cases_lt, both_ways, false_from_ne_true, and_from, or_left, not_from_false, lt-ltb, le-ltb}
 use Rattle.std.specs.FinSet.{FinSet, contains, insert}
 use Rattle.std.specs.Ordering.{nat_cmp}
 use Rattle.pg_base.specs.WordLemmas.{in_insert}
 use Rattle.pg_base.specs.Sets.{below, IsBelow}
-use Rattle.pg_base.proofs.BelowLemmas.{below_parts, below_from}
-use Rattle.pg_graph.specs.Walks.{IsJoined, joins, first_end, second_end}
+use Rattle.pg_graph.specs.Walks.{joins, first_end, second_end}
 use Rattle.pg_graph.specs.Graph.{edge_count, first_end_of, second_end_of, IsJoinedIn, joins_in}
 use Rattle.pg_graph.specs.declared.graph.Graph.{Graph}
 use Rattle.pg_graph.proofs.WalkLemmas.{joins_sound, joins_complete}

@@ -1,9 +1,8 @@
 -- A switching game by walks.
-use Rattle.std.proofs.Common.{◌≡◌, ℕ, Bool, true, false, not, ◌&&◌, ◌||◌, cond, refl, sym, ap, ◌∙◌, inl, inr}
+use Rattle.std.proofs.Common.{◌≡◌, not, ◌||◌, cond, ap, ◌∙◌}
 use Rattle.std.proofs.lemmas.Bool.{false_from_ne_true, or_left, or_right, not_from_false}
 use Rattle.std.specs.FinSet.{contains}
 use Rattle.pg_base.specs.declared.kind.Kind.{Kind}
-use Rattle.pg_base.specs.declared.kind.Kind.TheVariants.{Switching}
 use Rattle.pg_base.specs.declared.score.Score.TheVariants.{XWins, YWins}
 use Rattle.pg_base.specs.declared.side.Side.TheVariants.{X, Y}
 use Rattle.pg_graph.specs.declared.graph.Graph.{Graph}
@@ -13,7 +12,7 @@ use Rattle.pg_game.specs.declared.game.Game.{Game}
 use Rattle.pg_game.specs.declared.position.Position.{Position}
 use Rattle.pg_game.specs.Field.{field_joins, terminals_joined}
 use Rattle.pg_game.specs.Game.{is_over, outcome, is_over_by, outcome_by, has_filled, all_touched, is_full, short_joins, can_join}
-use Rattle.pg_game.specs.Walked.{HasJoined, CanJoin, IsJoiningGame}
+use Rattle.pg_game.specs.Walked.{IsJoiningGame}
 use Rattle.pg_game.proofs.Outcomes.{switching-on_graph}
 use Rattle.pg_game.proofs.TerminalLemmas.{terminals-decides}
 

@@ -1,5 +1,5 @@
 -- What every game keeps: it is within the limits, and its parts fit together.
-use Rattle.std.specs.Prelude.{◌≡◌, ◌≢◌, ℕ, ◌+◌, ◌*◌, ◌<◌, ◌≤◌, ◌==◌, true, false, List, length, if◌then◌else◌, Bool, Option, Some}
+use Rattle.std.specs.Prelude.{◌≡◌, ◌≢◌, ℕ, ◌*◌, ◌<◌, ◌≤◌, ◌==◌, true, false, List, length, if◌then◌else◌, Bool, Some}
 use Rattle.std.specs.List.{All, sum_by}
 use Rattle.std.specs.List.Sorted.{IsStrictlyIncreasing}
 use Rattle.std.specs.FinSet.{FinSet}

@@ -4,15 +4,7 @@ pub mod Position
 pub mod Game
 pub mod Value
 pub mod Play
-pub mod Pairs
-pub mod Potential
-pub mod Avoider
-pub mod Trees
-pub mod Threat
-pub mod PositionLemmas
-pub mod Decided
-pub mod Settled
-pub mod Class
 pub mod Strategy
 pub mod Judge
 pub mod Walked
+pub mod PositionLemmas

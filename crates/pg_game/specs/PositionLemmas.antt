@@ -2,8 +2,6 @@
 use Rattle.std.proofs.Common.{◌≡◌, Bool, true, ◌&&◌, eqb, refl, subst, rules, eqb-true, eq-eqb}
 use Rattle.std.proofs.lemmas.Bool.{and_parts, and_from}
 use Rattle.std.specs.Bool.{Decides}
-use Rattle.std.specs.FinSet.{FinSet}
-use Rattle.std.specs.Ordering.{nat_cmp}
 use denote.Enum.Bare.{sameb, same_true}
 use Rattle.pg_base.specs.contracts.side.Side.{the_type}
 use Rattle.pg_base.specs.declared.side.Side.{Side}

@@ -1,5 +1,5 @@
 -- What a switching game looks at, said by walks.
-use Rattle.std.specs.Prelude.{◌≡◌, ◌↔◌, ℕ, Bool, true, false, not, length, IsTrue}
+use Rattle.std.specs.Prelude.{◌≡◌, ℕ, Bool, true, false, not, length}
 use Rattle.std.specs.FinSet.{contains}
 use Rattle.pg_base.specs.Sets.{below}
 use Rattle.pg_base.specs.declared.kind.Kind.TheVariants.{Switching}

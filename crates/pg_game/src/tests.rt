@@ -1,21 +1,15 @@
 //! Rows worked by hand.
-ghost use Rattle.std.specs.Prelude.{◌≡◌, ◌≤◌};
-ghost use Rattle.pg_base.specs.Points.{AreBelow};
-
 use crate::{Field, Game, Illegal, Judge, LineField, Position, laws};
 use pg_base::{Grid, Kind, Line, Lines, PointSet, Score, Side};
 use pg_graph::{Ends, Graph};
 use std::alloc::Global;
 use std::test::Fail;
 
-/// Those of the points that are below the limit.
-fn set_of(limit: u16, points: &[u16]) -> PointSet
-    requires { limit ≤ 1024 }
-    ensures { AreBelow result limit }
-{
+/// The set of the points, which are below 1,024.
+fn set_of(points: &[u16]) -> PointSet {
     let mut set = PointSet::empty();
     for &v in points {
-        if v < limit {
+        if v < 1024 {
             set.put(v);
         }
     }
@@ -69,11 +63,14 @@ fn graph_game_of(alloc: Global, vertices: u16, ends: &[(u16, u16)]) -> Result<Ga
 fn over(alloc: Global, g: &Game, x: &[u16], y: &[u16]) -> Result<Option<Score>, Fail> {
     let mut judge = Judge::new(alloc, g)?;
     let p = Position {
-        x: set_of(g.points(), x),
-        y: set_of(g.points(), y),
+        x: set_of(x),
+        y: set_of(y),
         turn: Side::X,
         left: 1,
     };
+    if !p.x.is_below(g.points()) {
+        return Ok(None);
+    }
     Ok(judge.over(g, &p))
 }
 
@@ -97,17 +94,20 @@ fn have_answers(
     g: &Game,
     moves: &[(u16, Result<(Side, u8), Illegal>)],
 ) -> Result<bool, Fail> {
-    let mut judge = Judge::new(alloc, g)?;
     let mut p = g.start();
     for &(v, want) in moves {
+        let mut judge = Judge::new(alloc, g)?;
         if !p.x.is_below(g.points()) {
             return Ok(false);
         }
-        let answer = judge.play(g, &p, v);
-        if let Ok(next) = answer {
-            p = next;
-        }
-        if answer.map(|next| (next.turn, next.left)) != want {
+        let answer = match judge.play(g, &p, v) {
+            Ok(next) => {
+                p = next;
+                Ok((next.turn, next.left))
+            }
+            Err(why) => Err(why),
+        };
+        if answer != want {
             return Ok(false);
         }
     }
@@ -279,7 +279,7 @@ fn misfits(rt: HostRuntime) -> Result<(), Fail> {
 
 #[test]
 fn misfits_of_grids_and_marks(rt: HostRuntime) -> Result<(), Fail> {
-    let four = set_of(10, &[4]);
+    let four = set_of(&[4]);
     let none = PointSet::empty();
     for (width, points, x, y, fits) in [
         (3, 9, none, none, true),

@@ -28,7 +28,7 @@ module _ (spans : (ℕ → Bool) → ℕ → Bool) (law : IsSpan spans) (e : ℕ
       (λ z h. elim (plus_cases (minus b f) f z h) [ inl m ↦ (minus_parts b f z m).0 | inr i ↦ subst (λ k. b k ≡ true) i bf ])
       (spans_less spans law (minus b f) (minus q f) f (λ z h. grind (arith, sets)) n) s))
 
-  -- X took x, which R without D1 doesn't span
+  -- X took x, which r without d1 doesn't span
   pub IsCuts-dropped : (r d1 d2 : ℕ → Bool) (x : ℕ) → IsCuts spans e r d1 d2 → spans (outside r d1) x ≡ false → IsCuts spans e r (minus d1 x) d2
   IsCuts-dropped r d1 d2 x t n = record {
     apart = λ f h. t.apart f (minus_parts d1 x f h).0;
@@ -128,7 +128,7 @@ module _ (spans : (ℕ → Bool) → ℕ → Bool) (law : IsSpan spans) (e : ℕ
         let i : (r w ≡ true) × (y ≢ w) = minus_parts r y w o.0 in
         minus_from (outside r d2) f w (outside_from r d2 w i.0 (false_from_ne_true _ (λ k. both_ways _ o.1 (minus_from d2 y w k i.1)))) p.1
 
-  -- where R without D1 spans x, some edge of D2 parts it
+  -- where r without d1 spans x, some edge of d2 parts it
   pub find_parting : (r d1 d2 : ℕ → Bool) (x n : ℕ) → IsBelow r n → IsCuts spans e r d1 d2 → d1 x ≡ true → spans (outside r d1) x ≡ true → (y : ℕ) × (d2 y ≡ true) × (spans (minus (outside r d1) y) x ≡ false)
   find_parting r d1 d2 x n below t dx s =
       elim (find_below (λ y. d2 y && not (spans (minus (outside r d1) y) x)) n) [

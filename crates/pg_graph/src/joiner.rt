@@ -1,4 +1,4 @@
-//! Which vertices edges join.
+//! Which vertices edges join, and which edges cross, part and bridge.
 ghost use Rattle.std.specs.Prelude.{◌≡◌, ℕ, ◌<◌, ◌≤◌, ◌↔◌, true, IsTrue, IfOk, IfSome, IfNone};
 ghost use Rattle.std.specs.FinSet.{contains};
 ghost use Rattle.pg_graph.specs.Graph.{IsGraph, IsJoinedIn, IsBridge, edge_count};
@@ -11,6 +11,8 @@ use std::alloc::Global;
 use std::marker::Model;
 
 /// Room to work in for graphs with a certain number of vertices and of edges.
+///
+/// Only `new` takes memory. The calls write their labels over the earlier ones and leave the two numbers as they are.
 #[derive(Debug, Drop)]
 pub struct Joiner {
     up: Vec<u16>,
@@ -28,7 +30,7 @@ impl Model for Joiner {
 }
 
 impl Joiner {
-    /// A joiner for graphs with as many vertices and edges as this one.
+    /// A joiner for graphs with as many vertices and edges as this one. `Memory` says that there is no room for it.
     pub fn new(alloc: Global, g: &Graph) -> Result<Joiner, Memory>
         requires graph { IsGraph g.now }
         ensures { IfOk result (λ joiner. IsMadeFor joiner g.now) }
@@ -75,7 +77,8 @@ impl Joiner {
 
     /// The lowest candidate in the set without which u and v aren't joined, where they are joined in the set.
     ///
-    /// None comes exactly where they aren't joined or no candidate parts them.
+    /// None comes exactly where they aren't joined or no candidate parts them. Each candidate of the set is tried by
+    /// labels of its own.
     pub fn parting(
         &mut self,
         g: &Graph,

@@ -8,6 +8,7 @@ use crate::files::Files;
 use crate::stop::Stop;
 use std::alloc::{AllocError, Global};
 
+/// How many bytes are asked for at a time.
 const PIECE: usize = 65_536;
 
 /// Room for a piece of a file. The length is told by a limit alone, so that no proof unfolds the list.
@@ -44,7 +45,10 @@ fn read_open<F: Files>(
     Ok(bytes)
 }
 
-/// Reads the file to its end, or to one byte more than the limit.
+/// Reads the file of this name to its end, or to one byte more than the limit.
+///
+/// More bytes than the limit mean that the file is too long. `Stop::Read` means that a call has
+/// failed, or that the name isn't held; `Stop::Memory` means that memory was refused.
 pub fn read_whole<F: Files>(
     alloc: Global,
     files: &mut F,
@@ -62,11 +66,15 @@ pub fn read_whole<F: Files>(
     read_open(alloc, files, limit, &mut buf)
 }
 
-/// Stores a file.
+/// Stores these bytes under the name, in place of what it held.
+///
+/// `Stop::Write` means that a call has failed, and it is the only error; then the name holds what it
+/// held before or these bytes.
 pub fn store<F: Files>(files: &mut F, name: &str, bytes: &[u8]) -> Result<(), Stop>
     ensures stored { Stored (F.held files.old) (F.held files.new) (name.now, bytes.now) result }
     ensures causes { Causes ⊥ (F.read_faults files.old) (F.read_faults files.new) (F.write_faults files.old) (F.write_faults files.new) result }
     ensures fed { result ≢ Err Stop.Memory }
+    ensures written { result ≢ Err Stop.Read }
 {
     if files.create(name).is_err() {
         return Err(Stop::Write);

@@ -139,19 +139,26 @@ fn tells_what_ended_the_reading_or_the_storing(rt: HostRuntime) -> Result<(), Fa
 
 #[test]
 fn hears_lines(rt: HostRuntime) -> Result<(), Fail> {
-    let mut console = console(rt.alloc(), b"ab\ncdefgh", vec![in rt.alloc(); 5]?)?;
+    let mut console = console(rt.alloc(), b"abc\ncdef\ngh", vec![in rt.alloc(); 6]?)?;
     let mut buf = [0u8; 4];
-    assert_eq!(rt; console.hear(&mut buf), Ok(Heard::Line(2)));
-    assert_eq!(rt; console.rest(), b"cdefgh".as_slice());
+    assert_eq!(rt; console.hear(&mut buf), Ok(Heard::Line(3)));
+    assert_eq!(rt; console.rest(), b"cdef\ngh".as_slice());
     assert_eq!(rt; console.hear(&mut buf), Ok(Heard::Long));
+    assert_eq!(rt;
+        console.hear(&mut buf),
+        Ok(Heard::Line(0)),
+        "the bare line feed"
+    );
     assert_eq!(rt; console.hear(&mut buf), Ok(Heard::Line(2)));
     assert!(rt; buf.starts_with(b"gh"));
     assert_eq!(rt; console.hear(&mut buf), Ok(Heard::End));
     assert_eq!(rt; console.say(b"1"), Ok(()));
-    assert_eq!(rt; console.say(b"2"), Err(Failed), "the call with number 5");
+    assert_eq!(rt; console.say(b"2"), Err(Failed), "the call with number 6");
     let log = format!(in rt.alloc(); "{:?}", console.entries())?;
-    let want = "[Heard(Text { bytes: [97, 98] }), Skipped(Text { bytes: [99, 100, 101, 102] }), \
-        Heard(Text { bytes: [103, 104] }), Ended, Said(Text { bytes: [49] })]";
+    let want =
+        "[Heard(Text { bytes: [97, 98, 99] }), Skipped(Text { bytes: [99, 100, 101, 102] }), \
+        Heard(Text { bytes: [] }), Heard(Text { bytes: [103, 104] }), Ended, \
+        Said(Text { bytes: [49] })]";
     assert_eq!(rt; log.as_str(), want);
     Ok(())
 }

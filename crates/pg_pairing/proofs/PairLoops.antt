@@ -1,5 +1,5 @@
 -- The steps of the tests of pairs.
-use Rattle.std.proofs.Common.{◌≡◌, ◌≢◌, ℕ, zero, suc, ◌+◌, ◌<◌, Bool, true, false, cond, not, ◌&&◌, ◌||◌, List, [], ◌∷◌, ◌++◌, length, get_or, take, eqb, nat_lt, refl, sym, ap, ◌∙◌, subst, inl, inr, arith, eq-eqb, ne_eqb, ltb-true, lt-ltb, IsTrue, if◌then◌else◌, ◌≤◌, length-take-le, get_or-take, take_all}
+use Rattle.std.proofs.Common.{All, Any, eqb-true, ◌≡◌, ◌≢◌, ℕ, zero, suc, ◌+◌, ◌<◌, Bool, true, false, cond, not, ◌&&◌, ◌||◌, List, [], ◌∷◌, ◌++◌, length, get_or, take, eqb, nat_lt, refl, sym, ap, ◌∙◌, subst, inl, inr, arith, eq-eqb, ne_eqb, ltb-true, lt-ltb, IsTrue, if◌then◌else◌, ◌≤◌, length-take-le, get_or-take, take_all}
 use Rattle.std.proofs.lemmas.Bool.{cond-true, cond-false, cases_Bool, cases_eq, and_parts, and_from, or_parts, or_from, not-true, not_from_false, false≢true}
 use Rattle.std.specs.FinSet.{FinSet, contains, insert}
 use Rattle.std.specs.Ordering.{nat_cmp}
@@ -8,12 +8,14 @@ use Rattle.pg_game.specs.Position.{is_free}
 use Rattle.pg_base.specs.WordLemmas.{in_insert}
 use Rattle.pg_base.specs.declared.pair.Pair.{Pair}
 use Rattle.pg_game.specs.declared.game.Game.{Game}
-use Rattle.pg_game.specs.Pairs.{has_point, is_open, AreOpenPairs, SharesNone, IsInGame, HoldLines, PairsHold, PairsLeaveNone, is_paired, unpaired}
+use Rattle.pg_game.specs.Pairs.{has_point, is_open, AreOpenPairs, SharesNone, IsInGame, HoldsPair, HoldLines, PairsHold, PairsLeaveNone, is_paired, unpaired}
 use Rattle.pg_pairing.specs.Taking.{CanTake}
 use Rattle.pg_game.specs.Game.{point_count, free_points}
 use Rattle.pg_base.specs.declared.kind.Kind.TheVariants.{AvoiderEnforcer}
 use Rattle.std.proofs.lemmas.List.Elements.{filter_agree}
-use Rattle.pg_game.proofs.Members.{false-at, list_any-none}
+use Rattle.pg_game.proofs.Limits.{point_count-le}
+use Rattle.std.proofs.lemmas.List.Elements.{All-weaker}
+use Rattle.pg_game.proofs.Members.{false-at, list_any-none, list_any-one, member-from_any}
 use Rattle.pg_base.specs.declared.side.Side.{Side}
 use Rattle.std.specs.List.{filter, range_with_len, list_any, Contains}
 use Rattle.std.proofs.lemmas.List.{take_more, get_or_default}
@@ -223,3 +225,52 @@ opened-more p before middle last s is_middle is_last on q =
     or_turned true false = refl
     or_turned false true = refl
     or_turned false false = refl
+
+-- ---- lines that hold a pair
+
+-- a number is a member where some member equals it
+pub Contains-any : (line : List ℕ) (q : ℕ) → list_any (λ v. eqb v q) line ≡ true → Contains line q
+Contains-any line q on =
+    let found = member-from_any (λ v. eqb v q) line on in
+    subst (λ (n : ℕ). Contains line n) (eqb-true found.0 q found.2) found.1
+
+pub any-Contains : (line : List ℕ) (q : ℕ) → Contains line q → list_any (λ v. eqb v q) line ≡ true
+any-Contains line q c = list_any-one (λ v. eqb v q) line q c (eq-eqb q q refl)
+
+-- some pair has both points among those of the line exactly where the line holds it
+pub holds-iff : (points : FinSet nat_cmp) (line : List ℕ) (pairs : List Pair) (r : Bool) → ((q : ℕ) → contains points q ≡ list_any (λ v. eqb v q) line)
+    → r ≡ list_any (λ s. contains points s.a && contains points s.b) pairs → (IsTrue r → Any (HoldsPair line) pairs) × (Any (HoldsPair line) pairs → IsTrue r)
+holds-iff points line pairs r is result = (
+  λ on.
+      let found = member-from_any (λ s. contains points s.a && contains points s.b) pairs (sym result ∙ on) in
+      let s = found.0 in
+      let both = and_parts (contains points s.a) (contains points s.b) found.2 in
+      let c = found.1 in
+      (c.0, s, c.1, c.2, (Contains-any line s.a (sym (is s.a) ∙ both.0), Contains-any line s.b (sym (is s.b) ∙ both.1))),
+  λ held.
+      let s = held.1 in
+      let member : Contains pairs s = (held.0, held.2, held.3) in
+      result ∙ list_any-one (λ t. contains points t.a && contains points t.b) pairs s member
+      (and_from _ _ (is s.a ∙ any-Contains line s.a held.4.0) (is s.b ∙ any-Contains line s.b held.4.1)),
+)
+
+-- the points of a line, one more
+pub on_line-more : (line : List ℕ) (i d : ℕ) (points next : FinSet nat_cmp) → i < length line → ((q : ℕ) → contains points q ≡ list_any (λ v. eqb v q) (take i line))
+    → next ≡ insert points (get_or line i d) → (q : ℕ) → contains next q ≡ list_any (λ v. eqb v q) (take (i + 1) line)
+on_line-more line i d points next h is next_is q =
+    ap (λ s. contains s q) next_is ∙ in_insert points (get_or line i d) q ∙ ap (λ b. eqb q (get_or line i d) || b) (is q)
+    ∙ or_turned (eqb q (get_or line i d)) (list_any (λ v. eqb v q) (take i line))
+    ∙ ap (λ b. list_any (λ v. eqb v q) (take i line) || b) (same_eq q (get_or line i d))
+    ∙ sym (list_any_more (λ v. eqb v q) line i d h)
+  where
+    or_turned : (a b : Bool) → (a || b) ≡ (b || a)
+    or_turned true true = refl
+    or_turned true false = refl
+    or_turned false true = refl
+    or_turned false false = refl
+
+-- the points of pairs of the game are below 1,024
+pub pairs-few : (g : Game) (pairs : List Pair) → All (IsInGame g) pairs → All (λ s. (s.a < 1024) × (s.b < 1024)) pairs
+pairs-few g pairs range =
+    let few = point_count-le g in
+    All-weaker (IsInGame g) (λ s. (s.a < 1024) × (s.b < 1024)) (λ s here. (omega (arith, few, here.0), omega (arith, few, here.1))) pairs range

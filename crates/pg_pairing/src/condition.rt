@@ -1,6 +1,6 @@
 //! Whether pairs hold.
-ghost use Rattle.std.specs.Prelude.{◌≡◌, ℕ, ◌<◌, ◌≤◌, ◌↔◌, ◌&&◌, ◌||◌, not, IsTrue, IsSome, IfSome, nat_lt, if◌then◌else◌, length};
-ghost use Rattle.std.specs.List.{All, filter};
+ghost use Rattle.std.specs.Prelude.{◌≡◌, ◌==◌, ℕ, ◌<◌, ◌≤◌, ◌↔◌, ◌&&◌, ◌||◌, not, IsTrue, IsSome, IfSome, nat_lt, if◌then◌else◌, length};
+ghost use Rattle.std.specs.List.{All, filter, list_any};
 ghost use Rattle.std.specs.FinSet as set;
 ghost use Rattle.pg_base.specs.declared.goal.Goal.TheVariants.{Win, Draw};
 ghost use Rattle.pg_base.specs.declared.kind.Kind.TheVariants.{AvoiderEnforcer};
@@ -116,12 +116,33 @@ fn leave_none(g: &Game, p: &Position, pairs: &[Pair], paired: &PointSet) -> bool
     count_outside(g, p, paired) == unpaired_due(p.turn)
 }
 
+/// The points of the line.
+fn points_on(line: &Line) -> PointSet
+    requires { All (λ v. v < 1024) line.now }
+    ensures { (q : ℕ) → set.contains result q ≡ list_any (λ v. v == q) line.now }
+{
+    let mut points = PointSet::empty();
+    for v in line.as_slice() {
+        points.put(*v);
+    }
+    points
+}
+
+/// Whether both points of some pair are in the set.
+fn has_both(points: &PointSet, pairs: &[Pair]) -> bool
+    requires { All (λ s. (s.a < 1024) × (s.b < 1024)) pairs.now }
+    ensures { result ≡ list_any (λ s. set.contains points.now s.a && set.contains points.now s.b) pairs.now }
+{
+    pairs.iter().any(|s| points.has(s.a) && points.has(s.b))
+}
+
 /// Whether the line has one of the points, or holds both points of some pair.
 fn is_safe(own: &PointSet, line: &Line, pairs: &[Pair]) -> bool
-    requires { All (λ v. v < 1024) line.now }
+    requires line_range { All (λ v. v < 1024) line.now }
+    requires pairs_range { All (λ s. (s.a < 1024) × (s.b < 1024)) pairs.now }
     ensures { IsTrue result ↔ IsSafe own.now pairs.now line.now }
 {
-    touches(own, line) || pairs.iter().any(|s| line.has(s.a) && line.has(s.b))
+    touches(own, line) || has_both(&points_on(line), pairs)
 }
 
 /// The side whose points make a line harmless to the claimer.
@@ -136,6 +157,7 @@ fn breaker_of(kind: Kind, side: Side) -> Side
 
 /// Whether every line meant holds both points of some pair.
 fn hold_lines(g: &Game, p: &Position, side: Side, pairs: &[Pair]) -> bool
+    requires { All (λ s. (s.a < 1024) × (s.b < 1024)) pairs.now }
     ensures { IsTrue result ↔ HoldLines g.now p.now side pairs.now }
 {
     let own = p.points_of(breaker_of(g.kind, side));

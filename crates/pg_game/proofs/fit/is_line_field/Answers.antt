@@ -1,4 +1,4 @@
-use Rattle.std.proofs.Common.{arith, true, refl, ◌∙◌, sym, ap, length}
+use Rattle.std.proofs.Common.{arith}
 use Rattle.pg_game.proofs.Limits.{few_summed}
 use Rattle.pg_game.proofs.fit.is_line_field.Goals as goal
 

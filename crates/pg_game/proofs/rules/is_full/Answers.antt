@@ -1,4 +1,4 @@
-use Rattle.std.proofs.Common.{◌≡◌, ℕ, ◌<◌, ◌∙◌, sym, subst, arith}
+use Rattle.std.proofs.Common.{◌∙◌, sym, arith}
 use Rattle.pg_game.proofs.FreePoints.{is_full-none, is_full-one}
 use Rattle.pg_game.proofs.rules.is_full.Goals as goal
 

@@ -3,9 +3,18 @@ use Rattle.pg_base.specs.declared.goal.Goal.TheVariants.{Win}
 use Rattle.pg_base.specs.declared.side.Side.{Side}
 use Rattle.pg_game.specs.Pairs.{PairsHold}
 use Rattle.pg_game.specs.Value.{Forces}
-use Rattle.pg_pairing.proofs.PairLoops.{PairsHold-from}
+use Rattle.pg_pairing.proofs.PairLoops.{PairsHold-from, pairs-few}
 use Rattle.pg_pairing.proofs.PairLaws.{Forces-pairs_breaker, Forces-pairs_draw, Forces-pairs_avoider}
 use Rattle.pg_pairing.proofs.condition.holds.Goals as goal
+
+pub hold_lines-requires : goal.hold_lines-requires
+hold_lines-requires c = pairs-few c.args.g.now c.args.pairs.now (c.in-Some.ensures.open.0 refl).range
+
+pub returns-then-leave_none-clause-exact : goal.returns-then-leave_none-clause-exact
+returns-then-leave_none-clause-exact c = (
+  λ on. PairsHold-from c.args.g.now c.args.p.now c.args.side c.args.pairs.now (c.in-Some.ensures.open.0 refl) (c.hold_lines.ensures.0 on) (c.leave_none.ensures.0 c.if-leave_none.true),
+  λ held. c.hold_lines.ensures.1 held.held,
+)
 
 pub returns-then-leave_none-clause-breaker : goal.returns-then-leave_none-clause-breaker
 returns-then-leave_none-clause-breaker c = λ on kind is_y.

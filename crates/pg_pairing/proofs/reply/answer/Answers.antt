@@ -6,13 +6,12 @@ use Rattle.pg_game.specs.Position.{is_free}
 use Rattle.pg_game.specs.Game.{point_count}
 use Rattle.pg_game.proofs.Limits.{point_count-le}
 use Rattle.pg_pairing.specs.Rest.{RestHolds}
+use Rattle.pg_pairing.proofs.PairLoops.{pairs-few}
 use Rattle.pg_pairing.proofs.AnswerLaws.{answer-free, keeps_replied, keeps_unreplied, keeps_in_turn}
 use Rattle.pg_pairing.proofs.reply.answer.Goals as goal
 
 pub choose-requires : goal.choose-requires
-choose-requires c =
-    let few = point_count-le c.args.g.now in
-    All-weaker (IsInGame c.args.g.now) (λ s. (s.a < 1024) × (s.b < 1024)) (λ s here. (omega (arith, few, here.0), omega (arith, few, here.1))) c.args.pairs.now c.requires.pairs.range
+choose-requires c = pairs-few c.args.g.now c.args.pairs.now c.requires.pairs.range
 
 pub returns-clause-within : goal.returns-clause-within
 returns-clause-within c =
