@@ -8,3 +8,11 @@ pub mod Strategy
 pub mod Judge
 pub mod Walked
 pub mod PositionLemmas
+pub mod Avoider
+pub mod Class
+pub mod Decided
+pub mod Pairs
+pub mod Potential
+pub mod Settled
+pub mod Threat
+pub mod Trees
