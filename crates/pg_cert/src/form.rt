@@ -11,13 +11,21 @@ use pg_base::Side;
 /// The eight bodies of a node line.
 #[derive(Clone, Copy, Debug, PartialEq, Eq)]
 pub(crate) enum Form {
+    /// `over`.
     Over,
+    /// `move`: a point and a child.
     Move,
+    /// `all`: points, each with a child.
     All,
+    /// `pairs`: pairs of points.
     Pairs,
+    /// `potential`.
     Potential,
+    /// `trees`: two sets of edges.
     Trees,
+    /// `cuts`: two sets of edges.
     Cuts,
+    /// `threat`: an odd number of points.
     Threat,
 }
 

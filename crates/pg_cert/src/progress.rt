@@ -35,8 +35,11 @@ pub(crate) enum Due {
 /// Which line is due, and how many claims and nodes have been told.
 #[derive(Clone, Copy, Debug)]
 pub(crate) struct Progress {
+    /// The line that is due.
     pub(crate) due: Due,
+    /// How many claims have begun.
     pub(crate) claims: u32,
+    /// How many nodes their `nodes` lines promise together.
     pub(crate) nodes: u32,
 }
 
@@ -52,6 +55,7 @@ impl Progress {
         }
     }
 
+    /// Reads the first line.
     fn header(&mut self, line: &[u8]) -> Result<Option<Part>, ReadError>
         ensures { Steps result self.new (header_step self.old line.now) }
     {
@@ -62,6 +66,7 @@ impl Progress {
         Ok(None)
     }
 
+    /// Reads a claim line.
     fn claim(&mut self, line: &[u8]) -> Result<Option<Part>, ReadError>
         ensures { Steps result self.new (claim_step self.old line.now) }
     {
@@ -79,6 +84,7 @@ impl Progress {
         Ok(None)
     }
 
+    /// Reads the `nodes` line of a claim.
     fn count(&mut self, head: Head, line: &[u8]) -> Result<Option<Part>, ReadError>
         ensures { Steps result self.new (count_step head self.old line.now) }
     {
@@ -99,6 +105,7 @@ impl Progress {
         Ok(Some(Part::Claim { head, nodes }))
     }
 
+    /// Reads a node line, behind which so many others stand.
     fn node(&mut self, alloc: Global, others: u32, line: &[u8]) -> Result<Option<Part>, ReadError>
         ensures { Steps result self.new (node_step others self.old line.now) }
     {

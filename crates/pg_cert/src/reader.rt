@@ -16,16 +16,22 @@ use std::alloc::Global;
 /// A certificate that comes in pieces: what its whole lines have said, and the line in hand.
 #[derive(Debug, Drop)]
 pub(crate) struct CertReader {
+    /// The bytes of the line in hand.
     pub(crate) pending: Vec<u8>,
+    /// Which line is due.
     pub(crate) progress: Progress,
+    /// How many lines have come, up to the first that is faulty.
     pub(crate) count: u32,
+    /// The first fault with the number of its line.
     pub(crate) fault: Option<(Fault, u32)>,
 }
 
 /// How many bytes were used, and the part that is whole with them.
 #[derive(Debug, Drop)]
 pub(crate) struct Fed {
+    /// How many bytes of the piece were used.
     pub(crate) used: usize,
+    /// The part that is whole with them.
     pub(crate) part: Option<Part>,
 }
 

@@ -22,8 +22,11 @@ const GREATEST_FILE: usize = 268_435_456;
 /// The claims of parts, in order: those that are whole, and one whose nodes are gathered.
 #[derive(Debug, Drop)]
 pub(crate) struct Gatherer {
+    /// The claims that are whole.
     pub(crate) claims: Vec<Claim>,
+    /// What the claim says whose nodes are gathered.
     pub(crate) head: Option<Head>,
+    /// Its nodes so far.
     pub(crate) nodes: Vec<Node>,
 }
 

@@ -55,8 +55,8 @@ err_is f g n m e =
     (ap (λ (x : Fault × ℕ). x.0) p, ap (λ (x : Fault × ℕ). x.1) p)
 
 first_of : (d : Draft) (n : ℕ) (line : Bytes) (others : List Bytes) (fault : Fault) (m : ℕ) (r : Result Draft Fault) → after d line ≡ r
-  → ((next : Draft) → reading (n + 1) next others ≡ Err (fault, m) → (i : ℕ) × (m ≡ n + 1 + i) × IsFaultAfter next others fault i)
-  → go_on n r (λ next. reading (n + 1) next others) ≡ Err (fault, m) → (i : ℕ) × (m ≡ n + i) × IsFaultAfter d (line ∷ others) fault i
+    → ((next : Draft) → reading (n + 1) next others ≡ Err (fault, m) → (i : ℕ) × (m ≡ n + 1 + i) × IsFaultAfter next others fault i)
+    → go_on n r (λ next. reading (n + 1) next others) ≡ Err (fault, m) → (i : ℕ) × (m ≡ n + i) × IsFaultAfter d (line ∷ others) fault i
 unfolding reading
 first_of d n line others fault m (Ok next) e go h =
     let rec = go next h in

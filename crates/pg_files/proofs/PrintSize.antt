@@ -197,10 +197,15 @@ printed_small g fit =
     let y = smaller (field_points g.field) (members g.y) field.0 (below-members (field_points g.field) g.y fit.y_range) in
     let parts = parts_len header (worded keys.Kind (kind_name g.kind)) (worded keys.Turn (side_name g.turn)) (field_words g.field) (marked keys.X (members g.x)) (marked keys.Y (members g.y)) in
     let kind_words : AreWords (worded keys.Kind (kind_name g.kind)) = rw (kind_is_word g.kind) refl in
-    let turn_words : AreWords (worded keys.Turn (side_name g.turn)) = rw (side_is_word g.turn) refl in
-    (
-      (refl, (kind_words, both_words (field_words g.field) (marked keys.X (members g.x) ++ (marked keys.Y (members g.y) ++ worded keys.Turn (side_name g.turn) ∷ [])) field.1.0
-          (both_words (marked keys.X (members g.x)) (marked keys.Y (members g.y) ++ worded keys.Turn (side_name g.turn) ∷ []) (marks_words keys.X (members g.x) x)
-          (both_words (marked keys.Y (members g.y)) (worded keys.Turn (side_name g.turn) ∷ []) (marks_words keys.Y (members g.y) y) (turn_words, tt))))),
+    let turn_words : AreWords (worded keys.Turn (side_name g.turn)) = rw (side_is_word g.turn) refl in (
+      (
+        refl,
+        (
+          kind_words,
+          both_words (field_words g.field) (marked keys.X (members g.x) ++ (marked keys.Y (members g.y) ++ worded keys.Turn (side_name g.turn) ∷ [])) field.1.0
+              (both_words (marked keys.X (members g.x)) (marked keys.Y (members g.y) ++ worded keys.Turn (side_name g.turn) ∷ []) (marks_words keys.X (members g.x) x)
+              (both_words (marked keys.Y (members g.y)) (worded keys.Turn (side_name g.turn) ∷ []) (marks_words keys.Y (members g.y) y) (turn_words, tt))),
+        ),
+      ),
       sum_len (length (printed g)) _ _ _ _ _ _ (ap length (printed_parts g) ∙ parts) (lit≤ tt) (kind_line_len g.kind) field.1.1 (marks_len keys.X (members g.x) x (members-length g.x)) (marks_len keys.Y (members g.y) y (members-length g.y)) (turn_line_len g.turn),
     )

@@ -104,7 +104,7 @@ one_line kind d l h fits room total =
     let short : length l ≤ 100 = fits.short in
     let read = keyed_line d l (line_in_place kind d h.on_lines h.kind_is h.two h.four) counted small (repeats_none l fits.ascending) some short room total in
     goes_one d (record d { rank = 4; lines = d.lines ++ l ∷ [] }) (spaced (numbered keys.Line l))
-        (after_keyed d keys.Line (map decimal l) h.begun (decimals_are_words l small) ∙ read ∙ ap (λ (k : List ℕ). Ok (record d { rank = 4; lines = d.lines ++ k ∷ [] })) again)
+    (after_keyed d keys.Line (map decimal l) h.begun (decimals_are_words l small) ∙ read ∙ ap (λ (k : List ℕ). Ok (record d { rank = 4; lines = d.lines ++ k ∷ [] })) again)
 
 all_lines : (kind : Kind) (d : Draft) (ls : List (List ℕ)) → TakesLines kind d → All (IsLineOf d.points 1) ls → length d.lines + length ls ≤ 20000 → sum_by length d.lines + sum_by length ls ≤ 400000
     → Goes d (text (map (numbered keys.Line) ls)) (with_lines d ls)
@@ -138,7 +138,7 @@ one_edge d e h first second room =
     let few = h.few in
     let small = two_small e.0 e.1 (omega arith) (omega arith) in
     goes_one d (record d { rank = 4; ends = d.ends ++ e ∷ [] }) (spaced (edge_words e))
-        (after_keyed d keys.Edge (map decimal (e.0 ∷ e.1 ∷ [])) h.begun (decimals_are_words (e.0 ∷ e.1 ∷ []) small) ∙ keyed_edge d e.0 e.1 (edge_in_place d h.kind_is h.three h.four) first second few room)
+    (after_keyed d keys.Edge (map decimal (e.0 ∷ e.1 ∷ [])) h.begun (decimals_are_words (e.0 ∷ e.1 ∷ []) small) ∙ keyed_edge d e.0 e.1 (edge_in_place d h.kind_is h.three h.four) first second few room)
 
 all_edges : (d : Draft) (es : List (ℕ × ℕ)) → TakesEdges d → All (λ e. (e.0 < d.vertices) × (e.1 < d.vertices)) es → length d.ends + length es ≤ 1000 → Goes d (text (map edge_words es)) (with_ends d es)
 all_edges d [] h fits room = λ n others. (n, ap (λ (es : List (ℕ × ℕ)). reading n (record d { ends = es }) others) (sym (append-nil d.ends)))
@@ -172,9 +172,13 @@ marks_x kind d [] s h five none is below different = (d.rank, h.needed, omega ar
 marks_x kind d (m ∷ ms) s h five none is below different =
     let ns : List ℕ = m ∷ ms in
     let small = smaller (points_so_far d) ns h.few below in
-    let place = ap (λ (k : Option Kind). is_misplaced k d keys.X) h.kind_is ∙ in_place kind d keys.X refl five h.needed refl in
-    (5, needed_small kind 5 (lit≤ tt), lit< tt, goes_one d (record d { rank = 5; x = s }) (spaced (numbered keys.X ns))
-        (after_keyed d keys.X (map decimal ns) h.begun (decimals_are_words ns small) ∙ keyed_x d ns place below small different ∙ ap (λ (x : FinSet nat_cmp). Ok (record d { rank = 5; x = x })) is))
+    let place = ap (λ (k : Option Kind). is_misplaced k d keys.X) h.kind_is ∙ in_place kind d keys.X refl five h.needed refl in (
+      5,
+      needed_small kind 5 (lit≤ tt),
+      lit< tt,
+      goes_one d (record d { rank = 5; x = s }) (spaced (numbered keys.X ns))
+          (after_keyed d keys.X (map decimal ns) h.begun (decimals_are_words ns small) ∙ keyed_x d ns place below small different ∙ ap (λ (x : FinSet nat_cmp). Ok (record d { rank = 5; x = x })) is),
+    )
 
 marks_y : (kind : Kind) (d : Draft) (ns : List ℕ) (s : FinSet nat_cmp) → TakesMarks kind d → d.rank < 6 → d.y ≡ empty → set_of ns ≡ s → list_all (λ n. nat_lt n (points_so_far d)) ns ≡ true → repeats d.x ns ≡ false
     → (rank : ℕ) × (cond (is_switching kind) 3 2 ≤ rank) × (rank < 7) × Goes d (text (marked keys.Y ns)) (record d { rank = rank; y = s })
@@ -182,9 +186,13 @@ marks_y kind d [] s h six none is below different = (d.rank, h.needed, omega ari
 marks_y kind d (m ∷ ms) s h six none is below different =
     let ns : List ℕ = m ∷ ms in
     let small = smaller (points_so_far d) ns h.few below in
-    let place = ap (λ (k : Option Kind). is_misplaced k d keys.Y) h.kind_is ∙ in_place kind d keys.Y refl six h.needed refl in
-    (6, needed_small kind 6 (lit≤ tt), lit< tt, goes_one d (record d { rank = 6; y = s }) (spaced (numbered keys.Y ns))
-        (after_keyed d keys.Y (map decimal ns) h.begun (decimals_are_words ns small) ∙ keyed_y d ns place below small different ∙ ap (λ (y : FinSet nat_cmp). Ok (record d { rank = 6; y = y })) is))
+    let place = ap (λ (k : Option Kind). is_misplaced k d keys.Y) h.kind_is ∙ in_place kind d keys.Y refl six h.needed refl in (
+      6,
+      needed_small kind 6 (lit≤ tt),
+      lit< tt,
+      goes_one d (record d { rank = 6; y = s }) (spaced (numbered keys.Y ns))
+          (after_keyed d keys.Y (map decimal ns) h.begun (decimals_are_words ns small) ∙ keyed_y d ns place below small different ∙ ap (λ (y : FinSet nat_cmp). Ok (record d { rank = 6; y = y })) is),
+    )
 
 the_turn : (kind : Kind) (d : Draft) (turn : Side) → TakesMarks kind d → d.rank < 7 → Goes d (text (worded keys.Turn (side_name turn) ∷ [])) (record d { rank = 7; turn = Some turn })
 the_turn kind d turn h seven =
@@ -209,7 +217,7 @@ tail_goes kind d x y turn points h five no_x no_y is x_below y_below apart =
     let e = the_turn kind d2 turn h2 b.2 in
     let d3 : Draft = record d2 { rank = 7; turn = Some turn } in
     goes_both d d1 d3 (marked keys.X (members x)) (marked keys.Y (members y) ++ worded keys.Turn (side_name turn) ∷ []) a.3
-        (goes_both d1 d2 d3 (marked keys.Y (members y)) (worded keys.Turn (side_name turn) ∷ []) b.3 e)
+    (goes_both d1 d2 d3 (marked keys.Y (members y)) (worded keys.Turn (side_name turn) ∷ []) b.3 e)
 
 -- ---- the first lines
 
@@ -221,7 +229,7 @@ head_goes : (kind : Kind) → Goes nothing (text (header ∷ worded keys.Kind (k
 head_goes kind =
     let d1 : Draft = record nothing { begun = true } in
     goes_then nothing d1 (of_kind kind) (spaced header ∷ []) (spaced (worded keys.Kind (kind_name kind)) ∷ []) (goes_one nothing d1 (spaced header) header_is)
-        (goes_one d1 (of_kind kind) (spaced (worded keys.Kind (kind_name kind))) (after_keyed d1 keys.Kind (kind_name kind ∷ []) refl (rw (kind_is_word kind) refl) ∙ keyed_kind kind))
+    (goes_one d1 (of_kind kind) (spaced (worded keys.Kind (kind_name kind))) (after_keyed d1 keys.Kind (kind_name kind ∷ []) refl (rw (kind_is_word kind) refl) ∙ keyed_kind kind))
 
 -- the draft after the number of points or the grid
 abbrev of_size : Kind → ℕ → Option Grid → Draft
@@ -231,13 +239,13 @@ size_goes : (kind : Kind) (points : ℕ) (grid : Option Grid) → is_switching k
     → Goes (of_kind kind) (text (size_words points grid ∷ [])) (of_size kind points grid)
 size_goes kind points None on some few cells =
     goes_one (of_kind kind) (of_size kind points None) (spaced (size_words points None))
-        (after_keyed (of_kind kind) keys.Points (map decimal (points ∷ [])) refl (decimals_are_words (points ∷ []) (one_small points (omega arith))) ∙ keyed_points kind points on some few)
+    (after_keyed (of_kind kind) keys.Points (map decimal (points ∷ [])) refl (decimals_are_words (points ∷ []) (one_small points (omega arith))) ∙ keyed_points kind points on some few)
 size_goes kind points (Some g) on some few cells =
     let is = cells g refl in
     let sides = factors g.width g.height points is some in
     let small = two_small g.width g.height (omega (arith, sides.0)) (omega (arith, sides.1)) in
     goes_one (of_kind kind) (of_size kind points (Some g)) (spaced (size_words points (Some g)))
-        (after_keyed (of_kind kind) keys.Grid (map decimal (g.width ∷ g.height ∷ [])) refl (decimals_are_words (g.width ∷ g.height ∷ []) small) ∙ keyed_grid kind g.width g.height on (omega (arith, is)) (omega (arith, is)) ∙ ap (λ (n : ℕ). Ok (of_size kind n (Some g))) is)
+    (after_keyed (of_kind kind) keys.Grid (map decimal (g.width ∷ g.height ∷ [])) refl (decimals_are_words (g.width ∷ g.height ∷ []) small) ∙ keyed_grid kind g.width g.height on (omega (arith, is)) (omega (arith, is)) ∙ ap (λ (n : ℕ). Ok (of_size kind n (Some g))) is)
 
 rank_bounds : {X : Type 0} (xs : List X) (r : ℕ) → r < 5 → (r ≤ 4) × (rank_after r xs < 5)
 rank_bounds [] r lt = (omega arith, lt)
@@ -263,7 +271,7 @@ lines_go kind f on h =
     let d : Draft = of_size kind f.points f.grid in
     let takes : TakesLines kind d = record { begun = refl; kind_is = refl; on_lines = on; two = lit≤ tt; four = lit≤ tt; few = few } in
     goes_then (of_kind kind) d (of_lines kind f) (text (size_words f.points f.grid ∷ [])) (text (map (numbered keys.Line) f.lines)) (size_goes kind f.points f.grid on some few h.cells)
-        (all_lines kind d f.lines takes h.lines (omega (arith, h.few_lines)) (omega (arith, h.few_summed)))
+    (all_lines kind d f.lines takes h.lines (omega (arith, h.few_lines)) (omega (arith, h.few_summed)))
 
 lines_take : (kind : Kind) (f : LineField) → is_switching kind ≡ false → AreLinesOf 1 f → TakesMarks kind (of_lines kind f)
 lines_take kind f on h = record {
@@ -312,7 +320,7 @@ graph_goes h b =
     let takes : TakesEdges d3 = record { begun = refl; kind_is = refl; three = lit≤ tt; four = lit≤ tt; few = few } in
     let e = all_edges d3 h.ends takes b.ends (omega (arith, b.few_edges)) in
     goes_then d1 d2 (of_edges h) (spaced (numbered keys.Vertices (h.vertices ∷ [])) ∷ []) (spaced (numbered keys.Terminals (h.s ∷ h.t ∷ [])) ∷ text (map edge_words h.ends)) v
-        (goes_then d2 d3 (of_edges h) (spaced (numbered keys.Terminals (h.s ∷ h.t ∷ [])) ∷ []) (text (map edge_words h.ends)) t e)
+    (goes_then d2 d3 (of_edges h) (spaced (numbered keys.Terminals (h.s ∷ h.t ∷ [])) ∷ []) (text (map edge_words h.ends)) t e)
 
 -- ---- the whole file
 
@@ -326,7 +334,7 @@ file_goes g d fit field takes five no_x no_y is =
     let tail = marked keys.X (members g.x) ++ (marked keys.Y (members g.y) ++ worded keys.Turn (side_name g.turn) ∷ []) in
     let marks = tail_goes g.kind d g.x g.y g.turn (field_points g.field) takes five no_x no_y is fit.x_range fit.y_range fit.disjoint in
     goes_then nothing (of_kind g.kind) (at_end d g) (text (header ∷ worded keys.Kind (kind_name g.kind) ∷ [])) (text (field_words g.field ++ tail)) (head_goes g.kind)
-        (goes_both (of_kind g.kind) d (at_end d g) (field_words g.field) tail field marks)
+    (goes_both (of_kind g.kind) d (at_end d g) (field_words g.field) tail field marks)
 
 chosen : (begun : Bool) (kind : Option Kind) (turn : Option Side) (d : Draft) (g : Entry) → begun ≡ true → kind ≡ Some g.kind → turn ≡ Some g.turn → field_of g.kind d ≡ g.field → d.x ≡ g.x → d.y ≡ g.y
     → cond begun (game_of d kind turn) (Err (faults.Header, 0)) ≡ Ok g

@@ -183,7 +183,7 @@ within ns q all = elim (cases_Bool (has ns q)) [
 pub members_are : (s : FinSet nat_cmp) (ns : List ℕ) → IsStrictlyIncreasing ns → list_all (λ n. nat_lt n 1024) ns ≡ true → ((q : ℕ) → has ns q ≡ contains s q) → ns ≡ members s
 members_are s ns up below same =
     same_sorted ns (members s) (sorted_from_strictly_increasing ns up) (sorted_from_strictly_increasing (members s) (members-ascend s))
-        (λ q. within ns q below ∙ ap (λ b. b && nat_lt q 1024) (same q) ∙ sym (has-members s q))
+    (λ q. within ns q below ∙ ap (λ b. b && nat_lt q 1024) (same q) ∙ sym (has-members s q))
 
 below_permutation : (limit : ℕ) (ns ms : List ℕ) → ((q : ℕ) → has ms q ≡ true → has ns q ≡ true) → list_all (λ n. nat_lt n limit) ns ≡ true → list_all (λ n. nat_lt n limit) ms ≡ true
 below_permutation limit ns [] from all = refl
@@ -195,7 +195,7 @@ below_permutation limit ns (m ∷ ms) from all =
 pub sorted_is_ascending : (ns line : List ℕ) → list_all (λ n. nat_lt n 1024) ns ≡ true → IsPermutation ns line → IsStrictlyIncreasing line → line ≡ ascending ns
 sorted_is_ascending ns line below moved up =
     members_are (set_of ns) line up (below_permutation 1024 ns line (λ q h. sym (has-permutation ns line q moved) ∙ h) below)
-        (λ q. has-permutation ns line q moved ∙ sym (in_set_of ns q))
+    (λ q. has-permutation ns line q moved ∙ sym (in_set_of ns q))
 
 -- ---- repeated numbers
 
@@ -300,7 +300,7 @@ repeats_none ns up = repeats_from_sorted empty ns (sorted_from_strictly_increasi
 pub length-ascending : (ns : List ℕ) → list_all (λ n. nat_lt n 1024) ns ≡ true → repeats empty ns ≡ false → length (ascending ns) ≡ length ns
 length-ascending ns below different =
     length-from_same_keys same-equivalence (ascending ns) ns (distinct_from_repeats empty (ascending ns) (repeats_none (ascending ns) (members-ascend (set_of ns)))) (distinct_from_repeats empty ns different)
-        (λ q. has-ascending ns q below)
+    (λ q. has-ascending ns q below)
 
 below_keys : (limit : ℕ) (ms : List ℕ) → ((q : ℕ) → has ms q ≡ true → nat_lt q limit ≡ true) → list_all (λ n. nat_lt n limit) ms ≡ true
 below_keys limit [] from = refl

@@ -579,8 +579,8 @@ sound_significant d next ws sound e =
       | inr h ↦ elim (chosen (is_header ws) (done (record d { begun = true })) (Err faults.Header) (Ok next) h.1) [
         | inl k ↦ subst IsSound (ok_is (record d { begun = true }) next k.1) (begins d sound)
         | inr k ↦ absurd (cc k.1)
-        ]
       ]
+    ]
 
 pub sound_after : (d next : Draft) (line : Bytes) → IsSound d → after d line ≡ Ok next → IsSound next
 unfolding after
@@ -590,8 +590,8 @@ sound_after d next line sound e =
       | inr h ↦ elim (chosen (begins_comment line || length (words line) == 0) (done d) (significant d (words line)) (Ok next) h.1) [
         | inl k ↦ subst IsSound (ok_is d next k.1) sound
         | inr k ↦ sound_significant d next (words line) sound k.1
-        ]
       ]
+    ]
 
 sound_step : (n : ℕ) (r : Result Draft Fault) (others : List Bytes) (last : Draft) → ((next : Draft) → r ≡ Ok next → reading (n + 1) next others ≡ Ok last → IsSound last) → go_on n r (λ next. reading (n + 1) next others) ≡ Ok last → IsSound last
 sound_step n (Ok next) others last h e = h next refl e
@@ -662,10 +662,10 @@ pub fits_sound : (d : Draft) (kind : Kind) (turn : Side) → IsSound d → d.kin
 fits_sound d kind turn sound is said =
     let high : 7 ≤ d.rank = elim (cases_lt d.rank 7) [ inl lt ↦ let none : d.turn ≡ None = sound.order.turn lt in absurd cc | inr ge ↦ ge ] in
     fits_kind kind d
-        (subst (λ (k : Option Kind). HasCount k d.points d.vertices) is (sound.count (omega arith)))
-        (subst (λ (k : Option Kind). HasTerminals k d.vertices d.s d.t) is (sound.terminals (omega arith)))
-        sound.lines sound.ends
-        (subst (λ (k : Option Kind). AreMarks (points_for k d.points (length d.ends)) d.x d.y) is sound.marks)
+    (subst (λ (k : Option Kind). HasCount k d.points d.vertices) is (sound.count (omega arith)))
+    (subst (λ (k : Option Kind). HasTerminals k d.vertices d.s d.t) is (sound.terminals (omega arith)))
+    sound.lines sound.ends
+    (subst (λ (k : Option Kind). AreMarks (points_for k d.points (length d.ends)) d.x d.y) is sound.marks)
 
 -- ---- a whole file
 

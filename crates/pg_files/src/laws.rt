@@ -13,17 +13,14 @@ ghost use Rattle.pg_files.specs.Laws.{IsFirstFault, IsWholeFault};
 pub fn first_fault_is_told()
     ensures line { (text : List ℕ) (fault : Fault) (number : ℕ) → game text ≡ Err (fault, number) → 0 < number → IsFirstFault text fault number }
     ensures whole { (text : List ℕ) (fault : Fault) → game text ≡ Err (fault, 0) → IsWholeFault text fault }
-{
-}
+{}
 
 /// A game that is read is within the limits, and its parts fit together.
 pub fn what_is_read_fits()
     ensures { (text : List ℕ) (g : Entry) → game text ≡ Ok g → IsFit g.kind g.field g.x g.y 1 }
-{
-}
+{}
 
 /// Reading what is printed gives the game back, where Y claims one point a turn.
 pub fn printed_game_is_read()
     ensures { (g : Game) → g.bias ≡ 1 → game (printed (entry g)) ≡ Ok (entry g) }
-{
-}
+{}

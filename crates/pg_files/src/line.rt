@@ -192,8 +192,8 @@ impl Draft {
     fn line_fault(&self, numbers: &[u32]) -> Option<Fault>
         ensures fault { result ≡ least (numbers_faults (view self.now) keys.Line numbers.now) }
         ensures fits { IfNone result (self.now.total + length numbers.now ≤ 400000) }
-    ensures below { IfNone result (IsTrue (list_all (λ n. nat_lt n 1024) numbers.now)) }
-    ensures different { IfNone result (repeats empty numbers.now ≡ false) }
+        ensures below { IfNone result (IsTrue (list_all (λ n. nat_lt n 1024) numbers.now)) }
+        ensures different { IfNone result (repeats empty numbers.now ≡ false) }
     {
         if !are_below(numbers, self.points_so_far()) {
             return Some(Fault::Range);

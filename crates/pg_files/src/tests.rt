@@ -7,6 +7,7 @@ use std::test::Fail;
 type Row = (&'static [u8], u8, u32);
 
 const LINES: &[u8] = b"posgame 1\nkind maker-breaker\n";
+
 const SWITCHING: &[u8] = b"posgame 1\nkind switching\n";
 
 /// Whole files: the first fault of each, by the least number in its line.
@@ -43,7 +44,11 @@ const FILES: [Row; 34] = [
     (b"posgame 1\nkind maker-breaker\nturn x", 5, 3),
     (b"posgame 1\nkind maker-breaker", 12, 0),
     (b"posgame 1\nkind maker-breaker\npoints 3\nline 0 1", 12, 0),
-    (b"  posgame   1  \n\n# a\n kind  maker-breaker \npoints 257", 10, 5),
+    (
+        b"  posgame   1  \n\n# a\n kind  maker-breaker \npoints 257",
+        10,
+        5,
+    ),
     (b"posgame 1\nkind hex\nposgame \xff", 4, 2),
 ];
 
@@ -207,24 +212,39 @@ fn write_number(text: &mut Vec<u8>, n: u8) -> Result<(), Fail> {
 
 #[test]
 fn a_game_with_lines_read_and_printed(rt: HostRuntime) -> Result<(), Fail> {
-    let text = b"# noughts\nposgame 1\nkind maker-maker\ngrid 3 2\n\nline  2 1 0\nline 5 4 3\ny 5 0\nturn y";
+    let text =
+        b"# noughts\nposgame 1\nkind maker-maker\ngrid 3 2\n\nline  2 1 0\nline 5 4 3\ny 5 0\nturn y";
     let game = read_game(rt.alloc(), text).ok().ok_or("a game")?;
-    assert_eq!(rt; (game.kind, game.turn, game.bias), (Kind::MakerMaker, Side::Y, 1));
-    assert_eq!(rt; (game.x.len(), game.y.has(0), game.y.has(5), game.y.len()), (0, true, true, 2));
+    assert_eq!(rt;
+        (game.kind, game.turn, game.bias),
+        (Kind::MakerMaker, Side::Y, 1)
+    );
+    assert_eq!(rt;
+        (game.x.len(), game.y.has(0), game.y.has(5), game.y.len()),
+        (0, true, true, 2)
+    );
     let Field::Lines(field) = &game.field else {
         return Err(Fail::new("lines"));
     };
-    assert_eq!(rt; field.grid, Some(Grid { width: 3, height: 2 }));
+    assert_eq!(rt;
+        field.grid,
+        Some(Grid {
+            width: 3,
+            height: 2
+        })
+    );
     assert_eq!(rt; (field.points, field.lines.as_slice().len()), (6, 2));
     let printed = print_game(rt.alloc(), &game).ok().ok_or("memory")?;
-    let expected = b"posgame 1\nkind maker-maker\ngrid 3 2\nline 0 1 2\nline 3 4 5\ny 0 5\nturn y\n";
+    let expected =
+        b"posgame 1\nkind maker-maker\ngrid 3 2\nline 0 1 2\nline 3 4 5\ny 0 5\nturn y\n";
     assert_eq!(rt; printed.as_slice(), expected.as_slice());
     Ok(())
 }
 
 #[test]
 fn a_switching_game_read_and_printed(rt: HostRuntime) -> Result<(), Fail> {
-    let text = b"posgame 1\nkind switching\nvertices 3\nterminals 2 0\nedge 1 0\nedge 2 2\nedge 1 0\nx 2 0\nturn x\n";
+    let text =
+        b"posgame 1\nkind switching\nvertices 3\nterminals 2 0\nedge 1 0\nedge 2 2\nedge 1 0\nx 2 0\nturn x\n";
     let game = read_game(rt.alloc(), text).ok().ok_or("a game")?;
     let Field::Graph(graph) = &game.field else {
         return Err(Fail::new("a graph"));
@@ -232,7 +252,8 @@ fn a_switching_game_read_and_printed(rt: HostRuntime) -> Result<(), Fail> {
     assert_eq!(rt; (graph.vertices, graph.s, graph.t), (3, 2, 0));
     assert_eq!(rt; graph.ends.as_slice(), [(1, 0), (2, 2), (1, 0)].as_slice());
     let printed = print_game(rt.alloc(), &game).ok().ok_or("memory")?;
-    let expected = b"posgame 1\nkind switching\nvertices 3\nterminals 2 0\nedge 1 0\nedge 2 2\nedge 1 0\nx 0 2\nturn x\n";
+    let expected =
+        b"posgame 1\nkind switching\nvertices 3\nterminals 2 0\nedge 1 0\nedge 2 2\nedge 1 0\nx 0 2\nturn x\n";
     assert_eq!(rt; printed.as_slice(), expected.as_slice());
     Ok(())
 }

@@ -5,8 +5,8 @@ ghost use Rattle.std.specs.FinSet as set;
 ghost use Rattle.pg_base.specs.declared.goal.Goal.TheVariants.{Win, Draw};
 ghost use Rattle.pg_base.specs.declared.kind.Kind.TheVariants.{AvoiderEnforcer};
 ghost use Rattle.pg_game.specs.Position.{is_free};
-ghost use Rattle.pg_game.specs.Game.{point_count, lines_of, is_touched, free_points, IsPosition};
-ghost use Rattle.pg_game.specs.Pairs.{PairsHold, PairsLeaveNone, AreOpenPairs, HoldsPair, HoldLines, IsSafe, has_point, is_paired, breaker_of, unpaired_due};
+ghost use Rattle.pg_game.specs.Game.{lines_of, is_touched, free_points, IsPosition};
+ghost use Rattle.pg_game.specs.Pairs.{PairsHold, PairsLeaveNone, AreOpenPairs, HoldLines, IsSafe, has_point, is_paired, breaker_of, unpaired_due};
 ghost use Rattle.pg_game.specs.Value.{Forces};
 ghost use Rattle.pg_pairing.specs.Taking.{CanTake};
 
@@ -169,7 +169,8 @@ fn hold_lines(g: &Game, p: &Position, side: Side, pairs: &[Pair]) -> bool
 /// claims one point a turn and no free point is left out of the pairs, but one where X is to move.
 ///
 /// Where it answers true, Y wins in Maker-Breaker, whatever the bias; the claimer gets at least a draw in Maker-Maker;
-/// and X wins in Avoider-Enforcer. Who is to move makes no difference. It takes no memory.
+/// and X wins in Avoider-Enforcer. Who is to move makes no difference. A graph has no lines, so there any pairs of free
+/// points hold, and force nothing. It takes no memory.
 ///
 /// The pairing is Hales and Jewett's (Regularity and positional games, 1963).
 pub fn holds(g: &Game, p: &Position, side: Side, pairs: &[Pair]) -> bool

@@ -1,5 +1,5 @@
 //! The answer by pairs.
-ghost use Rattle.std.specs.Prelude.{◌≡◌, ℕ, ◌<◌, ◌&&◌, ◌||◌, not, false, true, None, Option, List};
+ghost use Rattle.std.specs.Prelude.{◌≡◌, ℕ, ◌<◌, ◌&&◌, ◌||◌, not, false, true, None, Option};
 ghost use Rattle.std.specs.List.{All, find, list_any};
 ghost use Rattle.std.specs.FinSet as set;
 ghost use Rattle.pg_base.specs.declared.kind.Kind.TheVariants.{MakerBreaker};

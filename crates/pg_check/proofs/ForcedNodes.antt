@@ -1,0 +1,210 @@
+-- Every node of a valid claim is forced, by induction on its number.
+use Rattle.std.proofs.Common.{◌≡◌, ◌∙◌, ℕ, zero, suc, ◌+◌, ◌<◌, ◌≤◌, Bool, true, false, ◌&&◌, List, [], ◌∷◌, Some, slice_get, length, map, get_or, refl, sym, ap, subst, inl, inr, arith, eqb, eqb-true, eq-eqb}
+use Rattle.std.specs.List.{list_any, All as Each}
+use Rattle.std.specs.FinSet.{FinSet}
+use Rattle.std.specs.Ordering.{nat_cmp}
+use Rattle.std.proofs.lemmas.List.{get_or_default}
+use Rattle.std.proofs.lemmas.Option.{slice_get_within, slice_get-get_or}
+use Rattle.std.proofs.lemmas.Bool.{cases_Bool, false≢true, and_parts, or_parts}
+use Rattle.pg_base.specs.Side.{other}
+use Rattle.pg_base.specs.declared.goal.Goal.{Goal}
+use Rattle.pg_base.specs.declared.goal.Goal.TheVariants.{Win, Draw as AtLeastDraw}
+use Rattle.pg_base.specs.declared.kind.Kind.{Kind}
+use Rattle.pg_base.specs.declared.kind.Kind.TheVariants.{MakerBreaker, MakerMaker, AvoiderEnforcer, Switching}
+use Rattle.pg_base.specs.declared.pair.Pair.{Pair}
+use Rattle.pg_base.specs.declared.score.Score.{Score}
+use Rattle.pg_base.specs.declared.score.Score.TheVariants.{XWins, Draw, YWins}
+use Rattle.pg_base.specs.declared.side.Side.{Side}
+use Rattle.pg_base.specs.declared.side.Side.TheVariants.{X, Y}
+use Rattle.pg_game.specs.declared.game.Game.{Game}
+use Rattle.pg_game.specs.declared.position.Position.{Position}
+use Rattle.pg_game.specs.Position.{is_free}
+use Rattle.pg_game.specs.Game.{point_count, free_points, is_over, after, with_turn, IsPosition}
+use Rattle.pg_game.specs.Value.{reaches, value, Forces}
+use Rattle.pg_game.specs.Pairs.{PairsHold}
+use Rattle.pg_game.proofs.ValueLaws.{Forces-over, Forces-move, Forces-all}
+use Rattle.pg_game.proofs.FreePoints.{any-free_points}
+use Rattle.pg_pairing.proofs.PairLaws.{Forces-pairs_breaker, Forces-pairs_draw, Forces-pairs_avoider}
+use Rattle.pg_cert.specs.declared.cert.Claim.{Claim}
+use Rattle.pg_cert.specs.declared.cert.Cert.{Cert}
+use Rattle.pg_cert.specs.declared.node.Node.{Node}
+use Rattle.pg_cert.specs.declared.node.Body.{Body}
+use Rattle.pg_cert.specs.declared.node.Body.TheVariants.{Over, Move, All, Pairs, Potential, Trees, Cuts, Threat}
+use Rattle.pg_cert.specs.declared.reply.Reply.{Reply}
+use Rattle.pg_cert.specs.declared.node_fault.NodeFault.TheVariants as faults
+use Rattle.pg_cert.specs.Node.{position_of}
+use Rattle.pg_cert.specs.Limits.{IsNode, IsClaim, IsWithinLimits}
+use Rattle.pg_cert.specs.Valid.{is_allowed, is_built, shows_defence, pairs_fit, IsInGame, NamesEarlier, IsNodeOf, FollowsMove, FollowMoves, HasTurn, TakesFree, EndsRight, HasPairs, IsOwed, IsSound, IsValidClaim, IsValid}
+
+-- a win is a draw at least
+win_is_draw : (side : Side) (s : Score) → reaches side Win s ≡ true → reaches side AtLeastDraw s ≡ true
+win_is_draw X XWins h = refl
+win_is_draw X Draw h = absurd (false≢true h)
+win_is_draw X YWins h = absurd (false≢true h)
+win_is_draw Y XWins h = absurd (false≢true h)
+win_is_draw Y Draw h = absurd (false≢true h)
+win_is_draw Y YWins h = refl
+
+-- a forced win serves any goal
+Forces-any : (g : Game) (p : Position) (side : Side) (goal : Goal) → Forces g p side Win → Forces g p side goal
+Forces-any g p side Win h = h
+Forces-any g p side AtLeastDraw h = win_is_draw side (value g p) h
+
+-- ---- pairs
+
+-- where pairs are allowed and hold, they force the goal
+pairs_at : (kind : Kind) (bias : ℕ) (side : Side) (goal : Goal) (g : Game) (p : Position) (pairs : List Pair) → g.kind ≡ kind
+    → (shows_defence kind side goal && pairs_fit kind bias) ≡ true → IsPosition g p → PairsHold g p side pairs → Forces g p side goal
+pairs_at MakerBreaker bias X goal g p pairs kind ok position h = absurd (false≢true ok)
+pairs_at MakerBreaker bias Y goal g p pairs kind ok position h = Forces-any g p Y goal (Forces-pairs_breaker g p pairs kind position h)
+pairs_at MakerMaker bias side Win g p pairs kind ok position h = absurd (false≢true ok)
+pairs_at MakerMaker bias side AtLeastDraw g p pairs kind ok position h = Forces-pairs_draw g p side pairs kind position h
+pairs_at AvoiderEnforcer bias X goal g p pairs kind ok position h = Forces-any g p X goal (Forces-pairs_avoider g p pairs kind position h)
+pairs_at AvoiderEnforcer bias Y goal g p pairs kind ok position h = absurd (false≢true ok)
+pairs_at Switching bias side goal g p pairs kind ok position h = absurd (false≢true ok)
+
+-- ---- bodies that aren't built
+
+no_potential : (kind : Kind) (bias : ℕ) (side : Side) (goal : Goal) → is_built kind Potential ≡ true → is_allowed kind bias side goal Potential ≡ true → ⊥
+no_potential MakerBreaker bias side goal built allowed = false≢true built
+no_potential MakerMaker bias side goal built allowed = false≢true built
+no_potential AvoiderEnforcer bias side goal built allowed = false≢true built
+no_potential Switching bias side goal built allowed = false≢true allowed
+
+no_trees : (kind : Kind) (bias : ℕ) (side : Side) (goal : Goal) (with_e : Bool) (first second : FinSet nat_cmp) → is_built kind (Trees with_e first second) ≡ true → is_allowed kind bias side goal (Trees with_e first second) ≡ true → ⊥
+no_trees MakerBreaker bias side goal with_e first second built allowed = false≢true allowed
+no_trees MakerMaker bias side goal with_e first second built allowed = false≢true allowed
+no_trees AvoiderEnforcer bias side goal with_e first second built allowed = false≢true allowed
+no_trees Switching bias side goal with_e first second built allowed = false≢true built
+
+no_cuts : (kind : Kind) (bias : ℕ) (side : Side) (goal : Goal) (with_e : Bool) (first second : FinSet nat_cmp) → is_built kind (Cuts with_e first second) ≡ true → is_allowed kind bias side goal (Cuts with_e first second) ≡ true → ⊥
+no_cuts MakerBreaker bias side goal with_e first second built allowed = false≢true allowed
+no_cuts MakerMaker bias side goal with_e first second built allowed = false≢true allowed
+no_cuts AvoiderEnforcer bias side goal with_e first second built allowed = false≢true allowed
+no_cuts Switching bias side goal with_e first second built allowed = false≢true built
+
+no_threat : (kind : Kind) (bias : ℕ) (side : Side) (goal : Goal) (points : List ℕ) → is_built kind (Threat points) ≡ true → is_allowed kind bias side goal (Threat points) ≡ true → ⊥
+no_threat MakerBreaker bias side goal points built allowed = false≢true built
+no_threat MakerMaker bias side goal points built allowed = false≢true built
+no_threat AvoiderEnforcer bias side goal points built allowed = false≢true allowed
+no_threat Switching bias side goal points built allowed = false≢true allowed
+
+-- ---- limits of the members
+
+-- a member that is read with itself as the default
+get_or_same : {A : Type 0} (xs : List A) (k : ℕ) (d : A) → k < length xs → get_or xs k d ≡ get_or xs k (get_or xs k d)
+get_or_same xs k d lt = get_or_default xs k d (get_or xs k d) lt
+
+-- what holds of all members holds of one
+member : {A : Type 0} (P : A → Type 0) (xs : List A) (k : ℕ) (x : A) → Each P xs → slice_get xs k ≡ Some x → P x
+member P xs k x all at =
+    let within = slice_get_within xs k x at in
+    let is : Some (get_or xs k x) ≡ Some x = sym (slice_get-get_or xs k x within) ∙ at in
+    let same : get_or xs k x ≡ x = cc in
+    subst (λ y. P y) same (all k x within)
+
+claim_limits : (c : Cert) → IsWithinLimits c → (i : ℕ) (claim : Claim) → slice_get c.claims i ≡ Some claim → IsClaim claim
+claim_limits c limits i claim at = member IsClaim c.claims i claim limits.claims at
+
+node_limits : {c : Claim} → IsClaim c → (j : ℕ) (n : Node) → slice_get c.nodes j ≡ Some n → IsNode n
+node_limits {c = c} limits j n at = member IsNode c.nodes j n limits.nodes at
+
+-- the last node of a claim
+last_node : {c : Claim} → IsClaim c → (k : ℕ) × (n : Node) × (k + 1 ≡ length c.nodes) × (slice_get c.nodes k ≡ Some n)
+last_node {c = c} limits = last_of c.nodes limits.some
+  where
+    last_of : (nodes : List Node) → 0 < length nodes → (k : ℕ) × (n : Node) × (k + 1 ≡ length nodes) × (slice_get nodes k ≡ Some n)
+    last_of [] h = absurd (omega arith)
+    last_of (n ∷ []) h = (0, n, refl, refl)
+    last_of (n ∷ (m ∷ nodes)) h = let rest = last_of (m ∷ nodes) (omega arith) in (suc rest.0, rest.1, omega (arith, rest.2), rest.3)
+
+-- ---- all replies
+
+-- the reply that takes the point
+reply_of : (replies : List Reply) (v : ℕ) → list_any (λ q. eqb q v) (map (λ r. r.point) replies) ≡ true → (k : ℕ) × ((r : Reply) → r ≡ get_or replies k r → r.point ≡ v) × (k < length replies)
+reply_of [] v h = absurd (false≢true h)
+reply_of (r ∷ replies) v h = elim (cases_Bool (eqb r.point v)) [
+  | inl on ↦ (0, λ q is. ap (λ (s : Reply). s.point) is ∙ eqb-true _ _ on, omega arith)
+  | inr off ↦ let rest = reply_of replies v (rw off at h) in (suc rest.0, rest.1, omega (arith, rest.2))
+]
+
+-- ---- nodes
+
+-- a sound node's position is a position of the game
+position-of : (g : Game) (n : Node) → IsNode n → IsInGame g n → IsPosition g (position_of n)
+position-of g n limits in_game = record {
+  x_range = in_game.x;
+  y_range = in_game.y;
+  disjoint = limits.apart;
+  some_left = omega (arith, limits.left);
+  few_left = in_game.left;
+}
+
+module _ (g : Game) (c : Claim) where
+  -- every node before k is forced
+  ForcedBefore : ℕ → Type 0
+  ForcedBefore k = (j : ℕ) (n : Node) → j < k → slice_get c.nodes j ≡ Some n → Forces g (position_of n) c.side c.goal
+
+  child : (k j : ℕ) (q : Position) → ForcedBefore k → j < k → IsNodeOf c.nodes j q → Forces g q c.side c.goal
+  unfolding ForcedBefore
+  child k j q before lt h = subst (λ (p : Position). Forces g p c.side c.goal) h.position (before j h.node lt h.at)
+
+  -- each reply leads to a forced node
+  reply_forced : (k : ℕ) (p : Position) (replies : List Reply) → ForcedBefore k
+      → ((i : ℕ) (d : Reply) → i < length replies → (get_or replies i d).child < k)
+      → ((i : ℕ) (d : Reply) → i < length replies → FollowsMove g c.nodes p (get_or replies i d).point (get_or replies i d).child)
+      → map (λ r. r.point) replies ≡ free_points g p
+      → (v : ℕ) → v < point_count g → is_free p v ≡ true → Forces g (after g p v) c.side c.goal
+  reply_forced k p replies before earlier follow exact v range free =
+      let listed : list_any (λ q. eqb q v) (map (λ r. r.point) replies) ≡ true =
+          subst (λ (vs : List ℕ). list_any (λ q. eqb q v) vs ≡ true) (sym exact) (any-free_points g p (λ q. eqb q v) v range free (eq-eqb v v refl)) in
+      let found = reply_of replies v listed in
+      let some : Reply = record { point = 0; child = 0 } in
+      let r : Reply = get_or replies found.0 some in
+      let point : r.point ≡ v = found.1 r (get_or_same replies found.0 some found.2) in
+      let next = follow found.0 some found.2 in
+      child k r.child (after g p v) before (earlier found.0 some found.2)
+      (subst (λ (q : ℕ). IsNodeOf c.nodes r.child (after g p q)) point (next.leads (subst (λ (q : ℕ). q < point_count g) (sym point) range) (subst (λ (q : ℕ). is_free p q ≡ true) (sym point) free)))
+
+  body : (k : ℕ) (p : Position) (b : Body) → ForcedBefore k → is_built g.kind b ≡ true → is_allowed g.kind g.bias c.side c.goal b ≡ true → IsPosition g p
+      → NamesEarlier k b → FollowMoves g c.nodes p b → HasTurn c.side p b → TakesFree g p b → EndsRight g c.side c.goal p b → HasPairs g c.side p b → Forces g p c.side c.goal
+  body k p Over before built allowed position earlier follow turn takes ends pairs = Forces-over g p c.side c.goal ends.0 ends.1
+  body k p (Move point j) before built allowed position earlier follow turn takes ends pairs =
+      Forces-move g p c.side c.goal ends turn point takes.0 takes.1 (child k j (after g p point) before earlier (follow.leads takes.0 takes.1))
+  body k p (All replies) before built allowed position earlier follow turn takes ends pairs =
+      Forces-all g p c.side c.goal ends turn (reply_forced k p replies before earlier follow takes)
+  body k p (Pairs pairs_of) before built allowed position earlier follow turn takes ends pairs =
+      pairs_at g.kind g.bias c.side c.goal g p pairs_of refl allowed position pairs
+  body k p Potential before built allowed position earlier follow turn takes ends pairs = absurd (no_potential g.kind g.bias c.side c.goal built allowed)
+  body k p (Trees with_e first second) before built allowed position earlier follow turn takes ends pairs = absurd (no_trees g.kind g.bias c.side c.goal with_e first second built allowed)
+  body k p (Cuts with_e first second) before built allowed position earlier follow turn takes ends pairs = absurd (no_cuts g.kind g.bias c.side c.goal with_e first second built allowed)
+  body k p (Threat points) before built allowed position earlier follow turn takes ends pairs = absurd (no_threat g.kind g.bias c.side c.goal points built allowed)
+
+  sound : (k : ℕ) (n : Node) → ForcedBefore k → IsNode n → IsSound g c k n → Forces g (position_of n) c.side c.goal
+  sound k n before limits h =
+      let allowed = h faults.Body in
+      let marks = h faults.Marks in
+      let owed : IsOwed g c n = record { allowed = allowed; in_game = marks.0 } in
+      body k (position_of n) n.body before (h faults.Unbuilt) allowed (position-of g n limits marks.0)
+      (h faults.Child) marks.1 (h faults.Turn owed) (h faults.Moves owed) (h faults.End owed) (h faults.Pairs owed)
+
+  forced-before : IsClaim c → IsValidClaim g c → (k : ℕ) → ForcedBefore k
+  unfolding ForcedBefore
+  forced-before limits valid zero j n lt at = absurd (omega arith)
+  forced-before limits valid (suc k) j n lt at =
+      sound j n (λ i m below here. forced-before limits valid k i m (omega arith) here) (node_limits limits j n at) (valid j n at)
+
+  -- every node of a valid claim is forced
+  pub Forces-node : IsClaim c → IsValidClaim g c → (k : ℕ) (n : Node) → slice_get c.nodes k ≡ Some n → Forces g (position_of n) c.side c.goal
+  unfolding ForcedBefore
+  Forces-node limits valid k n at = forced-before limits valid (suc k) k n (omega arith) at
+
+  -- so its claim is forced from the game's marks
+  pub Forces-claim : IsClaim c → IsValidClaim g c → Forces g (with_turn g c.turn) c.side c.goal
+  Forces-claim limits valid =
+      let last = last_node limits in
+      subst (λ (p : Position). Forces g p c.side c.goal) (valid last.0 last.1 last.3 faults.Root last.2) (Forces-node limits valid last.0 last.1 last.3)
+
+-- every claim of a valid certificate
+pub Forces-claims : (g : Game) (c : Cert) → IsWithinLimits c → IsValid g c → (i : ℕ) (claim : Claim) → slice_get c.claims i ≡ Some claim → Forces g (with_turn g claim.turn) claim.side claim.goal
+Forces-claims g c limits valid i claim at = Forces-claim g claim (claim_limits c limits i claim at) (valid i claim at)

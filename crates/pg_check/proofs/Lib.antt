@@ -1,0 +1,4 @@
+mod NodeTests
+mod ReplyLemmas
+pub mod ClaimLemmas
+pub mod ForcedNodes

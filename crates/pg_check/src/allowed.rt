@@ -1,0 +1,88 @@
+//! Which bodies are allowed, and which nodes stand on the game's points.
+ghost use Rattle.std.specs.Prelude.{◌≡◌, ◌↔◌, IsTrue};
+ghost use Rattle.pg_cert.specs.Valid.{is_allowed, is_built, shows_defence, shows_threats, shows_trees, shows_cuts, pairs_fit, IsInGame};
+
+use pg_base::{Goal, Kind, Side};
+use pg_cert::{Body, Node};
+use pg_game::Game;
+
+/// Whether pairs or a potential can show the goal.
+fn shows_defence(kind: Kind, side: Side, goal: Goal) -> bool
+    ensures { result ≡ shows_defence kind side goal }
+{
+    match kind {
+        Kind::MakerBreaker => matches!(side, Side::Y),
+        Kind::MakerMaker => matches!(goal, Goal::Draw),
+        Kind::AvoiderEnforcer => matches!(side, Side::X),
+        Kind::Switching => false,
+    }
+}
+
+/// Whether threat lines are a means of the side.
+fn shows_threats(kind: Kind, side: Side) -> bool
+    ensures { result ≡ shows_threats kind side }
+{
+    match kind {
+        Kind::MakerBreaker => matches!(side, Side::X),
+        Kind::MakerMaker => true,
+        Kind::AvoiderEnforcer | Kind::Switching => false,
+    }
+}
+
+/// Whether the side is Short.
+fn shows_trees(kind: Kind, side: Side) -> bool
+    ensures { result ≡ shows_trees kind side }
+{
+    matches!(kind, Kind::Switching) && matches!(side, Side::X)
+}
+
+/// Whether the side is Cut.
+fn shows_cuts(kind: Kind, side: Side) -> bool
+    ensures { result ≡ shows_cuts kind side }
+{
+    matches!(kind, Kind::Switching) && matches!(side, Side::Y)
+}
+
+/// Whether pairs are a means where Y claims `bias` points a turn.
+fn pairs_fit(kind: Kind, bias: u8) -> bool
+    ensures { result ≡ pairs_fit kind bias }
+{
+    match kind {
+        Kind::AvoiderEnforcer => bias == 1,
+        Kind::MakerBreaker | Kind::MakerMaker | Kind::Switching => true,
+    }
+}
+
+/// Whether the body is allowed for the side and its goal.
+pub(crate) fn is_allowed(kind: Kind, bias: u8, side: Side, goal: Goal, body: &Body) -> bool
+    ensures { result ≡ is_allowed kind bias side goal body.now }
+{
+    match body {
+        Body::Over | Body::Move { .. } | Body::All(_) => true,
+        Body::Pairs(_) => shows_defence(kind, side, goal) && pairs_fit(kind, bias),
+        Body::Potential => shows_defence(kind, side, goal),
+        Body::Trees { .. } => shows_trees(kind, side),
+        Body::Cuts { .. } => shows_cuts(kind, side),
+        Body::Threat(_) => shows_threats(kind, side) && bias == 1,
+    }
+}
+
+/// Whether this version checks the body in games of the kind, where it is allowed.
+pub(crate) fn is_built(kind: Kind, body: &Body) -> bool
+    ensures { result ≡ is_built kind body.now }
+{
+    match body {
+        Body::Over | Body::Move { .. } | Body::All(_) | Body::Pairs(_) => true,
+        Body::Potential => matches!(kind, Kind::Switching),
+        Body::Trees { .. } | Body::Cuts { .. } => !matches!(kind, Kind::Switching),
+        Body::Threat(_) => matches!(kind, Kind::AvoiderEnforcer | Kind::Switching),
+    }
+}
+
+/// Whether the node's marks are points of the game, and its side claims no more than in a whole turn.
+pub(crate) fn is_in_game(g: &Game, node: &Node) -> bool
+    ensures { IsTrue result ↔ IsInGame g.now node.now }
+{
+    let points = g.points();
+    node.x.is_below(points) && node.y.is_below(points) && node.left <= g.bias_of(node.turn)
+}

@@ -1,0 +1,11 @@
+//! The checker of certificates: it accepts exactly the valid ones, and names the first fault of any other.
+#![tactic(auto)]
+
+mod allowed;
+mod checked;
+mod claims;
+mod leaves;
+mod moves;
+mod node;
+
+pub use checked::{CheckFault, Checked, check, valid_claims_are_forced};

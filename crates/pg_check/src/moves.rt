@@ -1,0 +1,141 @@
+//! Nodes that move on to other nodes.
+ghost use Rattle.std.specs.Prelude.{◌≡◌, ◌<◌, ℕ, List, map, true, ◌↔◌, IsTrue};
+ghost use Rattle.std.specs.List.{All};
+ghost use Rattle.pg_cert.specs.Valid.{NamesEarlier, IsNodeOf, FollowsMove, FollowMoves, HasTurn, TakesFree};
+ghost use Rattle.pg_game.specs.Game.{point_count, free_points};
+ghost use Rattle.pg_game.specs.Position.{is_free};
+
+use pg_base::Side;
+use pg_cert::{Body, Node, Reply};
+use pg_game::{Game, Position};
+
+/// Whether every child has a number below `k`.
+fn are_earlier(k: usize, replies: &[Reply]) -> bool
+    ensures { IsTrue result ↔ All (λ r. r.child < k) replies.now }
+{
+    replies.iter().all(|reply| (reply.child as usize) < k)
+}
+
+/// Whether every child that the body names has a number below `k`.
+pub(crate) fn names_earlier(k: usize, body: &Body) -> bool
+    ensures { IsTrue result ↔ NamesEarlier k body.now }
+{
+    match body {
+        Body::Move { child, .. } => (*child as usize) < k,
+        Body::All(replies) => are_earlier(k, replies.as_slice()),
+        Body::Over
+        | Body::Pairs(_)
+        | Body::Potential
+        | Body::Trees { .. }
+        | Body::Cuts { .. }
+        | Body::Threat(_) => true,
+    }
+}
+
+/// Whether the node of that number has the position.
+fn is_node_of(nodes: &[Node], child: u32, q: &Position) -> bool
+    ensures { IsTrue result ↔ IsNodeOf nodes.now child q.now }
+{
+    match nodes.get(child as usize) {
+        Some(node) => node.position() == *q,
+        None => false,
+    }
+}
+
+/// Whether the child has the position after the move, where the point is free.
+fn follows_move(g: &Game, nodes: &[Node], p: &Position, point: u16, child: u32) -> bool
+    ensures { IsTrue result ↔ FollowsMove g.now nodes.now p.now point child }
+{
+    if point >= g.points() {
+        return true;
+    }
+    if !p.is_free(point) {
+        return true;
+    }
+    is_node_of(nodes, child, &g.after(p, point))
+}
+
+/// Whether the children of all free points have the positions after them.
+fn all_follow(g: &Game, nodes: &[Node], p: &Position, replies: &[Reply]) -> bool
+    ensures { IsTrue result ↔ All (λ r. FollowsMove g.now nodes.now p.now r.point r.child) replies.now }
+{
+    replies
+        .iter()
+        .all(|reply| follows_move(g, nodes, p, reply.point, reply.child))
+}
+
+/// Whether the children of the free points that the body names have the positions after them.
+pub(crate) fn follow_moves(g: &Game, nodes: &[Node], p: &Position, body: &Body) -> bool
+    ensures { IsTrue result ↔ FollowMoves g.now nodes.now p.now body.now }
+{
+    match body {
+        Body::Move { point, child } => follows_move(g, nodes, p, *point, *child),
+        Body::All(replies) => all_follow(g, nodes, p, replies.as_slice()),
+        Body::Over
+        | Body::Pairs(_)
+        | Body::Potential
+        | Body::Trees { .. }
+        | Body::Cuts { .. }
+        | Body::Threat(_) => true,
+    }
+}
+
+/// Whether the side is to move that the body asks for.
+pub(crate) fn has_turn(side: Side, p: &Position, body: &Body) -> bool
+    ensures { IsTrue result ↔ HasTurn side p.now body.now }
+{
+    match body {
+        Body::Move { .. } | Body::Threat(_) => p.turn == side,
+        Body::All(_) => p.turn == side.other(),
+        Body::Over
+        | Body::Pairs(_)
+        | Body::Potential
+        | Body::Trees { .. }
+        | Body::Cuts { .. } => true,
+    }
+}
+
+/// Whether the point is free.
+fn is_free_point(g: &Game, p: &Position, v: u16) -> bool
+    ensures { IsTrue result ↔ ((v < point_count g.now) × (is_free p.now v ≡ true)) }
+{
+    if v >= g.points() {
+        return false;
+    }
+    p.is_free(v)
+}
+
+/// Whether the replies are exactly the free points.
+fn are_free_points(g: &Game, p: &Position, replies: &[Reply]) -> bool
+    ensures { IsTrue result ↔ (map (λ r. r.point) replies.now ≡ free_points g.now p.now) }
+{
+    let mut next = 0;
+    for v in 0..g.points() {
+        if p.is_free(v) {
+            if next >= replies.len() {
+                return false;
+            }
+            if replies[next].point != v {
+                return false;
+            }
+            next += 1;
+        }
+    }
+    next == replies.len()
+}
+
+/// Whether the body takes free points only, and all of them where it names all replies.
+pub(crate) fn takes_free(g: &Game, p: &Position, body: &Body) -> bool
+    ensures { IsTrue result ↔ TakesFree g.now p.now body.now }
+{
+    match body {
+        Body::Move { point, .. } => is_free_point(g, p, *point),
+        Body::All(replies) => are_free_points(g, p, replies.as_slice()),
+        Body::Over
+        | Body::Pairs(_)
+        | Body::Potential
+        | Body::Trees { .. }
+        | Body::Cuts { .. }
+        | Body::Threat(_) => true,
+    }
+}

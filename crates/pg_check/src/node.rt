@@ -1,0 +1,150 @@
+//! One node against the table of faults.
+ghost use Rattle.std.specs.Prelude.{◌≡◌, ◌≢◌, ◌<◌, ◌≤◌, ◌+◌, ℕ, ◌↔◌, IsTrue, IfSome, IfNone, length, slice_get, Some, true};
+ghost use Rattle.pg_base.specs.Points.{ShareNone};
+ghost use Rattle.pg_game.specs.Judge.{IsMadeForGame};
+ghost use Rattle.pg_game.specs.Game.{IsPosition, is_over, outcome};
+ghost use Rattle.pg_game.specs.Value.{reaches};
+ghost use Rattle.pg_cert.specs.Node.{position_of};
+ghost use Rattle.pg_cert.specs.Valid.{Passes, IsOwed, IsRoot, IsSound, IsLeastFault, EndsRight, is_built};
+
+use crate::allowed::{is_allowed, is_built, is_in_game};
+use crate::leaves::{has_cuts, has_pairs, has_potential, has_threat, has_trees};
+use crate::moves::{follow_moves, has_turn, names_earlier, takes_free};
+use pg_base::{Goal, Side};
+use pg_cert::{Body, Claim, Node, NodeFault};
+use pg_game::{Game, Judge, Position, reaches};
+
+/// Whether more than its marks, its children and its place is asked of the node.
+fn is_owed(g: &Game, claim: &Claim, node: &Node) -> bool
+    ensures { IsTrue result ↔ IsOwed g.now claim.now node.now }
+{
+    is_allowed(g.kind, g.bias, claim.side, claim.goal, &node.body) && is_in_game(g, node)
+}
+
+/// Whether the game is over with the goal reached.
+fn is_won(judge: &mut Judge, g: &Game, side: Side, goal: Goal, p: &Position) -> bool
+    requires made { IsMadeForGame judge.old g.now }
+    requires position { IsPosition g.now p.now }
+    ensures won { IsTrue result ↔ ((is_over g.now p.now ≡ true) × (reaches side goal (outcome g.now p.now) ≡ true)) }
+    ensures kept { judge.new ≡ judge.old }
+{
+    match judge.over(g, p) {
+        Some(score) => reaches(side, goal, score),
+        None => false,
+    }
+}
+
+/// Whether the game is over where the body says so, with the goal reached, and isn't where the body moves on.
+fn ends_right(
+    judge: &mut Judge,
+    g: &Game,
+    side: Side,
+    goal: Goal,
+    p: &Position,
+    body: &Body,
+) -> bool
+    requires made { IsMadeForGame judge.old g.now }
+    requires position { IsPosition g.now p.now }
+    ensures ends { IsTrue result ↔ EndsRight g.now side goal p.now body.now }
+    ensures kept { judge.new ≡ judge.old }
+{
+    match body {
+        Body::Over => is_won(judge, g, side, goal, p),
+        Body::Move { .. } | Body::All(_) => judge.over(g, p).is_none(),
+        Body::Pairs(_)
+        | Body::Potential
+        | Body::Trees { .. }
+        | Body::Cuts { .. }
+        | Body::Threat(_) => true,
+    }
+}
+
+/// Whether the claim's last node is the game's marks with the claim's turn, where this is the last node.
+fn is_root(g: &Game, claim: &Claim, k: usize, node: &Node) -> bool
+    requires { k < length claim.now.nodes }
+    ensures { IsTrue result ↔ IsRoot g.now claim.now k node.now }
+{
+    if claim.nodes.as_slice().len() - k != 1 {
+        return true;
+    }
+    node.position() == g.with_turn(claim.turn)
+}
+
+/// Whether the node owes nothing under the fault's name.
+#[allow(clippy::too_many_arguments)]
+fn passes(
+    judge: &mut Judge,
+    g: &Game,
+    claim: &Claim,
+    k: usize,
+    node: &Node,
+    owed: bool,
+    fault: NodeFault,
+) -> bool
+    requires made { IsMadeForGame judge.old g.now }
+    requires place { k < length claim.now.nodes }
+    requires marks { ShareNone node.now.x node.now.y }
+    requires left { 1 ≤ node.now.left }
+    requires owed { IsTrue owed ↔ IsOwed g.now claim.now node.now }
+    requires built { fault ≢ NodeFault.Unbuilt → is_built g.now.kind node.now.body ≡ true }
+    ensures passes { IsTrue result ↔ Passes g.now claim.now k node.now fault }
+    ensures kept { judge.new ≡ judge.old }
+{
+    let p = node.position();
+    match fault {
+        NodeFault::Unbuilt => is_built(g.kind, &node.body),
+        NodeFault::Child => names_earlier(k, &node.body),
+        NodeFault::Marks => {
+            is_in_game(g, node) && follow_moves(g, claim.nodes.as_slice(), &p, &node.body)
+        }
+        NodeFault::Turn => !owed || has_turn(claim.side, &p, &node.body),
+        NodeFault::Moves => !owed || takes_free(g, &p, &node.body),
+        NodeFault::End => !owed || ends_right(judge, g, claim.side, claim.goal, &p, &node.body),
+        NodeFault::Pairs => !owed || has_pairs(g, claim.side, &p, &node.body),
+        NodeFault::Potential => !owed || has_potential(g, claim.side, &p, &node.body),
+        NodeFault::Trees => !owed || has_trees(g, &p, &node.body),
+        NodeFault::Cuts => !owed || has_cuts(g, &p, &node.body),
+        NodeFault::Threat => !owed || has_threat(g, claim.side, &p, &node.body),
+        NodeFault::Root => is_root(g, claim, k, node),
+        NodeFault::Body => is_allowed(g.kind, g.bias, claim.side, claim.goal, &node.body),
+    }
+}
+
+/// The least fault of the node, or none where it owes nothing.
+pub(crate) fn first_fault(
+    judge: &mut Judge,
+    g: &Game,
+    claim: &Claim,
+    k: usize,
+    node: &Node,
+) -> Option<NodeFault>
+    requires made { IsMadeForGame judge.old g.now }
+    requires place { k < length claim.now.nodes }
+    requires marks { ShareNone node.now.x node.now.y }
+    requires left { 1 ≤ node.now.left }
+    ensures sound { IfNone result (IsSound g.now claim.now k node.now) }
+    ensures least { IfSome result (λ fault. IsLeastFault g.now claim.now k node.now fault) }
+    ensures kept { judge.new ≡ judge.old }
+{
+    let owed = is_owed(g, claim, node);
+    for fault in [
+        NodeFault::Unbuilt,
+        NodeFault::Child,
+        NodeFault::Marks,
+        NodeFault::Turn,
+        NodeFault::Moves,
+        NodeFault::End,
+        NodeFault::Pairs,
+        NodeFault::Potential,
+        NodeFault::Trees,
+        NodeFault::Cuts,
+        NodeFault::Threat,
+        NodeFault::Root,
+        NodeFault::Body,
+    ] {
+        if !passes(judge, g, claim, k, node, owed, fault) {
+            return Some(fault);
+        }
+    }
+    None
+}
