@@ -1,0 +1,86 @@
+-- Claims that a check accepts are forced.
+use Rattle.std.proofs.Common.{◌≡◌, ◌⊎◌, ℕ, List, [], ◌∷◌, map, Option, Some, None, Result, Ok, Err, refl, sym, ◌∙◌, ap, subst, inl, inr, arith}
+use Rattle.pg_io.specs.Files.{Bytes, Holding}
+use Rattle.pg_io.specs.Console.{Grows}
+use Rattle.pg_io.specs.declared.entry.Entry.{Entry}
+use Rattle.pg_io.specs.declared.entry.Entry.TheVariants.{Said}
+use Rattle.pg_game.specs.declared.game.Game.{Game}
+use Rattle.pg_files.specs.GameFile.{game, Entry as GameEntry}
+use Rattle.pg_files.specs.Views.{entry}
+use Rattle.pg_cert.specs.CertFile.{certificate}
+use Rattle.pg_cert.specs.declared.cert.Cert.{Cert}
+use Rattle.pg_check.proofs.Forced.{claims_are_forced}
+use Rattle.pg_cli.specs.Accepted.{AreForced, AnnouncesForced}
+use Rattle.pg_cli.specs.Answer.{Answer, lacking, or_answer, game_held, certificate_held, both, both_held, Checks, ChecksTo}
+use Rattle.pg_cli.specs.Run.{Told, told, Finished, Ran, RanOn}
+use Rattle.pg_cli.specs.Words.{Command, Check}
+use Rattle.pg_cli.specs.Work.{Search}
+
+or_answer_ok : {T F : Type 0} (answer_to : F → Answer) (r : Result T F) (x : T) → or_answer answer_to r ≡ Ok x → r ≡ Ok x
+or_answer_ok answer_to (Ok y) x e = let same : y ≡ x = cc e in ap (λ z. Ok z) same
+or_answer_ok answer_to (Err fault) x e = absurd (cc e)
+
+-- an answer to a fault has a status other than 0, where all of them have
+or_answer_err : {T F : Type 0} (answer_to : F → Answer) (r : Result T F) (a : Answer) (n : ℕ) → ((fault : F) → (answer_to fault).status ≡ n) → or_answer answer_to r ≡ Err a → a.status ≡ n
+or_answer_err answer_to (Ok y) a n all e = absurd (cc e)
+or_answer_err answer_to (Err fault) a n all e = let same : a ≡ answer_to fault = cc e in ap (λ (b : Answer). b.status) same ∙ all fault
+
+game_status : (o : Option Bytes) (a : Answer) → game_held o ≡ Err a → a.status ≡ 0 → ⊥
+game_status None a e zero = let same : a ≡ lacking = cc e in absurd (omega (arith, ap (λ (b : Answer). b.status) same, zero))
+game_status (Some text) a e zero = let three : a.status ≡ 3 = or_answer_err _ (game text) a 3 (λ fault. refl) e in omega (arith, three, zero)
+
+certificate_status : (o : Option Bytes) (a : Answer) → certificate_held o ≡ Err a → a.status ≡ 0 → ⊥
+certificate_status None a e zero = let same : a ≡ lacking = cc e in absurd (omega (arith, ap (λ (b : Answer). b.status) same, zero))
+certificate_status (Some text) a e zero = let four : a.status ≡ 4 = or_answer_err _ (certificate text) a 4 (λ fault. refl) e in omega (arith, four, zero)
+
+both_err : (p : Result GameEntry Answer) (q : Result Cert Answer) (a : Answer) → both p q ≡ Err a → (p ≡ Err a) ⊎ (q ≡ Err a)
+both_err (Err b) q a e = inl (cc e)
+both_err (Ok x) (Err b) a e = inr (cc e)
+both_err (Ok x) (Ok c) a e = absurd (cc e)
+
+both_ok : (p : Result GameEntry Answer) (q : Result Cert Answer) (pair : GameEntry × Cert) → both p q ≡ Ok pair → (p ≡ Ok pair.0) × (q ≡ Ok pair.1)
+both_ok (Err b) q pair e = absurd (cc e)
+both_ok (Ok x) (Err b) pair e = absurd (cc e)
+both_ok (Ok x) (Ok c) pair e = let same : (x, c) ≡ pair = cc e in (ap (λ (p : GameEntry × Cert). Ok p.0) same, ap (λ (p : GameEntry × Cert). Ok p.1) same)
+
+game_there : (o : Option Bytes) (x : GameEntry) → game_held o ≡ Ok x → (text : Bytes) × (o ≡ Some text) × (game text ≡ Ok x)
+game_there None x e = absurd (cc e)
+game_there (Some text) x e = (text, refl, or_answer_ok _ (game text) x e)
+
+certificate_there : (o : Option Bytes) (x : Cert) → certificate_held o ≡ Ok x → (text : Bytes) × (o ≡ Some text) × (certificate text ≡ Ok x)
+certificate_there None x e = absurd (cc e)
+certificate_there (Some text) x e = (text, refl, or_answer_ok _ (certificate text) x e)
+
+pub accepted_are_forced : (g c : Option Bytes) (a : Answer) → ChecksTo g c a → a.status ≡ 0 → AreForced g c a.texts
+accepted_are_forced g c a checks zero = go (both_held g c) refl checks where
+  go : (r : Result (GameEntry × Cert) Answer) → both_held g c ≡ r → Checks r a → AreForced g c a.texts
+  go (Err refusal) e same =
+      let none : refusal.status ≡ 0 = ap (λ (b : Answer). b.status) (sym same) ∙ zero in
+      elim (both_err (game_held g) (certificate_held c) refusal e) as (λ _. AreForced g c a.texts)
+      [ inl p ↦ absurd (game_status g refusal p none) | inr q ↦ absurd (certificate_status c refusal q none) ]
+  go (Ok pair) e (played, same, inl accepts) =
+      let parts = both_ok (game_held g) (certificate_held c) pair e in
+      let first = game_there g pair.0 parts.0 in
+      let second = certificate_there c pair.1 parts.1 in
+      record {
+        game_text = first.0;
+        game_held = first.1;
+        played = played;
+        game_said = first.2 ∙ ap (λ (x : GameEntry). Ok x) (sym same);
+        certificate_text = second.0;
+        certificate_held = second.1;
+        checked = pair.1;
+        certificate_said = second.2;
+        accepted = ap (λ (b : Answer). b.texts) accepts.1;
+        forced = claims_are_forced played pair.1 accepts.0;
+      }
+  go (Ok pair) e (played, same, inr rejects) =
+      let four : a.status ≡ 4 = ap (λ (b : Answer). b.status) rejects.4 in absurd (omega (arith, four, zero))
+
+pub forced_when_ran : (command : Option Command) (held held' : Option Holding) (log log' : Option (List Entry)) (left left' : Option Bytes) (work : Search) (status : ℕ)
+    → Ran command (told held log left) (told held' log' left') work (Finished status) → status ≡ 0 → AnnouncesForced held command log log'
+forced_when_ran command None held' log log' left left' work status ran zero = tt
+forced_when_ran None (Some held) held' log log' left left' work status ran zero = tt
+forced_when_ran (Some (Check g c)) (Some held) held' log log' left left' work status ran zero =
+    let one = ran.allowed in
+    (one.0.texts, accepted_are_forced (held g) (held c) one.0 one.1 (sym one.2.1 ∙ zero), subst (λ (l : List Entry). Grows log log' l) one.2.0 ran.logged)

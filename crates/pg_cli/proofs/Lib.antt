@@ -1,0 +1,4 @@
+pub mod Speaking
+pub mod Openings
+pub mod Runs
+pub mod Forced

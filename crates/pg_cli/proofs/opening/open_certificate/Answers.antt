@@ -1,0 +1,25 @@
+use Rattle.std.proofs.Common.{◌≡◌, ◌∙◌, ap, sym, subst, Ok, Err}
+use Rattle.pg_io.specs.Files.{Bytes}
+use Rattle.pg_cert.specs.CertFile.{certificate}
+use Rattle.pg_cert.specs.Views.{IsReadAs, number_of}
+use Rattle.pg_cert.specs.declared.fault.CertFault.{CertFault}
+use Rattle.pg_cert.specs.declared.fault.CertFault.TheVariants.{Bad}
+use Rattle.pg_cli.proofs.Openings.{ok_answer, bad_answer, opens_certificate}
+use Rattle.pg_cli.specs.Answer.{certificate_refusal}
+use Rattle.pg_cli.specs.declared.refusal.Refusal.TheVariants.{Certificate}
+use Rattle.pg_cli.proofs.opening.open_certificate.Goals as goal
+
+pub returns-in-Ok-clause-opened : goal.returns-in-Ok-clause-opened
+returns-in-Ok-clause-opened g c =
+    opens_certificate (g.F.Files.held c.args.files.now) c.args.name.now c.in_ok-text.text.items (Ok c.in-Ok.certificate) c.in_ok-text.ensures.bytes
+    (ok_answer _ _ _ (ap certificate (sym c.deref.ensures.value) ∙ c.in-Ok.ensures.read))
+
+pub returns-in-Err-Bad-clause-opened : goal.returns-in-Err-Bad-clause-opened
+returns-in-Err-Bad-clause-opened g c =
+    let number = c.in-Err-Bad.number in
+    let line = c.in-Err-Bad.line in
+    let text = c.in_ok-text.text.items in
+    let bad = subst (λ (f : CertFault). IsReadAs (Err f) (certificate text)) c.in-Err-Bad.field-0-is
+    (subst (λ (t : Bytes). IsReadAs (Err c.in-Err-Bad.field-0) (certificate t)) c.deref.ensures.value c.in-Err-Bad.ensures.read) in
+    opens_certificate (g.F.Files.held c.args.files.now) c.args.name.now text (Err (Certificate number line)) c.in_ok-text.ensures.bytes
+    (bad_answer number_of certificate_refusal (certificate text) number line bad)

@@ -1,0 +1,44 @@
+-- What it means that claims are accepted.
+use Rattle.std.specs.Prelude.{◌≡◌, ℕ, List, map, Option, Some, None, Result, Ok, Err, ⊤}
+use Rattle.std.specs.List.{Contains}
+use Rattle.pg_io.specs.declared.entry.Entry.{Entry}
+use Rattle.pg_io.specs.declared.entry.Entry.TheVariants.{Said}
+use Rattle.pg_io.specs.Files.{Bytes, Holding}
+use Rattle.pg_io.specs.Console.{Grows}
+use Rattle.pg_game.specs.declared.game.Game.{Game}
+use Rattle.pg_game.specs.Game.{with_turn}
+use Rattle.pg_game.specs.Value.{Forces}
+use Rattle.pg_files.specs.GameFile.{game}
+use Rattle.pg_files.specs.Views.{entry}
+use Rattle.pg_cert.specs.declared.cert.Cert.{Cert}
+use Rattle.pg_cert.specs.declared.cert.Claim.{Claim}
+use Rattle.pg_cert.specs.CertFile.{certificate}
+use Rattle.pg_cli.specs.Texts.{accepted_text}
+use Rattle.pg_cli.specs.Words.{Command, Check}
+
+-- the claim's side forces its goal from the game's marks with the claim's turn
+abbrev pub IsForced : Game → Claim → Type 0
+IsForced g claim = Forces g (with_turn g claim.turn) claim.side claim.goal
+
+-- these bytes say a game and a certificate, the texts are those that accept its claims in order, and each claim is forced
+pub record AreForced (game_bytes certificate_bytes : Option Bytes) (texts : List Bytes) : Type 0 where
+  pub game_text : Bytes
+  pub game_held : game_bytes ≡ Some game_text
+  pub played : Game
+  pub game_said : game game_text ≡ Ok (entry played)
+  pub certificate_text : Bytes
+  pub certificate_held : certificate_bytes ≡ Some certificate_text
+  pub checked : Cert
+  pub certificate_said : certificate certificate_text ≡ Ok checked
+  pub accepted : texts ≡ map accepted_text checked.claims
+  pub forced : (claim : Claim) → Contains checked.claims claim → IsForced played claim
+
+-- the log grew by texts that accept forced claims
+abbrev pub SaysForced : Option Bytes → Option Bytes → Option (List Entry) → Option (List Entry) → Type 0
+SaysForced g c before after = (texts : List Bytes) × AreForced g c texts × Grows before after (map Said texts)
+
+-- the same for a command, where it is told what the names hold
+abbrev pub AnnouncesForced : Option Holding → Option Command → Option (List Entry) → Option (List Entry) → Type 0
+AnnouncesForced None command before after = ⊤
+AnnouncesForced (Some held) None before after = ⊤
+AnnouncesForced (Some held) (Some (Check g c)) before after = SaysForced (held g) (held c) before after

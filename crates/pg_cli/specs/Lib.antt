@@ -1,0 +1,8 @@
+pub mod Texts
+pub mod Words
+pub mod Work
+pub mod Causes
+pub mod Answer
+pub mod Hearing
+pub mod Run
+pub mod Accepted

@@ -1,0 +1,29 @@
+-- What the words of the command line mean.
+use Rattle.std.specs.Prelude.{ℕ, ◌==◌, ◌&&◌, not, Bool, true, false, List, [], ◌∷◌, codes, Option, Some, None, if◌then◌else◌}
+use Rattle.std.specs.Str.{bytes_eq}
+use Rattle.pg_io.specs.Files.{Bytes}
+use Rattle.pg_cli.specs.declared.words.Command.{Command as Order}
+use Rattle.pg_cli.specs.declared.words.Command.TheVariants.{Check as CheckOrder}
+
+-- what the program is asked to do, with the names of files
+pub data Command : Type 0 where
+  -- check a certificate for a game
+  Check : (game : Bytes) (certificate : Bytes) → Command
+
+-- two or more bytes, the first of which is `-`
+abbrev pub is_dashed : Bytes → Bool
+is_dashed [] = false
+is_dashed (b ∷ []) = false
+is_dashed (b ∷ c ∷ others) = b == 45
+
+-- the meaning of the words, none where they have none: `check`, then the names of the game and of the certificate
+abbrev pub meaning_of : List Bytes → Option Command
+meaning_of [] = None
+meaning_of (a ∷ []) = None
+meaning_of (a ∷ b ∷ []) = None
+meaning_of (a ∷ b ∷ c ∷ []) = if bytes_eq a (codes "check") && (not (is_dashed b) && not (is_dashed c)) then Some (Check b c) else None
+meaning_of (a ∷ b ∷ c ∷ d ∷ others) = None
+
+-- a command of the code, by the names that it borrows
+abbrev pub ordered : Order → Command
+ordered (CheckOrder g c) = Check g.now c.now

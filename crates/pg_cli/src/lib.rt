@@ -1,0 +1,18 @@
+//! The top call: the meaning of the words, what each command says, and the status.
+#![tactic(auto)]
+
+mod checking;
+mod laws;
+mod opening;
+mod refusal;
+#[cfg(test)]
+mod tests;
+mod texts;
+mod top;
+mod voice;
+mod words;
+mod work;
+
+pub use laws::accepted_claims_are_forced;
+pub use top::run;
+pub use work::Work;

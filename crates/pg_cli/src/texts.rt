@@ -1,0 +1,58 @@
+//! The texts that are said.
+ghost use Rattle.std.specs.Prelude.{◌≡◌, IfOk, string_bytes};
+ghost use Rattle.pg_cli.specs.Texts.{side_word, goal_word, game_text, certificate_text, rejected_text, accepted_text};
+
+use pg_base::{Goal, Side};
+use pg_cert::Claim;
+use std::alloc::{AllocError, Global};
+
+/// The word for a side.
+pub fn side_word(side: Side) -> &'static str
+    ensures { result.now ≡ side_word side }
+{
+    match side {
+        Side::X => "x",
+        Side::Y => "y",
+    }
+}
+
+/// The word for a goal.
+pub fn goal_word(goal: Goal) -> &'static str
+    ensures { result.now ≡ goal_word goal }
+{
+    match goal {
+        Goal::Win => "win",
+        Goal::Draw => "draw",
+    }
+}
+
+/// The text for a fault of the game file, by its number and that of its line.
+pub fn game_text(alloc: Global, number: u8, line: u32) -> Result<String, AllocError>
+    ensures { IfOk result (λ text. string_bytes text ≡ game_text number line) }
+{
+    format!(in alloc; "game G{number} line {line}\n")
+}
+
+/// The text for a fault of the certificate file, by its number and that of its line.
+pub fn certificate_text(alloc: Global, number: u8, line: u32) -> Result<String, AllocError>
+    ensures { IfOk result (λ text. string_bytes text ≡ certificate_text number line) }
+{
+    format!(in alloc; "certificate C{number} line {line}\n")
+}
+
+/// The text for a certificate that isn't valid, by the numbers of the first faulty claim and node, and of the fault.
+pub fn rejected_text(alloc: Global, claim: u32, node: u32, why: u8) -> Result<String, AllocError>
+    ensures { IfOk result (λ text. string_bytes text ≡ rejected_text claim node why) }
+{
+    format!(in alloc; "rejected J{why} claim {claim} node {node}\n")
+}
+
+/// The text that accepts a claim.
+pub fn accepted_text(alloc: Global, claim: &Claim) -> Result<String, AllocError>
+    ensures { IfOk result (λ text. string_bytes text ≡ accepted_text claim.now) }
+{
+    let turn = side_word(claim.turn);
+    let side = side_word(claim.side);
+    let goal = goal_word(claim.goal);
+    format!(in alloc; "accepted {turn} {side} {goal}\n")
+}

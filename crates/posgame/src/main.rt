@@ -1,0 +1,43 @@
+//! The program: it does what the words of its command line ask for, and ends with a status.
+#![tactic(auto)]
+
+use pg_cli::{Work, run};
+use pg_io::{HostConsole, HostFiles};
+use std::env;
+use std::io::ErrorKind;
+use std::process::ExitCode;
+
+/// The status where memory for the words is wanting.
+const NO_MEMORY: u8 = 7;
+
+/// The status where the system refuses the words for another cause.
+const NO_WORDS: u8 = 11;
+
+fn main(rt: HostRuntime) -> ExitCode {
+    let arguments = match env::args(&rt) {
+        Ok(arguments) => arguments,
+        Err(error) => {
+            return ExitCode::from(if error.kind() == ErrorKind::OutOfMemory {
+                NO_MEMORY
+            } else {
+                NO_WORDS
+            });
+        }
+    };
+    let mut words = Vec::new(rt.alloc());
+    for word in arguments.skip(1) {
+        if words.push(word).is_err() {
+            return ExitCode::from(NO_MEMORY);
+        }
+    }
+    let mut files = HostFiles::new(&rt);
+    let mut console = HostConsole::new(&rt);
+    let mut work = Work::new(rt.alloc());
+    ExitCode::from(run(
+        rt.alloc(),
+        &words,
+        &mut files,
+        &mut console,
+        &mut work,
+    ))
+}
