@@ -157,7 +157,7 @@ module _ (g : Game) (c : Claim) where
       → (v : ℕ) → v < point_count g → is_free p v ≡ true → Forces g (after g p v) c.side c.goal
   reply_forced k p replies before earlier follow exact v range free =
       let listed : list_any (λ q. eqb q v) (map (λ r. r.point) replies) ≡ true =
-          subst (λ (vs : List ℕ). list_any (λ q. eqb q v) vs ≡ true) (sym exact) (any-free_points g p (λ q. eqb q v) v range free (eq-eqb v v refl)) in
+      subst (λ (vs : List ℕ). list_any (λ q. eqb q v) vs ≡ true) (sym exact) (any-free_points g p (λ q. eqb q v) v range free (eq-eqb v v refl)) in
       let found = reply_of replies v listed in
       let some : Reply = record { point = 0; child = 0 } in
       let r : Reply = get_or replies found.0 some in

@@ -59,9 +59,7 @@ fn follows_move(g: &Game, nodes: &[Node], p: &Position, point: u16, child: u32) 
 fn all_follow(g: &Game, nodes: &[Node], p: &Position, replies: &[Reply]) -> bool
     ensures { IsTrue result ↔ All (λ r. FollowsMove g.now nodes.now p.now r.point r.child) replies.now }
 {
-    replies
-        .iter()
-        .all(|reply| follows_move(g, nodes, p, reply.point, reply.child))
+    replies.iter().all(|reply| follows_move(g, nodes, p, reply.point, reply.child))
 }
 
 /// Whether the children of the free points that the body names have the positions after them.
@@ -87,11 +85,8 @@ pub(crate) fn has_turn(side: Side, p: &Position, body: &Body) -> bool
     match body {
         Body::Move { .. } | Body::Threat(_) => p.turn == side,
         Body::All(_) => p.turn == side.other(),
-        Body::Over
-        | Body::Pairs(_)
-        | Body::Potential
-        | Body::Trees { .. }
-        | Body::Cuts { .. } => true,
+        Body::Over | Body::Pairs(_) | Body::Potential | Body::Trees { .. } | Body::Cuts { .. } =>
+            true,
     }
 }
 

@@ -31,7 +31,7 @@ pub struct Game {
 pub struct Misfit;
 
 impl Game {
-    ghost use Rattle.pg_game.specs.Game.{point_count, start, with_turn, after, IsGameOf};
+    ghost use Rattle.pg_game.specs.Game.{point_count, bias_of, start, with_turn, after, IsGameOf};
 
     /// The game of these parts, where `bias` is how many points Y claims in a turn.
     ///
@@ -95,6 +95,13 @@ impl Game {
             turn,
             left: claims_in_turn(self.bias, turn),
         }
+    }
+
+    /// How many points a side claims in one turn: 1 to 7.
+    pub fn bias_of(&self, side: Side) -> u8
+        ensures { result ≡ bias_of self.now side }
+    {
+        claims_in_turn(self.bias, side)
     }
 
     /// The position after the side to move takes the point.

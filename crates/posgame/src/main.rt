@@ -33,11 +33,5 @@ fn main(rt: HostRuntime) -> ExitCode {
     let mut files = HostFiles::new(&rt);
     let mut console = HostConsole::new(&rt);
     let mut work = Work::new(rt.alloc());
-    ExitCode::from(run(
-        rt.alloc(),
-        &words,
-        &mut files,
-        &mut console,
-        &mut work,
-    ))
+    ExitCode::from(run(rt.alloc(), &words, &mut files, &mut console, &mut work))
 }

@@ -20,7 +20,7 @@ returns-then-next-replies c =
     let free : is_free c.args.p.now c.loop-v.v ≡ true = sym c.is_free.ensures ∙ c.if-is_free.true in (
       λ f. absurd (false≢true f),
       λ e. absurd (no_head c.loop-v.v (free_from c.args.g.now c.args.p.now (c.loop-v.v + 1)) _ _
-      (points_from-end c.args.replies.now c.loop-v.next c.if-next-replies.true) (free_from-free c.args.g.now c.args.p.now c.loop-v.v range free) (c.loop-v.invariant.to_rest e)),
+          (points_from-end c.args.replies.now c.loop-v.next c.if-next-replies.true) (free_from-free c.args.g.now c.args.p.now c.loop-v.v range free) (c.loop-v.invariant.to_rest e)),
     )
 
 pub returns-then-replies-next : goal.returns-then-replies-next
@@ -30,7 +30,7 @@ returns-then-replies-next c =
     let reply : Reply = record { point = 0; child = 0 } in (
       λ f. absurd (false≢true f),
       λ e. absurd (other_head (get_or c.args.replies.now c.loop-v.next reply).point c.loop-v.v (points_from c.args.replies.now (c.loop-v.next + 1)) (free_from c.args.g.now c.args.p.now (c.loop-v.v + 1)) _ _
-      (points_from-next c.args.replies.now c.loop-v.next reply c.if-next-replies.false) (free_from-free c.args.g.now c.args.p.now c.loop-v.v range free) c.if-replies-next.true (c.loop-v.invariant.to_rest e)),
+          (points_from-next c.args.replies.now c.loop-v.next reply c.if-next-replies.false) (free_from-free c.args.g.now c.args.p.now c.loop-v.v range free) c.if-replies-next.true (c.loop-v.invariant.to_rest e)),
     )
 
 pub loop-v-preserved : goal.loop-v-preserved
