@@ -1,0 +1,2 @@
+pub mod BestPlay
+pub mod ClassLaws
