@@ -1,5 +1,5 @@
 -- Claims that a check accepts are forced.
-use Rattle.std.proofs.Common.{◌≡◌, ◌⊎◌, ℕ, List, [], ◌∷◌, map, Option, Some, None, Result, Ok, Err, refl, sym, ◌∙◌, ap, subst, inl, inr, arith}
+use Rattle.std.proofs.Common.{◌≡◌, ◌⊎◌, ℕ, List, [], ◌∷◌, map, slice_get, Option, Some, None, Result, Ok, Err, refl, sym, ◌∙◌, ap, subst, inl, inr, arith}
 use Rattle.pg_io.specs.Files.{Bytes, Holding}
 use Rattle.pg_io.specs.Console.{Grows}
 use Rattle.pg_io.specs.declared.entry.Entry.{Entry}
@@ -8,9 +8,11 @@ use Rattle.pg_game.specs.declared.game.Game.{Game}
 use Rattle.pg_files.specs.GameFile.{game, Entry as GameEntry}
 use Rattle.pg_files.specs.Views.{entry}
 use Rattle.pg_cert.specs.CertFile.{certificate}
+use Rattle.pg_cert.specs.Limits.{IsWithinLimits}
+use Rattle.pg_cert.specs.Valid.{IsValid}
 use Rattle.pg_cert.specs.declared.cert.Cert.{Cert}
-use Rattle.pg_check.proofs.Forced.{claims_are_forced}
-use Rattle.pg_cli.specs.Accepted.{AreForced, AnnouncesForced}
+use Rattle.pg_cert.specs.declared.cert.Claim.{Claim}
+use Rattle.pg_cli.specs.Accepted.{IsForced, AreForced, AnnouncesForced}
 use Rattle.pg_cli.specs.Answer.{Answer, lacking, or_answer, game_held, certificate_held, both, both_held, Checks, ChecksTo}
 use Rattle.pg_cli.specs.Run.{Told, told, Finished, Ran, RanOn}
 use Rattle.pg_cli.specs.Words.{Command, Check}
@@ -51,14 +53,26 @@ certificate_there : (o : Option Bytes) (x : Cert) → certificate_held o ≡ Ok 
 certificate_there None x e = absurd (cc e)
 certificate_there (Some text) x e = (text, refl, or_answer_ok _ (certificate text) x e)
 
-pub accepted_are_forced : (g c : Option Bytes) (a : Answer) → ChecksTo g c a → a.status ≡ 0 → AreForced g c a.texts
-accepted_are_forced g c a checks zero = go (both_held g c) refl checks where
+-- what is read of a certificate is within the limits
+abbrev pub ReadsWithinLimits : Type 0
+ReadsWithinLimits = (text : Bytes) (c : Cert) → certificate text ≡ Ok c → IsWithinLimits c
+
+-- each claim of a valid certificate within the limits is forced
+abbrev pub ValidClaimsAreForced : Type 0
+ValidClaimsAreForced = (g : Game) (c : Cert) → IsWithinLimits c → IsValid g c → (i : ℕ) (claim : Claim) → slice_get c.claims i ≡ Some claim → IsForced g claim
+
+-- the answer of a check with status 0 accepts forced claims
+abbrev pub AcceptedAreForced : Type 0
+AcceptedAreForced = (g c : Option Bytes) (a : Answer) → ChecksTo g c a → a.status ≡ 0 → AreForced g c a.texts
+
+pub accepted_are_forced : ReadsWithinLimits → ValidClaimsAreForced → AcceptedAreForced
+accepted_are_forced limits valid_forced g c a checks zero = go (both_held g c) refl checks where
   go : (r : Result (GameEntry × Cert) Answer) → both_held g c ≡ r → Checks r a → AreForced g c a.texts
   go (Err refusal) e same =
       let none : refusal.status ≡ 0 = ap (λ (b : Answer). b.status) (sym same) ∙ zero in
       elim (both_err (game_held g) (certificate_held c) refusal e) as (λ _. AreForced g c a.texts)
       [ inl p ↦ absurd (game_status g refusal p none) | inr q ↦ absurd (certificate_status c refusal q none) ]
-  go (Ok pair) e (played, same, inl accepts) =
+  go (Ok pair) e (played, said, inl accepts) =
       let parts = both_ok (game_held g) (certificate_held c) pair e in
       let first = game_there g pair.0 parts.0 in
       let second = certificate_there c pair.1 parts.1 in
@@ -66,21 +80,23 @@ accepted_are_forced g c a checks zero = go (both_held g c) refl checks where
         game_text = first.0;
         game_held = first.1;
         played = played;
-        game_said = first.2 ∙ ap (λ (x : GameEntry). Ok x) (sym same);
+        game_said = first.2 ∙ ap (λ (x : GameEntry). Ok x) (sym said.0);
+        single = said.1;
         certificate_text = second.0;
         certificate_held = second.1;
         checked = pair.1;
         certificate_said = second.2;
         accepted = ap (λ (b : Answer). b.texts) accepts.1;
-        forced = claims_are_forced played pair.1 accepts.0;
+        forced = valid_forced played pair.1 (limits second.0 pair.1 second.2) accepts.0;
       }
-  go (Ok pair) e (played, same, inr rejects) =
-      let four : a.status ≡ 4 = ap (λ (b : Answer). b.status) rejects.4 in absurd (omega (arith, four, zero))
+  go (Ok pair) e (played, said, inr rejects) =
+      let four : a.status ≡ 4 = ap (λ (b : Answer). b.status) rejects.4 in
+      absurd (omega (arith, four, zero))
 
-pub forced_when_ran : (command : Option Command) (held held' : Option Holding) (log log' : Option (List Entry)) (left left' : Option Bytes) (work : Search) (status : ℕ)
+pub forced_when_ran : AcceptedAreForced → (command : Option Command) (held held' : Option Holding) (log log' : Option (List Entry)) (left left' : Option Bytes) (work : Search) (status : ℕ)
     → Ran command (told held log left) (told held' log' left') work (Finished status) → status ≡ 0 → AnnouncesForced held command log log'
-forced_when_ran command None held' log log' left left' work status ran zero = tt
-forced_when_ran None (Some held) held' log log' left left' work status ran zero = tt
-forced_when_ran (Some (Check g c)) (Some held) held' log log' left left' work status ran zero =
+forced_when_ran law command None held' log log' left left' work status ran zero = tt
+forced_when_ran law None (Some held) held' log log' left left' work status ran zero = tt
+forced_when_ran law (Some (Check g c)) (Some held) held' log log' left left' work status ran zero =
     let one = ran.allowed in
-    (one.0.texts, accepted_are_forced (held g) (held c) one.0 one.1 (sym one.2.1 ∙ zero), subst (λ (l : List Entry). Grows log log' l) one.2.0 ran.logged)
+    (one.0.texts, law (held g) (held c) one.0 one.1 (sym one.2.1 ∙ zero), subst (λ (l : List Entry). Grows log log' l) one.2.0 ran.logged)

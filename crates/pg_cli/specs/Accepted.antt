@@ -1,6 +1,5 @@
 -- What it means that claims are accepted.
-use Rattle.std.specs.Prelude.{◌≡◌, ℕ, List, map, Option, Some, None, Result, Ok, Err, ⊤}
-use Rattle.std.specs.List.{Contains}
+use Rattle.std.specs.Prelude.{◌≡◌, ℕ, List, map, slice_get, Option, Some, None, Result, Ok, Err, ⊤}
 use Rattle.pg_io.specs.declared.entry.Entry.{Entry}
 use Rattle.pg_io.specs.declared.entry.Entry.TheVariants.{Said}
 use Rattle.pg_io.specs.Files.{Bytes, Holding}
@@ -26,12 +25,14 @@ pub record AreForced (game_bytes certificate_bytes : Option Bytes) (texts : List
   pub game_held : game_bytes ≡ Some game_text
   pub played : Game
   pub game_said : game game_text ≡ Ok (entry played)
+  -- Y claims one point a turn
+  pub single : played.bias ≡ 1
   pub certificate_text : Bytes
   pub certificate_held : certificate_bytes ≡ Some certificate_text
   pub checked : Cert
   pub certificate_said : certificate certificate_text ≡ Ok checked
   pub accepted : texts ≡ map accepted_text checked.claims
-  pub forced : (claim : Claim) → Contains checked.claims claim → IsForced played claim
+  pub forced : (i : ℕ) (claim : Claim) → slice_get checked.claims i ≡ Some claim → IsForced played claim
 
 -- the log grew by texts that accept forced claims
 abbrev pub SaysForced : Option Bytes → Option Bytes → Option (List Entry) → Option (List Entry) → Type 0

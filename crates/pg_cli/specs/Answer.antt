@@ -77,10 +77,14 @@ Rejects g c a = (claim : ℕ) × (node : ℕ) × (why : ℕ) × IsFirstFault g c
 abbrev pub Judges : Game → Cert → Answer → Type 0
 Judges g c a = (IsValid g c × (a ≡ accepting c)) ⊎ Rejects g c a
 
+-- the game is the one that a file says: Y claims one point a turn
+abbrev pub IsSaidBy : GameEntry → Game → Type 0
+IsSaidBy e g = (entry g ≡ e) × (g.bias ≡ 1)
+
 -- the answer of a check to what was read
 abbrev pub Checks : Result (GameEntry × Cert) Answer → Answer → Type 0
 Checks (Err refusal) a = a ≡ refusal
-Checks (Ok pair) a = (g : Game) × (entry g ≡ pair.0) × Judges g pair.1 a
+Checks (Ok pair) a = (g : Game) × IsSaidBy pair.0 g × Judges g pair.1 a
 
 -- the answer of a check to what two names hold
 abbrev pub ChecksTo : Option Bytes → Option Bytes → Answer → Type 0

@@ -25,6 +25,7 @@ pub fn open_game<F: Files>(
     name: &str,
 ) -> Result<Result<Game, Refusal>, Stop>
     ensures opened { IfOk result (λ game. OpensGame (F.held files.old) name.now game) }
+    ensures single { IfOk result (λ game. IfOk game (λ g. g.bias ≡ 1)) }
     ensures causes { Causes (IsAbsent (F.held files.old) name.now) (F.read_faults files.old) (F.read_faults files.new) (F.write_faults files.old) (F.write_faults files.new) result }
     ensures held { F.held files.new ≡ F.held files.old }
 {
@@ -63,6 +64,7 @@ pub fn open_both<F: Files>(
     certificate: &str,
 ) -> Result<Result<(Game, Cert), Refusal>, Stop>
     ensures opened { IfOk result (λ both. OpensBoth (F.held files.old) game.now certificate.now both) }
+    ensures single { IfOk result (λ both. IfOk both (λ pair. pair.0.bias ≡ 1)) }
     ensures limits { IfOk result (λ both. IfOk both (λ pair. IsWithinLimits pair.1)) }
     ensures causes { Causes (AreLacking (F.held files.old) game.now certificate.now) (F.read_faults files.old) (F.read_faults files.new) (F.write_faults files.old) (F.write_faults files.new) result }
     ensures held { F.held files.new ≡ F.held files.old }

@@ -7,6 +7,7 @@ ghost use Rattle.pg_cli.specs.Words.{meaning_of};
 ghost use Rattle.pg_cli.specs.Work.{Search};
 
 use crate::checking::check;
+use crate::laws::accepted_claims_are_forced;
 use crate::voice::say;
 use crate::words::{Command, read_words};
 use crate::work::Work;
@@ -74,6 +75,7 @@ pub fn run<F: Files, C: Console>(
         (faults (F.read_faults files.old) (F.write_faults files.old) (C.read_faults console.old) (C.write_faults console.old))
         (faults (F.read_faults files.new) (F.write_faults files.new) (C.read_faults console.new) (C.write_faults console.new)) result }
 {
+    accepted_claims_are_forced();
     match carry_out(alloc, words, files, console) {
         Ok(status) => status,
         Err(Stop::Read) => 5,

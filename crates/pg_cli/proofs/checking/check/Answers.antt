@@ -1,4 +1,4 @@
-use Rattle.std.proofs.Common.{◌≡◌, Ok, Err, Result, subst, refl}
+use Rattle.std.proofs.Common.{◌≡◌, Ok, Err, Result, IfOk, subst, refl}
 use Rattle.std.proofs.lemmas.Result.{err_from_is_err_and}
 use Rattle.pg_game.specs.declared.game.Game.{Game}
 use Rattle.pg_cert.specs.declared.cert.Cert.{Cert}
@@ -24,6 +24,7 @@ pub returns-in-Ok-clause-ran : goal.returns-in-Ok-clause-ran
 returns-in-Ok-clause-ran g c =
     let h = g.F.Files.held c.args.files.now in
     let opened = subst (λ (b : Result (Game × Cert) Refusal). OpensBoth h c.args.game.now c.args.certificate.now b) c.in-Ok.is c.in_ok-refusal.ensures.opened in
+    let single = subst (λ (b : Result (Game × Cert) Refusal). IfOk b (λ pair. pair.0.bias ≡ 1)) c.in-Ok.is c.in_ok-refusal.ensures.single in
     λ work. ran_check h (g.F.Files.held c.open_both.new.files) c.open_both.ensures.held _ _ _ _ work c.args.game.now c.args.certificate.now (Ok (c.in-Ok.game, c.in-Ok.certificate)) c.judge.result opened
     (Answers-weaker (λ a. Judges c.in-Ok.game c.in-Ok.certificate a) (λ a. Checks (both_seen (Ok (c.in-Ok.game, c.in-Ok.certificate))) a) _ _ c.judge.result
-    (λ a judged. (c.in-Ok.game, refl, judged)) c.judge.ensures.said)
+    (λ a judged. (c.in-Ok.game, (refl, single), judged)) c.judge.ensures.said)

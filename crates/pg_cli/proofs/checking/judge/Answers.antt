@@ -1,7 +1,6 @@
-use Rattle.std.proofs.Common.{◌≡◌, Ok, Err, subst, refl}
+use Rattle.std.proofs.Common.{◌≡◌, Ok, Err, ap, refl}
 use Rattle.std.proofs.lemmas.Result.{err_from_is_err_and}
-use Rattle.pg_check.specs.Check.{Rejects}
-use Rattle.pg_check.specs.declared.CheckFault.{CheckFault}
+use Rattle.pg_check.specs.declared.checked.CheckFault.{CheckFault}
 use Rattle.pg_cli.proofs.Runs.{judged_accepts, judged_rejects}
 use Rattle.pg_cli.proofs.checking.judge.Goals as goal
 
@@ -17,6 +16,6 @@ returns-in_ok-accept_all-in-Ok-clause-said g c =
 
 pub returns-in-Err-Reject-clause-said : goal.returns-in-Err-Reject-clause-said
 returns-in-Err-Reject-clause-said g c =
-    let fault = subst (λ (f : CheckFault). Rejects {T = Unit {0}} c.args.game.now c.args.certificate.now (Err f)) c.in-Err-Reject.field-0-is c.in-Err-Reject.ensures.reject in
+    let fault = c.in-Err-Reject.ensures.reject c.in-Err-Reject.claim c.in-Err-Reject.node c.in-Err-Reject.why (ap (λ (f : CheckFault). Err f) c.in-Err-Reject.field-0-is) in
     judged_rejects c.args.game.now c.args.certificate.now c.in-Err-Reject.claim c.in-Err-Reject.node c.in-Err-Reject.why
     (g.C.Console.log c.args.console.now) (g.C.Console.log c.refuse.new.console) c.refuse.result fault c.refuse.ensures.said c.refuse.ensures.status
