@@ -1,5 +1,5 @@
 //! A game from its text.
-ghost use Rattle.std.specs.Prelude.{◌≡◌, ◌≤◌, ◌==◌, length, Ok};
+ghost use Rattle.std.specs.Prelude.{◌≡◌, ◌≤◌, ◌==◌, length, IfOk, Ok};
 ghost use Rattle.pg_files.specs.Text.{lines};
 ghost use Rattle.std.specs.List.{position, before_first, after_first};
 ghost use Rattle.pg_files.specs.GameFile.{nothing, reading, ended, field_of, game, IsSaid};
@@ -56,7 +56,8 @@ fn read_lines(alloc: Global, text: &[u8]) -> Result<Draft, GameFault>
 /// The game that the lines have said, or what the end of the file lacks.
 fn finish(draft: Draft) -> Result<Game, GameFault>
     requires { IsSaid (view draft) }
-    ensures { IsReadAs entry result (ended (Ok (view draft))) }
+    ensures read { IsReadAs entry result (ended (Ok (view draft))) }
+    ensures single { IfOk result (λ g. g.bias ≡ 1) }
 {
     if !draft.begun {
         return Err(Fault::Header.at(0));
@@ -102,10 +103,11 @@ fn field_of(kind: Kind, draft: Draft) -> Field
 ///
 /// A file with several faults has that of its first faulty line, and of that line's the one with the least number.
 /// The fault of the whole file, such as a missing last line, comes only where no line is faulty, with line 0.
-/// The text is read once, and no copy of it is made.
+/// The text is read once, and no copy of it is made. In every game that is read Y claims one point a turn.
 #[tactic(auto, unfolding(crate::specs::GameFile::game))]
 pub fn read_game(alloc: Global, bytes: &[u8]) -> Result<Game, GameFault>
-    ensures { IsReadAs entry result (game bytes.now) }
+    ensures read { IsReadAs entry result (game bytes.now) }
+    ensures single { IfOk result (λ g. g.bias ≡ 1) }
 {
     if bytes.len() > MOST_BYTES {
         return Err(Fault::Size.at(0));
