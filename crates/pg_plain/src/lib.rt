@@ -1,12 +1,14 @@
-//! A plain slow program whose contracts are the definitions of games: the value and the class, each computed as it is
-//! defined. It is a test bench of the definitions, for small games, and nothing of the product calls it.
+//! A plain slow program whose contracts are the definitions of games: the value, the class and the potentials, each
+//! computed as it is defined. It is a test bench of the definitions, for small games, and nothing of the product calls it.
 #![tactic(auto)]
 
 mod best_play;
 mod classes;
+mod leaves;
 
 pub use best_play::value;
 pub use classes::{Class, class_of};
+pub use leaves::{avoider_holds, greatest_weight, limit, potential_holds, total, weight};
 
 #[cfg(test)]
 mod tests;

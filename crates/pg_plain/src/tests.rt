@@ -1,5 +1,7 @@
 //! Values and classes of games, worked by hand or by a program that shares nothing with this one.
-use crate::{Class, class_of, value};
+use crate::{
+    Class, avoider_holds, class_of, greatest_weight, limit, potential_holds, total, value, weight,
+};
 use pg_base::{Kind, Line, Lines, PointSet, Score, Side};
 use pg_game::{Field, Game, Judge, LineField};
 use pg_graph::{Ends, Graph};
@@ -258,5 +260,85 @@ fn classes(rt: HostRuntime) -> Result<(), Fail> {
     assert_eq!(rt; class_on(rt.alloc(), 2, &[])?, Some(Class::Cut));
     let bridge = [(0, 2), (0, 3), (2, 3), (2, 1), (3, 1)];
     assert_eq!(rt; class_on(rt.alloc(), 4, &bridge)?, Some(Class::First));
+    Ok(())
+}
+
+/// The total for Y, the greatest weight, the limit and whether the potential holds, with this side to move.
+fn potential(g: &Game, turn: Side) -> (u128, u128, u128, bool) {
+    let p = g.with_turn(turn);
+    (
+        total(g, &p, Side::Y),
+        greatest_weight(g, &p, Side::Y),
+        limit(g),
+        potential_holds(g, &p, Side::Y),
+    )
+}
+
+#[test]
+fn potential_of_four_by_four(rt: HostRuntime) -> Result<(), Fail> {
+    let lines: [&[u16]; 10] = [
+        &[0, 1, 2, 3],
+        &[4, 5, 6, 7],
+        &[8, 9, 10, 11],
+        &[12, 13, 14, 15],
+        &[0, 4, 8, 12],
+        &[1, 5, 9, 13],
+        &[2, 6, 10, 14],
+        &[3, 7, 11, 15],
+        &[0, 5, 10, 15],
+        &[3, 6, 9, 12],
+    ];
+    let g = game_of(rt.alloc(), Kind::MakerBreaker, 16, &lines, 1)?;
+    assert_eq!(rt; potential(&g, Side::X), (10, 3, 16, true));
+    Ok(())
+}
+
+#[test]
+fn potential_of_five_by_five(rt: HostRuntime) -> Result<(), Fail> {
+    let lines: [&[u16]; 12] = [
+        &[0, 1, 2, 3, 4],
+        &[5, 6, 7, 8, 9],
+        &[10, 11, 12, 13, 14],
+        &[15, 16, 17, 18, 19],
+        &[20, 21, 22, 23, 24],
+        &[0, 5, 10, 15, 20],
+        &[1, 6, 11, 16, 21],
+        &[2, 7, 12, 17, 22],
+        &[3, 8, 13, 18, 23],
+        &[4, 9, 14, 19, 24],
+        &[0, 6, 12, 18, 24],
+        &[4, 8, 12, 16, 20],
+    ];
+    let g = game_of(rt.alloc(), Kind::MakerBreaker, 25, &lines, 1)?;
+    assert_eq!(rt; potential(&g, Side::X), (12, 4, 32, true));
+    Ok(())
+}
+
+#[test]
+fn potential_after_first_moves(rt: HostRuntime) -> Result<(), Fail> {
+    let centre = marked(rt.alloc(), Kind::MakerMaker, &[4], &[])?;
+    assert_eq!(rt; total(&centre, &centre.with_turn(Side::Y), Side::Y), 12);
+    let corner = marked(rt.alloc(), Kind::MakerMaker, &[0], &[])?;
+    assert_eq!(rt; total(&corner, &corner.with_turn(Side::Y), Side::Y), 11);
+    let edge = marked(rt.alloc(), Kind::MakerMaker, &[1], &[])?;
+    assert_eq!(rt; total(&edge, &edge.with_turn(Side::Y), Side::Y), 10);
+    assert_eq!(rt; limit(&edge), 8);
+    Ok(())
+}
+
+#[test]
+fn potential_of_an_angle(rt: HostRuntime) -> Result<(), Fail> {
+    let g = game_of(rt.alloc(), Kind::MakerBreaker, 3, &[&[0, 1], &[0, 2]], 1)?;
+    assert_eq!(rt; potential(&g, Side::X), (2, 2, 4, false));
+    assert_eq!(rt; weight(&g, &g.start(), Side::Y, 1), 1);
+    Ok(())
+}
+
+#[test]
+fn avoider_on_a_triangle(rt: HostRuntime) -> Result<(), Fail> {
+    let lines: [&[u16]; 3] = [&[0, 1], &[0, 2], &[1, 2]];
+    let g = game_of(rt.alloc(), Kind::AvoiderEnforcer, 3, &lines, 1)?;
+    assert!(rt; !avoider_holds(&g, &g.with_turn(Side::X)));
+    assert!(rt; avoider_holds(&g, &g.with_turn(Side::Y)));
     Ok(())
 }

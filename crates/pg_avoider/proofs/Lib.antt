@@ -1,0 +1,4 @@
+pub mod Counts
+pub mod LastPoint
+pub mod Least
+pub mod AvoiderLaws

@@ -1,0 +1,10 @@
+use Rattle.std.proofs.Common.{◌≡◌, ◌≤◌}
+use Rattle.pg_game.specs.Position.{is_free}
+use Rattle.pg_plain.proofs.LeafCounts.{passed}
+use Rattle.pg_plain.proofs.leaves.free_points.Given as goal
+
+abbrev pub invariant-loop-v : goal.invariant-loop-v
+invariant-loop-v l = record {
+  counted : l.free ≡ passed (is_free l.p) l.v;
+  few : l.free ≤ l.v;
+}

@@ -1,0 +1,8 @@
+use Rattle.std.proofs.Common.{◌≡◌}
+use Rattle.pg_game.specs.Position.{is_free}
+use Rattle.pg_game.specs.Potential.{weight}
+use Rattle.pg_plain.proofs.LeafGreatest.{running}
+use Rattle.pg_plain.proofs.leaves.greatest_weight.Given as goal
+
+abbrev pub invariant-loop-v : goal.invariant-loop-v
+invariant-loop-v l = l.greatest ≡ running (is_free l.p) (weight l.g l.p l.side) l.v

@@ -1,0 +1,25 @@
+use Rattle.std.proofs.Common.{◌≡◌, ℕ, get_or, refl, sym, ap, ◌∙◌, arith, if◌then◌else◌}
+use Rattle.pg_game.specs.Position.{is_free}
+use Rattle.pg_potential.proofs.Greatest.{running-none, running-next, running-all}
+use Rattle.pg_potential.proofs.WeightBounds.{few_points-lines}
+use Rattle.pg_potential.proofs.condition.greatest_free.Goals.{then-weight-greatest, else-weight-greatest}
+use Rattle.pg_potential.proofs.condition.greatest_free.Goals as goal
+
+pub loop-v-init : goal.loop-v-init
+loop-v-init c = sym (running-none (is_free c.args.p.now) (λ v. get_or c.args.points.now v 0))
+
+pub free_weight-weight-requires-clause-small : goal.free_weight-weight-requires-clause-small
+free_weight-weight-requires-clause-small c = omega (arith, c.loop-v-test.true, c.points-v-end.ensures.count, few_points-lines c.args.g.now c.requires.lines)
+
+pub loop-v-preserved : goal.loop-v-preserved
+loop-v-preserved c =
+    let next = running-next (is_free c.args.p.now) (λ v. get_or c.args.points.now v 0) c.loop-v.v in
+    elim c.if-weight-greatest.branch [
+      | then-weight-greatest w ↦ omega (arith, next, c.loop-v.invariant, c.free_weight-weight.ensures, w.greatest-is, w.if-weight-greatest.true)
+      | else-weight-greatest w ↦ omega (arith, next, c.loop-v.invariant, c.free_weight-weight.ensures, w.greatest-is, w.if-weight-greatest.false)
+    ]
+
+pub returns : goal.returns
+returns c =
+    let end : c.loop-v.v ≡ c.points-v-end.result = omega (arith, c.loop-v-test.false, c.loop-v.auto.v-end) in
+    c.loop-v.invariant ∙ running-all c.args.g.now c.args.p.now (λ v. get_or c.args.points.now v 0) c.loop-v.v (end ∙ c.points-v-end.ensures.count)

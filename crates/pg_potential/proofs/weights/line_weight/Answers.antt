@@ -1,0 +1,17 @@
+use Rattle.std.proofs.Common.{◌+◌, ◌-◌, ◌^◌, ap, sym, ◌∙◌, arith}
+use Rattle.std.proofs.Math.Nat.{pow-le-pow_right}
+use Rattle.pg_potential.proofs.Walks.{line_weight-touched, line_weight-clear}
+use Rattle.pg_potential.proofs.weights.line_weight.Goals as goal
+
+pub pow-requires : goal.pow-requires
+pow-requires c =
+    let le = pow-le-pow_right {n = c.args.base} c.requires.some {i = c.args.longest - c.free_count.result} {j = c.args.longest} (omega arith) in
+    omega (arith, le, c.requires.fits)
+
+pub returns-then-touches : goal.returns-then-touches
+returns-then-touches c = sym (line_weight-touched c.args.base c.args.longest c.args.own.now c.args.p.now c.args.line.now (sym c.touches.ensures ∙ c.if-touches.true))
+
+pub returns-else-touches : goal.returns-else-touches
+returns-else-touches c =
+    c.pow.ensures ∙ ap (λ n. c.args.base ^ (c.args.longest - n)) c.free_count.ensures
+    ∙ sym (line_weight-clear c.args.base c.args.longest c.args.own.now c.args.p.now c.args.line.now (sym c.touches.ensures ∙ c.if-touches.false))

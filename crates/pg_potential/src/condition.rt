@@ -1,0 +1,125 @@
+//! Whether the potential holds.
+ghost use Rattle.std.specs.Prelude.{◌≡◌, ◌≢◌, ◌+◌, ◌↔◌, ◌<◌, ◌≤◌, ◌^◌, ℕ, IsTrue, length, get_or, map, true, if◌then◌else◌};
+ghost use Rattle.pg_base.specs.declared.goal.Goal.TheVariants.{Win, Draw};
+ghost use Rattle.pg_base.specs.declared.kind.Kind.TheVariants.{Switching};
+ghost use Rattle.pg_game.specs.Position.{is_free};
+ghost use Rattle.pg_game.specs.Game.{point_count, free_points, IsPosition};
+ghost use Rattle.pg_game.specs.Potential.{total, weight, limit, greatest, greatest_weight, is_turn_of, times_counted, PotentialHolds};
+ghost use Rattle.pg_game.specs.Value.{Forces};
+ghost use Rattle.pg_potential.specs.Weights.{AreWeights};
+
+use crate::weights::{Weights, full_weight, weigh};
+use pg_base::{Kind, Side};
+use pg_game::{Game, Position};
+
+/// The weights for a claimer.
+pub(crate) fn weights_for(g: &Game, p: &Position, side: Side) -> Weights
+    ensures total { result.total ≡ total g.now p.now side }
+    ensures few { result.total ≤ 2 ^ 115 }
+    ensures count { length result.points ≡ 256 }
+    ensures points { (v : ℕ) → v < 256 → get_or result.points v 0 ≡ weight g.now p.now side v }
+{
+    weigh(g, 1 + u128::from(g.bias), p.points_of(side), p)
+}
+
+/// The sum of the weights of the lines without a point of the side.
+///
+/// A line weighs `1 + q` to the power of the greatest length of a line less its free points, where Y claims q points a turn.
+pub fn total(g: &Game, p: &Position, side: Side) -> u128
+    requires { IsPosition g.now p.now }
+    ensures { result ≡ total g.now p.now side }
+{
+    weights_for(g, p, side).total
+}
+
+/// The sum of the weights of those lines through a free point.
+pub fn weight(g: &Game, p: &Position, side: Side, v: u16) -> u128
+    requires lines { g.now.kind ≢ Switching }
+    requires position { IsPosition g.now p.now }
+    requires within { v < point_count g.now }
+    requires free { is_free p.now v ≡ true }
+    ensures { result ≡ weight g.now p.now side v }
+{
+    weights_for(g, p, side).points[usize::from(v)]
+}
+
+/// What the total must stay below: `1 + q` to the power of the greatest length of a line.
+pub fn limit(g: &Game) -> u128
+    ensures { result ≡ limit g.now }
+{
+    full_weight(g, 1 + u128::from(g.bias))
+}
+
+/// What a point weighs where it is free, and 0 where it isn't.
+fn free_weight(p: &Position, points: &[u128; 256], v: u16) -> u128
+    requires count { length points.now ≡ 256 }
+    requires small { v < 256 }
+    ensures { result ≡ (if is_free p.now v then get_or points.now v 0 else 0) }
+{
+    if p.is_free(v) {
+        points[usize::from(v)]
+    } else {
+        0
+    }
+}
+
+/// The greatest weight of a free point, and 0 where none is free.
+pub(crate) fn greatest_free(g: &Game, p: &Position, points: &[u128; 256]) -> u128
+    requires lines { g.now.kind ≢ Switching }
+    requires count { length points.now ≡ 256 }
+    ensures { result ≡ greatest (map (λ v. get_or points.now v 0) (free_points g.now p.now)) }
+{
+    let mut greatest = 0;
+    for v in 0..g.points() {
+        let weight = free_weight(p, points, v);
+        if weight > greatest {
+            greatest = weight;
+        }
+    }
+    greatest
+}
+
+/// Whether it is the side's turn.
+fn is_turn_of(side: Side, turn: Side) -> bool
+    ensures { result ≡ is_turn_of side turn }
+{
+    match side {
+        Side::X => turn == Side::X,
+        Side::Y => turn == Side::Y,
+    }
+}
+
+/// How often the greatest weight counts: as often as the other side may still claim a point before the side's next
+/// whole turn, or as often as the side has claimed one in its turn.
+fn times_counted(g: &Game, p: &Position, side: Side) -> u8
+    requires { IsPosition g.now p.now }
+    ensures times { result ≡ times_counted g.now p.now side }
+    ensures few { result ≤ 7 }
+{
+    if is_turn_of(side, p.turn) {
+        g.bias - p.left
+    } else {
+        g.bias
+    }
+}
+
+/// Whether the potential is low enough for the side: the total, with the greatest weight of a free point as often as it
+/// counts, is below the limit.
+///
+/// The greatest weight counts q times where the other side is to move, and where the side is to move, as often as it
+/// has claimed a point in its turn. Where it holds Y wins in Maker-Breaker, and the side gets at least a draw in
+/// Maker-Maker. The time is linear in the points of all lines; it takes no memory.
+///
+/// Erdős and Selfridge, On a combinatorial game (1973); for q above 1 the weights are those of Beck's biased form (1982).
+pub fn holds(g: &Game, p: &Position, side: Side) -> bool
+    requires lines { g.now.kind ≢ Switching }
+    requires position { IsPosition g.now p.now }
+    ensures exact { IsTrue result ↔ PotentialHolds g.now p.now side }
+    ensures breaker { IsTrue result → g.now.kind ≡ Kind.MakerBreaker → side ≡ Side.Y → Forces g.now p.now side Win }
+    ensures draw { IsTrue result → g.now.kind ≡ Kind.MakerMaker → Forces g.now p.now side Draw }
+{
+    let weights = weights_for(g, p, side);
+    let greatest = greatest_free(g, p, &weights.points);
+    let times = u128::from(times_counted(g, p, side));
+    weights.total + times * greatest < limit(g)
+}

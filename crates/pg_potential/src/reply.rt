@@ -1,0 +1,54 @@
+//! The answer by the potential.
+ghost use Rattle.std.specs.Prelude.{◌≡◌, ◌≢◌, ◌==◌, ◌&&◌, ◌<◌, ◌≤◌, ℕ, List, length, get_or, false, true, unwrap_or};
+ghost use Rattle.std.specs.List.{find};
+ghost use Rattle.pg_base.specs.declared.kind.Kind.TheVariants.{MakerBreaker, MakerMaker, Switching};
+ghost use Rattle.pg_base.specs.declared.side.Side.TheVariants.{Y};
+ghost use Rattle.pg_game.specs.Position.{is_free};
+ghost use Rattle.pg_game.specs.Game.{point_count, free_points, is_full, after, IsPosition};
+ghost use Rattle.pg_game.specs.Potential.{PotentialHolds, potential_answer};
+
+use crate::condition::{greatest_free, weights_for};
+use pg_base::Side;
+use pg_game::{Game, Position};
+
+/// Whether the point is free and has this weight.
+fn has_weight(p: &Position, points: &[u128; 256], weight: u128, v: u16) -> bool
+    requires count { length points.now ≡ 256 }
+    requires small { v < 256 }
+    ensures { result ≡ (is_free p.now v && get_or points.now v 0 == weight) }
+{
+    p.is_free(v) && points[usize::from(v)] == weight
+}
+
+/// The lowest free point of this weight, and 0 where there is none.
+pub fn lowest_with(g: &Game, p: &Position, points: &[u128; 256], weight: u128) -> u16
+    requires lines { g.now.kind ≢ Switching }
+    requires count { length points.now ≡ 256 }
+    ensures { result ≡ unwrap_or (find (λ v. get_or points.now v 0 == weight) (free_points g.now p.now)) 0 }
+{
+    for v in 0..g.points() {
+        if has_weight(p, points, weight, v) {
+            return v;
+        }
+    }
+    0
+}
+
+/// The answer by the potential: the lowest free point of greatest weight.
+///
+/// Where the potential holds with the side to move, it holds after the answer, which may still be within the side's turn.
+/// The game is one on lines, and some point is free. The time is linear in the points of all lines; it takes no memory.
+pub fn answer(g: &Game, p: &Position, side: Side) -> u16
+    requires lines { g.now.kind ≢ Switching }
+    requires position { IsPosition g.now p.now }
+    requires some_free { is_full g.now p.now ≡ false }
+    ensures rule { result ≡ potential_answer g.now p.now side }
+    ensures within { result < point_count g.now }
+    ensures free { is_free p.now result ≡ true }
+    ensures keeps_breaker { g.now.kind ≡ MakerBreaker → side ≡ Y → p.now.turn ≡ side → PotentialHolds g.now p.now side → PotentialHolds g.now (after g.now p.now result) side }
+    ensures keeps_draw { g.now.kind ≡ MakerMaker → p.now.turn ≡ side → PotentialHolds g.now p.now side → PotentialHolds g.now (after g.now p.now result) side }
+{
+    let weights = weights_for(g, p, side);
+    let greatest = greatest_free(g, p, &weights.points);
+    lowest_with(g, p, &weights.points, greatest)
+}

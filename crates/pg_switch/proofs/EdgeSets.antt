@@ -1,0 +1,205 @@
+-- Edges that are free or left at a position, and sets of them that are trees or cuts.
+use Rattle.std.proofs.Common.{◌≡◌, ◌≢◌, ℕ, ◌<◌, ◌≤◌, suc, Bool, true, false, not, ◌&&◌, ◌⊎◌, inl, inr, refl, sym, ap, ◌∙◌, subst, arith}
+use Rattle.std.proofs.lemmas.Bool.{cases_Bool, cases_eq, both_ways, false_from_ne_true, not-true, not_from_false, false≢true}
+use Rattle.std.specs.FinSet.{FinSet, contains, insert}
+use Rattle.std.specs.Ordering.{nat_cmp}
+use Rattle.pg_base.specs.Sets.{plus, minus, either, outside, below, IsWithin, IsBelow}
+use Rattle.pg_base.specs.declared.side.Side.{Side}
+use Rattle.pg_base.specs.declared.side.Side.TheVariants.{X, Y}
+use Rattle.pg_base.specs.Side.{other}
+use Rattle.pg_base.proofs.BelowLemmas.{below_parts, below_from, same_sets}
+use Rattle.pg_base.proofs.PointSetLaws.{contains-insert_plus, insert-cases, insert-old, insert-self}
+use Rattle.pg_base.proofs.SetLemmas.{minus_parts, minus_from, either_cases, outside_parts, outside_from}
+use Rattle.pg_graph.specs.declared.graph.Graph.{Graph}
+use Rattle.pg_graph.specs.Graph.{edge_count, first_end_of, second_end_of, spans_in, IsBridge, IsJoinedIn}
+use Rattle.pg_graph.specs.Joiner.{AreEdges}
+use Rattle.pg_graph.specs.Span.{IsTrees, IsCuts}
+use Rattle.pg_graph.specs.Walks.{edge_spans}
+use Rattle.pg_graph.proofs.GraphLemmas.{joins_same, loops_after, spans_in-sound, spans_in-complete}
+use Rattle.pg_graph.proofs.Spans.{edge_spans_complete}
+use Rattle.pg_game.specs.declared.game.Game.{Game}
+use Rattle.pg_game.specs.declared.position.Position.{Position}
+use Rattle.pg_game.specs.Fit.{AreBelow}
+use Rattle.pg_game.specs.Game.{after}
+use Rattle.pg_game.specs.Position.{is_free}
+use Rattle.pg_game.specs.Trees.{IsFreeEdge, AreFreeEdges, AreFreeWithE, AreApart, with_set, without_set, AreTrees, AreCuts}
+use Rattle.pg_game.proofs.Moves.{free-stays, free-was, free-of, points_of-mover, points_of-waiter}
+
+-- the free edges
+abbrev pub free_edges : Graph → Position → ℕ → Bool
+free_edges h p = below (is_free p) (edge_count h)
+
+-- the edges that aren't Y's, with e
+abbrev pub left_edges : Graph → Position → ℕ → Bool
+left_edges h p = below (λ f. not (contains p.y f)) (suc (edge_count h))
+
+pub free_edges-below : (h : Graph) (p : Position) → IsBelow (free_edges h p) (edge_count h)
+free_edges-below h p z f = (below_parts (is_free p) (edge_count h) z f).1
+
+pub left_edges-below : (h : Graph) (p : Position) → IsBelow (left_edges h p) (suc (edge_count h))
+left_edges-below h p z l = (below_parts (λ f. not (contains p.y f)) (suc (edge_count h)) z l).1
+
+-- e is no free edge
+pub free_edges-e : (h : Graph) (p : Position) → free_edges h p (edge_count h) ≡ false
+free_edges-e h p = false_from_ne_true _ (λ f. let low = free_edges-below h p (edge_count h) f in absurd (omega arith))
+
+pub free_edges-from : (h : Graph) (p : Position) (f : ℕ) → IsFreeEdge h p f → free_edges h p f ≡ true
+free_edges-from h p f i = below_from (is_free p) (edge_count h) f i.1 i.0
+
+pub free_edges-parts : (h : Graph) (p : Position) (f : ℕ) → free_edges h p f ≡ true → IsFreeEdge h p f
+free_edges-parts h p f i = let q = below_parts (is_free p) (edge_count h) f i in (q.1, q.0)
+
+-- an edge that isn't Y's, or e, is left
+pub left_edges-from : (h : Graph) (p : Position) (f : ℕ) → f ≤ edge_count h → contains p.y f ≡ false → left_edges h p f ≡ true
+left_edges-from h p f low out = below_from (λ k. not (contains p.y k)) (suc (edge_count h)) f (not_from_false _ out) (omega arith)
+
+-- e is no edge of a side
+pub no_e : (h : Graph) (s : FinSet nat_cmp) → AreBelow s (edge_count h) → contains s (edge_count h) ≡ false
+no_e h s small = false_from_ne_true _ (λ k. let low = small (edge_count h) k in absurd (omega arith))
+
+-- ---- after a move
+
+-- a move takes its edge from the free ones
+pub free_edges-after : (g : Game) (h : Graph) (p : Position) (v : ℕ) → free_edges h (after g p v) ≡ minus (free_edges h p) v
+free_edges-after g h p v = same_sets _ _
+    (λ z k.
+    let q = below_parts (is_free (after g p v)) (edge_count h) z k in
+    let was = free-was g p v z q.0 in
+    minus_from (free_edges h p) v z (below_from (is_free p) (edge_count h) z was.0 q.1) (λ e. was.1 (sym e)))
+    (λ z k.
+    let q = minus_parts (free_edges h p) v z k in
+    let r = below_parts (is_free p) (edge_count h) z q.0 in
+    below_from (is_free (after g p v)) (edge_count h) z (free-stays g p v z q.1 r.0) r.1)
+
+-- X's edges with one more
+pub x-after_x : (g : Game) (p : Position) (v : ℕ) → p.turn ≡ X → contains (after g p v).x ≡ plus (contains p.x) v
+x-after_x g p v mine = ap (λ (s : FinSet nat_cmp). contains s) (points_of-mover g p X v mine) ∙ contains-insert_plus p.x v
+
+pub x-after_y : (g : Game) (p : Position) (v : ℕ) → p.turn ≡ Y → contains (after g p v).x ≡ contains p.x
+x-after_y g p v yours = ap (λ (s : FinSet nat_cmp). contains s) (points_of-waiter g p X v yours)
+
+pub y-after_x : (g : Game) (p : Position) (v : ℕ) → p.turn ≡ X → (after g p v).y ≡ p.y
+y-after_x g p v yours = points_of-waiter g p Y v yours
+
+-- what is left with one edge less
+pub left-after_y : (g : Game) (h : Graph) (p : Position) (v : ℕ) → p.turn ≡ Y → left_edges h (after g p v) ≡ minus (left_edges h p) v
+left-after_y g h p v mine =
+    let m = suc (edge_count h) in
+    let now : (after g p v).y ≡ insert p.y v = points_of-mover g p Y v mine in
+    ap (λ (s : FinSet nat_cmp). below (λ f. not (contains s f)) m) now ∙ same_sets _ _
+    (λ z k.
+    let q = below_parts (λ f. not (contains (insert p.y v) f)) m z k in
+    let out = not-true _ q.0 in
+    minus_from (left_edges h p) v z
+    (below_from (λ f. not (contains p.y f)) m z (not_from_false _ (false_from_ne_true _ (λ i. both_ways _ out (insert-old p.y v z i)))) q.1)
+    (λ e. both_ways _ out (subst (λ (w : ℕ). contains (insert p.y v) w ≡ true) e (insert-self p.y v))))
+    (λ z k.
+    let q = minus_parts (left_edges h p) v z k in
+    let r = below_parts (λ f. not (contains p.y f)) m z q.0 in
+    below_from (λ f. not (contains (insert p.y v) f)) m z
+    (not_from_false _ (false_from_ne_true _ (λ i. elim (insert-cases p.y v z i) [ inl e ↦ absurd (q.1 (sym e)) | inr old ↦ both_ways _ (not-true _ r.0) old ]))) r.1)
+
+pub left-after_x : (g : Game) (h : Graph) (p : Position) (v : ℕ) → p.turn ≡ X → left_edges h (after g p v) ≡ left_edges h p
+left-after_x g h p v yours = ap (λ (s : FinSet nat_cmp). below (λ f. not (contains s f)) (suc (edge_count h))) (y-after_x g p v yours)
+
+-- ---- sets that agree on the edges
+
+pub spans-same : (h : Graph) (x y : ℕ → Bool) (f : ℕ) → ((k : ℕ) → k < suc (edge_count h) → x k ≡ y k) → spans_in h x f ≡ spans_in h y f
+unfolding edge_spans
+spans-same h x y f same = joins_same (first_end_of h) (second_end_of h) x y (suc (edge_count h)) (first_end_of h f) (second_end_of h f) same
+
+pub minus-agree : (x y : ℕ → Bool) (f n : ℕ) → ((k : ℕ) → k < n → x k ≡ y k) → (k : ℕ) → k < n → minus x f k ≡ minus y f k
+unfolding minus
+minus-agree x y f n same k low = rw (same k low) refl
+
+-- a bridge is an edge that the rest doesn't span
+pub bridge-unspanned : (h : Graph) (set : ℕ → Bool) (f : ℕ) → IsBridge h set f → spans_in h (minus set f) f ≡ false
+bridge-unspanned h set f b = false_from_ne_true _ (λ t. b (spans_in-sound h (minus set f) f t))
+
+pub bridge-from : (h : Graph) (set : ℕ → Bool) (f : ℕ) → spans_in h (minus set f) f ≡ false → IsBridge h set f
+bridge-from h set f out p = both_ways _ out (edge_spans_complete (first_end_of h) (second_end_of h) (suc (edge_count h)) (loops_after h) (minus set f) f p)
+
+pub bridge-same : (h : Graph) (x y : ℕ → Bool) (f : ℕ) → ((k : ℕ) → k < suc (edge_count h) → x k ≡ y k) → IsBridge h x f → IsBridge h y f
+bridge-same h x y f same b =
+    bridge-from h y f (sym (spans-same h (minus x f) (minus y f) f (minus-agree x y f (suc (edge_count h)) same)) ∙ bridge-unspanned h x f b)
+
+-- what is left without a set is so on the edges
+pub without-agree : (h : Graph) (p : Position) (d : FinSet nat_cmp) (k : ℕ) → k < suc (edge_count h) → without_set p d k ≡ outside (left_edges h p) (contains d) k
+unfolding outside
+without-agree h p d k low = ap (λ b. b && not (contains d k)) (sym (at (contains p.y k) refl))
+  where
+    at : (b : Bool) → contains p.y k ≡ b → left_edges h p k ≡ not (contains p.y k)
+    at true e = false_from_ne_true _ (λ l. both_ways _ (not-true _ (below_parts (λ f. not (contains p.y f)) (suc (edge_count h)) k l).0) e) ∙ sym (ap not e)
+    at false e = below_from (λ f. not (contains p.y f)) (suc (edge_count h)) k (ap not e) low ∙ sym (ap not e)
+
+pub unspanned-without : (h : Graph) (p : Position) (d : FinSet nat_cmp) (f : ℕ) → IsBridge h (without_set p d) f → spans_in h (minus (outside (left_edges h p) (contains d)) f) f ≡ false
+unspanned-without h p d f b = bridge-unspanned h (outside (left_edges h p) (contains d)) f (bridge-same h (without_set p d) (outside (left_edges h p) (contains d)) f (without-agree h p d) b)
+
+pub bridge-without : (h : Graph) (p : Position) (d : FinSet nat_cmp) (f : ℕ) → spans_in h (minus (outside (left_edges h p) (contains d)) f) f ≡ false → IsBridge h (without_set p d) f
+bridge-without h p d f out = bridge-same h (outside (left_edges h p) (contains d)) (without_set p d) f (λ k low. sym (without-agree h p d k low)) (bridge-from h (outside (left_edges h p) (contains d)) f out)
+
+-- ---- trees and cuts of a position
+
+-- members are edges, or e
+pub with_e-edges : (h : Graph) (p : Position) (side : Side) (a : FinSet nat_cmp) → AreFreeWithE h p side a → AreEdges h (contains a)
+with_e-edges h p side a free f k = elim (free f k) [ inl i ↦ let low = i.0 in omega arith | inr e ↦ omega (arith, e.0) ]
+
+pub free-edges : (h : Graph) (p : Position) (a : FinSet nat_cmp) → AreFreeEdges h p a → AreEdges h (contains a)
+free-edges h p a free f k = let low = (free f k).0 in omega arith
+
+pub with_set-edges : (h : Graph) (p : Position) (a : FinSet nat_cmp) → AreBelow p.x (edge_count h) → AreEdges h (contains a) → AreEdges h (with_set p a)
+with_set-edges h p a small edges f k = elim (either_cases (contains p.x) (contains a) f k) [ inl i ↦ let low = small f i in omega arith | inr i ↦ edges f i ]
+
+-- trees as the laws of spanning know them
+pub IsTrees-from : (h : Graph) (p : Position) (a1 a2 : FinSet nat_cmp) → AreBelow p.x (edge_count h) → AreTrees h p a1 a2 → IsTrees (spans_in h) (edge_count h) (contains p.x) (contains a1) (contains a2)
+IsTrees-from h p a1 a2 small t =
+    let one = with_set-edges h p a1 small (with_e-edges h p X a1 t.first_free) in
+    let two = with_set-edges h p a2 small (free-edges h p a2 t.second_free) in
+    record {
+      apart = t.apart;
+      first = λ f k. spans_in-complete h (with_set p a1) f one (t.first f k);
+      first_joins = spans_in-complete h (with_set p a1) (edge_count h) one t.first_joins;
+      second = λ f k. spans_in-complete h (with_set p a2) f two (t.second f k);
+      second_joins = spans_in-complete h (with_set p a2) (edge_count h) two t.second_joins;
+    }
+
+pub AreTrees-from : (h : Graph) (p : Position) (a1 a2 : FinSet nat_cmp) → AreFreeWithE h p X a1 → AreFreeEdges h p a2 → IsTrees (spans_in h) (edge_count h) (contains p.x) (contains a1) (contains a2) → AreTrees h p a1 a2
+AreTrees-from h p a1 a2 free1 free2 t = record {
+  first_free = free1;
+  second_free = free2;
+  apart = t.apart;
+  first = λ f k. spans_in-sound h (with_set p a1) f (t.first f k);
+  first_joins = spans_in-sound h (with_set p a1) (edge_count h) t.first_joins;
+  second = λ f k. spans_in-sound h (with_set p a2) f (t.second f k);
+  second_joins = spans_in-sound h (with_set p a2) (edge_count h) t.second_joins;
+}
+
+-- a free edge, and e, is left
+pub left-free : (h : Graph) (p : Position) (side : Side) (d : FinSet nat_cmp) → AreBelow p.y (edge_count h) → AreFreeWithE h p side d → IsWithin (contains d) (left_edges h p)
+left-free h p side d small free f k = elim (free f k) [
+  | inl i ↦ let low = i.0 in left_edges-from h p f (omega arith) (free-of p Y f i.1)
+  | inr e ↦ left_edges-from h p f (omega (arith, e.0)) (subst (λ (w : ℕ). contains p.y w ≡ false) (sym e.0) (no_e h p.y small))
+]
+
+pub IsCuts-from : (h : Graph) (p : Position) (d1 d2 : FinSet nat_cmp) → AreBelow p.y (edge_count h) → AreCuts h p d1 d2 → IsCuts (spans_in h) (edge_count h) (left_edges h p) (contains d1) (contains d2)
+IsCuts-from h p d1 d2 small t = record {
+  apart = t.apart;
+  first = λ f k. unspanned-without h p d1 f (t.first f k);
+  first_parts = λ k. unspanned-without h p d1 (edge_count h) (t.first_parts k);
+  second = λ f k. unspanned-without h p d2 f (t.second f k);
+  second_parts = λ k. unspanned-without h p d2 (edge_count h) t.second_parts;
+  first_in = left-free h p Y d1 small t.first_free;
+  second_in = left-free h p Y d2 small (λ f k. inl (t.second_free f k));
+  joins_in = left_edges-from h p (edge_count h) (omega arith) (no_e h p.y small);
+}
+
+pub AreCuts-from : (h : Graph) (p : Position) (d1 d2 : FinSet nat_cmp) → AreFreeWithE h p Y d1 → AreFreeEdges h p d2 → IsCuts (spans_in h) (edge_count h) (left_edges h p) (contains d1) (contains d2) → AreCuts h p d1 d2
+AreCuts-from h p d1 d2 free1 free2 t = record {
+  first_free = free1;
+  second_free = free2;
+  apart = t.apart;
+  first = λ f k. bridge-without h p d1 f (t.first f k);
+  first_parts = λ k. bridge-without h p d1 (edge_count h) (t.first_parts k);
+  second = λ f k. bridge-without h p d2 f (t.second f k);
+  second_parts = bridge-without h p d2 (edge_count h) (t.second_parts (false_from_ne_true _ (λ k. let low = (free2 (edge_count h) k).0 in absurd (omega arith))));
+}

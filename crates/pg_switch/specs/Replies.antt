@@ -1,0 +1,46 @@
+-- Replies to the loss of an edge, and when a plan may be asked.
+use Rattle.std.specs.Prelude.{◌≡◌, ℕ, ◌<◌, true, Option, Some, None}
+use Rattle.std.specs.FinSet.{FinSet, remove}
+use Rattle.std.specs.Ordering.{nat_cmp}
+use Rattle.pg_base.specs.Side.{other}
+use Rattle.pg_graph.specs.declared.graph.Graph.{Graph}
+use Rattle.pg_graph.specs.Graph.{first_end_of, second_end_of}
+use Rattle.pg_game.specs.declared.field.Field.{Field}
+use Rattle.pg_game.specs.declared.field.Field.TheVariants.{Lines, Graph as OnGraph}
+use Rattle.pg_game.specs.declared.game.Game.{Game}
+use Rattle.pg_game.specs.declared.position.Position.{Position}
+use Rattle.pg_game.specs.Game.{point_count, after}
+use Rattle.pg_game.specs.Position.{is_free}
+use Rattle.pg_game.specs.Trees.{Answered, or_edge, lowest_free_edge, lowest_crossing, lowest_parting, with_set, without_set, trees_answer, cuts_answer}
+
+-- the lowest edge of the other set that crosses what is left of the one, else the lowest free edge
+abbrev pub short_reply : Graph → Position → FinSet nat_cmp → FinSet nat_cmp → ℕ → ℕ
+short_reply h p one another x = or_edge (lowest_crossing h (with_set p (remove one x)) (first_end_of h x) another) (lowest_free_edge h p)
+
+-- the lowest edge of the other set that parts the ends of x, else the lowest free edge
+abbrev pub cut_reply : Graph → Position → FinSet nat_cmp → FinSet nat_cmp → ℕ → ℕ
+cut_reply h p one another x = or_edge (lowest_parting h (without_set p one) (first_end_of h x) (second_end_of h x) another) (lowest_free_edge h p)
+
+-- the other side has just taken x, and before that the fact held
+pub record HeldBefore (g : Game) (p : Position) (Held : Position → Type 0) (x : ℕ) : Type 0 where
+  pub before : Position
+  pub theirs : before.turn ≡ other p.turn
+  pub within : x < point_count g
+  pub free : is_free before x ≡ true
+  pub leads : p ≡ after g before x
+  pub held : Held before
+
+-- the fact held before the last reply, and holds where there is none
+abbrev pub HeldUntil : Game → Position → (Position → Type 0) → Option ℕ → Type 0
+HeldUntil g p Held (Some x) = HeldBefore g p Held x
+HeldUntil g p Held None = Held p
+
+-- on a graph, Short's answer by trees is this edge, and leaves these sets
+abbrev pub IsTreesAnswer : Field → Position → FinSet nat_cmp → FinSet nat_cmp → Option ℕ → Answered → Type 0
+IsTreesAnswer (Lines f) p a1 a2 last answer = ⊥
+IsTreesAnswer (OnGraph h) p a1 a2 last answer = answer ≡ trees_answer h p a1 a2 last
+
+-- on a graph, Cut's answer by cuts is this edge, and leaves these sets
+abbrev pub IsCutsAnswer : Field → Position → FinSet nat_cmp → FinSet nat_cmp → Option ℕ → Answered → Type 0
+IsCutsAnswer (Lines f) p d1 d2 last answer = ⊥
+IsCutsAnswer (OnGraph h) p d1 d2 last answer = answer ≡ cuts_answer h p d1 d2 last

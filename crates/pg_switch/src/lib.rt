@@ -1,0 +1,16 @@
+//! The switching game by trees and by cuts: whether they hold, what they force, and the answers to a reply.
+//!
+//! A reply is met as Lehman does it (A solution of the Shannon switching game, 1964): where the other side has taken an
+//! edge of one of two sets, an edge of the other set is claimed that makes good for it.
+#![tactic(auto)]
+
+mod condition;
+pub mod laws;
+mod plan;
+mod reply;
+
+pub use condition::{cuts_hold, trees_hold};
+pub use plan::{CutPlan, ShortPlan};
+
+#[cfg(test)]
+mod tests;

@@ -1,0 +1,149 @@
+//! Plans by trees and by cuts.
+ghost use Rattle.std.specs.Prelude.{◌≡◌, ◌<◌, ◌≤◌, false, true, suc};
+ghost use Rattle.std.specs.FinSet.{contains, remove};
+ghost use Rattle.pg_base.specs.Points.{AreBelow};
+ghost use Rattle.pg_base.specs.declared.kind.Kind.TheVariants.{Switching};
+ghost use Rattle.pg_base.specs.declared.side.Side.TheVariants.{X, Y};
+ghost use Rattle.pg_graph.specs.Graph.{IsGraph, edge_count};
+ghost use Rattle.pg_graph.specs.Joiner.{IsMadeFor, AreEdges};
+ghost use Rattle.pg_game.specs.Position.{is_free};
+ghost use Rattle.pg_game.specs.Game.{point_count, is_over, after, IsPosition};
+ghost use Rattle.pg_game.specs.Judge.{IsMadeForGame};
+ghost use Rattle.pg_game.specs.Trees.{short_edge, cut_edge, answered_edge, TreesHold, CutsHold};
+ghost use Rattle.pg_switch.specs.Replies.{HeldUntil, IsTreesAnswer, IsCutsAnswer};
+
+use crate::reply::{cut_edge, short_edge};
+use pg_base::PointSet;
+use pg_game::{Field, Game, Position};
+use pg_graph::{Graph, Joiner};
+
+/// A plan for Short: two sets that are trees for X wherever Y is to move.
+#[derive(Clone, Copy, Debug)]
+pub struct ShortPlan {
+    /// The one set, which may hold `e` before the first move.
+    pub first: PointSet,
+    /// The other set.
+    pub second: PointSet,
+}
+
+/// A plan for Cut: two sets that are cuts for Y wherever X is to move.
+#[derive(Clone, Copy, Debug)]
+pub struct CutPlan {
+    /// The one set, which may hold `e` before the first move.
+    pub first: PointSet,
+    /// The other set.
+    pub second: PointSet,
+}
+
+/// Takes the lost and the claimed edge out of the set.
+fn take_both(set: &mut PointSet, lost: u16, claimed: u16)
+    requires lost { lost < 1024 }
+    requires claimed { claimed < 1024 }
+    ensures { set.new ≡ remove (remove set.old lost) claimed }
+{
+    set.take(lost);
+    set.take(claimed);
+}
+
+/// The edge that is answered: the last reply, or e before any.
+fn answered_edge(graph: &Graph, last: Option<u16>) -> u16
+    requires { IsGraph graph.now }
+    ensures { result ≡ answered_edge graph.now last }
+{
+    match last {
+        Some(x) => x,
+        None => graph.edge_count(),
+    }
+}
+
+impl ShortPlan {
+    /// A plan by these two sets.
+    pub fn start(a1: PointSet, a2: PointSet) -> ShortPlan
+        ensures first { result.first ≡ a1 }
+        ensures second { result.second ≡ a2 }
+    {
+        ShortPlan {
+            first: a1,
+            second: a2,
+        }
+    }
+
+    /// Short's answer to the last reply. Where the reply was in one of the sets, it is the lowest edge of the other with
+    /// exactly one end joined to the first end of the reply by X's edges and the rest of the one set; where there is no
+    /// such edge, or the reply was in no set, it is the lowest free edge. Without a reply `e` is answered. The reply and
+    /// the answer leave the sets.
+    ///
+    /// The sets must have been trees before the reply, or be trees now where none came. They are trees again after the
+    /// answer, without `e`. It takes no memory, and leaves the joiner as it was. The answer is Lehman's (A solution of
+    /// the Shannon switching game, 1964).
+    pub fn answer(&mut self, g: &Game, j: &mut Joiner, p: &Position, last: Option<u16>) -> u16
+        requires switching { g.now.kind ≡ Switching }
+        requires made { IsMadeForGame j.old g.now }
+        requires position { IsPosition g.now p.now }
+        requires going { is_over g.now p.now ≡ false }
+        requires turn { p.now.turn ≡ X }
+        requires held { HeldUntil g.now p.now (λ q. TreesHold g.now q self.old.first self.old.second) last }
+        ensures rule { IsTreesAnswer g.now.field p.now self.old.first self.old.second last (record { edge = result; first = self.new.first; second = self.new.second }) }
+        ensures within { result < point_count g.now }
+        ensures free { is_free p.now result ≡ true }
+        ensures holds { TreesHold g.now (after g.now p.now result) self.new.first self.new.second }
+        ensures without_e { contains self.new.first (point_count g.now) ≡ false }
+        ensures kept { j.new ≡ j.old }
+    {
+        match &g.field {
+            Field::Lines(_) => unreachable!(),
+            Field::Graph(graph) => {
+                let x = answered_edge(graph, last);
+                let edge = short_edge(graph, j, p, &self.first, &self.second, x);
+                take_both(&mut self.first, x, edge);
+                take_both(&mut self.second, x, edge);
+                edge
+            }
+        }
+    }
+}
+
+impl CutPlan {
+    /// A plan by these two sets.
+    pub fn start(d1: PointSet, d2: PointSet) -> CutPlan
+        ensures first { result.first ≡ d1 }
+        ensures second { result.second ≡ d2 }
+    {
+        CutPlan {
+            first: d1,
+            second: d2,
+        }
+    }
+
+    /// Cut's answer to the last reply. Where the reply was in one of the sets, and the edges that weren't Y's join its
+    /// ends without that set, it is the lowest edge of the other set whose removal parts them there; otherwise it is the
+    /// lowest free edge. Without a reply `e` is answered. The reply and the answer leave the sets.
+    ///
+    /// The sets must have been cuts before the reply, or be cuts now where none came. They are cuts again after the
+    /// answer, without `e`. It takes no memory, and leaves the joiner as it was. The answer is the dual of Lehman's.
+    pub fn answer(&mut self, g: &Game, j: &mut Joiner, p: &Position, last: Option<u16>) -> u16
+        requires switching { g.now.kind ≡ Switching }
+        requires made { IsMadeForGame j.old g.now }
+        requires position { IsPosition g.now p.now }
+        requires going { is_over g.now p.now ≡ false }
+        requires turn { p.now.turn ≡ Y }
+        requires held { HeldUntil g.now p.now (λ q. CutsHold g.now q self.old.first self.old.second) last }
+        ensures rule { IsCutsAnswer g.now.field p.now self.old.first self.old.second last (record { edge = result; first = self.new.first; second = self.new.second }) }
+        ensures within { result < point_count g.now }
+        ensures free { is_free p.now result ≡ true }
+        ensures holds { CutsHold g.now (after g.now p.now result) self.new.first self.new.second }
+        ensures without_e { contains self.new.first (point_count g.now) ≡ false }
+        ensures kept { j.new ≡ j.old }
+    {
+        match &g.field {
+            Field::Lines(_) => unreachable!(),
+            Field::Graph(graph) => {
+                let x = answered_edge(graph, last);
+                let edge = cut_edge(graph, j, p, &self.first, &self.second, x);
+                take_both(&mut self.first, x, edge);
+                take_both(&mut self.second, x, edge);
+                edge
+            }
+        }
+    }
+}

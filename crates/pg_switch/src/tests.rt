@@ -1,0 +1,112 @@
+//! Rows worked by hand.
+ghost use Rattle.std.specs.Prelude.{◌≡◌, IfOk, IfSome, true};
+ghost use Rattle.pg_base.specs.declared.kind.Kind.TheVariants.{Switching};
+ghost use Rattle.pg_base.specs.declared.side.Side.TheVariants.{X, Y};
+ghost use Rattle.pg_game.specs.Game.{IsPosition};
+ghost use Rattle.pg_game.specs.Judge.{IsMadeForGame};
+
+use crate::{CutPlan, ShortPlan, cuts_hold, trees_hold};
+use pg_base::{Kind, PointSet, Side};
+use pg_game::{Field, Game, Judge, Position};
+use pg_graph::{Ends, Graph, Joiner};
+use std::alloc::Global;
+use std::test::Fail;
+
+/// The ends of the edges of the graph with two inner vertices.
+const BRIDGED: [(u16, u16); 5] = [(0, 2), (0, 3), (2, 3), (2, 1), (3, 1)];
+
+/// The set of these points, which are below 1,024.
+fn set_of(points: &[u16]) -> PointSet {
+    let mut set = PointSet::empty();
+    for &v in points {
+        if v < 1024 {
+            set.put(v);
+        }
+    }
+    set
+}
+
+/// A game on a graph with the terminals 0 and 1, without marks.
+fn game_of(alloc: Global, vertices: u16, ends: &[(u16, u16)]) -> Result<Game, Fail> {
+    let field = Field::Graph(Graph {
+        vertices,
+        s: 0,
+        t: 1,
+        ends: Ends::from_vec(ends.to_vec(alloc)?),
+    });
+    let none = PointSet::empty();
+    Ok(Game::new(Kind::Switching, field, none, none, Side::X, 1)?)
+}
+
+/// The beginning of a turn.
+fn turn_of(g: &Game, turn: Side) -> Position
+    ensures { IsPosition g.now result }
+{
+    g.with_turn(turn)
+}
+
+/// A joiner for the game, and none on lines.
+fn joiner_for(alloc: Global, g: &Game) -> Result<Option<Joiner>, Fail>
+    ensures { IfOk result (λ found. IfSome found (λ j. IsMadeForGame j g.now)) }
+{
+    match &g.field {
+        Field::Lines(_) => Ok(None),
+        Field::Graph(graph) => Ok(Some(Joiner::new(alloc, graph)?)),
+    }
+}
+
+/// Whether the side's sets hold: trees for X and cuts for Y.
+fn hold(
+    alloc: Global,
+    g: &Game,
+    p: &Position,
+    side: Side,
+    one: &[u16],
+    other: &[u16],
+) -> Result<bool, Fail>
+    requires { IsPosition g.now p.now }
+{
+    let (first, second) = (set_of(one), set_of(other));
+    let limit = g.points() + 1;
+    if g.kind != Kind::Switching || !first.is_below(limit) || !second.is_below(limit) {
+        return Ok(false);
+    }
+    let Some(mut j) = joiner_for(alloc, g)? else {
+        return Ok(false);
+    };
+    Ok(match side {
+        Side::X => trees_hold(g, &mut j, p, &first, &second),
+        Side::Y => cuts_hold(g, &mut j, p, &first, &second),
+    })
+}
+
+#[test]
+fn both_hold_for_the_side_to_move_on_the_bridged_graph(rt: HostRuntime) -> Result<(), Fail> {
+    let g = game_of(rt.alloc(), 4, &BRIDGED)?;
+    let (x, y) = (turn_of(&g, Side::X), turn_of(&g, Side::Y));
+    assert!(rt; hold(rt.alloc(), &g, &x, Side::X, &[5, 0, 4], &[1, 2, 3])?);
+    assert!(rt; !hold(rt.alloc(), &g, &y, Side::X, &[5, 0, 4], &[1, 2, 3])?);
+    assert!(rt; hold(rt.alloc(), &g, &y, Side::Y, &[5, 0, 4], &[1, 2, 3])?);
+    assert!(rt; !hold(rt.alloc(), &g, &x, Side::Y, &[5, 0, 4], &[1, 2, 3])?);
+    assert!(rt; !hold(rt.alloc(), &g, &x, Side::X, &[5, 0, 4], &[0, 2, 3])?);
+    assert!(rt; !hold(rt.alloc(), &g, &x, Side::X, &[5, 0], &[1, 2, 3])?);
+    Ok(())
+}
+
+#[test]
+fn one_edge_is_for_the_side_to_move(rt: HostRuntime) -> Result<(), Fail> {
+    let g = game_of(rt.alloc(), 2, &[(0, 1)])?;
+    assert!(rt; hold(rt.alloc(), &g, &turn_of(&g, Side::X), Side::X, &[1], &[0])?);
+    assert!(rt; hold(rt.alloc(), &g, &turn_of(&g, Side::Y), Side::Y, &[1], &[0])?);
+    Ok(())
+}
+
+#[test]
+fn two_edges_in_a_row_are_for_cut(rt: HostRuntime) -> Result<(), Fail> {
+    let g = game_of(rt.alloc(), 3, &[(0, 2), (2, 1)])?;
+    let x = turn_of(&g, Side::X);
+    assert!(rt; hold(rt.alloc(), &g, &x, Side::Y, &[0], &[1])?);
+    assert!(rt; hold(rt.alloc(), &g, &turn_of(&g, Side::Y), Side::Y, &[0], &[1])?);
+    assert!(rt; !hold(rt.alloc(), &g, &x, Side::X, &[2, 0], &[1])?);
+    Ok(())
+}
