@@ -1,5 +1,7 @@
 //! Files with faults, and files that read and print back.
 use super::*;
+use pg_base::Memory;
+use std::alloc::Global;
 use std::test::Fail;
 
 /// The fault of a file, (0, 0) where it has none.
@@ -197,5 +199,24 @@ fn reads_and_prints_back(rt: HostRuntime) -> Result<(), Fail> {
     let line = print_node(rt.alloc(), first)?;
     assert_eq!(rt; line.as_slice(), b"0 5|1 1023|y|over\n".as_slice());
     assert!(rt; first.position().x.has(5));
+    Ok(())
+}
+
+/// Whether a certificate of one claim with a hundred thousand nodes is read, and printed as it was.
+fn prints_back(alloc: Global) -> Result<bool, Memory> {
+    let mut text = Vec::new(alloc);
+    text.extend_from_slice(b"posgame-cert 1\nclaim x y win\nnodes 100000\n")?;
+    for _ in 0..100_000u32 {
+        text.extend_from_slice(b"||x|potential\n")?;
+    }
+    match read_cert(alloc, &text) {
+        Ok(cert) => Ok(print_cert(alloc, &cert)?.as_slice() == text.as_slice()),
+        Err(_) => Ok(false),
+    }
+}
+
+#[test]
+fn a_hundred_thousand_nodes(rt: HostRuntime) -> Result<(), Fail> {
+    assert!(rt; prints_back(rt.alloc())?);
     Ok(())
 }

@@ -243,3 +243,122 @@ fn each_call_fails_in_turn(rt: HostRuntime) -> Result<(), Fail> {
     assert!(rt; stops(alloc, a_node_missing(), 6, 0, 6, "")?);
     Ok(())
 }
+
+/// Three points and two lines through one of them, with Maker to move.
+fn two_lines() -> &'static str {
+    "posgame 1\nkind maker-breaker\npoints 3\nline 0 1\nline 0 2\nturn x\n"
+}
+
+/// Whether the check of a certificate says what it must: a row is the certificate behind its first line, with `;` for
+/// each line feed, then `=` and the text.
+fn row_holds(alloc: Global, game: &str, row: &str) -> Result<bool, AllocError> {
+    let Some((lines, text)) = row.split_once('=') else {
+        return Ok(false);
+    };
+    let mut certificate = String::from_str(alloc, "posgame-cert 1\n")?;
+    for line in lines.split(';') {
+        certificate.push_str(line)?;
+        certificate.push_str("\n")?;
+    }
+    let mut texts = String::from_str(alloc, text)?;
+    texts.push_str("\n")?;
+    let status = if text.starts_with("accepted") { 0 } else { 4 };
+    answers(
+        alloc,
+        "check G C",
+        game,
+        certificate.as_str(),
+        status,
+        texts.as_str(),
+    )
+}
+
+#[test]
+fn trees_of_moves(rt: HostRuntime) -> Result<(), Fail> {
+    for row in [
+        "claim x x win;nodes 6;0 2|1|y|over;0 1|2|y|over;0|1|x|move 2 0;0|2|x|move 1 1;0||y|all 1:2 2:3;||x|move 0 4=accepted x x win",
+        "claim x x win;nodes 6;0 2|1|y|over;0 1|2|y|over;0|1|x|move 2 0;0|2|x|move 1 1;0||y|all 1:2;||x|move 0 4=rejected J4 claim 0 node 4",
+        "claim x x win;nodes 6;0 2|1|y|over;0 1|2|y|over;0|1|x|move 2 0;0|2|x|move 1 1;0||y|all 1:2 2:2;||x|move 0 4=rejected J2 claim 0 node 4",
+        "claim y x win;nodes 6;0 2|1|y|over;0 1|2|y|over;0|1|x|move 2 0;0|2|x|move 1 1;0||y|all 1:2 2:3;||x|move 0 4=rejected J11 claim 0 node 5",
+        "claim x x win;nodes 6;0 2|1|y|over;0 1|2|y|over;0|1|x|threat 2;0|2|x|move 1 1;0||y|all 1:2 2:3;||x|move 0 4=rejected J0 claim 0 node 2",
+        "claim x x win;nodes 6;0 2|1|y|over;0 1|2|y|over;0|1|x|move 2 2;0|2|x|move 1 1;0||y|all 1:2 2:3;||x|move 0 4=rejected J1 claim 0 node 2",
+        "claim x x win;nodes 6;0 2|1|y|over;0 1|2|y|over;0|1|x|move 2 0;0|2|x|move 1 1;0||y|all 1:2 2:3;||x|move 0 5=rejected J1 claim 0 node 5",
+        "claim x x win;nodes 6;0 2|1|y|over;0 1|2|y|over;0|1|x|move 2 1;0|2|x|move 1 1;0||y|all 1:2 2:3;||x|move 0 4=rejected J2 claim 0 node 2",
+        "claim x x win;nodes 6;0 2|1|y|over;0 1|2|y|over;0|1|x|move 2 0;0|2|x|move 1 1;0||y|all 1:2 2:3;||x|move 0 3=rejected J2 claim 0 node 5",
+        "claim x x win;nodes 6;0 2|1|y|over;0 1|2|y|over;0|1|x|all 2:0;0|2|x|move 1 1;0||y|all 1:2 2:3;||x|move 0 4=rejected J3 claim 0 node 2",
+        "claim x x win;nodes 6;0 2|1|y|over;0 1|2|y|over;0|1|x|move 2 0;0|2|x|move 1 1;0||y|all 1:2 2:3;||x|all 0:4=rejected J3 claim 0 node 5",
+        "claim x x win;nodes 6;0 2|1|y|over;0 1|2|y|over;0|1|x|move 2 0;0|2|x|move 1 1;0||y|all 1:2 2:3;||x|move 3 4=rejected J4 claim 0 node 5",
+        "claim x x win;nodes 6;0 2|1|y|over;0|2|y|over;0|1|x|move 2 0;0|2|x|move 1 1;0||y|all 1:2 2:3;||x|move 0 4=rejected J5 claim 0 node 1",
+        "claim x x win;nodes 6;0 2|1|y|over;0 1|2|y|over;0|1|x|move 2 0;0|2|x|move 1 1;0||y|all 1:2 2:3;||x|over=rejected J5 claim 0 node 5",
+    ] {
+        assert!(rt; row_holds(rt.alloc(), two_lines(), row)?, "{row}");
+    }
+    Ok(())
+}
+
+#[test]
+fn single_nodes(rt: HostRuntime) -> Result<(), Fail> {
+    for row in [
+        "claim x y win;nodes 1;||x|potential=rejected J0 claim 0 node 0",
+        "claim x x win;nodes 1;||x|threat 0 1 2=rejected J0 claim 0 node 0",
+        "claim x x win;nodes 1;||x|move 0 0=rejected J1 claim 0 node 0",
+        "claim x x win;nodes 1;||x|move 3 0=rejected J1 claim 0 node 0",
+        "claim x x win;nodes 1;0 9|1|y|over=rejected J2 claim 0 node 0",
+        "claim x x win;nodes 1;||x|all=rejected J3 claim 0 node 0",
+        "claim y x win;nodes 1;||y|all=rejected J4 claim 0 node 0",
+        "claim x x win;nodes 1;||x|over=rejected J5 claim 0 node 0",
+        "claim x y win;nodes 1;||x|pairs 0-1=rejected J6 claim 0 node 0",
+        "claim y y win;nodes 1;||x|pairs=rejected J6 claim 0 node 0",
+        "claim y x win;nodes 1;0 1||x|over=rejected J11 claim 0 node 0",
+        "claim x x win;nodes 1;||x|pairs 0-1=rejected J12 claim 0 node 0",
+        "claim x x win;nodes 1;||x|trees /=rejected J12 claim 0 node 0",
+    ] {
+        assert!(rt; row_holds(rt.alloc(), two_lines(), row)?, "{row}");
+    }
+    Ok(())
+}
+
+#[test]
+fn later_nodes_and_claims(rt: HostRuntime) -> Result<(), Fail> {
+    for row in [
+        "claim x y win;nodes 3;|4|x|pairs 0-1 2-5 8-7 6-3;|4|x|pairs 0-1;|4|x|pairs 0-1 2-5 8-7 6-3=rejected J6 claim 0 node 1",
+        "claim x y win;nodes 3;|4|x|pairs 0-1 2-5 8-7 6-3;|4|x|pairs 0-1 2-5 8-7 6-3;|4|x|pairs 0-1=rejected J6 claim 0 node 2",
+        "claim x y win;nodes 1;|4|x|pairs 0-1 2-5 8-7 6-3;claim x y win;nodes 1;|4|x|pairs 0-1=rejected J6 claim 1 node 0",
+        "claim x y draw;nodes 1;|4|x|pairs 0-1 2-5 8-7 6-3=accepted x y draw",
+        "claim x x win;nodes 2;|4|x|pairs 0-1 2-5 8-7 6-3;|4|x|over=rejected J12 claim 0 node 0",
+        "claim x y win;nodes 1;|4|y|pairs 0-1 2-5 8-7 6-3=rejected J11 claim 0 node 0",
+        "claim x y win;nodes 1;|4 9|x|pairs 0-1 2-5 8-7 6-3=rejected J2 claim 0 node 0",
+    ] {
+        assert!(rt; row_holds(rt.alloc(), game(), row)?, "{row}");
+    }
+    Ok(())
+}
+
+#[test]
+fn other_kinds(rt: HostRuntime) -> Result<(), Fail> {
+    let alloc = rt.alloc();
+    let graph = "posgame 1\nkind switching\nvertices 2\nterminals 0 1\nedge 0 1\nturn x\n";
+    assert!(rt;
+        row_holds(
+            alloc,
+            graph,
+            "claim x x win;nodes 2;0||y|over;||x|move 0 0=accepted x x win"
+        )?
+    );
+    assert!(rt;
+        row_holds(
+            alloc,
+            graph,
+            "claim x y win;nodes 1;||x|cuts e / 0=rejected J0 claim 0 node 0"
+        )?
+    );
+    let avoider = "posgame 1\nkind avoider-enforcer\npoints 2\nline 0 1\nturn y\n";
+    assert!(rt;
+        row_holds(
+            alloc,
+            avoider,
+            "claim y x win;nodes 1;||y|pairs 0-1=accepted y x win"
+        )?
+    );
+    Ok(())
+}
