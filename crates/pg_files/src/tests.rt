@@ -172,32 +172,62 @@ fn the_first_fault_of_each_file(rt: HostRuntime) -> Result<(), Fail> {
     Ok(())
 }
 
+/// A comment of so many bytes.
+fn comment(rt: &HostRuntime, length: usize) -> Result<Vec<u8>, Fail> {
+    let mut text = Vec::new(rt.alloc());
+    for _ in 0..length {
+        text.push(b'#')?;
+    }
+    Ok(text)
+}
+
+/// A line of the points below a number.
+fn line_of(rt: &HostRuntime, points: u8) -> Result<Vec<u8>, Fail> {
+    let mut text = Vec::new(rt.alloc());
+    text.extend_from_slice(b"points 256\nline")?;
+    for n in 0..points {
+        write_number(&mut text, n)?;
+    }
+    Ok(text)
+}
+
+/// So many edges.
+fn edges_of(rt: &HostRuntime, count: u32) -> Result<Vec<u8>, Fail> {
+    let mut text = Vec::new(rt.alloc());
+    text.extend_from_slice(b"vertices 2\nterminals 0 1\n")?;
+    for _ in 0..count {
+        text.extend_from_slice(b"edge 0 1\n")?;
+    }
+    Ok(text)
+}
+
 #[test]
-fn each_count_at_its_limit_and_one_above(rt: HostRuntime) -> Result<(), Fail> {
-    let bytes = [b'#'; 4_194_305];
-    assert_eq!(rt; fault(&rt, &bytes, b"")?, (1, 0));
-    assert_eq!(rt; fault(&rt, &bytes[1..], b"")?, (3, 0));
-    let mut line = Vec::new(rt.alloc());
-    line.extend_from_slice(b"points 256\nline")?;
-    for n in 0..100 {
-        write_number(&mut line, n)?;
-    }
-    assert_eq!(rt; fault(&rt, LINES, &line)?, (12, 0));
-    write_number(&mut line, 100)?;
-    assert_eq!(rt; fault(&rt, LINES, &line)?, (9, 4));
-    write_number(&mut line, 100)?;
-    assert_eq!(rt; fault(&rt, LINES, &line)?, (8, 4));
-    let mut edges = Vec::new(rt.alloc());
-    edges.extend_from_slice(b"vertices 2\nterminals 0 1\n")?;
-    for _ in 0..1000 {
-        edges.extend_from_slice(b"edge 0 1\n")?;
-    }
-    assert_eq!(rt; fault(&rt, SWITCHING, &edges)?, (12, 0));
-    edges.extend_from_slice(b"edge 1 1")?;
-    assert_eq!(rt; fault(&rt, SWITCHING, &edges)?, (10, 1005));
+fn files_at_the_greatest_size_and_one_above(rt: HostRuntime) -> Result<(), Fail> {
+    let text = comment(&rt, 4_194_304)?;
+    assert_eq!(rt; fault(&rt, b"", &text)?, (3, 0));
+    assert_eq!(rt; fault(&rt, b"#", &text)?, (1, 0));
     Ok(())
 }
 
+#[test]
+fn lines_at_the_greatest_length_and_one_above(rt: HostRuntime) -> Result<(), Fail> {
+    let text = line_of(&rt, 100)?;
+    assert_eq!(rt; fault(&rt, LINES, &text)?, (12, 0));
+    let text = line_of(&rt, 101)?;
+    assert_eq!(rt; fault(&rt, LINES, &text)?, (9, 4));
+    Ok(())
+}
+
+#[test]
+fn edges_at_the_greatest_number_and_one_above(rt: HostRuntime) -> Result<(), Fail> {
+    let text = edges_of(&rt, 1000)?;
+    assert_eq!(rt; fault(&rt, SWITCHING, &text)?, (12, 0));
+    let text = edges_of(&rt, 1001)?;
+    assert_eq!(rt; fault(&rt, SWITCHING, &text)?, (10, 1005));
+    Ok(())
+}
+
+/// Adds a space and the number.
 fn write_number(text: &mut Vec<u8>, n: u8) -> Result<(), Fail> {
     text.push(b' ')?;
     if n >= 100 {
