@@ -1,7 +1,5 @@
 //! Rows worked by hand.
-ghost use Rattle.std.specs.Prelude.{◌≡◌, IfOk, IfSome, true};
-ghost use Rattle.pg_base.specs.declared.kind.Kind.TheVariants.{Switching};
-ghost use Rattle.pg_base.specs.declared.side.Side.TheVariants.{X, Y};
+ghost use Rattle.std.specs.Prelude.{IfOk, IfSome};
 ghost use Rattle.pg_game.specs.Game.{IsPosition};
 ghost use Rattle.pg_game.specs.Judge.{IsMadeForGame};
 
@@ -80,6 +78,64 @@ fn hold(
     })
 }
 
+/// Short's first move by the sets, where they are trees and X is to move in a game that isn't over.
+fn short_start(
+    alloc: Global,
+    g: &Game,
+    p: &Position,
+    one: &[u16],
+    other: &[u16],
+) -> Result<Option<u16>, Fail>
+    requires { IsPosition g.now p.now }
+{
+    let (first, second) = (set_of(one), set_of(other));
+    let limit = g.points() + 1;
+    if g.kind != Kind::Switching || !first.is_below(limit) || !second.is_below(limit) {
+        return Ok(None);
+    }
+    let Some(mut j) = joiner_for(alloc, g)? else {
+        return Ok(None);
+    };
+    let mut judge = Judge::new(alloc, g)?;
+    if p.turn != Side::X
+        || judge.over(g, p).is_some()
+        || !trees_hold(g, &mut j, p, &first, &second)
+    {
+        return Ok(None);
+    }
+    let mut plan = ShortPlan::start(first, second);
+    Ok(Some(plan.answer(g, &mut j, p, None)))
+}
+
+/// Cut's first move by the sets, where they are cuts and Y is to move in a game that isn't over.
+fn cut_start(
+    alloc: Global,
+    g: &Game,
+    p: &Position,
+    one: &[u16],
+    other: &[u16],
+) -> Result<Option<u16>, Fail>
+    requires { IsPosition g.now p.now }
+{
+    let (first, second) = (set_of(one), set_of(other));
+    let limit = g.points() + 1;
+    if g.kind != Kind::Switching || !first.is_below(limit) || !second.is_below(limit) {
+        return Ok(None);
+    }
+    let Some(mut j) = joiner_for(alloc, g)? else {
+        return Ok(None);
+    };
+    let mut judge = Judge::new(alloc, g)?;
+    if p.turn != Side::Y
+        || judge.over(g, p).is_some()
+        || !cuts_hold(g, &mut j, p, &first, &second)
+    {
+        return Ok(None);
+    }
+    let mut plan = CutPlan::start(first, second);
+    Ok(Some(plan.answer(g, &mut j, p, None)))
+}
+
 #[test]
 fn both_hold_for_the_side_to_move_on_the_bridged_graph(rt: HostRuntime) -> Result<(), Fail> {
     let g = game_of(rt.alloc(), 4, &BRIDGED)?;
@@ -108,5 +164,28 @@ fn two_edges_in_a_row_are_for_cut(rt: HostRuntime) -> Result<(), Fail> {
     assert!(rt; hold(rt.alloc(), &g, &x, Side::Y, &[0], &[1])?);
     assert!(rt; hold(rt.alloc(), &g, &turn_of(&g, Side::Y), Side::Y, &[0], &[1])?);
     assert!(rt; !hold(rt.alloc(), &g, &x, Side::X, &[2, 0], &[1])?);
+    Ok(())
+}
+
+#[test]
+fn the_first_move_answers_e(rt: HostRuntime) -> Result<(), Fail> {
+    let g = game_of(rt.alloc(), 4, &BRIDGED)?;
+    let (x, y) = (turn_of(&g, Side::X), turn_of(&g, Side::Y));
+    assert_eq!(rt;
+        short_start(rt.alloc(), &g, &x, &[5, 0, 4], &[1, 2, 3])?,
+        Some(1)
+    );
+    assert_eq!(rt;
+        short_start(rt.alloc(), &g, &y, &[5, 0, 4], &[1, 2, 3])?,
+        None
+    );
+    assert_eq!(rt;
+        cut_start(rt.alloc(), &g, &y, &[5, 0, 4], &[1, 2, 3])?,
+        Some(1)
+    );
+    assert_eq!(rt;
+        cut_start(rt.alloc(), &g, &x, &[5, 0, 4], &[1, 2, 3])?,
+        None
+    );
     Ok(())
 }
