@@ -220,3 +220,22 @@ fn a_hundred_thousand_nodes(rt: HostRuntime) -> Result<(), Fail> {
     assert!(rt; prints_back(rt.alloc())?);
     Ok(())
 }
+
+/// Whether a file of so many bytes is refused for its size.
+fn is_too_large(alloc: Global, length: u32) -> Result<bool, Memory> {
+    let mut text = Vec::new(alloc);
+    for _ in 0..length {
+        text.push(b'#')?;
+    }
+    Ok(matches!(
+        read_cert(alloc, &text),
+        Err(CertFault::Bad { number: 1, line: 0 })
+    ))
+}
+
+#[test]
+fn the_size_of_a_file(rt: HostRuntime) -> Result<(), Fail> {
+    assert!(rt; !is_too_large(rt.alloc(), 268_435_456)?);
+    assert!(rt; is_too_large(rt.alloc(), 268_435_457)?);
+    Ok(())
+}

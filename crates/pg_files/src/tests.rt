@@ -227,6 +227,38 @@ fn edges_at_the_greatest_number_and_one_above(rt: HostRuntime) -> Result<(), Fai
     Ok(())
 }
 
+/// So many lines of the points below a number.
+fn lines_of(rt: &HostRuntime, count: u32, points: u8) -> Result<Vec<u8>, Fail> {
+    let mut text = Vec::new(rt.alloc());
+    text.extend_from_slice(b"points 256\n")?;
+    for _ in 0..count {
+        text.extend_from_slice(b"line")?;
+        for n in 0..points {
+            write_number(&mut text, n)?;
+        }
+        text.push(b'\n')?;
+    }
+    Ok(text)
+}
+
+#[test]
+fn lines_at_the_greatest_number_and_one_above(rt: HostRuntime) -> Result<(), Fail> {
+    let text = lines_of(&rt, 20_000, 1)?;
+    assert_eq!(rt; fault(&rt, LINES, &text)?, (12, 0));
+    let text = lines_of(&rt, 20_001, 1)?;
+    assert_eq!(rt; fault(&rt, LINES, &text)?, (10, 20_004));
+    Ok(())
+}
+
+#[test]
+fn points_of_lines_at_the_greatest_sum_and_above(rt: HostRuntime) -> Result<(), Fail> {
+    let text = lines_of(&rt, 4_000, 100)?;
+    assert_eq!(rt; fault(&rt, LINES, &text)?, (12, 0));
+    let text = lines_of(&rt, 4_001, 100)?;
+    assert_eq!(rt; fault(&rt, LINES, &text)?, (10, 4_004));
+    Ok(())
+}
+
 /// Adds a space and the number.
 fn write_number(text: &mut Vec<u8>, n: u8) -> Result<(), Fail> {
     text.push(b' ')?;
