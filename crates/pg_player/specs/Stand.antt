@@ -1,0 +1,18 @@
+-- What the code keeps of a standing.
+use Rattle.std.specs.Prelude.{ℕ, Bool, false, Option}
+use Rattle.pg_cert.specs.declared.node.Body.{Body}
+use Rattle.pg_cert.specs.declared.node.Body.TheVariants.{Trees, Cuts}
+use Rattle.pg_cert.specs.OwnMove.{Standing}
+use Rattle.pg_player.specs.declared.standing.Rest.{Rest}
+use Rattle.pg_player.specs.declared.standing.Rest.TheVariants as rest
+use Rattle.pg_player.specs.declared.standing.Stand.{Stand}
+
+-- what is left of the body
+abbrev pub body_of : Rest → Body
+body_of (rest.Whole body) = body.now
+body_of (rest.Short plan) = Trees false plan.first plan.second
+body_of (rest.Cut plan) = Cuts false plan.first plan.second
+
+-- where the player stands
+abbrev pub standing_of : Stand → Standing
+standing_of s = record { body = body_of s.rest; last = s.last }
