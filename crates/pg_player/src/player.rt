@@ -191,7 +191,7 @@ impl<'a> Player<'a> {
     {
         let next = self.judge.play(self.game, &self.position, v)?;
         self.ending = self.judge.over(self.game, &next);
-        self.stand = replied(self.claim, self.stand, v);
+        self.stand = replied(self.claim, &self.stand.rest, v);
         self.position = next;
         Ok(())
     }

@@ -1,14 +1,7 @@
 //! Where a player stands, and where it goes.
-ghost use Rattle.std.specs.Prelude.{◌≡◌, ◌<◌, ◌-◌, ℕ, Some, None, length, slice_get, true, false};
-ghost use Rattle.pg_base.specs.Side.{other};
-ghost use Rattle.pg_cert.specs.OwnMove.{arrives, replied};
-ghost use Rattle.pg_cert.specs.declared.node.Node.{Node};
-ghost use Rattle.pg_game.specs.Game.{point_count, is_over};
-ghost use Rattle.pg_game.specs.Position.{is_free};
-ghost use Rattle.pg_game.specs.declared.game.Game.{Game};
-ghost use Rattle.pg_game.specs.declared.position.Position.{Position};
-ghost use Rattle.pg_player.specs.InPlay.{Stands};
-ghost use Rattle.pg_player.specs.Stand.{standing_of};
+ghost use Rattle.std.specs.Prelude.{◌≡◌, ◌==◌, ◌<◌, ◌-◌, Some, length, find, option_map};
+ghost use Rattle.pg_cert.specs.OwnMove.{arrives, replied_by};
+ghost use Rattle.pg_player.specs.Stand.{body_of, standing_of, LeadsOn};
 
 use pg_cert::{Body, Claim, Reply};
 use pg_switch::{CutPlan, ShortPlan};
@@ -27,7 +20,9 @@ pub(crate) enum Rest<'a> {
 /// Where the player stands: what is left of the body, and the last reply since it came to its node.
 #[derive(Clone, Copy, Debug)]
 pub(crate) struct Stand<'a> {
+    /// What is left of the body.
     pub(crate) rest: Rest<'a>,
+    /// The last reply, and none where none has come.
     pub(crate) last: Option<u16>,
 }
 
@@ -50,20 +45,44 @@ pub(crate) fn root(claim: &Claim) -> Stand<'_>
     arrive(claim, claim.nodes.as_slice().len() - 1)
 }
 
-/// Where the player stands after a reply.
-pub(crate) fn replied<'a>(claim: &'a Claim, stand: Stand<'a>, v: u16) -> Stand<'a> {
-    match stand.rest {
-        Rest::Whole(Body::All(replies)) => match find_reply(replies.as_slice(), v) {
+/// The reply that takes the point.
+fn find_reply(replies: &[Reply], v: u16) -> Option<&Reply>
+    ensures { option_map (λ r. r.now) result ≡ find (λ r. r.point == v) replies.now }
+{
+    replies.iter().find(|reply| reply.point == v)
+}
+
+/// Where the player stands at a node's body after a reply: on at the child where all replies are named, else it stays.
+fn body_replied<'a>(claim: &'a Claim, body: &'a Body, v: u16) -> Stand<'a>
+    requires { LeadsOn claim.now.nodes body.now v }
+    ensures { replied_by body.now claim.now.nodes v ≡ Some (standing_of result) }
+{
+    match body {
+        Body::All(replies) => match find_reply(replies.as_slice(), v) {
             Some(reply) => arrive(claim, reply.child as usize),
             None => unreachable!(),
         },
-        rest => Stand {
-            rest,
+        _ => Stand {
+            rest: Rest::Whole(body),
             last: Some(v),
         },
     }
 }
 
-fn find_reply(replies: &[Reply], v: u16) -> Option<&Reply> {
-    replies.iter().find(|reply| reply.point == v)
+/// Where the player stands after a legal reply of the other side, by what was left of its body.
+pub(crate) fn replied<'a>(claim: &'a Claim, rest: &Rest<'a>, v: u16) -> Stand<'a>
+    requires { LeadsOn claim.now.nodes (body_of rest.now) v }
+    ensures { replied_by (body_of rest.now) claim.now.nodes v ≡ Some (standing_of result) }
+{
+    match rest {
+        Rest::Whole(body) => body_replied(claim, body, v),
+        Rest::Short(plan) => Stand {
+            rest: Rest::Short(*plan),
+            last: Some(v),
+        },
+        Rest::Cut(plan) => Stand {
+            rest: Rest::Cut(*plan),
+            last: Some(v),
+        },
+    }
 }
