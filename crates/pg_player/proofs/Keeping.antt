@@ -331,3 +331,36 @@ module _ (g : Game) (c : Claim) (p : Position) (with_e : Bool) (first second : F
   pub KeepsUp-cuts : (v : ℕ) (next : Standing) → KeepsUp g c p (record { body = Cuts false (with_e_named g with_e first) second; last = last }) v next → KeepsUp g c p (record { body = Cuts with_e first second; last = last }) v next
   unfolding own_move
   KeepsUp-cuts v next k = record { own = ap (λ (o : Option Answered). stays_with_cuts o last) (cuts_named g.field p with_e first second last) ∙ k.own; within = k.within; free = k.free; forced = k.forced; stands = k.stands }
+
+-- ---- a node's whole body
+
+module _ (g : Game) (c : Claim) (p : Position) (body : Body) (with_e : Bool) (first second : FinSet nat_cmp) (last : Option ℕ) (f s : FinSet nat_cmp) (is_f : f ≡ with_e_named g with_e first) (is_s : s ≡ second) where
+  -- trees and cuts held until the last reply
+  pub trees-held : body ≡ Trees with_e first second → InPlay g c p (record { body = body; last = last }) → is_over g p ≡ false → p.turn ≡ c.side → HeldUntil g p (λ q. TreesHold g q f s) last
+  trees-held is h going mine =
+      let here = subst (λ (b : Body). InPlay g c p (record { body = b; last = last })) is h in
+      let held = here.stands.ready going mine in
+      subst (λ (t : FinSet nat_cmp). HeldUntil g p (λ q. TreesHold g q f t) last) (sym is_s) (subst (λ (t : FinSet nat_cmp). HeldUntil g p (λ q. TreesHold g q t second) last) (sym is_f) held)
+
+  pub cuts-held : body ≡ Cuts with_e first second → InPlay g c p (record { body = body; last = last }) → is_over g p ≡ false → p.turn ≡ c.side → HeldUntil g p (λ q. CutsHold g q f s) last
+  cuts-held is h going mine =
+      let here = subst (λ (b : Body). InPlay g c p (record { body = b; last = last })) is h in
+      let held = here.stands.ready going mine in
+      subst (λ (t : FinSet nat_cmp). HeldUntil g p (λ q. CutsHold g q f t) last) (sym is_s) (subst (λ (t : FinSet nat_cmp). HeldUntil g p (λ q. CutsHold g q t second) last) (sym is_f) held)
+
+  -- what keeps up by the plan keeps up by the body
+  pub trees-whole : (v : ℕ) (next : Standing) → body ≡ Trees with_e first second → InPlay g c p (record { body = body; last = last })
+      → (InPlay g c p (record { body = Trees false f s; last = last }) → KeepsUp g c p (record { body = Trees false f s; last = last }) v next) → KeepsUp g c p (record { body = body; last = last }) v next
+  trees-whole v next is h keeps =
+      let here = InPlay-trees g c p with_e first second last (subst (λ (b : Body). InPlay g c p (record { body = b; last = last })) is h) in
+      let there = subst (λ (t : FinSet nat_cmp). InPlay g c p (record { body = Trees false f t; last = last })) (sym is_s) (subst (λ (t : FinSet nat_cmp). InPlay g c p (record { body = Trees false t second; last = last })) (sym is_f) here) in
+      let k = subst (λ (t : FinSet nat_cmp). KeepsUp g c p (record { body = Trees false t second; last = last }) v next) is_f (subst (λ (t : FinSet nat_cmp). KeepsUp g c p (record { body = Trees false f t; last = last }) v next) is_s (keeps there)) in
+      subst (λ (b : Body). KeepsUp g c p (record { body = b; last = last }) v next) (sym is) (KeepsUp-trees g c p with_e first second last v next k)
+
+  pub cuts-whole : (v : ℕ) (next : Standing) → body ≡ Cuts with_e first second → InPlay g c p (record { body = body; last = last })
+      → (InPlay g c p (record { body = Cuts false f s; last = last }) → KeepsUp g c p (record { body = Cuts false f s; last = last }) v next) → KeepsUp g c p (record { body = body; last = last }) v next
+  cuts-whole v next is h keeps =
+      let here = InPlay-cuts g c p with_e first second last (subst (λ (b : Body). InPlay g c p (record { body = b; last = last })) is h) in
+      let there = subst (λ (t : FinSet nat_cmp). InPlay g c p (record { body = Cuts false f t; last = last })) (sym is_s) (subst (λ (t : FinSet nat_cmp). InPlay g c p (record { body = Cuts false t second; last = last })) (sym is_f) here) in
+      let k = subst (λ (t : FinSet nat_cmp). KeepsUp g c p (record { body = Cuts false t second; last = last }) v next) is_f (subst (λ (t : FinSet nat_cmp). KeepsUp g c p (record { body = Cuts false f t; last = last }) v next) is_s (keeps there)) in
+      subst (λ (b : Body). KeepsUp g c p (record { body = b; last = last }) v next) (sym is) (KeepsUp-cuts g c p with_e first second last v next k)

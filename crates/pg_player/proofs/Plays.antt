@@ -1,18 +1,17 @@
 -- Legal plays that go on, and turns that pass.
-use Rattle.std.proofs.Common.{◌≡◌, ◌∙◌, ℕ, ◌<◌, ◌≤◌, Bool, true, false, List, [], ◌∷◌, ◌++◌, refl, sym, ap, subst, arith, eqb-true}
-use Rattle.std.proofs.lemmas.Bool.{false≢true}
+use Rattle.std.proofs.Common.{◌≡◌, ◌∙◌, ℕ, ◌<◌, ◌≤◌, Bool, true, false, List, [], ◌∷◌, ◌++◌, refl, sym, ap, subst, inl, inr, arith}
+use Rattle.std.proofs.lemmas.Bool.{cases_Bool, false≢true}
 use Rattle.pg_base.specs.Side.{other}
 use Rattle.pg_base.specs.declared.kind.Kind.{Kind}
-use Rattle.pg_base.specs.declared.kind.Kind.TheVariants.{MakerBreaker, MakerMaker, AvoiderEnforcer, Switching}
 use Rattle.pg_base.specs.declared.side.Side.{Side}
 use Rattle.pg_game.specs.declared.game.Game.{Game}
 use Rattle.pg_game.specs.declared.position.Position.{Position}
 use Rattle.pg_game.specs.Fit.{greatest_bias}
 use Rattle.pg_game.specs.Position.{is_free}
-use Rattle.pg_game.specs.Game.{point_count, is_over, after, start, IsPosition}
+use Rattle.pg_game.specs.Game.{point_count, is_over, is_full, after, start, IsPosition}
 use Rattle.pg_game.specs.Play.{IsLegalPlay, played}
+use Rattle.pg_game.proofs.Strategy.{over-where_full}
 use Rattle.pg_game.proofs.Moves.{side≢other, turn-alternates, IsPosition-start, IsPosition-played}
-use Rattle.pg_cert.specs.Valid.{shows_defence, pairs_fit}
 use Rattle.pg_player.specs.InPlay.{IsReached}
 
 -- a position that is reached is one of the game
@@ -48,3 +47,7 @@ single g kind e greatest =
 -- where each side claims one point a turn, the side that moved isn't to move
 pub not-again : (g : Game) (p : Position) (side : Side) (v : ℕ) → g.bias ≡ 1 → IsPosition g p → p.turn ≡ side → (after g p v).turn ≡ side → ⊥
 not-again g p side v one position turn again = side≢other side (sym again ∙ turn-alternates g p v position one ∙ ap other turn)
+
+-- a game that goes on has a free point
+pub not-full : (g : Game) (p : Position) → is_over g p ≡ false → is_full g p ≡ false
+not-full g p going = elim (cases_Bool (is_full g p)) [ inl full ↦ absurd (false≢true (sym going ∙ over-where_full g p full)) | inr some ↦ some ]

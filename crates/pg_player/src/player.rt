@@ -162,7 +162,7 @@ impl<'a> Player<'a> {
             self.claim,
             &mut self.joiner,
             &self.position,
-            self.stand,
+            &self.stand,
         );
         let next = self.game.after(&self.position, made.point);
         self.ending = self.judge.over(self.game, &next);
