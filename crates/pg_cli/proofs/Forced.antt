@@ -7,7 +7,7 @@ use Rattle.pg_io.specs.declared.entry.Entry.TheVariants.{Said}
 use Rattle.pg_game.specs.declared.game.Game.{Game}
 use Rattle.pg_files.specs.GameFile.{game, Entry as GameEntry}
 use Rattle.pg_files.specs.Views.{entry}
-use Rattle.pg_cert.specs.CertFile.{certificate}
+use Rattle.pg_cert_files.specs.CertFile.{certificate}
 use Rattle.pg_cert.specs.Limits.{IsWithinLimits}
 use Rattle.pg_cert.specs.Valid.{IsValid}
 use Rattle.pg_cert.specs.declared.cert.Cert.{Cert}

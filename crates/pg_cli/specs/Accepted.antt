@@ -11,7 +11,7 @@ use Rattle.pg_files.specs.GameFile.{game}
 use Rattle.pg_files.specs.Views.{entry}
 use Rattle.pg_cert.specs.declared.cert.Cert.{Cert}
 use Rattle.pg_cert.specs.declared.cert.Claim.{Claim}
-use Rattle.pg_cert.specs.CertFile.{certificate}
+use Rattle.pg_cert_files.specs.CertFile.{certificate}
 use Rattle.pg_cli.specs.Texts.{accepted_text}
 use Rattle.pg_cli.specs.Words.{Command, Check}
 

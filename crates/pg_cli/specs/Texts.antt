@@ -1,21 +1,9 @@
 -- What the program says: each text is one line with its line feed.
 use Rattle.std.specs.Prelude.{ℕ, List, [], ◌∷◌, ◌++◌, codes, decimal}
-use Rattle.pg_base.specs.declared.goal.Goal.{Goal}
-use Rattle.pg_base.specs.declared.goal.Goal.TheVariants.{Win, Draw}
-use Rattle.pg_base.specs.declared.side.Side.{Side}
-use Rattle.pg_base.specs.declared.side.Side.TheVariants.{X, Y}
+use Rattle.pg_base.specs.Goal.{goal_word}
+use Rattle.pg_base.specs.Side.{side_word}
 use Rattle.pg_cert.specs.declared.cert.Claim.{Claim}
 use Rattle.pg_io.specs.Files.{Bytes}
-
--- the word for a side
-abbrev pub side_word : Side → Bytes
-side_word X = codes "x"
-side_word Y = codes "y"
-
--- the word for a goal
-abbrev pub goal_word : Goal → Bytes
-goal_word Win = codes "win"
-goal_word Draw = codes "draw"
 
 -- words that ask for nothing that the program does
 abbrev pub no_meaning : Bytes

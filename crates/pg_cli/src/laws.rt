@@ -4,7 +4,7 @@ ghost use Rattle.pg_io.specs.Files.{Bytes};
 ghost use Rattle.pg_cli.specs.Accepted.{AreForced};
 ghost use Rattle.pg_cli.specs.Answer.{Answer, ChecksTo};
 
-use pg_cert::reads_within_limits;
+use pg_cert_files::reads_within_limits;
 use pg_check::valid_claims_are_forced;
 
 /// Where the answer of a check has status 0, its texts accept the claims of the certificate in order, and each claim is

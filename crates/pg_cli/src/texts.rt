@@ -1,30 +1,9 @@
 //! The texts that are said.
 ghost use Rattle.std.specs.Prelude.{◌≡◌, IfOk, string_bytes};
-ghost use Rattle.pg_cli.specs.Texts.{side_word, goal_word, game_text, certificate_text, rejected_text, accepted_text};
+ghost use Rattle.pg_cli.specs.Texts.{game_text, certificate_text, rejected_text, accepted_text};
 
-use pg_base::{Goal, Side};
 use pg_cert::Claim;
 use std::alloc::{AllocError, Global};
-
-/// The word for a side.
-pub fn side_word(side: Side) -> &'static str
-    ensures { result.now ≡ side_word side }
-{
-    match side {
-        Side::X => "x",
-        Side::Y => "y",
-    }
-}
-
-/// The word for a goal.
-pub fn goal_word(goal: Goal) -> &'static str
-    ensures { result.now ≡ goal_word goal }
-{
-    match goal {
-        Goal::Win => "win",
-        Goal::Draw => "draw",
-    }
-}
 
 /// The text for a fault of the game file, by its number and that of its line.
 pub fn game_text(alloc: Global, number: u8, line: u32) -> Result<String, AllocError>
@@ -51,8 +30,8 @@ pub fn rejected_text(alloc: Global, claim: u32, node: u32, why: u8) -> Result<St
 pub fn accepted_text(alloc: Global, claim: &Claim) -> Result<String, AllocError>
     ensures { IfOk result (λ text. string_bytes text ≡ accepted_text claim.now) }
 {
-    let turn = side_word(claim.turn);
-    let side = side_word(claim.side);
-    let goal = goal_word(claim.goal);
+    let turn = claim.turn.word();
+    let side = claim.side.word();
+    let goal = claim.goal.word();
     format!(in alloc; "accepted {turn} {side} {goal}\n")
 }
