@@ -6,3 +6,6 @@ mod parts;
 
 pub use numbers::number;
 pub use parts::{cut_at, first_word, four_parts, has_sign, two_parts};
+
+#[cfg(test)]
+mod tests;
