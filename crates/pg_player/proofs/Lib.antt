@@ -1,0 +1,7 @@
+pub mod Stable
+pub mod Plays
+pub mod Arriving
+pub mod Keeping
+pub mod Replying
+pub mod Opening
+pub mod Going

@@ -1,0 +1,33 @@
+-- What the code keeps of a standing.
+use Rattle.std.specs.Prelude.{◌≡◌, ◌==◌, ◌<◌, ℕ, false, List, length, Option, Some, None, find, slice_get}
+use Rattle.pg_cert.specs.declared.node.Body.{Body}
+use Rattle.pg_cert.specs.declared.node.Body.TheVariants.{Over, Move, All, Trees, Cuts, Threat}
+use Rattle.pg_cert.specs.declared.node.Node.{Node}
+use Rattle.pg_cert.specs.declared.reply.Reply.{Reply}
+use Rattle.pg_cert.specs.OwnMove.{Standing}
+use Rattle.pg_player.specs.declared.standing.Rest.{Rest}
+use Rattle.pg_player.specs.declared.standing.Rest.TheVariants as rest
+use Rattle.pg_player.specs.declared.standing.Stand.{Stand}
+
+-- the body of a node, and that of a game that is over where there is none
+abbrev pub body_at : Option Node → Body
+body_at (Some node) = node.body
+body_at None = Over
+
+-- what is left of the body of a claim's node
+abbrev pub body_of : List Node → Rest → Body
+body_of nodes (rest.Whole number) = body_at (slice_get nodes number)
+body_of nodes (rest.Short plan) = Trees false plan.first plan.second
+body_of nodes (rest.Cut plan) = Cuts false plan.first plan.second
+
+-- where the player stands
+abbrev pub standing_of : List Node → Stand → Standing
+standing_of nodes s = record { body = body_of nodes s.rest; last = s.last }
+
+-- the player can go on after the reply: where all replies are named it is one of them, with a node; and neither the game is over nor is the player to move
+abbrev pub LeadsOn : List Node → Body → ℕ → Type 0
+LeadsOn nodes Over v = ⊥
+LeadsOn nodes (Move point child) v = ⊥
+LeadsOn nodes (All replies) v = (r : Reply) × (find (λ q. q.point == v) replies ≡ Some r) × (r.child < length nodes)
+LeadsOn nodes (Threat points) v = ⊥
+LeadsOn nodes _ v = Unit {0}
