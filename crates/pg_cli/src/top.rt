@@ -40,6 +40,7 @@ fn carry_out<F: Files, C: Console>(
             files,
             console,
         ),
+        Some(Command::Play { .. }) => Err(Stop::Memory),
     }
 }
 

@@ -154,7 +154,7 @@ pub fn side_name(side: Side) -> &'static str
     }
 }
 
-/// The side that a word stands for.
+/// The side that a word stands for: `x` or `y`. None where it stands for neither.
 pub fn read_side(word: &[u8]) -> Option<Side>
     ensures { result ≡ side_of word.now }
 {

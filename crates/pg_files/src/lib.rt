@@ -12,9 +12,11 @@ mod sets;
 mod text;
 
 pub use fault::{Fault, GameFault};
+pub use key::read_side;
 pub use laws::{first_fault_is_told, printed_game_is_read, what_is_read_fits};
 pub use printing::print_game;
 pub use reading::read_game;
+pub use text::number;
 
 #[cfg(test)]
 mod tests;

@@ -38,7 +38,7 @@ fn value(word: &[u8]) -> u32
     found
 }
 
-/// The number that a word spells.
+/// The number that a word spells: one to nine decimal digits, the first of several not 0. None where it spells none.
 #[tactic(auto, unfolding(crate::specs::Text::number))]
 pub fn number(word: &[u8]) -> Option<u32>
     ensures { result ≡ number word.now }
