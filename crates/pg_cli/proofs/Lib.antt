@@ -1,4 +1,7 @@
 pub mod Speaking
 pub mod Openings
+pub mod Digits
+pub mod Talking
+pub mod Turns
 pub mod Runs
 pub mod Forced
