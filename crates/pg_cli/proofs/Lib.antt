@@ -4,4 +4,5 @@ pub mod Digits
 pub mod Talking
 pub mod Turns
 pub mod Runs
+pub mod Plays
 pub mod Forced

@@ -68,7 +68,7 @@ Talk-answered old mid new v own refused log log' left left' takes made grows qui
     let here = subst (λ (g : Game). Talk g mid.claim.side (moment log left) (moment log' left') (At mid.position refused) (At new.position refused)) takes.same_game said in
     let own_side = subst (λ (k : Claim). Talk old.game k.side (moment log left) (moment log' left') (At mid.position refused) (At new.position refused)) takes.same_claim here in
     subst (λ (s : Stage). Talk old.game old.claim.side (moment log left) (moment log' left') s (At new.position refused))
-    (sym (taken_stage old.game old.position mid.position v refused takes.judged)) own_side
+    (sym (taken_stage old.game old.position mid.position v refused takes.legal)) own_side
 
 -- a refusal before the hundredth, and the hundredth
 pub goes_on : (p : Position) (refused : ℕ) → refused + 1 ≢ 100 → after_refusal p refused ≡ At p (refused + 1)

@@ -1,18 +1,18 @@
--- What is seen of a player. (For the time being; it comes from the crate of the player.)
-use Rattle.std.specs.Prelude.{◌≡◌, ◌⊎◌, ◌<◌, ℕ, Bool, true, false, ◌&&◌, List, find, Option, Some, None, Result, Ok}
+-- What is seen of a player: the game, the claim that it plays, the position, and where it stands.
+use Rattle.std.specs.Prelude.{◌≡◌, ◌⊎◌, ℕ, ◌<◌, Bool, true, false, ◌&&◌, Option, Some, None, Ok, find}
 use Rattle.pg_base.specs.Side.{other}
 use Rattle.pg_base.specs.declared.goal.Goal.{Goal}
-use Rattle.pg_base.specs.declared.goal.Goal.TheVariants.{Win, Draw}
+use Rattle.pg_base.specs.declared.goal.Goal.TheVariants.{Win, Draw as AtLeastDraw}
 use Rattle.pg_base.specs.declared.side.Side.{Side}
 use Rattle.pg_base.specs.declared.side.Side.TheVariants.{X, Y}
 use Rattle.pg_game.specs.declared.game.Game.{Game}
 use Rattle.pg_game.specs.declared.position.Position.{Position}
-use Rattle.pg_game.specs.Game.{point_count, after, is_over}
-use Rattle.pg_game.specs.Judge.{judged_move}
 use Rattle.pg_game.specs.Position.{is_free}
+use Rattle.pg_game.specs.Game.{point_count, is_over, after}
+use Rattle.pg_game.specs.Judge.{judged_move}
 use Rattle.pg_cert.specs.declared.cert.Cert.{Cert}
 use Rattle.pg_cert.specs.declared.cert.Claim.{Claim}
-use Rattle.pg_cert.specs.OwnMove.{Standing, own_move, replied}
+use Rattle.pg_cert.specs.OwnMove.{Standing, OwnMove, own_move, replied}
 
 -- the game, the claim that is played, the position, and where the player stands
 pub record Play : Type 0 where
@@ -21,44 +21,67 @@ pub record Play : Type 0 where
   pub position : Position
   pub standing : Standing
 
-abbrev pub is_same : Side → Side → Bool
-is_same X X = true
-is_same Y Y = true
-is_same _ _ = false
+-- ---- the claim that is played
 
+-- whether the two are one side
+abbrev pub is_same_side : Side → Side → Bool
+is_same_side X X = true
+is_same_side X Y = false
+is_same_side Y X = false
+is_same_side Y Y = true
+
+-- whether the goal is to win
 abbrev pub is_win : Goal → Bool
 is_win Win = true
-is_win Draw = false
+is_win AtLeastDraw = false
 
-abbrev pub fits : Game → Side → Claim → Bool
-fits g side claim = is_same claim.side side && is_same claim.turn g.turn
+-- whether the claim is the side's, from the turn
+abbrev pub is_claim_of : Side → Side → Claim → Bool
+is_claim_of side turn claim = is_same_side claim.side side && is_same_side claim.turn turn
 
-abbrev pub first_of : Option Claim → Option Claim → Option Claim
-first_of (Some claim) o = Some claim
-first_of None o = o
+-- whether it is moreover a claim to win
+abbrev pub is_win_of : Side → Side → Claim → Bool
+is_win_of side turn claim = is_claim_of side turn claim && is_win claim.goal
+
+-- the first claim, or the second where there is none
+abbrev pub first_claim : Option Claim → Option Claim → Option Claim
+first_claim (Some claim) other = Some claim
+first_claim None other = other
 
 -- the claim that a side plays: the first of that side and the game's turn with goal win, else the first of that side and turn
-abbrev pub chosen_claim : Game → Cert → Side → Option Claim
-chosen_claim g c side = first_of (find (λ claim. is_win claim.goal && fits g side claim) c.claims) (find (fits g side) c.claims)
+unfoldable pub chosen_claim : Game → Cert → Side → Option Claim
+chosen_claim g cert side = first_claim (find (is_win_of side g.turn) cert.claims) (find (is_claim_of side g.turn) cert.claims)
 
--- the player makes its own move v
-pub record MakesMove (old new : Play) (v : ℕ) : Type 0 where
-  pub going : is_over old.game old.position ≡ false
-  pub turn : old.position.turn ≡ old.claim.side
-  pub within : v < point_count old.game
-  pub free : is_free old.position v ≡ true
-  pub own : own_move old.game old.claim.nodes old.claim.side old.position old.standing ≡ Some (record { point = v; next = Some new.standing })
-  pub position : new.position ≡ after old.game old.position v
-  pub same_game : new.game ≡ old.game
-  pub same_claim : new.claim ≡ old.claim
+-- ---- moves and replies
 
--- nothing is owed: the game is over or the other side is to move
+-- the player makes its own move v by the rule of its standing, and the move is legal
+pub record MakesMove (before now : Play) (v : ℕ) : Type 0 where
+  pub going : is_over before.game before.position ≡ false
+  pub turn : before.position.turn ≡ before.claim.side
+  pub within : v < point_count before.game
+  pub free : is_free before.position v ≡ true
+  pub own : own_move before.game before.claim.nodes before.claim.side before.position before.standing ≡ Some (record { point = v; next = Some now.standing })
+  pub position : now.position ≡ after before.game before.position v
+  pub same_game : now.game ≡ before.game
+  pub same_claim : now.claim ≡ before.claim
+
+-- the player owes no move: the game is over or the other side is to move
 abbrev pub Waits : Play → Type 0
 Waits play = (is_over play.game play.position ≡ true) ⊎ (play.position.turn ≡ other play.claim.side)
 
--- the other side takes v
-pub record TakesReply (old new : Play) (v : ℕ) : Type 0 where
-  pub judged : judged_move old.game old.position v ≡ Ok new.position
-  pub standing : replied old.claim.nodes old.standing v ≡ Some new.standing
-  pub same_game : new.game ≡ old.game
-  pub same_claim : new.claim ≡ old.claim
+-- the other side takes v, which is legal
+pub record TakesReply (before now : Play) (v : ℕ) : Type 0 where
+  pub legal : judged_move before.game before.position v ≡ Ok now.position
+  pub replied : replied before.claim.nodes before.standing v ≡ Some now.standing
+  pub same_game : now.game ≡ before.game
+  pub same_claim : now.claim ≡ before.claim
+
+-- what the player does where it may owe a move: none where it owes none, and then nothing changes
+abbrev pub Moves : Play → Play → Option ℕ → Type 0
+Moves before now None = Waits before × (now ≡ before)
+Moves before now (Some v) = MakesMove before now v
+
+-- what the player does after a legal reply: it takes the reply, and then makes its move where it owes one
+abbrev pub Answers : Play → Play → ℕ → Option ℕ → Type 0
+Answers before now v None = TakesReply before now v × Waits now
+Answers before now v (Some w) = (between : Play) × TakesReply before between v × MakesMove between now w

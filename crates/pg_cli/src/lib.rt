@@ -6,6 +6,7 @@ mod dialogue;
 mod laws;
 mod opening;
 mod player;
+mod playing;
 mod refusal;
 mod reply;
 #[cfg(test)]

@@ -1,17 +1,38 @@
 //! A player, for the time being as a trait.
-ghost use Rattle.std.specs.Prelude.{◌≡◌, Some, None, IsTrue, IfSome, IfNone, IfOk, IfErr, Err, if◌then◌else◌, Option};
-ghost use Rattle.pg_game.specs.Game.{is_over, outcome};
+ghost use Rattle.std.specs.Prelude.{◌≡◌, ◌-◌, length, Some, None, true, IfSome, IfOk, IfErr, Err, if◌then◌else◌, Option};
+ghost use Rattle.pg_cert.specs.OwnMove.{arrives};
+ghost use Rattle.pg_game.specs.Game.{start, is_over, outcome};
 ghost use Rattle.pg_game.specs.Judge.{judged_move};
 ghost use Rattle.pg_game.specs.Value.{reaches};
-ghost use Rattle.pg_cli.specs.Player.{Play, Waits, MakesMove, TakesReply};
+ghost use Rattle.pg_cli.specs.Player.{Play, Waits, Moves, Answers, chosen_claim};
 
-use pg_base::{Goal, Score};
+use pg_base::{Goal, Score, Side};
+use pg_check::Checked;
 use pg_game::Illegal;
+use std::alloc::Global;
+
+/// Why no player can be opened.
+#[derive(Clone, Copy, Debug, PartialEq, Eq)]
+pub enum OpenFault {
+    /// No claim has that side and the game's turn.
+    NoClaim,
+    /// No memory is left.
+    Memory,
+}
 
 /// A player.
-pub trait Plays {
+pub trait Plays: Drop {
     /// What is seen of it.
     ghost seen: { Self → Play };
+
+    /// A player of the side.
+    fn open(alloc: Global, c: Checked<'_>, side: Side) -> Result<Self, OpenFault>
+        ensures chosen { IfOk result (λ player. chosen_claim c.entry.game.now c.entry.cert.now side ≡ Some (seen player).claim) }
+        ensures side { IfOk result (λ player. (seen player).claim.side ≡ side) }
+        ensures game { IfOk result (λ player. (seen player).game ≡ c.entry.game.now) }
+        ensures position { IfOk result (λ player. (seen player).position ≡ start c.entry.game.now) }
+        ensures standing { IfOk result (λ player. arrives (seen player).claim.nodes (length (seen player).claim.nodes - 1) ≡ Some (seen player).standing) }
+        ensures none { result ≡ Err OpenFault.NoClaim → chosen_claim c.entry.game.now c.entry.cert.now side ≡ None };
 
     /// The goal.
     fn goal(&self) -> Goal
@@ -19,18 +40,17 @@ pub trait Plays {
 
     /// The outcome.
     fn outcome(&self) -> Option<Score>
-        ensures outcome { result ≡ (if is_over (seen self.now).game (seen self.now).position then Some (outcome (seen self.now).game (seen self.now).position) else None) }
-        ensures reached { IfSome result (λ score. IsTrue (reaches (seen self.now).claim.side (seen self.now).claim.goal score)) };
+        ensures exact { result ≡ (if is_over (seen self.now).game (seen self.now).position then Some (outcome (seen self.now).game (seen self.now).position) else None) }
+        ensures reached { IfSome result (λ score. reaches (seen self.now).claim.side (seen self.now).claim.goal score ≡ true) };
 
     /// The own move.
     fn first(&mut self) -> Option<u16>
-        ensures none { IfNone result (Waits (seen self.old) × (seen self.new ≡ seen self.old)) }
-        ensures some { IfSome result (λ v. MakesMove (seen self.old) (seen self.new) v) };
+        ensures { Moves (seen self.old) (seen self.new) result };
 
     /// The answer.
     fn answer(&mut self, v: u16) -> Result<Option<u16>, Illegal>
         requires { Waits (seen self.old) }
-        ensures err { IfErr result (λ e. (judged_move (seen self.old).game (seen self.old).position v ≡ Err e) × (seen self.new ≡ seen self.old)) }
-        ensures none { IfOk result (λ o. IfNone o (TakesReply (seen self.old) (seen self.new) v × Waits (seen self.new))) }
-        ensures some { IfOk result (λ o. IfSome o (λ w. (mid : Play) × TakesReply (seen self.old) mid v × MakesMove mid (seen self.new) w)) };
+        ensures answered { IfOk result (λ own. Answers (seen self.old) (seen self.new) v own) }
+        ensures refused { IfErr result (λ fault. judged_move (seen self.old).game (seen self.old).position v ≡ Err fault) }
+        ensures same { IfErr result (λ _. seen self.new ≡ seen self.old) };
 }

@@ -23,7 +23,7 @@ returns-in-Some-clause-talk g c =
     let begun = g.P.Plays.seen c.args.player.now in
     let p = (g.P.Plays.seen c.loop-score.player).position in
     let refused = c.loop-score.refused in
-    let is = subst (λ (game : Game). Some c.in-Some.score ≡ (if is_over game p then Some (outcome game p) else None)) c.loop-score.invariant.1 c.in-Some.ensures.outcome in
+    let is = subst (λ (game : Game). Some c.in-Some.score ≡ (if is_over game p then Some (outcome game p) else None)) c.loop-score.invariant.1 c.in-Some.ensures.exact in
     Talk-then begun.game begun.claim.side _ _ _ (At begun.position 0) (At p refused) (Over p 0) c.loop-score.invariant.0
     (Talk-said begun.game begun.claim.side _ _ _ _ (result_text c.args.kind c.in-Some.score) (At p refused) (Over p 0) c.in_ok-say_result.ensures.said c.in_ok-say_result.ensures.left
     (result_step begun.game begun.claim.side p refused c.args.kind c.in-Some.score c.requires is))

@@ -9,7 +9,7 @@ use Rattle.pg_cli.proofs.dialogue.take_point.Goals as goal
 
 pub say_move-requires : goal.say_move-requires
 say_move-requires g c =
-    let made = rw c.in-Ok-Some.field-0-is at c.in-Ok-Some.ensures.some in
+    let made = rw c.in-Ok-Some.field-0-is at c.in-Ok-Some.ensures.answered in
     omega (arith, point_count-le made.0.game, made.2.within)
 
 pub returns-in_err-say_move-in-Ok-Some-clause-talk : goal.returns-in_err-say_move-in-Ok-Some-clause-talk
@@ -21,5 +21,5 @@ returns-in_err-say_move-in-Ok-Some-clause-talk g c =
 
 pub returns-in_ok-say_move-in-Ok-Some-clause-talk : goal.returns-in_ok-say_move-in-Ok-Some-clause-talk
 returns-in_ok-say_move-in-Ok-Some-clause-talk g c =
-    let made = rw c.in-Ok-Some.field-0-is at c.in-Ok-Some.ensures.some in
+    let made = rw c.in-Ok-Some.field-0-is at c.in-Ok-Some.ensures.answered in
     λ refused. Talk-answered _ made.0 _ c.args.v c.in-Ok-Some.own refused _ _ _ _ made.1 made.2 c.in_ok-say_move-in-Ok-Some.ensures.said c.in_ok-say_move-in-Ok-Some.ensures.left

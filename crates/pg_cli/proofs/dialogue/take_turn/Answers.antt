@@ -7,7 +7,7 @@ use Rattle.pg_cli.proofs.Turns.{Talk-moved}
 use Rattle.pg_cli.proofs.dialogue.take_turn.Goals as goal
 
 pub say_move-requires : goal.say_move-requires
-say_move-requires g c = omega (arith, point_count-le (g.P.Plays.seen c.args.player.now).game, c.in-Some.ensures.some.within)
+say_move-requires g c = omega (arith, point_count-le (g.P.Plays.seen c.args.player.now).game, c.in-Some.ensures.within)
 
 pub returns-in_err-say_move-in-Some-clause-talk : goal.returns-in_err-say_move-in-Some-clause-talk
 returns-in_err-say_move-in-Some-clause-talk g c =
@@ -16,4 +16,4 @@ returns-in_err-say_move-in-Some-clause-talk g c =
     λ refused. rw e.1 (Breaks-here play.game play.claim.side _ _ _ _ (At play.position refused) tt c.in_err-say_move-in-Some.ensures.said)
 
 pub returns-in_ok-say_move-in-Some-clause-talk : goal.returns-in_ok-say_move-in-Some-clause-talk
-returns-in_ok-say_move-in-Some-clause-talk g c = λ refused. Talk-moved _ _ _ refused _ _ _ _ c.in-Some.ensures.some c.in_ok-say_move-in-Some.ensures.said c.in_ok-say_move-in-Some.ensures.left
+returns-in_ok-say_move-in-Some-clause-talk g c = λ refused. Talk-moved _ _ _ refused _ _ _ _ c.in-Some.ensures c.in_ok-say_move-in-Some.ensures.said c.in_ok-say_move-in-Some.ensures.left
