@@ -3,6 +3,7 @@ pub mod Openings
 pub mod Digits
 pub mod Talking
 pub mod Turns
+pub mod Dialogues
 pub mod Runs
 pub mod Plays
 pub mod Forced

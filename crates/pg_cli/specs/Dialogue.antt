@@ -18,6 +18,19 @@ pub data Stage : Type 0 where
   Owes : (position : Position) (refusals : ℕ) (text : Bytes) → Stage
   Over : (position : Position) (status : ℕ) → Stage
 
+-- the position of a stage
+abbrev pub position_at : Stage → Position
+position_at (At p refusals) = p
+position_at (Owes p refusals text) = p
+position_at (Over p status) = p
+
+-- whether something was heard, or the input had ended
+abbrev pub is_heard : Entry → Bool
+is_heard (Said text) = false
+is_heard (Heard line) = true
+is_heard (Skipped line) = true
+is_heard Ended = true
+
 -- after the text of a refusal: the hundredth ends the dialogue with status 9
 abbrev pub after_refusal : Position → ℕ → Stage
 after_refusal p refusals = if refusals + 1 == 100 then Over p 9 else At p (refusals + 1)
