@@ -1,0 +1,366 @@
+-- What an own move keeps, body by body.
+use Rattle.std.proofs.Common.{◌≡◌, ◌≢◌, ◌∙◌, ℕ, ◌<◌, ◌≤◌, Bool, true, false, ◌&&◌, List, Option, Some, None, if◌then◌else◌, slice_get, refl, sym, ap, subst, inl, inr, ◌⊎◌, arith, eqb, eqb-true}
+use Rattle.std.proofs.lemmas.Bool.{cases_Bool, false≢true, and_parts}
+use Rattle.std.specs.FinSet.{FinSet, contains, insert}
+use Rattle.std.specs.Ordering.{nat_cmp}
+use Rattle.pg_base.specs.Side.{other}
+use Rattle.pg_base.specs.declared.goal.Goal.{Goal}
+use Rattle.pg_base.specs.declared.goal.Goal.TheVariants.{Win, Draw as AtLeastDraw}
+use Rattle.pg_base.specs.declared.kind.Kind.{Kind}
+use Rattle.pg_base.specs.declared.kind.Kind.TheVariants.{MakerBreaker, MakerMaker, AvoiderEnforcer, Switching}
+use Rattle.pg_base.specs.declared.pair.Pair.{Pair}
+use Rattle.pg_base.specs.declared.score.Score.{Score}
+use Rattle.pg_base.specs.declared.score.Score.TheVariants.{XWins, Draw, YWins}
+use Rattle.pg_base.specs.declared.side.Side.{Side}
+use Rattle.pg_base.specs.declared.side.Side.TheVariants.{X, Y}
+use Rattle.pg_game.specs.declared.field.Field.{Field}
+use Rattle.pg_game.specs.declared.field.Field.TheVariants.{Lines, Graph as OnGraph}
+use Rattle.pg_game.specs.declared.game.Game.{Game}
+use Rattle.pg_game.specs.declared.position.Position.{Position}
+use Rattle.pg_game.specs.Position.{is_free}
+use Rattle.pg_game.specs.Game.{point_count, is_over, outcome, after, IsPosition}
+use Rattle.pg_game.specs.Value.{reaches, value, Forces}
+use Rattle.pg_game.specs.Pairs.{PairsHold, pairs_answer}
+use Rattle.pg_game.specs.Potential.{PotentialHolds, potential_answer}
+use Rattle.pg_game.specs.Avoider.{AvoiderHolds, avoider_answer}
+use Rattle.pg_game.specs.Trees.{Answered, TreesHold, CutsHold, trees_answer, cuts_answer}
+use Rattle.pg_game.specs.Field.{field_points}
+use Rattle.pg_game.proofs.Moves.{turn-after_x, IsPosition-after}
+use Rattle.pg_game.proofs.ValueLaws.{Forces-over, Forces-all}
+use Rattle.pg_pairing.specs.Rest.{ArePairsOf, rest, RestHolds, MayClaim, HeldBefore}
+use Rattle.pg_pairing.proofs.PairLaws.{Forces-pairs_breaker, Forces-pairs_draw, Forces-pairs_avoider}
+use Rattle.pg_potential.proofs.PotentialLaws.{Forces-potential_breaker, Forces-potential_draw}
+use Rattle.pg_avoider.proofs.AvoiderLaws.{Forces-avoider}
+use Rattle.pg_switch.specs.Replies.{HeldUntil, IsTreesAnswer, IsCutsAnswer}
+use Rattle.pg_switch.proofs.SwitchLaws.{Forces-trees, Forces-cuts}
+use Rattle.pg_cert.specs.declared.cert.Claim.{Claim}
+use Rattle.pg_cert.specs.declared.node.Node.{Node}
+use Rattle.pg_cert.specs.declared.node.Body.{Body}
+use Rattle.pg_cert.specs.declared.node.Body.TheVariants.{Over, Move, All, Pairs, Potential, Trees, Cuts, Threat}
+use Rattle.pg_cert.specs.OwnMove.{Standing, OwnMove, own_move, own_move_by, arrives, stays, potential_point, with_further, trees_point, cuts_point, stays_with_trees, stays_with_cuts}
+use Rattle.pg_cert.specs.Valid.{is_allowed, shows_defence, shows_trees, shows_cuts, pairs_fit, PotentialFits, with_e_named}
+use Rattle.pg_player.specs.InPlay.{Ready, Waiting, Stands, PairsReady, PairsWaiting, PotentialWaiting, AvoiderWaiting, InPlay, KeepsUp}
+use Rattle.pg_player.proofs.Plays.{IsPosition-reached, reached-after, single, not-again}
+use Rattle.pg_player.proofs.Arriving.{arrived}
+
+-- a move that keeps the player going leads to a position in play
+pub InPlay-after : (g : Game) (c : Claim) (p : Position) (s next : Standing) (v : ℕ) → InPlay g c p s → is_over g p ≡ false → KeepsUp g c p s v next → InPlay g c (after g p v) next
+InPlay-after g c p s next v h going k = record { sound = h.sound; reached = reached-after g p v h.reached going k.within k.free; forced = k.forced; stands = k.stands }
+
+-- ---- goals
+
+-- a win is a draw at least
+win_is_draw : (side : Side) (s : Score) → reaches side Win s ≡ true → reaches side AtLeastDraw s ≡ true
+win_is_draw X XWins h = refl
+win_is_draw X Draw h = absurd (false≢true h)
+win_is_draw X YWins h = absurd (false≢true h)
+win_is_draw Y XWins h = absurd (false≢true h)
+win_is_draw Y Draw h = absurd (false≢true h)
+win_is_draw Y YWins h = refl
+
+-- a forced win serves any goal
+any_goal : (g : Game) (p : Position) (side : Side) (goal : Goal) → Forces g p side Win → Forces g p side goal
+any_goal g p side Win h = h
+any_goal g p side AtLeastDraw h = win_is_draw side (value g p) h
+
+any_goal-is : (g : Game) (p : Position) (side s : Side) (goal : Goal) → side ≡ s → Forces g p s Win → Forces g p side goal
+any_goal-is g p side s goal e h = any_goal g p side goal (subst (λ (t : Side). Forces g p t Win) (sym e) h)
+
+-- ---- a node's own move
+
+pub keeps-move : (g : Game) (c : Claim) (p : Position) (point child : ℕ) (last : Option ℕ) (next : Standing) → InPlay g c p (record { body = Move point child; last = last }) → is_over g p ≡ false → p.turn ≡ c.side
+    → arrives c.nodes child ≡ Some next → KeepsUp g c p (record { body = Move point child; last = last }) point next
+unfolding own_move
+keeps-move g c p point child last next h going mine comes =
+    let may = h.stands.ready going mine in
+    let there = arrived g c child (after g p point) next h.sound may.next comes in
+    record {
+      own = ap (λ (o : Option Standing). Some (record { point = point; next = o })) comes;
+      within = may.within;
+      free = may.free;
+      forced = there.forced;
+      stands = there.stands;
+    }
+
+-- ---- pairs
+
+defends : (kind : Kind) (bias : ℕ) (side : Side) (goal : Goal) → (shows_defence kind side goal && pairs_fit kind bias) ≡ true → kind ≡ AvoiderEnforcer → side ≡ X
+defends MakerBreaker bias side goal ok e = cc
+defends MakerMaker bias side goal ok e = cc
+defends AvoiderEnforcer bias X goal ok e = refl
+defends AvoiderEnforcer bias Y goal ok e = absurd (false≢true ok)
+defends Switching bias side goal ok e = cc
+
+-- where pairs are allowed, only Breaker may claim several points a turn
+breaker_only : (g : Game) (kind : Kind) (side : Side) (goal : Goal) → g.kind ≡ kind → (shows_defence kind side goal && pairs_fit kind g.bias) ≡ true → (kind ≡ MakerBreaker) ⊎ (g.bias ≡ 1)
+breaker_only g MakerBreaker side goal e ok = inl refl
+breaker_only g MakerMaker side goal e ok = inr (single g MakerMaker e refl)
+breaker_only g AvoiderEnforcer X goal e ok = inr (eqb-true g.bias 1 ok)
+breaker_only g AvoiderEnforcer Y goal e ok = absurd (false≢true ok)
+breaker_only g Switching side goal e ok = absurd (false≢true ok)
+
+-- where pairs are allowed and hold, they force the goal
+pairs_force : (kind : Kind) (bias : ℕ) (side : Side) (goal : Goal) (g : Game) (p : Position) (pairs : List Pair) → g.kind ≡ kind
+    → (shows_defence kind side goal && pairs_fit kind bias) ≡ true → IsPosition g p → PairsHold g p side pairs → Forces g p side goal
+pairs_force MakerBreaker bias X goal g p pairs kind ok position h = absurd (false≢true ok)
+pairs_force MakerBreaker bias Y goal g p pairs kind ok position h = any_goal g p Y goal (Forces-pairs_breaker g p pairs kind position h)
+pairs_force MakerMaker bias side Win g p pairs kind ok position h = absurd (false≢true ok)
+pairs_force MakerMaker bias side AtLeastDraw g p pairs kind ok position h = Forces-pairs_draw g p side pairs kind position h
+pairs_force AvoiderEnforcer bias X goal g p pairs kind ok position h = any_goal g p X goal (Forces-pairs_avoider g p pairs kind position h)
+pairs_force AvoiderEnforcer bias Y goal g p pairs kind ok position h = absurd (false≢true ok)
+pairs_force Switching bias side goal g p pairs kind ok position h = absurd (false≢true ok)
+
+-- what the answer by pairs keeps
+pub record PairsKept (g : Game) (p : Position) (pairs : List Pair) (last : Option ℕ) (v : ℕ) : Type 0 where
+  pub rule : v ≡ pairs_answer g p pairs last
+  pub within : v < point_count g
+  pub free : is_free p v ≡ true
+  pub replied : (side : Side) → MayClaim g.kind side → p.turn ≡ side → HeldBefore g p side pairs last → RestHolds g (after g p v) side pairs
+  pub unreplied : (side : Side) → MayClaim g.kind side → p.turn ≡ side → last ≡ None → RestHolds g p side pairs → RestHolds g (after g p v) side pairs
+  pub in_turn : (side : Side) → g.kind ≡ MakerBreaker → p.turn ≡ side → RestHolds g p side pairs → RestHolds g (after g p v) side pairs
+
+pub keeps-pairs : (g : Game) (c : Claim) (p : Position) (pairs : List Pair) (last : Option ℕ) (v : ℕ) → InPlay g c p (record { body = Pairs pairs; last = last }) → is_over g p ≡ false → p.turn ≡ c.side
+    → PairsKept g p pairs last v → KeepsUp g c p (record { body = Pairs pairs; last = last }) v (record { body = Pairs pairs; last = last })
+unfolding own_move
+keeps-pairs g c p pairs last v h going mine k =
+    let position = IsPosition-reached g p h.reached in
+    let may : MayClaim g.kind c.side = defends g.kind g.bias c.side c.goal h.stands.allowed in
+    let due = h.stands.ready going mine in
+    let holds : RestHolds g (after g p v) c.side pairs = elim due.state [
+      | inl b ↦ k.replied c.side may mine b
+      | inr other ↦ elim other [ inl none ↦ k.unreplied c.side may mine none.0 none.1 | inr breaker ↦ k.in_turn c.side breaker.0 mine breaker.1 ]
+    ] in
+    record {
+      own = ap (λ (q : ℕ). stays q (Pairs pairs) last) (sym k.rule);
+      within = k.within;
+      free = k.free;
+      forced = pairs_force g.kind g.bias c.side c.goal g (after g p v) (rest (after g p v) pairs) refl h.stands.allowed (IsPosition-after g p v position k.within k.free) holds;
+      stands = record {
+        allowed = h.stands.allowed;
+        ready = λ on again. record { are = due.are; state = inr (inr (elim (breaker_only g g.kind c.side c.goal refl h.stands.allowed) [
+          | inl kind ↦ (kind, holds)
+          | inr one ↦ absurd (not-again g p c.side v one position mine again)
+        ])) };
+        waiting = λ on theirs. record { are = due.are; holds = holds };
+      };
+    }
+
+-- ---- potentials
+
+breaker_is_y : (side : Side) (goal : Goal) → shows_defence MakerBreaker side goal ≡ true → side ≡ Y
+breaker_is_y X goal ok = absurd (false≢true ok)
+breaker_is_y Y goal ok = refl
+
+drawer : (side : Side) (goal : Goal) → shows_defence MakerMaker side goal ≡ true → goal ≡ AtLeastDraw
+drawer side Win ok = absurd (false≢true ok)
+drawer side AtLeastDraw ok = refl
+
+avoider_is_x : (side : Side) (goal : Goal) → shows_defence AvoiderEnforcer side goal ≡ true → side ≡ X
+avoider_is_x X goal ok = refl
+avoider_is_x Y goal ok = absurd (false≢true ok)
+
+-- a point by the potential that holds after it
+weighed : (g : Game) (c : Claim) (p : Position) (last : Option ℕ) (v : ℕ) (kind : Kind) → g.kind ≡ kind → potential_point kind g p c.side ≡ v
+    → PotentialFits kind g (after g p v) c.side → ((q : Position) → PotentialFits kind g q c.side → PotentialWaiting kind g q c.side)
+    → v < point_count g → is_free p v ≡ true → shows_defence g.kind c.side c.goal ≡ true → Forces g (after g p v) c.side c.goal
+    → KeepsUp g c p (record { body = Potential; last = last }) v (record { body = Potential; last = last })
+unfolding own_move
+weighed g c p last v kind e rule holds waits within free allowed forced = record {
+  own = ap (λ (k : Kind). stays (potential_point k g p c.side) Potential last) e ∙ ap (λ (q : ℕ). stays q Potential last) rule;
+  within = within;
+  free = free;
+  forced = forced;
+  stands = record {
+    allowed = allowed;
+    ready = λ on again. subst (λ (k : Kind). PotentialFits k g (after g p v) c.side) (sym e) holds;
+    waiting = λ on theirs. subst (λ (k : Kind). PotentialWaiting k g (after g p v) c.side) (sym e) (waits (after g p v) holds);
+  };
+}
+
+pub keeps-breaker : (g : Game) (c : Claim) (p : Position) (last : Option ℕ) (v : ℕ) → g.kind ≡ MakerBreaker → InPlay g c p (record { body = Potential; last = last }) → is_over g p ≡ false → p.turn ≡ c.side
+    → v ≡ potential_answer g p c.side → v < point_count g → is_free p v ≡ true
+    → (g.kind ≡ MakerBreaker → c.side ≡ Y → p.turn ≡ c.side → PotentialHolds g p c.side → PotentialHolds g (after g p v) c.side)
+    → KeepsUp g c p (record { body = Potential; last = last }) v (record { body = Potential; last = last })
+keeps-breaker g c p last v kind h going mine rule within free keeps =
+    let position = IsPosition-after g p v (IsPosition-reached g p h.reached) within free in
+    let ok : shows_defence MakerBreaker c.side c.goal ≡ true = subst (λ (k : Kind). shows_defence k c.side c.goal ≡ true) kind h.stands.allowed in
+    let is_y = breaker_is_y c.side c.goal ok in
+    let before : PotentialHolds g p c.side = subst (λ (k : Kind). PotentialFits k g p c.side) kind (h.stands.ready going mine) in
+    let holds = keeps kind is_y mine before in
+    weighed g c p last v MakerBreaker kind (sym rule) holds (λ q w. w) within free h.stands.allowed
+    (any_goal-is g (after g p v) c.side Y c.goal is_y (Forces-potential_breaker g (after g p v) kind position (subst (λ (s : Side). PotentialHolds g (after g p v) s) is_y holds)))
+
+pub keeps-draw : (g : Game) (c : Claim) (p : Position) (last : Option ℕ) (v : ℕ) → g.kind ≡ MakerMaker → InPlay g c p (record { body = Potential; last = last }) → is_over g p ≡ false → p.turn ≡ c.side
+    → v ≡ potential_answer g p c.side → v < point_count g → is_free p v ≡ true
+    → (g.kind ≡ MakerMaker → p.turn ≡ c.side → PotentialHolds g p c.side → PotentialHolds g (after g p v) c.side)
+    → KeepsUp g c p (record { body = Potential; last = last }) v (record { body = Potential; last = last })
+keeps-draw g c p last v kind h going mine rule within free keeps =
+    let position = IsPosition-after g p v (IsPosition-reached g p h.reached) within free in
+    let ok : shows_defence MakerMaker c.side c.goal ≡ true = subst (λ (k : Kind). shows_defence k c.side c.goal ≡ true) kind h.stands.allowed in
+    let before : PotentialHolds g p c.side = subst (λ (k : Kind). PotentialFits k g p c.side) kind (h.stands.ready going mine) in
+    let holds = keeps kind mine before in
+    weighed g c p last v MakerMaker kind (sym rule) holds (λ q w. w) within free h.stands.allowed
+    (subst (λ (goal : Goal). Forces g (after g p v) c.side goal) (sym (drawer c.side c.goal ok)) (Forces-potential_draw g (after g p v) c.side kind position holds))
+
+-- Avoider wins after its answer: at once, or because its potential holds after every point of Enforcer
+avoider_forces : (g : Game) (p : Position) (v : ℕ) → g.kind ≡ AvoiderEnforcer → IsPosition g p → p.turn ≡ X → v < point_count g → is_free p v ≡ true
+    → (is_over g (after g p v) ≡ true → outcome g (after g p v) ≡ XWins)
+    → ((u : ℕ) → u < point_count g → is_free (after g p v) u ≡ true → AvoiderHolds g (after g (after g p v) u)) → (after g p v).turn ≡ Y → Forces g (after g p v) X Win
+avoider_forces g p v kind position mine within free wins keeps yours = elim (cases_Bool (is_over g (after g p v))) [
+  | inl over ↦ Forces-over g (after g p v) X Win over (ap (reaches X Win) (wins over))
+  | inr going ↦ Forces-all g (after g p v) X Win going yours (λ u low on.
+    Forces-avoider g (after g (after g p v) u) kind (IsPosition-after g (after g p v) u (IsPosition-after g p v position within free) low on) (keeps u low on))
+]
+
+pub keeps-avoider : (g : Game) (c : Claim) (p : Position) (last : Option ℕ) (v : ℕ) → g.kind ≡ AvoiderEnforcer → InPlay g c p (record { body = Potential; last = last }) → is_over g p ≡ false → p.turn ≡ c.side
+    → v ≡ avoider_answer g p → v < point_count g → is_free p v ≡ true
+    → (g.kind ≡ AvoiderEnforcer → p.turn ≡ X → AvoiderHolds g p → is_over g (after g p v) ≡ true → outcome g (after g p v) ≡ XWins)
+    → (p.turn ≡ X → AvoiderHolds g p → (u : ℕ) → u < point_count g → is_free (after g p v) u ≡ true → AvoiderHolds g (after g (after g p v) u))
+    → KeepsUp g c p (record { body = Potential; last = last }) v (record { body = Potential; last = last })
+unfolding own_move
+keeps-avoider g c p last v kind h going mine rule within free wins keeps =
+    let position = IsPosition-reached g p h.reached in
+    let ok : shows_defence AvoiderEnforcer c.side c.goal ≡ true = subst (λ (k : Kind). shows_defence k c.side c.goal ≡ true) kind h.stands.allowed in
+    let is_x = avoider_is_x c.side c.goal ok in
+    let turn : p.turn ≡ X = mine ∙ is_x in
+    let before : AvoiderHolds g p = subst (λ (k : Kind). PotentialFits k g p c.side) kind (h.stands.ready going mine) in
+    let yours : (after g p v).turn ≡ Y = turn-after_x g p v position turn in
+    let next = keeps turn before in
+    record {
+      own = ap (λ (k : Kind). stays (potential_point k g p c.side) Potential last) kind ∙ ap (λ (q : ℕ). stays q Potential last) (sym rule);
+      within = within;
+      free = free;
+      forced = any_goal-is g (after g p v) c.side X c.goal is_x (avoider_forces g p v kind position turn within free (wins kind turn before) next yours);
+      stands = record {
+        allowed = h.stands.allowed;
+        ready = λ on again. absurd (x≢y (sym is_x ∙ sym again ∙ yours));
+        waiting = λ on theirs. subst (λ (k : Kind). PotentialWaiting k g (after g p v) c.side) (sym kind) (inr next);
+      };
+    }
+  where
+    x≢y : X ≢ Y
+    x≢y e = cc
+
+-- ---- trees and cuts
+
+pub trees_kind : (kind : Kind) (side : Side) → shows_trees kind side ≡ true → (kind ≡ Switching) × (side ≡ X)
+trees_kind MakerBreaker side ok = absurd (false≢true ok)
+trees_kind MakerMaker side ok = absurd (false≢true ok)
+trees_kind AvoiderEnforcer side ok = absurd (false≢true ok)
+trees_kind Switching X ok = (refl, refl)
+trees_kind Switching Y ok = absurd (false≢true ok)
+
+pub cuts_kind : (kind : Kind) (side : Side) → shows_cuts kind side ≡ true → (kind ≡ Switching) × (side ≡ Y)
+cuts_kind MakerBreaker side ok = absurd (false≢true ok)
+cuts_kind MakerMaker side ok = absurd (false≢true ok)
+cuts_kind AvoiderEnforcer side ok = absurd (false≢true ok)
+cuts_kind Switching X ok = absurd (false≢true ok)
+cuts_kind Switching Y ok = (refl, refl)
+
+trees_answered : (field : Field) (p : Position) (first second : FinSet nat_cmp) (last : Option ℕ) (a : Answered) → IsTreesAnswer field p first second last a
+    → stays_with_trees (trees_point field p false first second last) last ≡ stays a.edge (Trees false a.first a.second) last
+trees_answered (Lines f) p first second last a rule = absurd rule
+trees_answered (OnGraph h) p first second last a rule = ap (λ (b : Answered). stays b.edge (Trees false b.first b.second) last) (sym rule)
+
+cuts_answered : (field : Field) (p : Position) (first second : FinSet nat_cmp) (last : Option ℕ) (a : Answered) → IsCutsAnswer field p first second last a
+    → stays_with_cuts (cuts_point field p false first second last) last ≡ stays a.edge (Cuts false a.first a.second) last
+cuts_answered (Lines f) p first second last a rule = absurd rule
+cuts_answered (OnGraph h) p first second last a rule = ap (λ (b : Answered). stays b.edge (Cuts false b.first b.second) last) (sym rule)
+
+pub keeps-trees : (g : Game) (c : Claim) (p : Position) (first second : FinSet nat_cmp) (last : Option ℕ) (v : ℕ) (f s : FinSet nat_cmp) → InPlay g c p (record { body = Trees false first second; last = last })
+    → is_over g p ≡ false → p.turn ≡ c.side → IsTreesAnswer g.field p first second last (record { edge = v; first = f; second = s }) → v < point_count g → is_free p v ≡ true → TreesHold g (after g p v) f s
+    → KeepsUp g c p (record { body = Trees false first second; last = last }) v (record { body = Trees false f s; last = last })
+unfolding own_move
+keeps-trees g c p first second last v f s h going mine rule within free holds =
+    let position = IsPosition-reached g p h.reached in
+    let is = trees_kind g.kind c.side h.stands.allowed in
+    record {
+      own = trees_answered g.field p first second last (record { edge = v; first = f; second = s }) rule;
+      within = within;
+      free = free;
+      forced = any_goal-is g (after g p v) c.side X c.goal is.1 (Forces-trees g (after g p v) f s (IsPosition-after g p v position within free) holds);
+      stands = record {
+        allowed = h.stands.allowed;
+        ready = λ on again. absurd (not-again g p c.side v (single g Switching is.0 refl) position mine again);
+        waiting = λ on theirs. holds;
+      };
+    }
+
+pub keeps-cuts : (g : Game) (c : Claim) (p : Position) (first second : FinSet nat_cmp) (last : Option ℕ) (v : ℕ) (f s : FinSet nat_cmp) → InPlay g c p (record { body = Cuts false first second; last = last })
+    → is_over g p ≡ false → p.turn ≡ c.side → IsCutsAnswer g.field p first second last (record { edge = v; first = f; second = s }) → v < point_count g → is_free p v ≡ true → CutsHold g (after g p v) f s
+    → KeepsUp g c p (record { body = Cuts false first second; last = last }) v (record { body = Cuts false f s; last = last })
+unfolding own_move
+keeps-cuts g c p first second last v f s h going mine rule within free holds =
+    let position = IsPosition-reached g p h.reached in
+    let is = cuts_kind g.kind c.side h.stands.allowed in
+    record {
+      own = cuts_answered g.field p first second last (record { edge = v; first = f; second = s }) rule;
+      within = within;
+      free = free;
+      forced = any_goal-is g (after g p v) c.side Y c.goal is.1 (Forces-cuts g (after g p v) f s (IsPosition-after g p v position within free) holds);
+      stands = record {
+        allowed = h.stands.allowed;
+        ready = λ on again. absurd (not-again g p c.side v (single g Switching is.0 refl) position mine again);
+        waiting = λ on theirs. holds;
+      };
+    }
+
+-- ---- a plan with e put into its first set stands for the node's body
+
+trees_named : (field : Field) (p : Position) (with_e : Bool) (first second : FinSet nat_cmp) (last : Option ℕ)
+    → trees_point field p with_e first second last ≡ trees_point field p false (if with_e then insert first (field_points field) else first) second last
+trees_named (Lines f) p with_e first second last = refl
+trees_named (OnGraph h) p with_e first second last = refl
+
+cuts_named : (field : Field) (p : Position) (with_e : Bool) (first second : FinSet nat_cmp) (last : Option ℕ)
+    → cuts_point field p with_e first second last ≡ cuts_point field p false (if with_e then insert first (field_points field) else first) second last
+cuts_named (Lines f) p with_e first second last = refl
+cuts_named (OnGraph h) p with_e first second last = refl
+
+module _ (g : Game) (c : Claim) (p : Position) (with_e : Bool) (first second : FinSet nat_cmp) (last : Option ℕ) where
+  pub InPlay-trees : InPlay g c p (record { body = Trees with_e first second; last = last }) → InPlay g c p (record { body = Trees false (with_e_named g with_e first) second; last = last })
+  InPlay-trees h = record { sound = h.sound; reached = h.reached; forced = h.forced; stands = record { allowed = h.stands.allowed; ready = h.stands.ready; waiting = h.stands.waiting } }
+
+  pub InPlay-cuts : InPlay g c p (record { body = Cuts with_e first second; last = last }) → InPlay g c p (record { body = Cuts false (with_e_named g with_e first) second; last = last })
+  InPlay-cuts h = record { sound = h.sound; reached = h.reached; forced = h.forced; stands = record { allowed = h.stands.allowed; ready = h.stands.ready; waiting = h.stands.waiting } }
+
+  pub KeepsUp-trees : (v : ℕ) (next : Standing) → KeepsUp g c p (record { body = Trees false (with_e_named g with_e first) second; last = last }) v next → KeepsUp g c p (record { body = Trees with_e first second; last = last }) v next
+  unfolding own_move
+  KeepsUp-trees v next k = record { own = ap (λ (o : Option Answered). stays_with_trees o last) (trees_named g.field p with_e first second last) ∙ k.own; within = k.within; free = k.free; forced = k.forced; stands = k.stands }
+
+  pub KeepsUp-cuts : (v : ℕ) (next : Standing) → KeepsUp g c p (record { body = Cuts false (with_e_named g with_e first) second; last = last }) v next → KeepsUp g c p (record { body = Cuts with_e first second; last = last }) v next
+  unfolding own_move
+  KeepsUp-cuts v next k = record { own = ap (λ (o : Option Answered). stays_with_cuts o last) (cuts_named g.field p with_e first second last) ∙ k.own; within = k.within; free = k.free; forced = k.forced; stands = k.stands }
+
+-- ---- a node's whole body
+
+module _ (g : Game) (c : Claim) (p : Position) (body : Body) (with_e : Bool) (first second : FinSet nat_cmp) (last : Option ℕ) (f s : FinSet nat_cmp) (is_f : f ≡ with_e_named g with_e first) (is_s : s ≡ second) where
+  -- trees and cuts held until the last reply
+  pub trees-held : body ≡ Trees with_e first second → InPlay g c p (record { body = body; last = last }) → is_over g p ≡ false → p.turn ≡ c.side → HeldUntil g p (λ q. TreesHold g q f s) last
+  trees-held is h going mine =
+      let here = subst (λ (b : Body). InPlay g c p (record { body = b; last = last })) is h in
+      let held = here.stands.ready going mine in
+      subst (λ (t : FinSet nat_cmp). HeldUntil g p (λ q. TreesHold g q f t) last) (sym is_s) (subst (λ (t : FinSet nat_cmp). HeldUntil g p (λ q. TreesHold g q t second) last) (sym is_f) held)
+
+  pub cuts-held : body ≡ Cuts with_e first second → InPlay g c p (record { body = body; last = last }) → is_over g p ≡ false → p.turn ≡ c.side → HeldUntil g p (λ q. CutsHold g q f s) last
+  cuts-held is h going mine =
+      let here = subst (λ (b : Body). InPlay g c p (record { body = b; last = last })) is h in
+      let held = here.stands.ready going mine in
+      subst (λ (t : FinSet nat_cmp). HeldUntil g p (λ q. CutsHold g q f t) last) (sym is_s) (subst (λ (t : FinSet nat_cmp). HeldUntil g p (λ q. CutsHold g q t second) last) (sym is_f) held)
+
+  -- what keeps up by the plan keeps up by the body
+  pub trees-whole : (v : ℕ) (next : Standing) → body ≡ Trees with_e first second → InPlay g c p (record { body = body; last = last })
+      → (InPlay g c p (record { body = Trees false f s; last = last }) → KeepsUp g c p (record { body = Trees false f s; last = last }) v next) → KeepsUp g c p (record { body = body; last = last }) v next
+  trees-whole v next is h keeps =
+      let here = InPlay-trees g c p with_e first second last (subst (λ (b : Body). InPlay g c p (record { body = b; last = last })) is h) in
+      let there = subst (λ (t : FinSet nat_cmp). InPlay g c p (record { body = Trees false f t; last = last })) (sym is_s) (subst (λ (t : FinSet nat_cmp). InPlay g c p (record { body = Trees false t second; last = last })) (sym is_f) here) in
+      let k = subst (λ (t : FinSet nat_cmp). KeepsUp g c p (record { body = Trees false t second; last = last }) v next) is_f (subst (λ (t : FinSet nat_cmp). KeepsUp g c p (record { body = Trees false f t; last = last }) v next) is_s (keeps there)) in
+      subst (λ (b : Body). KeepsUp g c p (record { body = b; last = last }) v next) (sym is) (KeepsUp-trees g c p with_e first second last v next k)
+
+  pub cuts-whole : (v : ℕ) (next : Standing) → body ≡ Cuts with_e first second → InPlay g c p (record { body = body; last = last })
+      → (InPlay g c p (record { body = Cuts false f s; last = last }) → KeepsUp g c p (record { body = Cuts false f s; last = last }) v next) → KeepsUp g c p (record { body = body; last = last }) v next
+  cuts-whole v next is h keeps =
+      let here = InPlay-cuts g c p with_e first second last (subst (λ (b : Body). InPlay g c p (record { body = b; last = last })) is h) in
+      let there = subst (λ (t : FinSet nat_cmp). InPlay g c p (record { body = Cuts false f t; last = last })) (sym is_s) (subst (λ (t : FinSet nat_cmp). InPlay g c p (record { body = Cuts false t second; last = last })) (sym is_f) here) in
+      let k = subst (λ (t : FinSet nat_cmp). KeepsUp g c p (record { body = Cuts false t second; last = last }) v next) is_f (subst (λ (t : FinSet nat_cmp). KeepsUp g c p (record { body = Cuts false f t; last = last }) v next) is_s (keeps there)) in
+      subst (λ (b : Body). KeepsUp g c p (record { body = b; last = last }) v next) (sym is) (KeepsUp-cuts g c p with_e first second last v next k)

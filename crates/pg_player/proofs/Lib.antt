@@ -1,0 +1,5 @@
+pub mod Stable
+pub mod Plays
+pub mod Arriving
+pub mod Keeping
+pub mod Replying

@@ -1,0 +1,218 @@
+-- What a reply of the other side keeps, body by body.
+use Rattle.std.proofs.Common.{◌≡◌, ◌≢◌, ◌∙◌, ℕ, ◌<◌, ◌≤◌, Bool, true, false, ◌&&◌, ◌==◌, List, [], ◌∷◌, Option, Some, None, map, find, length, refl, sym, ap, subst, inl, inr, ◌⊎◌, arith, eqb, eqb-true, eq-eqb, ltb-true, nat_lt, if◌then◌else◌, Result, Ok, Err}
+use Rattle.std.proofs.lemmas.Bool.{cases_Bool, false≢true, both_ways}
+use Rattle.std.proofs.lemmas.Option.{slice_get_within}
+use Rattle.std.specs.FinSet.{FinSet}
+use Rattle.std.specs.List.{list_any}
+use Rattle.std.specs.Ordering.{nat_cmp}
+use Rattle.pg_base.specs.Side.{other}
+use Rattle.pg_base.specs.declared.goal.Goal.{Goal}
+use Rattle.pg_base.specs.declared.goal.Goal.TheVariants.{Win, Draw as AtLeastDraw}
+use Rattle.pg_base.specs.declared.kind.Kind.{Kind}
+use Rattle.pg_base.specs.declared.kind.Kind.TheVariants.{MakerBreaker, MakerMaker, AvoiderEnforcer, Switching}
+use Rattle.pg_base.specs.declared.pair.Pair.{Pair}
+use Rattle.pg_base.specs.declared.side.Side.{Side}
+use Rattle.pg_base.specs.declared.side.Side.TheVariants.{X, Y}
+use Rattle.pg_game.specs.declared.game.Game.{Game}
+use Rattle.pg_game.specs.declared.position.Position.{Position}
+use Rattle.pg_game.specs.declared.position.Illegal.{Illegal}
+use Rattle.pg_game.specs.declared.position.Illegal.TheVariants as illegal
+use Rattle.pg_game.specs.Judge.{judged_move}
+use Rattle.pg_game.specs.Position.{is_free}
+use Rattle.pg_game.specs.Game.{point_count, bias_of, free_points, is_over, after, IsPosition}
+use Rattle.pg_game.specs.Value.{Forces}
+use Rattle.pg_game.specs.Potential.{PotentialHolds}
+use Rattle.pg_game.specs.Avoider.{AvoiderHolds}
+use Rattle.pg_game.specs.Trees.{TreesHold, CutsHold}
+use Rattle.pg_game.proofs.FreePoints.{any-free_points}
+use Rattle.pg_game.proofs.Moves.{side≢other, other_other, turn-passes, IsPosition-after}
+use Rattle.pg_game.proofs.ValueLaws.{Forces-all-from}
+use Rattle.pg_pairing.specs.Rest.{ArePairsOf, RestHolds}
+use Rattle.pg_pairing.proofs.Filters.{find_member, find_none}
+use Rattle.pg_potential.proofs.PotentialLaws.{kept-reply_breaker, kept-reply_draw}
+use Rattle.pg_avoider.proofs.AvoiderLaws.{kept-y}
+use Rattle.pg_switch.specs.Replies.{HeldUntil, HeldBefore}
+use Rattle.pg_cert.specs.declared.cert.Claim.{Claim}
+use Rattle.pg_cert.specs.declared.node.Node.{Node}
+use Rattle.pg_cert.specs.declared.node.Body.{Body}
+use Rattle.pg_cert.specs.declared.node.Body.TheVariants.{Over, Move, All, Pairs, Potential, Trees, Cuts, Threat}
+use Rattle.pg_cert.specs.declared.reply.Reply.{Reply}
+use Rattle.pg_cert.specs.OwnMove.{Standing, arrives, replied, replied_by}
+use Rattle.pg_cert.specs.Valid.{is_allowed, shows_defence, pairs_fit, PotentialFits, FollowsMove, with_e_named, IsNodeOf}
+use Rattle.pg_player.specs.Stand.{LeadsOn}
+use Rattle.pg_player.specs.InPlay.{Ready, Waiting, Stands, PairsReady, PairsWaiting, PotentialWaiting, AvoiderWaiting, NamesAll, InPlay}
+use Rattle.pg_player.proofs.Plays.{IsPosition-reached, reached-after, single}
+use Rattle.pg_player.proofs.Arriving.{arrived}
+use Rattle.pg_player.proofs.Keeping.{trees_kind, cuts_kind}
+
+-- the side that replied isn't to move where it claims one point a turn
+passed : (g : Game) (p : Position) (side : Side) (v : ℕ) → bias_of g (other side) ≡ 1 → IsPosition g p → p.turn ≡ other side → (after g p v).turn ≡ other side → ⊥
+passed g p side v one position theirs again =
+    let few : p.left ≤ bias_of g (other side) = subst (λ (s : Side). p.left ≤ bias_of g s) theirs position.few_left in
+    let turn : (after g p v).turn ≡ side = turn-passes g p v (omega (arith, few, one)) ∙ ap other theirs ∙ other_other side in
+    side≢other side (sym turn ∙ again)
+
+claims_one : (g : Game) (side : Side) → g.bias ≡ 1 → bias_of g side ≡ 1
+claims_one g X one = refl
+claims_one g Y one = one
+
+-- where pairs are allowed, the other side claims one point a turn
+pairs_single : (g : Game) (kind : Kind) (side : Side) (goal : Goal) → g.kind ≡ kind → (shows_defence kind side goal && pairs_fit kind g.bias) ≡ true → bias_of g (other side) ≡ 1
+pairs_single g MakerBreaker X goal e ok = absurd (false≢true ok)
+pairs_single g MakerBreaker Y goal e ok = refl
+pairs_single g MakerMaker side goal e ok = claims_one g (other side) (single g MakerMaker e refl)
+pairs_single g AvoiderEnforcer X goal e ok = eqb-true g.bias 1 ok
+pairs_single g AvoiderEnforcer Y goal e ok = refl
+pairs_single g Switching side goal e ok = absurd (false≢true ok)
+
+-- what is left of a potential after a reply
+record PotentialKept (kind : Kind) (g : Game) (p : Position) (side : Side) : Type 0 where
+  pub fits : PotentialFits kind g p side
+  pub waits : PotentialWaiting kind g p side
+
+potential_kept : (g : Game) (kind : Kind) (p : Position) (side : Side) (goal : Goal) (v : ℕ) → g.kind ≡ kind → shows_defence kind side goal ≡ true → IsPosition g p → p.turn ≡ other side
+    → v < point_count g → is_free p v ≡ true → PotentialWaiting kind g p side → PotentialKept kind g (after g p v) side
+potential_kept g MakerBreaker p X goal v e ok position theirs within free h = absurd (false≢true ok)
+potential_kept g MakerBreaker p Y goal v e ok position theirs within free h =
+    let holds = kept-reply_breaker g p v e position h theirs within free in
+    record { fits = holds; waits = holds }
+potential_kept g MakerMaker p side goal v e ok position theirs within free h =
+    let holds = kept-reply_draw g p side v e position h theirs within free in
+    record { fits = holds; waits = holds }
+potential_kept g AvoiderEnforcer p X goal v e ok position theirs within free h =
+    let holds : AvoiderHolds g (after g p v) = elim h [ inl now ↦ kept-y g p v position now theirs within free | inr next ↦ next v within free ] in
+    record { fits = holds; waits = inl holds }
+potential_kept g AvoiderEnforcer p Y goal v e ok position theirs within free h = absurd (false≢true ok)
+potential_kept g Switching p side goal v e ok position theirs within free h = absurd (false≢true ok)
+
+-- a goal that is forced stays so after a reply
+forced_after : (g : Game) (c : Claim) (p : Position) (s : Standing) (v : ℕ) → InPlay g c p s → is_over g p ≡ false → p.turn ≡ other c.side → v < point_count g → is_free p v ≡ true → Forces g (after g p v) c.side c.goal
+forced_after g c p s v h going theirs within free = Forces-all-from g p c.side c.goal going theirs h.forced v within free
+
+some_or_none : {A : Type 0} (o : Option A) → ((x : A) × (o ≡ Some x)) ⊎ (o ≡ None)
+some_or_none (Some x) = inl (x, refl)
+some_or_none None = inr refl
+
+-- the reply that names the point
+find_reply-some : (g : Game) (p : Position) (replies : List Reply) (v : ℕ) → map (λ r. r.point) replies ≡ free_points g p → v < point_count g → is_free p v ≡ true
+    → find (λ r. r.point == v) replies ≡ None → ⊥
+find_reply-some g p replies v exact within free none =
+    let listed : list_any (λ q. eqb q v) (map (λ r. r.point) replies) ≡ true =
+    subst (λ (vs : List ℕ). list_any (λ q. eqb q v) vs ≡ true) (sym exact) (any-free_points g p (λ q. eqb q v) v within free (eq-eqb v v refl)) in
+    both_ways _ (find_none (λ r. r.point == v) replies none) (sym (through replies) ∙ listed)
+  where
+    through : (rs : List Reply) → list_any (λ q. eqb q v) (map (λ r. r.point) rs) ≡ list_any (λ r. r.point == v) rs
+    through [] = refl
+    through (r ∷ rs) = elim (cases_Bool (eqb r.point v)) [ inl on ↦ rw on refl | inr off ↦ rw off (through rs) ]
+
+pub replied_by-child : (nodes : List Node) (replies : List Reply) (v : ℕ) (r : Reply) → find (λ q. q.point == v) replies ≡ Some r → replied_by (All replies) nodes v ≡ arrives nodes r.child
+replied_by-child nodes replies v r found = rw found refl
+
+module _ (g : Game) (c : Claim) (p : Position) (v : ℕ) (going : is_over g p ≡ false) (theirs : p.turn ≡ other c.side) (within : v < point_count g) (free : is_free p v ≡ true) where
+  -- at `all`: on to the child that is named
+  InPlay-child : (replies : List Reply) (last : Option ℕ) (r : Reply) (next : Standing) → InPlay g c p (record { body = All replies; last = last }) → find (λ q. q.point == v) replies ≡ Some r → arrives c.nodes r.child ≡ Some next
+      → InPlay g c (after g p v) next
+  InPlay-child replies last r next h found comes =
+      let all = h.stands.waiting going theirs in
+      let member = find_member (λ q. q.point == v) replies r found in
+      let point : r.point ≡ v = eqb-true r.point v member.1 in
+      let follow : FollowsMove g c.nodes p r.point r.child = subst (λ (q : Reply). FollowsMove g c.nodes p q.point q.child) member.0.2 (all.next member.0.0 r member.0.1) in
+      let here : IsNodeOf c.nodes r.child (after g p v) = subst (λ (q : ℕ). IsNodeOf c.nodes r.child (after g p q)) point
+      (follow.leads (subst (λ (q : ℕ). q < point_count g) (sym point) within) (subst (λ (q : ℕ). is_free p q ≡ true) (sym point) free)) in
+      let there = arrived g c r.child (after g p v) next h.sound here comes in
+      record { sound = h.sound; reached = reached-after g p v h.reached going within free; forced = there.forced; stands = there.stands }
+
+  -- everywhere else it stays
+  stands_on : (b : Body) (last : Option ℕ) → ((rs : List Reply) → b ≡ All rs → ⊥) → InPlay g c p (record { body = b; last = last }) → Stands g c (after g p v) (record { body = b; last = Some v })
+  stands_on Over last other_than h = absurd (h.stands.waiting going theirs)
+  stands_on (Move point child) last other_than h = absurd (h.stands.waiting going theirs)
+  stands_on (All replies) last other_than h = absurd (other_than replies refl)
+  stands_on (Pairs pairs) last other_than h =
+      let all = h.stands.waiting going theirs in
+      record {
+        allowed = h.stands.allowed;
+        ready = λ on mine. record { are = all.are; state = inl (record { before = p; reply = v; last_is = refl; theirs = theirs; within = within; free = free; leads = refl; held = all.holds }) };
+        waiting = λ on again. absurd (passed g p c.side v (pairs_single g g.kind c.side c.goal refl h.stands.allowed) (IsPosition-reached g p h.reached) theirs again);
+      }
+  stands_on Potential last other_than h =
+      let kept = potential_kept g g.kind p c.side c.goal v refl h.stands.allowed (IsPosition-reached g p h.reached) theirs within free (h.stands.waiting going theirs) in
+      record { allowed = h.stands.allowed; ready = λ on mine. kept.fits; waiting = λ on again. kept.waits }
+  stands_on (Trees with_e first second) last other_than h = record {
+    allowed = h.stands.allowed;
+    ready = λ on mine. record { before = p; theirs = theirs ∙ ap other (sym mine); within = within; free = free; leads = refl; held = h.stands.waiting going theirs };
+    waiting = λ on again. absurd (passed g p c.side v (claims_one g (other c.side) (single g Switching (trees_kind g.kind c.side h.stands.allowed).0 refl)) (IsPosition-reached g p h.reached) theirs again);
+  }
+  stands_on (Cuts with_e first second) last other_than h = record {
+    allowed = h.stands.allowed;
+    ready = λ on mine. record { before = p; theirs = theirs ∙ ap other (sym mine); within = within; free = free; leads = refl; held = h.stands.waiting going theirs };
+    waiting = λ on again. absurd (passed g p c.side v (claims_one g (other c.side) (single g Switching (cuts_kind g.kind c.side h.stands.allowed).0 refl)) (IsPosition-reached g p h.reached) theirs again);
+  }
+  stands_on (Threat points) last other_than h = absurd (h.stands.waiting going theirs)
+
+  InPlay-stays : (b : Body) (last : Option ℕ) → ((rs : List Reply) → b ≡ All rs → ⊥) → InPlay g c p (record { body = b; last = last }) → InPlay g c (after g p v) (record { body = b; last = Some v })
+  InPlay-stays b last other_than h = record {
+    sound = h.sound;
+    reached = reached-after g p v h.reached going within free;
+    forced = forced_after g c p (record { body = b; last = last }) v h going theirs within free;
+    stands = stands_on b last other_than h;
+  }
+
+  -- the reply leads on
+  pub leads_on : (b : Body) (last : Option ℕ) → InPlay g c p (record { body = b; last = last }) → LeadsOn c.nodes b v
+  leads_on Over last h = tt
+  leads_on (Move point child) last h = tt
+  leads_on (All replies) last h =
+      let all = h.stands.waiting going theirs in
+      elim (some_or_none (find (λ q. q.point == v) replies)) [
+        | inl some ↦
+            let member = find_member (λ q. q.point == v) replies some.0 some.1 in
+            let point : some.0.point ≡ v = eqb-true some.0.point v member.1 in
+            let follow : FollowsMove g c.nodes p some.0.point some.0.child = subst (λ (q : Reply). FollowsMove g c.nodes p q.point q.child) member.0.2 (all.next member.0.0 some.0 member.0.1) in
+            let here = follow.leads (subst (λ (q : ℕ). q < point_count g) (sym point) within) (subst (λ (q : ℕ). is_free p q ≡ true) (sym point) free) in
+            (some.0, some.1, slice_get_within c.nodes some.0.child here.node here.at)
+        | inr none ↦ absurd (find_reply-some g p replies v all.exact within free none)
+      ]
+  leads_on (Pairs pairs) last h = tt
+  leads_on Potential last h = tt
+  leads_on (Trees with_e first second) last h = tt
+  leads_on (Cuts with_e first second) last h = tt
+  leads_on (Threat points) last h = h.stands.waiting going theirs
+
+  at_same : (b : Body) (last : Option ℕ) (next : Standing) → ((rs : List Reply) → b ≡ All rs → ⊥) → InPlay g c p (record { body = b; last = last }) → ◌≡◌ {A = Option Standing} (Some (record { body = b; last = Some v })) (Some next) → InPlay g c (after g p v) next
+  at_same b last next other_than h rule =
+      let same : ◌≡◌ {A = Standing} (record { body = b; last = Some v }) next = cc in
+      subst (λ (s : Standing). InPlay g c (after g p v) s) same (InPlay-stays b last other_than h)
+
+  -- a reply keeps the player in play
+  pub InPlay-replied : (b : Body) (last : Option ℕ) (next : Standing) → InPlay g c p (record { body = b; last = last }) → replied_by b c.nodes v ≡ Some next → InPlay g c (after g p v) next
+  InPlay-replied Over last next h rule = absurd (h.stands.waiting going theirs)
+  InPlay-replied (Move point child) last next h rule = absurd (h.stands.waiting going theirs)
+  InPlay-replied (All replies) last next h rule =
+      let r = leads_on (All replies) last h in
+      InPlay-child replies last r.0 next h r.1 (sym (replied_by-child c.nodes replies v r.0 r.1) ∙ rule)
+  InPlay-replied (Pairs pairs) last next h rule = at_same (Pairs pairs) last next (λ rs e. cc) h rule
+  InPlay-replied Potential last next h rule = at_same Potential last next (λ rs e. cc) h rule
+  InPlay-replied (Trees with_e first second) last next h rule = at_same (Trees with_e first second) last next (λ rs e. cc) h rule
+  InPlay-replied (Cuts with_e first second) last next h rule = at_same (Cuts with_e first second) last next (λ rs e. cc) h rule
+  InPlay-replied (Threat points) last next h rule = absurd (h.stands.waiting going theirs)
+
+-- ---- what a judge has found legal
+
+-- a move that is judged legal: the game goes on, and the point is a free one of the game
+pub record IsLegal (g : Game) (p : Position) (v : ℕ) (next : Position) : Type 0 where
+  pub going : is_over g p ≡ false
+  pub within : v < point_count g
+  pub free : is_free p v ≡ true
+  pub leads : next ≡ after g p v
+
+judge_by : (low over free : Bool) (q next : Position) → (if low then (if over then Err illegal.Over else (if free then Ok q else Err illegal.Taken)) else Err illegal.Range) ≡ Ok next
+    → (low ≡ true) × (over ≡ false) × (free ≡ true) × (next ≡ q)
+judge_by true true free q next h = cc
+judge_by true false true q next h = let same : q ≡ next = cc in (refl, refl, refl, sym same)
+judge_by true false false q next h = cc
+judge_by false over free q next h = cc
+
+pub judged-legal : (g : Game) (p : Position) (v : ℕ) (next : Position) → judged_move g p v ≡ Ok next → IsLegal g p v next
+judged-legal g p v next h =
+    let parts = judge_by (nat_lt v (point_count g)) (is_over g p) (is_free p v) (after g p v) next h in
+    record { going = parts.1; within = ltb-true v (point_count g) parts.0; free = parts.2; leads = parts.3 }

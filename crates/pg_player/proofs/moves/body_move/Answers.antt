@@ -1,0 +1,65 @@
+use Rattle.std.proofs.Common.{◌≡◌, ◌∙◌, ℕ, List, Option, Some, subst, sym, ap}
+use Rattle.pg_base.specs.declared.pair.Pair.{Pair}
+use Rattle.pg_cert.specs.declared.node.Body.{Body}
+use Rattle.pg_cert.specs.declared.node.Body.TheVariants.{Pairs, Potential}
+use Rattle.pg_player.specs.InPlay.{InPlay, KeepsUp}
+use Rattle.pg_player.specs.Stand.{standing_of}
+use Rattle.pg_player.proofs.Plays.{IsPosition-reached, not-full}
+use Rattle.pg_player.proofs.Keeping.{keeps-move, keeps-pairs, trees-held, cuts-held, trees-whole, cuts-whole}
+use Rattle.pg_player.proofs.moves.body_move.Goals as goal
+
+pub answer-requires-clause-position : goal.answer-requires-clause-position
+answer-requires-clause-position c = IsPosition-reached c.args.g.now c.args.p.now c.requires.playing.reached
+
+pub answer-requires-clause-some_free : goal.answer-requires-clause-some_free
+answer-requires-clause-some_free c = not-full c.args.g.now c.args.p.now c.requires.going
+
+pub potential_point-requires-clause-position : goal.potential_point-requires-clause-position
+potential_point-requires-clause-position c = IsPosition-reached c.args.g.now c.args.p.now c.requires.playing.reached
+
+pub trees_move-requires-clause-position : goal.trees_move-requires-clause-position
+trees_move-requires-clause-position c = IsPosition-reached c.args.g.now c.args.p.now c.requires.playing.reached
+
+pub trees_move-requires-clause-held : goal.trees_move-requires-clause-held
+trees_move-requires-clause-held c =
+    trees-held c.args.g.now c.args.claim.now c.args.p.now c.args.body.now c.in-Trees.with_e c.in-Trees.first c.in-Trees.second c.args.last c.start-plan.result.first c.start-plan.result.second
+    (c.start-plan.ensures.first ∙ c.with_further.ensures) c.start-plan.ensures.second c.in-Trees.is c.requires.playing c.requires.going c.requires.turn
+
+pub cuts_move-requires-clause-position : goal.cuts_move-requires-clause-position
+cuts_move-requires-clause-position c = IsPosition-reached c.args.g.now c.args.p.now c.requires.playing.reached
+
+pub cuts_move-requires-clause-held : goal.cuts_move-requires-clause-held
+cuts_move-requires-clause-held c =
+    cuts-held c.args.g.now c.args.claim.now c.args.p.now c.args.body.now c.in-Cuts.with_e c.in-Cuts.first c.in-Cuts.second c.args.last c.start-plan-in-Cuts.result.first c.start-plan-in-Cuts.result.second
+    (c.start-plan-in-Cuts.ensures.first ∙ c.with_further-in-Cuts.ensures) c.start-plan-in-Cuts.ensures.second c.in-Cuts.is c.requires.playing c.requires.going c.requires.turn
+
+pub returns-in-Move-clause-keeps : goal.returns-in-Move-clause-keeps
+returns-in-Move-clause-keeps c =
+    let h = subst (λ (b : Body). InPlay c.args.g.now c.args.claim.now c.args.p.now (record { body = b; last = c.args.last })) c.in-Move.is c.requires.playing in
+    subst (λ (b : Body). KeepsUp c.args.g.now c.args.claim.now c.args.p.now (record { body = b; last = c.args.last }) c.in-Move.point (standing_of c.arrive.result)) (sym c.in-Move.is)
+    (keeps-move c.args.g.now c.args.claim.now c.args.p.now c.in-Move.point c.in-Move.child c.args.last (standing_of c.arrive.result) h c.requires.going c.requires.turn c.arrive.ensures)
+
+pub returns-in-Pairs-clause-keeps : goal.returns-in-Pairs-clause-keeps
+returns-in-Pairs-clause-keeps c =
+    let whole = c.in-Pairs.is ∙ ap Pairs (sym c.as_slice.ensures) in
+    let h = subst (λ (b : Body). InPlay c.args.g.now c.args.claim.now c.args.p.now (record { body = b; last = c.args.last })) whole c.requires.playing in
+    let e = c.answer.ensures in
+    subst (λ (b : Body). KeepsUp c.args.g.now c.args.claim.now c.args.p.now (record { body = b; last = c.args.last }) c.answer.result (record { body = b; last = c.args.last })) (sym whole)
+    (keeps-pairs c.args.g.now c.args.claim.now c.args.p.now c.as_slice.result.now c.args.last c.answer.result h c.requires.going c.requires.turn
+    (record { rule = e.rule; within = e.within; free = e.free; replied = e.keeps_replied; unreplied = e.keeps_unreplied; in_turn = e.keeps_in_turn }))
+
+pub returns-in-Potential-clause-keeps : goal.returns-in-Potential-clause-keeps
+returns-in-Potential-clause-keeps c =
+    let h = subst (λ (b : Body). InPlay c.args.g.now c.args.claim.now c.args.p.now (record { body = b; last = c.args.last })) c.in-Potential.is c.requires.playing in
+    subst (λ (b : Body). KeepsUp c.args.g.now c.args.claim.now c.args.p.now (record { body = b; last = c.args.last }) c.potential_point.result (record { body = b; last = c.args.last })) (sym c.in-Potential.is)
+    (c.potential_point.ensures c.args.last h)
+
+pub returns-in-Trees-clause-keeps : goal.returns-in-Trees-clause-keeps
+returns-in-Trees-clause-keeps c =
+    trees-whole c.args.g.now c.args.claim.now c.args.p.now c.args.body.now c.in-Trees.with_e c.in-Trees.first c.in-Trees.second c.args.last c.start-plan.result.first c.start-plan.result.second
+    (c.start-plan.ensures.first ∙ c.with_further.ensures) c.start-plan.ensures.second c.trees_move.result.point (standing_of c.trees_move.result.stand) c.in-Trees.is c.requires.playing (c.trees_move.ensures.keeps c.args.claim.now)
+
+pub returns-in-Cuts-clause-keeps : goal.returns-in-Cuts-clause-keeps
+returns-in-Cuts-clause-keeps c =
+    cuts-whole c.args.g.now c.args.claim.now c.args.p.now c.args.body.now c.in-Cuts.with_e c.in-Cuts.first c.in-Cuts.second c.args.last c.start-plan-in-Cuts.result.first c.start-plan-in-Cuts.result.second
+    (c.start-plan-in-Cuts.ensures.first ∙ c.with_further-in-Cuts.ensures) c.start-plan-in-Cuts.ensures.second c.cuts_move.result.point (standing_of c.cuts_move.result.stand) c.in-Cuts.is c.requires.playing (c.cuts_move.ensures.keeps c.args.claim.now)

@@ -1,0 +1,129 @@
+-- What keeps a player going: facts on its claim, its position and where it stands, which every move and every reply keep.
+use Rattle.std.specs.Prelude.{◌≡◌, ◌≢◌, ◌⊎◌, ℕ, ◌<◌, ◌-◌, Bool, true, false, List, length, map, Option, Some, None, slice_get, if◌then◌else◌}
+use Rattle.std.specs.List.{All as Each}
+use Rattle.pg_base.specs.Side.{other}
+use Rattle.pg_base.specs.declared.kind.Kind.{Kind}
+use Rattle.pg_base.specs.declared.kind.Kind.TheVariants.{MakerBreaker, AvoiderEnforcer, Switching}
+use Rattle.pg_base.specs.declared.pair.Pair.{Pair}
+use Rattle.pg_base.specs.declared.score.Score.{Score}
+use Rattle.pg_base.specs.declared.side.Side.{Side}
+use Rattle.pg_graph.specs.Joiner.{Room}
+use Rattle.pg_game.specs.declared.game.Game.{Game}
+use Rattle.pg_game.specs.declared.position.Position.{Position}
+use Rattle.pg_game.specs.Position.{is_free}
+use Rattle.pg_game.specs.Game.{point_count, free_points, is_over, outcome, after, start}
+use Rattle.pg_game.specs.Judge.{IsMadeForGame}
+use Rattle.pg_game.specs.Play.{IsLegalPlay, played}
+use Rattle.pg_game.specs.Value.{Forces}
+use Rattle.pg_game.specs.Potential.{PotentialHolds}
+use Rattle.pg_game.specs.Avoider.{AvoiderHolds}
+use Rattle.pg_game.specs.Trees.{TreesHold, CutsHold}
+use Rattle.pg_cert.specs.declared.cert.Claim.{Claim}
+use Rattle.pg_cert.specs.declared.node.Node.{Node}
+use Rattle.pg_cert.specs.declared.node.Body.{Body}
+use Rattle.pg_cert.specs.declared.node.Body.TheVariants.{Over, Move, All, Pairs, Potential, Trees, Cuts, Threat}
+use Rattle.pg_cert.specs.declared.reply.Reply.{Reply}
+use Rattle.pg_cert.specs.Limits.{IsClaim}
+use Rattle.pg_cert.specs.Valid.{is_allowed, IsNodeOf, FollowsMove, PotentialFits, with_e_named, IsValidClaim}
+use Rattle.pg_cert.specs.OwnMove.{Standing, OwnMove, own_move}
+use Rattle.pg_pairing.specs.Rest.{ArePairsOf, RestHolds, HeldBefore}
+use Rattle.pg_switch.specs.Replies.{HeldUntil}
+
+-- ---- what keeps a player going at its body while the game goes on
+
+-- the rest of the pairs held before the last reply, or holds where no reply came, or holds in Maker-Breaker
+pub record PairsReady (g : Game) (side : Side) (p : Position) (pairs : List Pair) (last : Option ℕ) : Type 0 where
+  pub are : ArePairsOf g pairs
+  pub state : HeldBefore g p side pairs last ⊎ (((last ≡ None) × RestHolds g p side pairs) ⊎ ((g.kind ≡ MakerBreaker) × RestHolds g p side pairs))
+
+pub record PairsWaiting (g : Game) (side : Side) (p : Position) (pairs : List Pair) : Type 0 where
+  pub are : ArePairsOf g pairs
+  pub holds : RestHolds g p side pairs
+
+-- Avoider's potential holds, or it holds after every point that Enforcer may take
+abbrev pub AvoiderWaiting : Game → Position → Type 0
+AvoiderWaiting g p = AvoiderHolds g p ⊎ ((u : ℕ) → u < point_count g → is_free p u ≡ true → AvoiderHolds g (after g p u))
+
+-- the potential of the kind with the other side to move
+abbrev pub PotentialWaiting : Kind → Game → Position → Side → Type 0
+PotentialWaiting AvoiderEnforcer g p side = AvoiderWaiting g p
+PotentialWaiting _ g p side = PotentialHolds g p side
+
+-- the point is free, and its node has the position after it
+pub record MayMove (g : Game) (nodes : List Node) (p : Position) (point child : ℕ) : Type 0 where
+  pub within : point < point_count g
+  pub free : is_free p point ≡ true
+  pub next : IsNodeOf nodes child (after g p point)
+
+-- all free points are named, each with a node that has the position after it
+pub record NamesAll (g : Game) (nodes : List Node) (p : Position) (replies : List Reply) : Type 0 where
+  pub exact : map (λ r. r.point) replies ≡ free_points g p
+  pub next : Each (λ r. FollowsMove g nodes p r.point r.child) replies
+
+-- the player is to move at the body
+abbrev pub Ready : Game → Claim → Position → Body → Option ℕ → Type 0
+Ready g c p Over last = ⊥
+Ready g c p (Move point child) last = MayMove g c.nodes p point child
+Ready g c p (All replies) last = ⊥
+Ready g c p (Pairs pairs) last = PairsReady g c.side p pairs last
+Ready g c p Potential last = PotentialFits g.kind g p c.side
+Ready g c p (Trees with_e first second) last = HeldUntil g p (λ q. TreesHold g q (with_e_named g with_e first) second) last
+Ready g c p (Cuts with_e first second) last = HeldUntil g p (λ q. CutsHold g q (with_e_named g with_e first) second) last
+Ready g c p (Threat points) last = ⊥
+
+-- the other side is to move at the body
+abbrev pub Waiting : Game → Claim → Position → Body → Type 0
+Waiting g c p Over = ⊥
+Waiting g c p (Move point child) = ⊥
+Waiting g c p (All replies) = NamesAll g c.nodes p replies
+Waiting g c p (Pairs pairs) = PairsWaiting g c.side p pairs
+Waiting g c p Potential = PotentialWaiting g.kind g p c.side
+Waiting g c p (Trees with_e first second) = TreesHold g p (with_e_named g with_e first) second
+Waiting g c p (Cuts with_e first second) = CutsHold g p (with_e_named g with_e first) second
+Waiting g c p (Threat points) = ⊥
+
+-- the body is allowed, and while the game goes on it keeps what it needs, whoever is to move
+pub record Stands (g : Game) (c : Claim) (p : Position) (s : Standing) : Type 0 where
+  pub allowed : is_allowed g.kind g.bias c.side c.goal s.body ≡ true
+  pub ready : is_over g p ≡ false → p.turn ≡ c.side → Ready g c p s.body s.last
+  pub waiting : is_over g p ≡ false → p.turn ≡ other c.side → Waiting g c p s.body
+
+-- ---- the whole
+
+-- the position is that after a legal play from the game's marks
+pub record IsReached (g : Game) (p : Position) : Type 0 where
+  pub moves : List ℕ
+  pub legal : IsLegalPlay g (start g) moves
+  pub leads : played g (start g) moves ≡ p
+
+-- a claim within the limits whose nodes are all sound
+pub record IsSoundClaim (g : Game) (c : Claim) : Type 0 where
+  pub limits : ∥ IsClaim c ∥₁
+  pub valid : IsValidClaim g c
+
+-- the claim is sound, the position is reached by a legal play, the claimer forces its goal from it, and the standing fits it
+pub record InPlay (g : Game) (c : Claim) (p : Position) (s : Standing) : Type 0 where
+  pub sound : IsSoundClaim g c
+  pub reached : IsReached g p
+  pub forced : Forces g p c.side c.goal
+  pub stands : Stands g c p s
+
+-- a switching game has a joiner that is made for it
+abbrev pub HasJoiner : Option Room → Game → Type 0
+HasJoiner (Some room) g = IsMadeForGame room g
+HasJoiner None g = g.kind ≢ Switching
+
+-- what a player keeps: it is in play, it knows the outcome, and its judge and its joiner are made for the game
+pub record IsPlaying (g : Game) (c : Claim) (p : Position) (s : Standing) (ending : Option Score) (judge : Room) (joiner : Option Room) : Type 0 where
+  pub playing : InPlay g c p s
+  pub known : ending ≡ (if is_over g p then Some (outcome g p) else None)
+  pub judged : IsMadeForGame judge g
+  pub joined : HasJoiner joiner g
+
+-- a move that keeps the player going: it is the own move, legal, and the goal stays forced
+pub record KeepsUp (g : Game) (c : Claim) (p : Position) (s : Standing) (v : ℕ) (next : Standing) : Type 0 where
+  pub own : own_move g c.nodes c.side p s ≡ Some (record { point = v; next = Some next })
+  pub within : v < point_count g
+  pub free : is_free p v ≡ true
+  pub forced : Forces g (after g p v) c.side c.goal
+  pub stands : Stands g c (after g p v) next

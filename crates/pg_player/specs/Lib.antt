@@ -1,0 +1,3 @@
+pub mod Player
+pub mod Stand
+pub mod InPlay

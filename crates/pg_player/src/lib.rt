@@ -1,0 +1,12 @@
+//! Play by a claim of a checked certificate: a player makes the claimer's own moves, whatever the other side replies.
+//!
+//! At each node of the claim the rule of its body gives the move: the node's own, or the answer by pairs, by a potential, by
+//! trees or by cuts. The moves are legal, and where the game is over its outcome reaches the claim's goal.
+#![tactic(auto)]
+
+mod choice;
+mod moves;
+mod player;
+mod standing;
+
+pub use player::{OpenFault, Player};

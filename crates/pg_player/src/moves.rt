@@ -1,0 +1,190 @@
+//! The own moves of a player.
+ghost use Rattle.std.specs.Prelude.{◌≡◌, ◌≢◌, ◌<◌, ℕ, false, Option};
+ghost use Rattle.pg_base.specs.declared.kind.Kind.TheVariants.{Switching};
+ghost use Rattle.pg_base.specs.declared.side.Side.TheVariants.{X, Y};
+ghost use Rattle.pg_cert.specs.Valid.{with_e_named};
+ghost use Rattle.pg_cert.specs.declared.cert.Claim.{Claim};
+ghost use Rattle.pg_cert.specs.declared.node.Body.TheVariants.{Potential, Trees, Cuts};
+ghost use Rattle.pg_game.specs.Game.{point_count, is_over, is_full, after, IsPosition};
+ghost use Rattle.pg_game.specs.Trees.{TreesHold, CutsHold};
+ghost use Rattle.pg_player.specs.InPlay.{InPlay, HasJoiner, KeepsUp};
+ghost use Rattle.pg_player.specs.Stand.{body_of, standing_of};
+ghost use Rattle.pg_switch.specs.Replies.{HeldUntil};
+
+use crate::standing::{Rest, Stand, arrive};
+use pg_base::{Kind, PointSet};
+use pg_cert::{Body, Claim};
+use pg_game::{Game, Position};
+use pg_graph::Joiner;
+use pg_switch::{CutPlan, ShortPlan};
+
+/// An own move, and where the player stands after it.
+#[derive(Clone, Copy, Debug)]
+pub(crate) struct Made<'a> {
+    /// The point.
+    pub(crate) point: u16,
+    /// Where the player stands.
+    pub(crate) stand: Stand<'a>,
+}
+
+/// The own move by the potential of the game's kind.
+fn potential_point(g: &Game, claim: &Claim, p: &Position) -> u16
+    requires lines { g.now.kind ≢ Switching }
+    requires position { IsPosition g.now p.now }
+    requires going { is_over g.now p.now ≡ false }
+    requires turn { p.now.turn ≡ claim.now.side }
+    ensures { (last : Option ℕ) → InPlay g.now claim.now p.now (record { body = Potential; last = last }) → KeepsUp g.now claim.now p.now (record { body = Potential; last = last }) result (record { body = Potential; last = last }) }
+{
+    match g.kind {
+        Kind::AvoiderEnforcer => pg_avoider::answer(g, p),
+        Kind::MakerBreaker | Kind::MakerMaker => pg_potential::answer(g, p, claim.side),
+        Kind::Switching => unreachable!(),
+    }
+}
+
+/// The first set of edges, with the edge between the terminals where it is named.
+fn with_further(g: &Game, with_e: bool, first: &PointSet) -> PointSet
+    ensures { result ≡ with_e_named g.now with_e first.now }
+{
+    let mut members = *first;
+    if with_e {
+        members.put(g.points());
+    }
+    members
+}
+
+/// Short's own move by a plan.
+fn trees_move<'a>(
+    g: &Game,
+    joiner: &mut Option<Joiner>,
+    p: &Position,
+    plan: ShortPlan,
+    last: Option<u16>,
+) -> Made<'a>
+    requires switching { g.now.kind ≡ Switching }
+    requires joined { HasJoiner joiner.old g.now }
+    requires position { IsPosition g.now p.now }
+    requires going { is_over g.now p.now ≡ false }
+    requires turn { p.now.turn ≡ X }
+    requires held { HeldUntil g.now p.now (λ q. TreesHold g.now q plan.first plan.second) last }
+    ensures keeps { (c : Claim) → InPlay g.now c p.now (record { body = Trees false plan.first plan.second; last = last }) → KeepsUp g.now c p.now (record { body = Trees false plan.first plan.second; last = last }) result.point (standing_of result.stand) }
+    ensures joined { joiner.new ≡ joiner.old }
+{
+    let Some(joiner) = joiner else { unreachable!() };
+    let mut plan = plan;
+    let point = plan.answer(g, joiner, p, last);
+    Made {
+        point,
+        stand: Stand {
+            rest: Rest::Short(plan),
+            last,
+        },
+    }
+}
+
+/// Cut's own move by a plan.
+fn cuts_move<'a>(
+    g: &Game,
+    joiner: &mut Option<Joiner>,
+    p: &Position,
+    plan: CutPlan,
+    last: Option<u16>,
+) -> Made<'a>
+    requires switching { g.now.kind ≡ Switching }
+    requires joined { HasJoiner joiner.old g.now }
+    requires position { IsPosition g.now p.now }
+    requires going { is_over g.now p.now ≡ false }
+    requires turn { p.now.turn ≡ Y }
+    requires held { HeldUntil g.now p.now (λ q. CutsHold g.now q plan.first plan.second) last }
+    ensures keeps { (c : Claim) → InPlay g.now c p.now (record { body = Cuts false plan.first plan.second; last = last }) → KeepsUp g.now c p.now (record { body = Cuts false plan.first plan.second; last = last }) result.point (standing_of result.stand) }
+    ensures joined { joiner.new ≡ joiner.old }
+{
+    let Some(joiner) = joiner else { unreachable!() };
+    let mut plan = plan;
+    let point = plan.answer(g, joiner, p, last);
+    Made {
+        point,
+        stand: Stand {
+            rest: Rest::Cut(plan),
+            last,
+        },
+    }
+}
+
+/// The own move at a node's whole body.
+fn body_move<'a>(
+    g: &Game,
+    claim: &'a Claim,
+    joiner: &mut Option<Joiner>,
+    p: &Position,
+    body: &'a Body,
+    last: Option<u16>,
+) -> Made<'a>
+    requires playing { InPlay g.now claim.now p.now (record { body = body.now; last = last }) }
+    requires joined { HasJoiner joiner.old g.now }
+    requires going { is_over g.now p.now ≡ false }
+    requires turn { p.now.turn ≡ claim.now.side }
+    ensures keeps { KeepsUp g.now claim.now p.now (record { body = body.now; last = last }) result.point (standing_of result.stand) }
+    ensures joined { joiner.new ≡ joiner.old }
+{
+    match body {
+        Body::Move { point, child } => Made {
+            point: *point,
+            stand: arrive(claim, *child as usize),
+        },
+        Body::Pairs(pairs) => Made {
+            point: pg_pairing::answer(g, p, pairs.as_slice(), last),
+            stand: Stand {
+                rest: Rest::Whole(body),
+                last,
+            },
+        },
+        Body::Potential => Made {
+            point: potential_point(g, claim, p),
+            stand: Stand {
+                rest: Rest::Whole(body),
+                last,
+            },
+        },
+        Body::Trees {
+            with_e,
+            first,
+            second,
+        } => {
+            let plan = ShortPlan::start(with_further(g, *with_e, first), *second);
+            trees_move(g, joiner, p, plan, last)
+        }
+        Body::Cuts {
+            with_e,
+            first,
+            second,
+        } => {
+            let plan = CutPlan::start(with_further(g, *with_e, first), *second);
+            cuts_move(g, joiner, p, plan, last)
+        }
+        Body::Over | Body::All(_) | Body::Threat(_) => unreachable!(),
+    }
+}
+
+/// The player's own move where it stands, in a game that goes on, and where it stands after it. It takes no memory, and
+/// leaves the joiner as it was.
+pub(crate) fn own_move<'a>(
+    g: &Game,
+    claim: &'a Claim,
+    joiner: &mut Option<Joiner>,
+    p: &Position,
+    stand: &Stand<'a>,
+) -> Made<'a>
+    requires playing { InPlay g.now claim.now p.now (standing_of stand.now) }
+    requires joined { HasJoiner joiner.old g.now }
+    requires going { is_over g.now p.now ≡ false }
+    requires turn { p.now.turn ≡ claim.now.side }
+    ensures keeps { KeepsUp g.now claim.now p.now (standing_of stand.now) result.point (standing_of result.stand) }
+    ensures joined { joiner.new ≡ joiner.old }
+{
+    match &stand.rest {
+        Rest::Whole(body) => body_move(g, claim, joiner, p, body, stand.last),
+        Rest::Short(plan) => trees_move(g, joiner, p, *plan, stand.last),
+        Rest::Cut(plan) => cuts_move(g, joiner, p, *plan, stand.last),
+    }
+}

@@ -1,0 +1,88 @@
+//! Where a player stands, and where it goes.
+ghost use Rattle.std.specs.Prelude.{◌≡◌, ◌==◌, ◌<◌, ◌-◌, Some, length, find, option_map};
+ghost use Rattle.pg_cert.specs.OwnMove.{arrives, replied_by};
+ghost use Rattle.pg_player.specs.Stand.{body_of, standing_of, LeadsOn};
+
+use pg_cert::{Body, Claim, Reply};
+use pg_switch::{CutPlan, ShortPlan};
+
+/// What is left of the body of the node where the player stands.
+#[derive(Clone, Copy, Debug)]
+pub(crate) enum Rest<'a> {
+    /// The body as the node has it.
+    Whole(&'a Body),
+    /// The trees that Short's answers have left.
+    Short(ShortPlan),
+    /// The cuts that Cut's answers have left.
+    Cut(CutPlan),
+}
+
+/// Where the player stands: what is left of the body, and the last reply since it came to its node.
+#[derive(Clone, Copy, Debug)]
+pub(crate) struct Stand<'a> {
+    /// What is left of the body.
+    pub(crate) rest: Rest<'a>,
+    /// The last reply, and none where none has come.
+    pub(crate) last: Option<u16>,
+}
+
+/// Where a player stands that comes to the node of that number.
+pub(crate) fn arrive(claim: &Claim, number: usize) -> Stand<'_>
+    requires { number < length claim.now.nodes }
+    ensures { arrives claim.now.nodes number ≡ Some (standing_of result) }
+{
+    Stand {
+        rest: Rest::Whole(&claim.nodes.as_slice()[number].body),
+        last: None,
+    }
+}
+
+/// Where a player stands at first: at the last node of its claim.
+pub(crate) fn root(claim: &Claim) -> Stand<'_>
+    requires { 0 < length claim.now.nodes }
+    ensures { arrives claim.now.nodes (length claim.now.nodes - 1) ≡ Some (standing_of result) }
+{
+    arrive(claim, claim.nodes.as_slice().len() - 1)
+}
+
+/// The reply that takes the point.
+fn find_reply(replies: &[Reply], v: u16) -> Option<&Reply>
+    ensures { option_map (λ r. r.now) result ≡ find (λ r. r.point == v) replies.now }
+{
+    replies.iter().find(|reply| reply.point == v)
+}
+
+/// Where the player stands at a node's body after a reply: on at the child where all replies are named, else it stays.
+fn body_replied<'a>(claim: &'a Claim, body: &'a Body, v: u16) -> Stand<'a>
+    requires { LeadsOn claim.now.nodes body.now v }
+    ensures { replied_by body.now claim.now.nodes v ≡ Some (standing_of result) }
+{
+    match body {
+        Body::All(replies) => match find_reply(replies.as_slice(), v) {
+            Some(reply) => arrive(claim, reply.child as usize),
+            None => unreachable!(),
+        },
+        _ => Stand {
+            rest: Rest::Whole(body),
+            last: Some(v),
+        },
+    }
+}
+
+/// Where the player stands after a legal reply of the other side, by what was left of its body.
+pub(crate) fn replied<'a>(claim: &'a Claim, rest: &Rest<'a>, v: u16) -> Stand<'a>
+    requires { LeadsOn claim.now.nodes (body_of rest.now) v }
+    ensures { replied_by (body_of rest.now) claim.now.nodes v ≡ Some (standing_of result) }
+{
+    match rest {
+        Rest::Whole(body) => body_replied(claim, body, v),
+        Rest::Short(plan) => Stand {
+            rest: Rest::Short(*plan),
+            last: Some(v),
+        },
+        Rest::Cut(plan) => Stand {
+            rest: Rest::Cut(*plan),
+            last: Some(v),
+        },
+    }
+}
