@@ -22,4 +22,4 @@ three_digits v great small =
     let front_small : v / 10 < 100 = omega arith in
     let same : v / 10 / 10 % 10 ≡ v / 100 = omega arith in
     decimal_step v many fits ∙ ap (λ (l : List ℕ). l ++ ((48 + v % 10) ∷ [])) (two_digits (v / 10) front_great front_small)
-        ∙ ap (λ (n : ℕ). (48 + n) ∷ (48 + v / 10 % 10) ∷ (48 + v % 10) ∷ []) same
+    ∙ ap (λ (n : ℕ). (48 + n) ∷ (48 + v / 10 % 10) ∷ (48 + v % 10) ∷ []) same

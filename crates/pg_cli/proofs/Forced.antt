@@ -18,7 +18,7 @@ use Rattle.pg_game.specs.Game.{with_turn, start}
 use Rattle.pg_game.specs.Value.{Forces}
 use Rattle.pg_cli.specs.Accepted.{IsForced, AreForced, IsForcedOf, SaysForcedClaim, AnnouncesForced}
 use Rattle.pg_cli.specs.Answer.{Answer, lacking, or_answer, game_held, certificate_held, both, both_held, Checks, ChecksTo}
-use Rattle.pg_cli.specs.Player.{is_same_side, is_win, is_claim_of, is_win_of, first_claim, chosen_claim}
+use Rattle.pg_player.specs.Player.{is_same_side, is_win, is_claim_of, is_win_of, first_claim, chosen_claim}
 use Rattle.pg_cli.specs.Run.{Told, told, Finished, RefusesPlay, IsPlayedBy, Plays, Ran, RanOn}
 use Rattle.pg_cli.specs.Texts.{claim_text}
 use Rattle.pg_cli.specs.Words.{Command, Check, Play}

@@ -21,7 +21,7 @@ use Rattle.pg_cli.specs.Answer.{Answer}
 use Rattle.pg_cli.specs.Causes.{Speaks}
 use Rattle.pg_cli.specs.Dialogue.{At, Over}
 use Rattle.pg_cli.specs.Hearing.{Hearing}
-use Rattle.pg_cli.specs.Player.{Play, chosen_claim}
+use Rattle.pg_player.specs.Player.{Play, chosen_claim}
 use Rattle.pg_cli.specs.Run.{Finished, Failed, end_of, RefusesPlay, IsPlayedBy, PlaysOut}
 use Rattle.pg_cli.specs.Talk.{moment, BreaksOff, Talks}
 use Rattle.pg_cli.specs.Texts.{claim_text}
@@ -58,8 +58,10 @@ module _ (side : Side) (read : Result (GameEntry × Cert) Answer) (log after : O
   plays_on g claim last mid left_mid now r by claimed quiet fed reached talks = go r fed reached talks where
     first : Bytes
     first = claim_text claim.side claim.goal
+
     heard_too : (others : List Entry) (unread : Option Bytes) → Hearing left_mid others unread → Hearing left (Said first ∷ others) unread
     heard_too others unread heard = said_before left first others unread (subst (λ (l : Option Bytes). Hearing l others unread) quiet heard)
+
     off : BreaksOff g claim.side (moment mid left_mid) (moment after now) (At (start g) 0) → PlaysOut side read log after left Failed
     off b = record {
       entries = Said first ∷ b.talk.entries;
@@ -67,6 +69,7 @@ module _ (side : Side) (read : Result (GameEntry × Cert) Answer) (log after : O
       logged = Grows-then log mid after (Said first ∷ []) b.talk.entries claimed b.talk.log;
       heard = (b.unread, heard_too b.talk.entries b.unread b.talk.input);
     }
+
     go : (r : Result ℕ Stop) → r ≢ Err Memory → IfOk r (λ status. status ≡ 0 → IsTrue (reaches claim.side claim.goal (outcome g last)))
         → Talks g claim.side (moment mid left_mid) (moment after now) (At (start g) 0) r (λ status. Over last status) → PlaysOut side read log after left (end_of r)
     go (Ok status) fed reached talk = record {

@@ -18,7 +18,7 @@ use Rattle.pg_game.specs.Judge.{judged_move}
 use Rattle.pg_game.specs.Position.{is_free}
 use Rattle.pg_cert.specs.declared.cert.Claim.{Claim}
 use Rattle.pg_cli.specs.Dialogue.{Stage, At, Owes, Over, Steps, IsOpen, after_refusal, after_reply}
-use Rattle.pg_cli.specs.Player.{Play, MakesMove, TakesReply}
+use Rattle.pg_player.specs.Player.{Play, MakesMove, TakesReply}
 use Rattle.pg_cli.specs.Reply.{point_or_refusal}
 use Rattle.pg_cli.specs.Talk.{Moment, moment, Talk, BreaksOff, Talks, turned}
 use Rattle.pg_cli.specs.Texts.{move_text, result_text, no_such_point, taken}

@@ -5,7 +5,6 @@ pub mod Causes
 pub mod Answer
 pub mod Hearing
 pub mod Reply
-pub mod Player
 pub mod Dialogue
 pub mod Talk
 pub mod Run

@@ -20,7 +20,7 @@ use Rattle.pg_cli.specs.Answer.{Answer, answer, lacking, both_held, ChecksTo, Is
 use Rattle.pg_cli.specs.Causes.{Faults, Calm, ReadCause, WriteCause}
 use Rattle.pg_cli.specs.Dialogue.{IsDialogue, IsOpenDialogue}
 use Rattle.pg_cli.specs.Hearing.{Hearing}
-use Rattle.pg_cli.specs.Player.{chosen_claim}
+use Rattle.pg_player.specs.Player.{chosen_claim}
 use Rattle.pg_cli.specs.Texts.{no_meaning, no_claim_text, claim_text}
 use Rattle.pg_cli.specs.Words.{Command, Check, Play, meaning_of}
 use Rattle.pg_cli.specs.Work.{Search}

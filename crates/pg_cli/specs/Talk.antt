@@ -10,7 +10,7 @@ use Rattle.pg_game.specs.declared.position.Position.{Position}
 use Rattle.pg_game.specs.Game.{free_points}
 use Rattle.pg_cli.specs.Dialogue.{Stage, At, Owes, Over, Leads, IsOpen, after_refusal}
 use Rattle.pg_cli.specs.Hearing.{Hearing}
-use Rattle.pg_cli.specs.Player.{Play}
+use Rattle.pg_player.specs.Player.{Play}
 use Rattle.pg_cli.specs.Texts.{not_a_number, no_such_point, taken}
 use Rattle.pg_cli.specs.declared.dialogue.ReplyFault.{ReplyFault}
 use Rattle.pg_cli.specs.declared.dialogue.ReplyFault.TheVariants as faults

@@ -13,7 +13,6 @@ ghost use Rattle.pg_cli.specs.Run.{Finished, ending};
 ghost use Rattle.pg_cli.specs.Talk.{Goes, Talks, moment, fault_text, turned};
 ghost use Rattle.pg_cli.specs.Texts.{move_text, result_text};
 
-use crate::player::Plays;
 use crate::reply::said_number;
 use crate::texts::result_text;
 use crate::voice::say;
@@ -21,6 +20,7 @@ use pg_base::{Kind, Score};
 use pg_game::Illegal;
 use pg_game::laws::games_end;
 use pg_io::{Console, Heard, Stop};
+use pg_player::Player;
 
 /// How many bytes of a line are heard at once; a longer line is refused.
 const ROOM: usize = 64;
@@ -109,15 +109,11 @@ fn refuse<C: Console>(console: &mut C, fault: ReplyFault) -> Result<Turn, Stop>
 }
 
 /// Plays a point for the other side, and a move of the player where it is then to move; or refuses the point.
-fn take_point<P: Plays, C: Console>(
-    player: &mut P,
-    console: &mut C,
-    v: u16,
-) -> Result<Turn, Stop>
-    requires { IsTheirs (P.seen player.old).game (P.seen player.old).claim.side (P.seen player.old).position }
-    ensures talk { (refused : ℕ) → Talks (P.seen player.old).game (P.seen player.old).claim.side (moment (C.log console.old) (C.left console.old)) (moment (C.log console.new) (C.left console.new))
-        (after_reply (P.seen player.old).game (P.seen player.old).position refused (point_or_refusal (P.seen player.old).game (P.seen player.old).position (Some v))) result (λ turn. turned (P.seen player.new).position refused turn) }
-    ensures goes { Goes (P.seen player.old) (P.seen player.new) result }
+fn take_point<C: Console>(player: &mut Player<'_>, console: &mut C, v: u16) -> Result<Turn, Stop>
+    requires { IsTheirs player.old.game player.old.claim.side player.old.position }
+    ensures talk { (refused : ℕ) → Talks player.old.game player.old.claim.side (moment (C.log console.old) (C.left console.old)) (moment (C.log console.new) (C.left console.new))
+        (after_reply player.old.game player.old.position refused (point_or_refusal player.old.game player.old.position (Some v))) result (λ turn. turned player.new.position refused turn) }
+    ensures goes { Goes player.old player.new result }
     ensures causes { Causes ⊥ (C.read_faults console.old) (C.read_faults console.new) (C.write_faults console.old) (C.write_faults console.new) result }
     ensures memory { result ≢ Err Stop.Memory }
 {
@@ -134,15 +130,15 @@ fn take_point<P: Plays, C: Console>(
 }
 
 /// Plays the point that a line says, and a move of the player where it is then to move; or refuses the line.
-fn answer_line<P: Plays, C: Console>(
-    player: &mut P,
+fn answer_line<C: Console>(
+    player: &mut Player<'_>,
     console: &mut C,
     line: &[u8],
 ) -> Result<Turn, Stop>
-    requires { IsTheirs (P.seen player.old).game (P.seen player.old).claim.side (P.seen player.old).position }
-    ensures talk { (refused : ℕ) → Talks (P.seen player.old).game (P.seen player.old).claim.side (moment (C.log console.old) (C.left console.old)) (moment (C.log console.new) (C.left console.new))
-        (after_reply (P.seen player.old).game (P.seen player.old).position refused (replied_point (P.seen player.old).game (P.seen player.old).position line.now)) result (λ turn. turned (P.seen player.new).position refused turn) }
-    ensures goes { Goes (P.seen player.old) (P.seen player.new) result }
+    requires { IsTheirs player.old.game player.old.claim.side player.old.position }
+    ensures talk { (refused : ℕ) → Talks player.old.game player.old.claim.side (moment (C.log console.old) (C.left console.old)) (moment (C.log console.new) (C.left console.new))
+        (after_reply player.old.game player.old.position refused (replied_point player.old.game player.old.position line.now)) result (λ turn. turned player.new.position refused turn) }
+    ensures goes { Goes player.old player.new result }
     ensures causes { Causes ⊥ (C.read_faults console.old) (C.read_faults console.new) (C.write_faults console.old) (C.write_faults console.new) result }
     ensures memory { result ≢ Err Stop.Memory }
 {
@@ -156,11 +152,11 @@ fn answer_line<P: Plays, C: Console>(
 }
 
 /// Hears a reply, and answers it.
-fn hear_reply<P: Plays, C: Console>(player: &mut P, console: &mut C) -> Result<Turn, Stop>
-    requires { IsTheirs (P.seen player.old).game (P.seen player.old).claim.side (P.seen player.old).position }
-    ensures talk { (refused : ℕ) → Talks (P.seen player.old).game (P.seen player.old).claim.side (moment (C.log console.old) (C.left console.old)) (moment (C.log console.new) (C.left console.new))
-        (At (P.seen player.old).position refused) result (λ turn. turned (P.seen player.new).position refused turn) }
-    ensures goes { Goes (P.seen player.old) (P.seen player.new) result }
+fn hear_reply<C: Console>(player: &mut Player<'_>, console: &mut C) -> Result<Turn, Stop>
+    requires { IsTheirs player.old.game player.old.claim.side player.old.position }
+    ensures talk { (refused : ℕ) → Talks player.old.game player.old.claim.side (moment (C.log console.old) (C.left console.old)) (moment (C.log console.new) (C.left console.new))
+        (At player.old.position refused) result (λ turn. turned player.new.position refused turn) }
+    ensures goes { Goes player.old player.new result }
     ensures causes { Causes ⊥ (C.read_faults console.old) (C.read_faults console.new) (C.write_faults console.old) (C.write_faults console.new) result }
     ensures memory { result ≢ Err Stop.Memory }
 {
@@ -174,11 +170,11 @@ fn hear_reply<P: Plays, C: Console>(player: &mut P, console: &mut C) -> Result<T
 }
 
 /// Makes the player's move where it is to move, and else hears a reply and answers it.
-fn take_turn<P: Plays, C: Console>(player: &mut P, console: &mut C) -> Result<Turn, Stop>
-    requires { is_over (P.seen player.old).game (P.seen player.old).position ≡ false }
-    ensures talk { (refused : ℕ) → Talks (P.seen player.old).game (P.seen player.old).claim.side (moment (C.log console.old) (C.left console.old)) (moment (C.log console.new) (C.left console.new))
-        (At (P.seen player.old).position refused) result (λ turn. turned (P.seen player.new).position refused turn) }
-    ensures goes { Goes (P.seen player.old) (P.seen player.new) result }
+fn take_turn<C: Console>(player: &mut Player<'_>, console: &mut C) -> Result<Turn, Stop>
+    requires { is_over player.old.game player.old.position ≡ false }
+    ensures talk { (refused : ℕ) → Talks player.old.game player.old.claim.side (moment (C.log console.old) (C.left console.old)) (moment (C.log console.new) (C.left console.new))
+        (At player.old.position refused) result (λ turn. turned player.new.position refused turn) }
+    ensures goes { Goes player.old player.new result }
     ensures causes { Causes ⊥ (C.read_faults console.old) (C.read_faults console.new) (C.write_faults console.old) (C.write_faults console.new) result }
     ensures memory { result ≢ Err Stop.Memory }
 {
@@ -194,15 +190,15 @@ fn take_turn<P: Plays, C: Console>(player: &mut P, console: &mut C) -> Result<Tu
 
 /// Plays the player's side over a console until the game is over, the input ends, or the hundredth reply is refused.
 /// The game is of the kind given.
-pub fn play_to_the_end<P: Plays, C: Console>(
-    player: &mut P,
+pub fn play_to_the_end<C: Console>(
+    player: &mut Player<'_>,
     kind: Kind,
     console: &mut C,
 ) -> Result<u8, Stop>
-    requires { kind ≡ (P.seen player.old).game.kind }
-    ensures talk { Talks (P.seen player.old).game (P.seen player.old).claim.side (moment (C.log console.old) (C.left console.old)) (moment (C.log console.new) (C.left console.new))
-        (At (P.seen player.old).position 0) result (λ status. Over (P.seen player.new).position status) }
-    ensures reached { IfOk result (λ status. status ≡ 0 → IsTrue (reaches (P.seen player.old).claim.side (P.seen player.old).claim.goal (outcome (P.seen player.old).game (P.seen player.new).position))) }
+    requires { kind ≡ player.old.game.kind }
+    ensures talk { Talks player.old.game player.old.claim.side (moment (C.log console.old) (C.left console.old)) (moment (C.log console.new) (C.left console.new))
+        (At player.old.position 0) result (λ status. Over player.new.position status) }
+    ensures reached { IfOk result (λ status. status ≡ 0 → IsTrue (reaches player.old.claim.side player.old.claim.goal (outcome player.old.game player.new.position))) }
     ensures status { IfOk result (λ status. ending status ≡ Finished status) }
     ensures causes { Causes ⊥ (C.read_faults console.old) (C.read_faults console.new) (C.write_faults console.old) (C.write_faults console.new) result }
     ensures memory { result ≢ Err Stop.Memory }

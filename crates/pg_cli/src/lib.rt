@@ -5,7 +5,6 @@ mod checking;
 mod dialogue;
 mod laws;
 mod opening;
-mod player;
 mod playing;
 mod refusal;
 mod reply;

@@ -15,7 +15,6 @@ ghost use Rattle.pg_cli.specs.Work.{Search};
 use crate::checking::refuse;
 use crate::dialogue::play_to_the_end;
 use crate::opening::open_both;
-use crate::player::{OpenFault, Plays};
 use crate::refusal::Refusal;
 use crate::texts::{claim_text, no_claim_text};
 use crate::voice::say;
@@ -24,6 +23,7 @@ use pg_cert::Cert;
 use pg_check::{CheckFault, Checked};
 use pg_game::Game;
 use pg_io::{Console, Files, Stop};
+use pg_player::{OpenFault, Player};
 use std::alloc::Global;
 
 /// Says the claim that is played.
@@ -45,7 +45,7 @@ fn say_no_claim<C: Console>(console: &mut C, side: Side) -> Result<(), Stop>
 }
 
 /// Plays a side of the game over a console by the claim for it, or says that there is none.
-fn play_checked<P: Plays, C: Console>(
+fn play_checked<C: Console>(
     alloc: Global,
     console: &mut C,
     checked: Checked<'_>,
@@ -57,7 +57,7 @@ fn play_checked<P: Plays, C: Console>(
     ensures causes { Causes ⊥ (C.read_faults console.old) (C.read_faults console.new) (C.write_faults console.old) (C.write_faults console.new) result }
     ensures status { IfOk result (λ status. ending status ≡ Finished status) }
 {
-    match P::open(alloc, checked, side) {
+    match Player::open(alloc, checked, side) {
         Ok(mut player) => {
             say_claim(console, side, player.goal())?;
             play_to_the_end(&mut player, checked.game.kind, console)
@@ -71,7 +71,7 @@ fn play_checked<P: Plays, C: Console>(
 }
 
 /// Plays a side of the game over a console by the certificate, or says why it can't be played.
-fn play_by<P: Plays, C: Console>(
+fn play_by<C: Console>(
     alloc: Global,
     console: &mut C,
     game: &Game,
@@ -85,7 +85,7 @@ fn play_by<P: Plays, C: Console>(
     ensures status { IfOk result (λ status. ending status ≡ Finished status) }
 {
     match pg_check::check(alloc, game, certificate) {
-        Ok(checked) => play_checked::<P, C>(alloc, console, checked, side),
+        Ok(checked) => play_checked(alloc, console, checked, side),
         Err(CheckFault::Reject { claim, node, why }) => refuse(
             alloc,
             console,
@@ -96,7 +96,7 @@ fn play_by<P: Plays, C: Console>(
 }
 
 /// Plays a side of the game under one name by the certificate under another.
-pub fn play<P: Plays, F: Files, C: Console>(
+pub fn play<F: Files, C: Console>(
     alloc: Global,
     game: &str,
     certificate: &str,
@@ -112,6 +112,6 @@ pub fn play<P: Plays, F: Files, C: Console>(
 {
     match open_both(alloc, files, game, certificate)? {
         Err(refusal) => refuse(alloc, console, refusal),
-        Ok((game, certificate)) => play_by::<P, C>(alloc, console, &game, &certificate, side),
+        Ok((game, certificate)) => play_by(alloc, console, &game, &certificate, side),
     }
 }

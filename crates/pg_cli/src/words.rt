@@ -50,15 +50,13 @@ pub fn read_words(words: &[String]) -> Option<Command<'_>>
 {
     match words {
         [name, game, certificate]
-            if name.as_bytes() == b"check".as_slice() && are_names(game, certificate) =>
-        {
+            if name.as_bytes() == b"check".as_slice() && are_names(game, certificate) => {
             Some(Command::Check { game, certificate })
         }
         [name, game, certificate, option, side]
             if name.as_bytes() == b"play".as_slice()
                 && are_names(game, certificate)
-                && option.as_bytes() == b"--side".as_slice() =>
-        {
+                && option.as_bytes() == b"--side".as_slice() => {
             match read_side(side.as_bytes()) {
                 Some(side) => Some(Command::Play {
                     game,

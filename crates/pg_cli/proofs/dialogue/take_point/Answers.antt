@@ -15,7 +15,7 @@ say_move-requires g c =
 pub returns-in_err-say_move-in-Ok-Some-clause-talk : goal.returns-in_err-say_move-in-Ok-Some-clause-talk
 returns-in_err-say_move-in-Ok-Some-clause-talk g c =
     let e = err_from_is_err_and c.from_residual.result c.from_residual.ensures.1 in
-    let old = g.P.Plays.seen c.args.player.now in
+    let old = c.args.player.now in
     let stage = λ (refused : ℕ). after_reply old.game old.position refused (point_or_refusal old.game old.position (Some c.args.v)) in
     λ refused. rw e.1 (Breaks-here old.game old.claim.side _ _ _ _ (stage refused) (reply_is_open old.game old.position refused _) c.in_err-say_move-in-Ok-Some.ensures.said)
 

@@ -3,7 +3,7 @@ use Rattle.std.proofs.lemmas.Result.{err_from_is_err_and}
 use Rattle.pg_io.specs.declared.stop.Stop.TheVariants.{Memory}
 use Rattle.pg_files.specs.Views.{entry}
 use Rattle.pg_cli.specs.Answer.{answer}
-use Rattle.pg_cli.specs.declared.player.OpenFault.{OpenFault}
+use Rattle.pg_player.specs.declared.player.OpenFault.{OpenFault}
 use Rattle.pg_cli.specs.Texts.{no_claim_text}
 use Rattle.pg_cli.proofs.Plays.{plays_silent, plays_refused, plays_opened}
 use Rattle.pg_cli.proofs.playing.play_checked.Goals as goal
@@ -20,7 +20,7 @@ returns-in_err-say_no_claim-in-Err-NoClaim-clause-played g c =
 
 pub returns-in_ok-say_claim-in-Ok-clause-played : goal.returns-in_ok-say_claim-in-Ok-clause-played
 returns-in_ok-say_claim-in-Ok-clause-played g c =
-    let play = g.P.Plays.seen c.in-Ok.player in
+    let play = c.in-Ok.player in
     let opened = c.in-Ok.ensures in
     let said = rw c.goal.ensures at c.in_ok-say_claim-in-Ok.ensures.said in
     plays_opened c.args.side c.args.checked.game.now c.args.checked.cert.now play _ _ _ _ _ _ _ c.play_to_the_end.result
