@@ -1,4 +1,6 @@
 //! Whole runs on files and a console in memory.
+mod play;
+
 use crate::{Work, run};
 use pg_io::{Console, Entry, Failed, Files, MemConsole, MemFiles, Text};
 use std::alloc::{AllocError, Global};
