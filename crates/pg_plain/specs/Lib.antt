@@ -1,2 +1,4 @@
 pub mod Classes
+pub mod EdgeSets
 pub mod Leaves
+pub mod Reach

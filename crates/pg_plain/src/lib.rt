@@ -4,10 +4,13 @@
 
 mod best_play;
 mod classes;
+mod edge_sets;
 mod leaves;
+mod reach;
 
 pub use best_play::value;
 pub use classes::{Class, class_of};
+pub use edge_sets::{cuts_hold, trees_hold};
 pub use leaves::{avoider_holds, greatest_weight, limit, potential_holds, total, weight};
 
 #[cfg(test)]
