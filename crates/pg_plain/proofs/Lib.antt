@@ -8,3 +8,4 @@ pub mod LeafCounts
 pub mod LastPoint
 pub mod Reached
 pub mod EdgeConditions
+pub mod NearLines

@@ -7,11 +7,13 @@ mod classes;
 mod edge_sets;
 mod leaves;
 mod reach;
+mod threats;
 
 pub use best_play::value;
 pub use classes::{Class, class_of};
 pub use edge_sets::{cuts_hold, trees_hold};
 pub use leaves::{avoider_holds, greatest_weight, limit, potential_holds, total, weight};
+pub use threats::is_threat_line;
 
 #[cfg(test)]
 mod tests;
