@@ -9,3 +9,4 @@ pub mod LastPoint
 pub mod Reached
 pub mod EdgeConditions
 pub mod NearLines
+pub mod LeftPoints

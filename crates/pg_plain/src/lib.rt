@@ -6,6 +6,7 @@ mod best_play;
 mod classes;
 mod edge_sets;
 mod leaves;
+mod pairs;
 mod reach;
 mod threats;
 
@@ -13,6 +14,7 @@ pub use best_play::value;
 pub use classes::{Class, class_of};
 pub use edge_sets::{cuts_hold, trees_hold};
 pub use leaves::{avoider_holds, greatest_weight, limit, potential_holds, total, weight};
+pub use pairs::pairs_hold;
 pub use threats::is_threat_line;
 
 #[cfg(test)]

@@ -96,7 +96,9 @@ fn is_nearly_filled(p: &Position, side: Side, line: &Line) -> bool
 fn has_threat(g: &Game, p: &Position, side: Side) -> bool
     ensures { result ≡ has_threat g.now p.now side }
 {
-    lines_of(g).iter().any(|line| is_nearly_filled(p, side, line))
+    lines_of(g)
+        .iter()
+        .any(|line| is_nearly_filled(p, side, line))
 }
 
 /// Whether the point is a free point of the game.
