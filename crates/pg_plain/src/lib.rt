@@ -18,4 +18,6 @@ pub use pairs::pairs_hold;
 pub use threats::is_threat_line;
 
 #[cfg(test)]
+mod condition_tests;
+#[cfg(test)]
 mod tests;
