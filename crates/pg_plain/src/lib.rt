@@ -1,5 +1,6 @@
-//! A plain slow program whose contracts are the definitions of games: the value, the class and the potentials, each
-//! computed as it is defined. It is a test bench of the definitions, for small games, and nothing of the product calls it.
+//! A plain slow program whose contracts are the definitions of games: the value, the class, and the conditions by which a
+//! claim is read off a position (pairs, potentials, trees, cuts, threat lines), each computed as it is defined. It is a
+//! test bench of the definitions, for small games, and nothing of the product calls it.
 #![tactic(auto)]
 
 mod best_play;

@@ -1,6 +1,4 @@
-use Rattle.std.proofs.Common.{◌≡◌, ◌<◌, true, arith, sym, ap, ◌∙◌}
-use Rattle.pg_game.specs.Threat.{threatens}
-use Rattle.pg_game.specs.declared.position.Position.{Position}
+use Rattle.std.proofs.Common.{arith, sym, ◌∙◌}
 use Rattle.pg_plain.proofs.NearLines.{threatens-small}
 use Rattle.pg_plain.proofs.threats.is_forcing.Goals as goal
 
