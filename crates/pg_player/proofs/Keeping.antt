@@ -137,10 +137,13 @@ keeps-pairs g c p pairs last v h going mine k =
       forced = pairs_force g.kind g.bias c.side c.goal g (after g p v) (rest (after g p v) pairs) refl h.stands.allowed (IsPosition-after g p v position k.within k.free) holds;
       stands = record {
         allowed = h.stands.allowed;
-        ready = λ on again. record { are = due.are; state = inr (inr (elim (breaker_only g g.kind c.side c.goal refl h.stands.allowed) [
-          | inl kind ↦ (kind, holds)
-          | inr one ↦ absurd (not-again g p c.side v one position mine again)
-        ])) };
+        ready = λ on again. record {
+          are = due.are;
+          state = inr (inr (elim (breaker_only g g.kind c.side c.goal refl h.stands.allowed) [
+            | inl kind ↦ (kind, holds)
+            | inr one ↦ absurd (not-again g p c.side v one position mine again)
+          ]));
+        };
         waiting = λ on theirs. record { are = due.are; holds = holds };
       };
     }
@@ -209,7 +212,7 @@ avoider_forces : (g : Game) (p : Position) (v : ℕ) → g.kind ≡ AvoiderEnfor
 avoider_forces g p v kind position mine within free wins keeps yours = elim (cases_Bool (is_over g (after g p v))) [
   | inl over ↦ Forces-over g (after g p v) X Win over (ap (reaches X Win) (wins over))
   | inr going ↦ Forces-all g (after g p v) X Win going yours (λ u low on.
-    Forces-avoider g (after g (after g p v) u) kind (IsPosition-after g (after g p v) u (IsPosition-after g p v position within free) low on) (keeps u low on))
+      Forces-avoider g (after g (after g p v) u) kind (IsPosition-after g (after g p v) u (IsPosition-after g p v position within free) low on) (keeps u low on))
 ]
 
 pub keeps-avoider : (g : Game) (c : Claim) (p : Position) (last : Option ℕ) (v : ℕ) → g.kind ≡ AvoiderEnforcer → InPlay g c p (record { body = Potential; last = last }) → is_over g p ≡ false → p.turn ≡ c.side

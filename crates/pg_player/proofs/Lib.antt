@@ -3,3 +3,5 @@ pub mod Plays
 pub mod Arriving
 pub mod Keeping
 pub mod Replying
+pub mod Opening
+pub mod Going

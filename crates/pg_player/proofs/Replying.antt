@@ -159,8 +159,8 @@ module _ (g : Game) (c : Claim) (p : Position) (v : ℕ) (going : is_over g p �
 
   -- the reply leads on
   pub leads_on : (b : Body) (last : Option ℕ) → InPlay g c p (record { body = b; last = last }) → LeadsOn c.nodes b v
-  leads_on Over last h = tt
-  leads_on (Move point child) last h = tt
+  leads_on Over last h = h.stands.waiting going theirs
+  leads_on (Move point child) last h = h.stands.waiting going theirs
   leads_on (All replies) last h =
       let all = h.stands.waiting going theirs in
       elim (some_or_none (find (λ q. q.point == v) replies)) [

@@ -131,6 +131,7 @@ free_with_e h p side a t f on = elim (cases_lt f (edge_count h)) [
     by_low : f < edge_count h → IsFreeEdge h p f ⊎ ((f ≡ edge_count h) × (p.turn ≡ side)) → is_free p f ≡ true
     by_low low (inl free) = free.1
     by_low low (inr e) = let same = e.0 in absurd (omega (arith, low, same))
+
     by_high : edge_count h ≤ f → IsFreeEdge h p f ⊎ ((f ≡ edge_count h) × (p.turn ≡ side)) → (f ≡ edge_count h) × (p.turn ≡ side)
     by_high high (inl free) = let low = free.0 in absurd (omega (arith, high, low))
     by_high high (inr e) = e

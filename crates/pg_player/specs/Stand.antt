@@ -1,7 +1,7 @@
 -- What the code keeps of a standing.
-use Rattle.std.specs.Prelude.{◌≡◌, ◌==◌, ◌<◌, ℕ, false, List, length, Some, find}
+use Rattle.std.specs.Prelude.{◌≡◌, ◌==◌, ◌<◌, ℕ, false, List, length, Option, Some, None, find, slice_get}
 use Rattle.pg_cert.specs.declared.node.Body.{Body}
-use Rattle.pg_cert.specs.declared.node.Body.TheVariants.{All, Trees, Cuts, Threat}
+use Rattle.pg_cert.specs.declared.node.Body.TheVariants.{Over, Move, All, Trees, Cuts, Threat}
 use Rattle.pg_cert.specs.declared.node.Node.{Node}
 use Rattle.pg_cert.specs.declared.reply.Reply.{Reply}
 use Rattle.pg_cert.specs.OwnMove.{Standing}
@@ -9,18 +9,25 @@ use Rattle.pg_player.specs.declared.standing.Rest.{Rest}
 use Rattle.pg_player.specs.declared.standing.Rest.TheVariants as rest
 use Rattle.pg_player.specs.declared.standing.Stand.{Stand}
 
--- what is left of the body
-abbrev pub body_of : Rest → Body
-body_of (rest.Whole body) = body.now
-body_of (rest.Short plan) = Trees false plan.first plan.second
-body_of (rest.Cut plan) = Cuts false plan.first plan.second
+-- the body of a node, and that of a game that is over where there is none
+abbrev pub body_at : Option Node → Body
+body_at (Some node) = node.body
+body_at None = Over
+
+-- what is left of the body of a claim's node
+abbrev pub body_of : List Node → Rest → Body
+body_of nodes (rest.Whole number) = body_at (slice_get nodes number)
+body_of nodes (rest.Short plan) = Trees false plan.first plan.second
+body_of nodes (rest.Cut plan) = Cuts false plan.first plan.second
 
 -- where the player stands
-abbrev pub standing_of : Stand → Standing
-standing_of s = record { body = body_of s.rest; last = s.last }
+abbrev pub standing_of : List Node → Stand → Standing
+standing_of nodes s = record { body = body_of nodes s.rest; last = s.last }
 
--- the player can go on after the reply: where all replies are named it is one of them, with a node, and no threat line is played
+-- the player can go on after the reply: where all replies are named it is one of them, with a node; and neither the game is over nor is the player to move
 abbrev pub LeadsOn : List Node → Body → ℕ → Type 0
+LeadsOn nodes Over v = ⊥
+LeadsOn nodes (Move point child) v = ⊥
 LeadsOn nodes (All replies) v = (r : Reply) × (find (λ q. q.point == v) replies ≡ Some r) × (r.child < length nodes)
 LeadsOn nodes (Threat points) v = ⊥
 LeadsOn nodes _ v = Unit {0}

@@ -1,5 +1,5 @@
 //! The own moves of a player.
-ghost use Rattle.std.specs.Prelude.{◌≡◌, ◌≢◌, ◌<◌, ℕ, false, Option};
+ghost use Rattle.std.specs.Prelude.{◌≡◌, ◌≢◌, ◌<◌, ℕ, false, Option, slice_get};
 ghost use Rattle.pg_base.specs.declared.kind.Kind.TheVariants.{Switching};
 ghost use Rattle.pg_base.specs.declared.side.Side.TheVariants.{X, Y};
 ghost use Rattle.pg_cert.specs.Valid.{with_e_named};
@@ -8,10 +8,10 @@ ghost use Rattle.pg_cert.specs.declared.node.Body.TheVariants.{Potential, Trees,
 ghost use Rattle.pg_game.specs.Game.{point_count, is_over, is_full, after, IsPosition};
 ghost use Rattle.pg_game.specs.Trees.{TreesHold, CutsHold};
 ghost use Rattle.pg_player.specs.InPlay.{InPlay, HasJoiner, KeepsUp};
-ghost use Rattle.pg_player.specs.Stand.{body_of, standing_of};
+ghost use Rattle.pg_player.specs.Stand.{body_at, standing_of};
 ghost use Rattle.pg_switch.specs.Replies.{HeldUntil};
 
-use crate::standing::{Rest, Stand, arrive};
+use crate::standing::{Rest, Stand, arrive, body_at};
 use pg_base::{Kind, PointSet};
 use pg_cert::{Body, Claim};
 use pg_game::{Game, Position};
@@ -20,11 +20,11 @@ use pg_switch::{CutPlan, ShortPlan};
 
 /// An own move, and where the player stands after it.
 #[derive(Clone, Copy, Debug)]
-pub(crate) struct Made<'a> {
+pub(crate) struct Made {
     /// The point.
     pub(crate) point: u16,
     /// Where the player stands.
-    pub(crate) stand: Stand<'a>,
+    pub(crate) stand: Stand,
 }
 
 /// The own move by the potential of the game's kind.
@@ -54,20 +54,20 @@ fn with_further(g: &Game, with_e: bool, first: &PointSet) -> PointSet
 }
 
 /// Short's own move by a plan.
-fn trees_move<'a>(
+fn trees_move(
     g: &Game,
     joiner: &mut Option<Joiner>,
     p: &Position,
     plan: ShortPlan,
     last: Option<u16>,
-) -> Made<'a>
+) -> Made
     requires switching { g.now.kind ≡ Switching }
     requires joined { HasJoiner joiner.old g.now }
     requires position { IsPosition g.now p.now }
     requires going { is_over g.now p.now ≡ false }
     requires turn { p.now.turn ≡ X }
     requires held { HeldUntil g.now p.now (λ q. TreesHold g.now q plan.first plan.second) last }
-    ensures keeps { (c : Claim) → InPlay g.now c p.now (record { body = Trees false plan.first plan.second; last = last }) → KeepsUp g.now c p.now (record { body = Trees false plan.first plan.second; last = last }) result.point (standing_of result.stand) }
+    ensures keeps { (c : Claim) → InPlay g.now c p.now (record { body = Trees false plan.first plan.second; last = last }) → KeepsUp g.now c p.now (record { body = Trees false plan.first plan.second; last = last }) result.point (standing_of c.nodes result.stand) }
     ensures joined { joiner.new ≡ joiner.old }
 {
     let Some(joiner) = joiner else { unreachable!() };
@@ -83,20 +83,20 @@ fn trees_move<'a>(
 }
 
 /// Cut's own move by a plan.
-fn cuts_move<'a>(
+fn cuts_move(
     g: &Game,
     joiner: &mut Option<Joiner>,
     p: &Position,
     plan: CutPlan,
     last: Option<u16>,
-) -> Made<'a>
+) -> Made
     requires switching { g.now.kind ≡ Switching }
     requires joined { HasJoiner joiner.old g.now }
     requires position { IsPosition g.now p.now }
     requires going { is_over g.now p.now ≡ false }
     requires turn { p.now.turn ≡ Y }
     requires held { HeldUntil g.now p.now (λ q. CutsHold g.now q plan.first plan.second) last }
-    ensures keeps { (c : Claim) → InPlay g.now c p.now (record { body = Cuts false plan.first plan.second; last = last }) → KeepsUp g.now c p.now (record { body = Cuts false plan.first plan.second; last = last }) result.point (standing_of result.stand) }
+    ensures keeps { (c : Claim) → InPlay g.now c p.now (record { body = Cuts false plan.first plan.second; last = last }) → KeepsUp g.now c p.now (record { body = Cuts false plan.first plan.second; last = last }) result.point (standing_of c.nodes result.stand) }
     ensures joined { joiner.new ≡ joiner.old }
 {
     let Some(joiner) = joiner else { unreachable!() };
@@ -111,22 +111,29 @@ fn cuts_move<'a>(
     }
 }
 
-/// The own move at a node's whole body.
-fn body_move<'a>(
+/// The own move at a node's body.
+#[allow(clippy::too_many_arguments)]
+fn body_move(
     g: &Game,
-    claim: &'a Claim,
+    claim: &Claim,
     joiner: &mut Option<Joiner>,
     p: &Position,
-    body: &'a Body,
+    number: usize,
+    body: &Body,
     last: Option<u16>,
-) -> Made<'a>
+) -> Made
+    requires body { body.now ≡ body_at (slice_get claim.now.nodes number) }
     requires playing { InPlay g.now claim.now p.now (record { body = body.now; last = last }) }
     requires joined { HasJoiner joiner.old g.now }
     requires going { is_over g.now p.now ≡ false }
     requires turn { p.now.turn ≡ claim.now.side }
-    ensures keeps { KeepsUp g.now claim.now p.now (record { body = body.now; last = last }) result.point (standing_of result.stand) }
+    ensures keeps { KeepsUp g.now claim.now p.now (record { body = body.now; last = last }) result.point (standing_of claim.now.nodes result.stand) }
     ensures joined { joiner.new ≡ joiner.old }
 {
+    let here = Stand {
+        rest: Rest::Whole(number),
+        last,
+    };
     match body {
         Body::Move { point, child } => Made {
             point: *point,
@@ -134,17 +141,11 @@ fn body_move<'a>(
         },
         Body::Pairs(pairs) => Made {
             point: pg_pairing::answer(g, p, pairs.as_slice(), last),
-            stand: Stand {
-                rest: Rest::Whole(body),
-                last,
-            },
+            stand: here,
         },
         Body::Potential => Made {
             point: potential_point(g, claim, p),
-            stand: Stand {
-                rest: Rest::Whole(body),
-                last,
-            },
+            stand: here,
         },
         Body::Trees {
             with_e,
@@ -168,23 +169,27 @@ fn body_move<'a>(
 
 /// The player's own move where it stands, in a game that goes on, and where it stands after it. It takes no memory, and
 /// leaves the joiner as it was.
-pub(crate) fn own_move<'a>(
+pub(crate) fn own_move(
     g: &Game,
-    claim: &'a Claim,
+    claim: &Claim,
     joiner: &mut Option<Joiner>,
     p: &Position,
-    stand: &Stand<'a>,
-) -> Made<'a>
-    requires playing { InPlay g.now claim.now p.now (standing_of stand.now) }
+    stand: Stand,
+) -> Made
+    requires playing { InPlay g.now claim.now p.now (standing_of claim.now.nodes stand) }
     requires joined { HasJoiner joiner.old g.now }
     requires going { is_over g.now p.now ≡ false }
     requires turn { p.now.turn ≡ claim.now.side }
-    ensures keeps { KeepsUp g.now claim.now p.now (standing_of stand.now) result.point (standing_of result.stand) }
+    ensures keeps { KeepsUp g.now claim.now p.now (standing_of claim.now.nodes stand) result.point (standing_of claim.now.nodes result.stand) }
     ensures joined { joiner.new ≡ joiner.old }
 {
-    match &stand.rest {
-        Rest::Whole(body) => body_move(g, claim, joiner, p, body, stand.last),
-        Rest::Short(plan) => trees_move(g, joiner, p, *plan, stand.last),
-        Rest::Cut(plan) => cuts_move(g, joiner, p, *plan, stand.last),
+    let Stand { rest, last } = stand;
+    match rest {
+        Rest::Whole(number) => {
+            let body = body_at(claim, number);
+            body_move(g, claim, joiner, p, number, body, last)
+        }
+        Rest::Short(plan) => trees_move(g, joiner, p, plan, last),
+        Rest::Cut(plan) => cuts_move(g, joiner, p, plan, last),
     }
 }

@@ -30,7 +30,7 @@ pub struct Player<'a> {
     claim: &'a Claim,
     position: Position,
     ending: Option<Score>,
-    stand: Stand<'a>,
+    stand: Stand,
     judge: Judge,
     joiner: Option<Joiner>,
 }
@@ -55,9 +55,9 @@ impl<'a> Model for Player<'a> {
 
     ghost coded = { code_by (Game × (Claim × (Position × (Body × Option ℕ)))) (coded× game_code.the_row.coded (coded× claim_code.the_row.coded (coded× position_code.the_row.coded (coded× body_code.the_row.coded (coded_option coded_ℕ))))) (λ s. (s.game, (s.claim, (s.position, (s.standing.body, s.standing.last))))) (λ t. record { game = t.0; claim = t.1.0; position = t.1.1.0; standing = record { body = t.1.1.1.0; last = t.1.1.1.1 } }) (λ _. refl) };
 
-    ghost view = { λ a. record { game = a.game.now; claim = a.claim.now; position = a.position; standing = standing_of a.stand } };
+    ghost view = { λ a. record { game = a.game.now; claim = a.claim.now; position = a.position; standing = standing_of a.claim.now.nodes a.stand } };
 
-    ghost invariant = { λ a. IsPlaying a.game.now a.claim.now a.position (standing_of a.stand) a.ending a.judge a.joiner };
+    ghost invariant = { λ a. IsPlaying a.game.now a.claim.now a.position (standing_of a.claim.now.nodes a.stand) a.ending a.judge a.joiner };
 }
 
 /// Why no player can be opened.
@@ -162,7 +162,7 @@ impl<'a> Player<'a> {
             self.claim,
             &mut self.joiner,
             &self.position,
-            &self.stand,
+            self.stand,
         );
         let next = self.game.after(&self.position, made.point);
         self.ending = self.judge.over(self.game, &next);
@@ -191,7 +191,7 @@ impl<'a> Player<'a> {
     {
         let next = self.judge.play(self.game, &self.position, v)?;
         self.ending = self.judge.over(self.game, &next);
-        self.stand = replied(self.claim, &self.stand.rest, v);
+        self.stand = replied(self.claim, self.stand.rest, v);
         self.position = next;
         Ok(())
     }

@@ -1,16 +1,16 @@
 //! Where a player stands, and where it goes.
-ghost use Rattle.std.specs.Prelude.{◌≡◌, ◌==◌, ◌<◌, ◌-◌, Some, length, find, option_map};
+ghost use Rattle.std.specs.Prelude.{◌≡◌, ◌==◌, ◌<◌, ◌-◌, Some, length, find, option_map, slice_get};
 ghost use Rattle.pg_cert.specs.OwnMove.{arrives, replied_by};
-ghost use Rattle.pg_player.specs.Stand.{body_of, standing_of, LeadsOn};
+ghost use Rattle.pg_player.specs.Stand.{body_at, body_of, standing_of, LeadsOn};
 
 use pg_cert::{Body, Claim, Reply};
 use pg_switch::{CutPlan, ShortPlan};
 
 /// What is left of the body of the node where the player stands.
 #[derive(Clone, Copy, Debug)]
-pub(crate) enum Rest<'a> {
-    /// The body as the node has it.
-    Whole(&'a Body),
+pub(crate) enum Rest {
+    /// The body as the node of that number has it.
+    Whole(usize),
     /// The trees that Short's answers have left.
     Short(ShortPlan),
     /// The cuts that Cut's answers have left.
@@ -19,28 +19,28 @@ pub(crate) enum Rest<'a> {
 
 /// Where the player stands: what is left of the body, and the last reply since it came to its node.
 #[derive(Clone, Copy, Debug)]
-pub(crate) struct Stand<'a> {
+pub(crate) struct Stand {
     /// What is left of the body.
-    pub(crate) rest: Rest<'a>,
+    pub(crate) rest: Rest,
     /// The last reply, and none where none has come.
     pub(crate) last: Option<u16>,
 }
 
 /// Where a player stands that comes to the node of that number.
-pub(crate) fn arrive(claim: &Claim, number: usize) -> Stand<'_>
+pub(crate) fn arrive(claim: &Claim, number: usize) -> Stand
     requires { number < length claim.now.nodes }
-    ensures { arrives claim.now.nodes number ≡ Some (standing_of result) }
+    ensures { arrives claim.now.nodes number ≡ Some (standing_of claim.now.nodes result) }
 {
     Stand {
-        rest: Rest::Whole(&claim.nodes.as_slice()[number].body),
+        rest: Rest::Whole(number),
         last: None,
     }
 }
 
 /// Where a player stands at first: at the last node of its claim.
-pub(crate) fn root(claim: &Claim) -> Stand<'_>
+pub(crate) fn root(claim: &Claim) -> Stand
     requires { 0 < length claim.now.nodes }
-    ensures { arrives claim.now.nodes (length claim.now.nodes - 1) ≡ Some (standing_of result) }
+    ensures { arrives claim.now.nodes (length claim.now.nodes - 1) ≡ Some (standing_of claim.now.nodes result) }
 {
     arrive(claim, claim.nodes.as_slice().len() - 1)
 }
@@ -52,10 +52,19 @@ fn find_reply(replies: &[Reply], v: u16) -> Option<&Reply>
     replies.iter().find(|reply| reply.point == v)
 }
 
+/// The body of the node of that number.
+pub(crate) fn body_at(claim: &Claim, number: usize) -> &Body
+    requires { number < length claim.now.nodes }
+    ensures { result.now ≡ body_at (slice_get claim.now.nodes number) }
+{
+    &claim.nodes.as_slice()[number].body
+}
+
 /// Where the player stands at a node's body after a reply: on at the child where all replies are named, else it stays.
-fn body_replied<'a>(claim: &'a Claim, body: &'a Body, v: u16) -> Stand<'a>
-    requires { LeadsOn claim.now.nodes body.now v }
-    ensures { replied_by body.now claim.now.nodes v ≡ Some (standing_of result) }
+fn body_replied(claim: &Claim, number: usize, body: &Body, v: u16) -> Stand
+    requires body { body.now ≡ body_at (slice_get claim.now.nodes number) }
+    requires leads { LeadsOn claim.now.nodes body.now v }
+    ensures { replied_by body.now claim.now.nodes v ≡ Some (standing_of claim.now.nodes result) }
 {
     match body {
         Body::All(replies) => match find_reply(replies.as_slice(), v) {
@@ -63,25 +72,21 @@ fn body_replied<'a>(claim: &'a Claim, body: &'a Body, v: u16) -> Stand<'a>
             None => unreachable!(),
         },
         _ => Stand {
-            rest: Rest::Whole(body),
+            rest: Rest::Whole(number),
             last: Some(v),
         },
     }
 }
 
 /// Where the player stands after a legal reply of the other side, by what was left of its body.
-pub(crate) fn replied<'a>(claim: &'a Claim, rest: &Rest<'a>, v: u16) -> Stand<'a>
-    requires { LeadsOn claim.now.nodes (body_of rest.now) v }
-    ensures { replied_by (body_of rest.now) claim.now.nodes v ≡ Some (standing_of result) }
+pub(crate) fn replied(claim: &Claim, rest: Rest, v: u16) -> Stand
+    requires { LeadsOn claim.now.nodes (body_of claim.now.nodes rest) v }
+    ensures { replied_by (body_of claim.now.nodes rest) claim.now.nodes v ≡ Some (standing_of claim.now.nodes result) }
 {
     match rest {
-        Rest::Whole(body) => body_replied(claim, body, v),
-        Rest::Short(plan) => Stand {
-            rest: Rest::Short(*plan),
-            last: Some(v),
-        },
-        Rest::Cut(plan) => Stand {
-            rest: Rest::Cut(*plan),
+        Rest::Whole(number) => body_replied(claim, number, body_at(claim, number), v),
+        Rest::Short(_) | Rest::Cut(_) => Stand {
+            rest,
             last: Some(v),
         },
     }

@@ -36,30 +36,32 @@ cuts_move-requires-clause-held c =
 pub returns-in-Move-clause-keeps : goal.returns-in-Move-clause-keeps
 returns-in-Move-clause-keeps c =
     let h = subst (λ (b : Body). InPlay c.args.g.now c.args.claim.now c.args.p.now (record { body = b; last = c.args.last })) c.in-Move.is c.requires.playing in
-    subst (λ (b : Body). KeepsUp c.args.g.now c.args.claim.now c.args.p.now (record { body = b; last = c.args.last }) c.in-Move.point (standing_of c.arrive.result)) (sym c.in-Move.is)
-    (keeps-move c.args.g.now c.args.claim.now c.args.p.now c.in-Move.point c.in-Move.child c.args.last (standing_of c.arrive.result) h c.requires.going c.requires.turn c.arrive.ensures)
+    subst (λ (b : Body). KeepsUp c.args.g.now c.args.claim.now c.args.p.now (record { body = b; last = c.args.last }) c.in-Move.point (standing_of c.args.claim.now.nodes c.arrive.result)) (sym c.in-Move.is)
+    (keeps-move c.args.g.now c.args.claim.now c.args.p.now c.in-Move.point c.in-Move.child c.args.last (standing_of c.args.claim.now.nodes c.arrive.result) h c.requires.going c.requires.turn c.arrive.ensures)
 
 pub returns-in-Pairs-clause-keeps : goal.returns-in-Pairs-clause-keeps
 returns-in-Pairs-clause-keeps c =
     let whole = c.in-Pairs.is ∙ ap Pairs (sym c.as_slice.ensures) in
     let h = subst (λ (b : Body). InPlay c.args.g.now c.args.claim.now c.args.p.now (record { body = b; last = c.args.last })) whole c.requires.playing in
     let e = c.answer.ensures in
-    subst (λ (b : Body). KeepsUp c.args.g.now c.args.claim.now c.args.p.now (record { body = b; last = c.args.last }) c.answer.result (record { body = b; last = c.args.last })) (sym whole)
+    subst (λ (b : Body). KeepsUp c.args.g.now c.args.claim.now c.args.p.now (record { body = c.args.body.now; last = c.args.last }) c.answer.result (record { body = b; last = c.args.last })) c.requires.body
+    (subst (λ (b : Body). KeepsUp c.args.g.now c.args.claim.now c.args.p.now (record { body = b; last = c.args.last }) c.answer.result (record { body = b; last = c.args.last })) (sym whole)
     (keeps-pairs c.args.g.now c.args.claim.now c.args.p.now c.as_slice.result.now c.args.last c.answer.result h c.requires.going c.requires.turn
-    (record { rule = e.rule; within = e.within; free = e.free; replied = e.keeps_replied; unreplied = e.keeps_unreplied; in_turn = e.keeps_in_turn }))
+    (record { rule = e.rule; within = e.within; free = e.free; replied = e.keeps_replied; unreplied = e.keeps_unreplied; in_turn = e.keeps_in_turn })))
 
 pub returns-in-Potential-clause-keeps : goal.returns-in-Potential-clause-keeps
 returns-in-Potential-clause-keeps c =
     let h = subst (λ (b : Body). InPlay c.args.g.now c.args.claim.now c.args.p.now (record { body = b; last = c.args.last })) c.in-Potential.is c.requires.playing in
-    subst (λ (b : Body). KeepsUp c.args.g.now c.args.claim.now c.args.p.now (record { body = b; last = c.args.last }) c.potential_point.result (record { body = b; last = c.args.last })) (sym c.in-Potential.is)
-    (c.potential_point.ensures c.args.last h)
+    subst (λ (b : Body). KeepsUp c.args.g.now c.args.claim.now c.args.p.now (record { body = c.args.body.now; last = c.args.last }) c.potential_point.result (record { body = b; last = c.args.last })) c.requires.body
+    (subst (λ (b : Body). KeepsUp c.args.g.now c.args.claim.now c.args.p.now (record { body = b; last = c.args.last }) c.potential_point.result (record { body = b; last = c.args.last })) (sym c.in-Potential.is)
+    (c.potential_point.ensures c.args.last h))
 
 pub returns-in-Trees-clause-keeps : goal.returns-in-Trees-clause-keeps
 returns-in-Trees-clause-keeps c =
     trees-whole c.args.g.now c.args.claim.now c.args.p.now c.args.body.now c.in-Trees.with_e c.in-Trees.first c.in-Trees.second c.args.last c.start-plan.result.first c.start-plan.result.second
-    (c.start-plan.ensures.first ∙ c.with_further.ensures) c.start-plan.ensures.second c.trees_move.result.point (standing_of c.trees_move.result.stand) c.in-Trees.is c.requires.playing (c.trees_move.ensures.keeps c.args.claim.now)
+    (c.start-plan.ensures.first ∙ c.with_further.ensures) c.start-plan.ensures.second c.trees_move.result.point (standing_of c.args.claim.now.nodes c.trees_move.result.stand) c.in-Trees.is c.requires.playing (c.trees_move.ensures.keeps c.args.claim.now)
 
 pub returns-in-Cuts-clause-keeps : goal.returns-in-Cuts-clause-keeps
 returns-in-Cuts-clause-keeps c =
     cuts-whole c.args.g.now c.args.claim.now c.args.p.now c.args.body.now c.in-Cuts.with_e c.in-Cuts.first c.in-Cuts.second c.args.last c.start-plan-in-Cuts.result.first c.start-plan-in-Cuts.result.second
-    (c.start-plan-in-Cuts.ensures.first ∙ c.with_further-in-Cuts.ensures) c.start-plan-in-Cuts.ensures.second c.cuts_move.result.point (standing_of c.cuts_move.result.stand) c.in-Cuts.is c.requires.playing (c.cuts_move.ensures.keeps c.args.claim.now)
+    (c.start-plan-in-Cuts.ensures.first ∙ c.with_further-in-Cuts.ensures) c.start-plan-in-Cuts.ensures.second c.cuts_move.result.point (standing_of c.args.claim.now.nodes c.cuts_move.result.stand) c.in-Cuts.is c.requires.playing (c.cuts_move.ensures.keeps c.args.claim.now)

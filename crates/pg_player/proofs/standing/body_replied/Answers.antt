@@ -19,10 +19,10 @@ child nodes replies v r h some =
 
 pub arrive-requires : goal.arrive-requires
 arrive-requires c =
-    let h = subst (λ (b : Body). LeadsOn c.args.claim.now.nodes b c.args.v) c.in-All.is c.requires in
+    let h = subst (λ (b : Body). LeadsOn c.args.claim.now.nodes b c.args.v) c.in-All.is c.requires.leads in
     child c.args.claim.now.nodes c.in-All.replies c.args.v c.in-Some.reply.now h (found c.in-All.replies c.as_slice.result.now c.args.v c.in-Some.reply.now c.as_slice.ensures c.in-Some.ensures)
 
 pub returns-in-Some : goal.returns-in-Some
 returns-in-Some c =
     let some = found c.in-All.replies c.as_slice.result.now c.args.v c.in-Some.reply.now c.as_slice.ensures c.in-Some.ensures in
-    subst (λ (b : Body). replied_by b c.args.claim.now.nodes c.args.v ≡ Some (standing_of c.arrive.result)) (sym c.in-All.is) (replied_by-child c.args.claim.now.nodes c.in-All.replies c.args.v c.in-Some.reply.now some ∙ c.arrive.ensures)
+    subst (λ (b : Body). replied_by b c.args.claim.now.nodes c.args.v ≡ Some (standing_of c.args.claim.now.nodes c.arrive.result)) (sym c.in-All.is) (replied_by-child c.args.claim.now.nodes c.in-All.replies c.args.v c.in-Some.reply.now some ∙ c.arrive.ensures)

@@ -1,0 +1,26 @@
+use Rattle.std.proofs.Common.{◌≡◌, ◌∙◌, refl, sym}
+use Rattle.pg_game.specs.Game.{start}
+use Rattle.pg_player.specs.Stand.{standing_of}
+use Rattle.pg_player.proofs.Opening.{chosen-is, sound-chosen, some_node, InPlay-root}
+use Rattle.pg_player.proofs.Going.{IsPlaying-next}
+use Rattle.pg_player.proofs.player.Player.open.Goals as goal
+
+pub root-requires : goal.root-requires
+root-requires c =
+    let g = c.args.c.game.now in
+    let claim = c.in-Some.claim.now in
+    let is = chosen-is g c.args.c.cert.now c.args.side claim (sym c.in-Some.ensures) in
+    some_node g claim (sound-chosen g c.args.c.cert.now c.args.side claim c.args.c.limits c.args.c.valid is)
+
+pub invariant_of-result : goal.invariant_of-result
+invariant_of-result c =
+    let g = c.args.c.game.now in
+    let claim = c.in-Some.claim.now in
+    let is = chosen-is g c.args.c.cert.now c.args.side claim (sym c.in-Some.ensures) in
+    let sound = sound-chosen g c.args.c.cert.now c.args.side claim c.args.c.limits c.args.c.valid is in
+    let s = standing_of claim.nodes c.root.result in
+    IsPlaying-next g claim (start g) c.start-position.result s c.over-ending.result c.in-Ok.judge c.over-ending.new.self c.in-Ok-joiner_for.joiner c.in-Ok-joiner_for.joiner
+    (InPlay-root g claim s sound is.turn_is c.root.ensures) c.start-position.ensures c.over-ending.ensures.result c.in-Ok.ensures c.over-ending.ensures.kept c.in-Ok-joiner_for.ensures refl
+
+pub returns-clause-side : goal.returns-clause-side
+returns-clause-side c = (chosen-is c.args.c.game.now c.args.c.cert.now c.args.side c.in-Some.claim.now (sym c.in-Some.ensures)).side_is
