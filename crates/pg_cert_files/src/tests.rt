@@ -1,7 +1,7 @@
 //! Files with faults, and files that read and print back.
 use super::*;
 use pg_base::Memory;
-use std::alloc::Global;
+use std::alloc::{AllocError, Global};
 use std::test::Fail;
 
 /// The fault of a file, (0, 0) where it has none.
@@ -202,13 +202,20 @@ fn reads_and_prints_back(rt: HostRuntime) -> Result<(), Fail> {
     Ok(())
 }
 
-/// Whether a certificate of one claim with a hundred thousand nodes is read, and printed as it was.
-fn prints_back(alloc: Global) -> Result<bool, Memory> {
-    let mut text = Vec::new(alloc);
-    text.extend_from_slice(b"posgame-cert 1\nclaim x y win\nnodes 100000\n")?;
+/// Adds a claim of a hundred thousand nodes.
+fn add_claim(text: &mut Vec<u8>) -> Result<(), AllocError> {
+    text.extend_from_slice(b"claim x y win\nnodes 100000\n")?;
     for _ in 0..100_000u32 {
         text.extend_from_slice(b"||x|potential\n")?;
     }
+    Ok(())
+}
+
+/// Whether a certificate of one claim with a hundred thousand nodes is read, and printed as it was.
+fn prints_back(alloc: Global) -> Result<bool, Memory> {
+    let mut text = Vec::new(alloc);
+    text.extend_from_slice(b"posgame-cert 1\n")?;
+    add_claim(&mut text)?;
     match read_cert(alloc, &text) {
         Ok(cert) => Ok(print_cert(alloc, &cert)?.as_slice() == text.as_slice()),
         Err(_) => Ok(false),
@@ -218,6 +225,30 @@ fn prints_back(alloc: Global) -> Result<bool, Memory> {
 #[test]
 fn a_hundred_thousand_nodes(rt: HostRuntime) -> Result<(), Fail> {
     assert!(rt; prints_back(rt.alloc())?);
+    Ok(())
+}
+
+/// Whether two claims with two hundred thousand nodes together are read, and a node more in a third is too many.
+fn counts_all_nodes(alloc: Global) -> Result<bool, AllocError> {
+    let mut text = Vec::new(alloc);
+    text.extend_from_slice(b"posgame-cert 1\n")?;
+    add_claim(&mut text)?;
+    add_claim(&mut text)?;
+    let whole = read_cert(alloc, &text).is_ok();
+    text.extend_from_slice(b"claim x y win\nnodes 1\n||x|potential\n")?;
+    let bad = matches!(
+        read_cert(alloc, &text),
+        Err(CertFault::Bad {
+            number: 6,
+            line: 200_007
+        })
+    );
+    Ok(whole && bad)
+}
+
+#[test]
+fn two_hundred_thousand_nodes(rt: HostRuntime) -> Result<(), Fail> {
+    assert!(rt; counts_all_nodes(rt.alloc())?);
     Ok(())
 }
 

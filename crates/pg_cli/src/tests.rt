@@ -1,4 +1,5 @@
 //! Whole runs on files and a console in memory.
+mod places;
 mod play;
 
 use crate::{Work, run};
