@@ -2,7 +2,7 @@
 ghost use Rattle.std.specs.Prelude.{◌≡◌, ◌≢◌, ◌<◌, ◌↔◌, true, IsTrue, length};
 ghost use Rattle.std.specs.List.{All, AllPairs};
 ghost use Rattle.pg_base.specs.declared.kind.Kind.TheVariants.{AvoiderEnforcer};
-ghost use Rattle.pg_game.specs.Pairs.{IsInGame, is_open, is_paired, HoldsPair, HoldLines, IsSafe, PairsHold, PairsLeaveNone, SharesNone, breaker_of, unpaired, unpaired_due};
+ghost use Rattle.pg_game.specs.Pairs.{AreOpenPairs, IsInGame, is_open, is_paired, HoldsPair, HoldLines, IsSafe, PairsHold, PairsLeaveNone, SharesNone, breaker_of, unpaired, unpaired_due};
 ghost use Rattle.pg_plain.specs.PairParts.{IsApart, is_unpaired};
 
 use crate::leaves::{is_touched, lines_of};
@@ -71,6 +71,16 @@ fn are_disjoint(pairs: &[Pair]) -> bool
         }
     }
     true
+}
+
+/// Whether the pairs are of free points of the game, all different.
+fn are_open_pairs(g: &Game, p: &Position, pairs: &[Pair]) -> bool
+    ensures { IsTrue result ↔ AreOpenPairs g.now p.now pairs.now }
+{
+    if !are_open(g, p, pairs) {
+        return false;
+    }
+    are_different(pairs) && are_disjoint(pairs)
 }
 
 /// Whether the line holds both points of the pair.
@@ -162,9 +172,8 @@ fn leave_none(g: &Game, p: &Position, pairs: &[Pair]) -> bool
 pub fn pairs_hold(g: &Game, p: &Position, side: Side, pairs: &[Pair]) -> bool
     ensures { IsTrue result ↔ PairsHold g.now p.now side pairs.now }
 {
-    are_open(g, p, pairs)
-        && are_different(pairs)
-        && are_disjoint(pairs)
-        && hold_lines(g, p, side, pairs)
-        && leave_none(g, p, pairs)
+    if !are_open_pairs(g, p, pairs) {
+        return false;
+    }
+    hold_lines(g, p, side, pairs) && leave_none(g, p, pairs)
 }
