@@ -7,7 +7,7 @@ use std::alloc::{AllocError, Global};
 use std::io;
 
 /// Each game with a certificate for it.
-const EXAMPLES: [(&str, &str); 14] = [
+const EXAMPLES: [(&str, &str); 15] = [
     ("noughts-and-crosses.game", "breaker-in-the-centre.cert"),
     ("noughts-and-crosses.game", "a-pair-missing.cert"),
     ("two-lines.game", "maker-takes-the-middle.cert"),
@@ -15,6 +15,7 @@ const EXAMPLES: [(&str, &str); 14] = [
     ("empty-board-both.game", "both-draw.cert"),
     ("empty-board-avoider.game", "enforcer-wins.cert"),
     ("five-in-a-row-board.game", "five-in-a-row-draw.cert"),
+    ("five-in-a-row-board.game", "five-in-a-row-potential.cert"),
     ("four-by-four.game", "four-by-four-potential.cert"),
     ("two-rows-avoider.game", "two-rows-potential.cert"),
     ("three-pairs-avoider.game", "three-pairs.cert"),
