@@ -1,5 +1,6 @@
 -- The sides.
-use Rattle.std.specs.Prelude.{ℕ, List, codes}
+use Rattle.std.specs.Prelude.{ℕ, List, codes, Option, Some, None, if◌then◌else◌}
+use Rattle.std.specs.Str.{bytes_eq}
 use Rattle.pg_base.specs.declared.side.Side.{Side}
 use Rattle.pg_base.specs.declared.side.Side.TheVariants.{X, Y}
 
@@ -12,3 +13,7 @@ other Y = X
 abbrev pub side_word : Side → List ℕ
 side_word X = codes "x"
 side_word Y = codes "y"
+
+-- the side that a word names
+abbrev pub side_of : List ℕ → Option Side
+side_of word = if bytes_eq (side_word X) word then Some X else if bytes_eq (side_word Y) word then Some Y else None

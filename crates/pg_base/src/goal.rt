@@ -1,6 +1,6 @@
 //! What a side claims of a position.
 ghost use Rattle.std.specs.Prelude.{◌≡◌};
-ghost use Rattle.pg_base.specs.Goal.{goal_word};
+ghost use Rattle.pg_base.specs.Goal.{goal_of, goal_word};
 
 use std::fmt::{self, Display, Formatter, Write};
 
@@ -15,6 +15,19 @@ pub enum Goal {
 }
 
 impl Goal {
+    /// The goal that a word names, and None where it names none.
+    pub fn from_word(word: &[u8]) -> Option<Goal>
+        ensures { result ≡ goal_of word.now }
+    {
+        if Goal::Win.word().as_bytes() == word {
+            Some(Goal::Win)
+        } else if Goal::Draw.word().as_bytes() == word {
+            Some(Goal::Draw)
+        } else {
+            None
+        }
+    }
+
     /// The word that names the goal in files and texts: `win` or `draw`.
     pub fn word(self) -> &'static str
         ensures { result.now ≡ goal_word self }

@@ -1,6 +1,6 @@
 //! The kinds of positional games.
 ghost use Rattle.std.specs.Prelude.{◌≡◌};
-ghost use Rattle.pg_base.specs.Kind.{kind_word};
+ghost use Rattle.pg_base.specs.Kind.{kind_of, kind_word};
 
 use std::fmt::{self, Display, Formatter, Write};
 
@@ -19,6 +19,23 @@ pub enum Kind {
 }
 
 impl Kind {
+    /// The kind that a word names, and None where it names none.
+    pub fn from_word(word: &[u8]) -> Option<Kind>
+        ensures { result ≡ kind_of word.now }
+    {
+        if Kind::MakerBreaker.word().as_bytes() == word {
+            Some(Kind::MakerBreaker)
+        } else if Kind::MakerMaker.word().as_bytes() == word {
+            Some(Kind::MakerMaker)
+        } else if Kind::AvoiderEnforcer.word().as_bytes() == word {
+            Some(Kind::AvoiderEnforcer)
+        } else if Kind::Switching.word().as_bytes() == word {
+            Some(Kind::Switching)
+        } else {
+            None
+        }
+    }
+
     /// The word that names the kind in files and texts: `maker-breaker`, `maker-maker`, `avoider-enforcer` or
     /// `switching`.
     pub fn word(self) -> &'static str

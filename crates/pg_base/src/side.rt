@@ -1,6 +1,6 @@
 //! The two sides.
 ghost use Rattle.std.specs.Prelude.{◌≡◌};
-ghost use Rattle.pg_base.specs.Side.{other, side_word};
+ghost use Rattle.pg_base.specs.Side.{other, side_of, side_word};
 
 use std::fmt::{self, Display, Formatter, Write};
 
@@ -21,6 +21,19 @@ impl Side {
         match self {
             Side::X => Side::Y,
             Side::Y => Side::X,
+        }
+    }
+
+    /// The side that a word names, and None where it names none.
+    pub fn from_word(word: &[u8]) -> Option<Side>
+        ensures { result ≡ side_of word.now }
+    {
+        if Side::X.word().as_bytes() == word {
+            Some(Side::X)
+        } else if Side::Y.word().as_bytes() == word {
+            Some(Side::Y)
+        } else {
+            None
         }
     }
 

@@ -187,3 +187,26 @@ fn sets_beside_sets(rt: HostRuntime) {
     assert!(rt; are_one_set(&low.union(&high), &both));
     assert!(rt; are_one_set(&both.without(&low), &high));
 }
+
+#[test]
+fn words_are_read_back(rt: HostRuntime) {
+    for side in [Side::X, Side::Y] {
+        assert!(rt; Side::from_word(side.word().as_bytes()) == Some(side));
+    }
+    for claimed in [Goal::Win, Goal::Draw] {
+        assert!(rt; Goal::from_word(claimed.word().as_bytes()) == Some(claimed));
+    }
+    for kind in [
+        Kind::MakerBreaker,
+        Kind::MakerMaker,
+        Kind::AvoiderEnforcer,
+        Kind::Switching,
+    ] {
+        assert!(rt; Kind::from_word(kind.word().as_bytes()) == Some(kind));
+    }
+    assert!(rt;
+        Side::from_word(b"z").is_none()
+            && Goal::from_word(b"won").is_none()
+            && Kind::from_word(b"hex").is_none()
+    );
+}

@@ -1,15 +1,1 @@
-pub mod Cuts
-pub mod Digits
-pub mod Odd
-pub mod Following
-pub mod SetLists
-pub mod Growing
-pub mod Stands
-pub mod WholeFile
 pub mod Printed
-pub mod NodeLimits
-pub mod CertLimits
-pub mod FirstFaults
-pub mod Words
-pub mod NodeBack
-pub mod Back

@@ -5,8 +5,8 @@ use Rattle.std.proofs.lemmas.List.Concat.{flat_map-append}
 use Rattle.std.specs.FinSet.{FinSet, contains}
 use Rattle.std.specs.Fmt.{decimal}
 use Rattle.std.specs.Ordering.{nat_cmp}
-use Rattle.pg_cert.specs.Text.{Bytes}
-use Rattle.pg_cert.specs.Print.{spaced, behind_spaces, one_where, separated, points_below}
+use Rattle.pg_text.specs.Text.{Bytes, spaced, behind_spaces}
+use Rattle.pg_cert.specs.Print.{one_where, separated, points_below}
 
 abbrev pub is_begun : List ℕ → Bool
 is_begun [] = false

@@ -1,10 +1,9 @@
 -- Certificates within the ranges, orders and limits of the format.
-use Rattle.std.specs.Prelude.{◌≡◌, ℕ, ◌+◌, ◌%◌, ◌<◌, ◌≤◌, Bool, true, false, List, length, map, sum_by}
+use Rattle.std.specs.Prelude.{◌≡◌, ℕ, ◌+◌, ◌%◌, ◌<◌, ◌≤◌, Bool, true, false, ◌&&◌, nat_le, List, [], ◌∷◌, length, map, sum_by}
 use Rattle.std.specs.FinSet.{FinSet, contains}
 use Rattle.std.specs.List.{All}
 use Rattle.std.specs.Ordering.{nat_cmp}
 use Rattle.pg_base.specs.declared.pair.Pair.{Pair}
-use Rattle.pg_cert.specs.NodeLine.{ascend_from}
 use Rattle.pg_cert.specs.declared.reply.Reply.{Reply}
 use Rattle.pg_cert.specs.declared.node.Body.{Body}
 use Rattle.pg_cert.specs.declared.node.Body.TheVariants as bodies
@@ -15,6 +14,11 @@ use Rattle.pg_cert.specs.declared.cert.Cert.{Cert}
 -- each member is a point
 abbrev pub ArePoints : FinSet nat_cmp → Type 0
 ArePoints s = (v : ℕ) → contains s v ≡ true → v < 1024
+
+-- the numbers ascend, each above the one before it and the first not below n
+abbrev pub ascend_from : ℕ → List ℕ → Bool
+ascend_from n [] = true
+ascend_from n (p ∷ ps) = nat_le n p && ascend_from (p + 1) ps
 
 -- a point and a child
 abbrev pub IsReply : Reply → Type 0

@@ -4,27 +4,16 @@ use Rattle.std.specs.FinSet.{FinSet, contains}
 use Rattle.std.specs.Fmt.{decimal}
 use Rattle.std.specs.List.{flat_map}
 use Rattle.std.specs.Ordering.{nat_cmp}
-use Rattle.pg_base.specs.declared.side.Side.{Side}
-use Rattle.pg_base.specs.declared.side.Side.TheVariants as sides
-use Rattle.pg_base.specs.declared.goal.Goal.{Goal}
-use Rattle.pg_base.specs.declared.goal.Goal.TheVariants as goals
+use Rattle.pg_base.specs.Side.{side_word}
+use Rattle.pg_base.specs.Goal.{goal_word}
 use Rattle.pg_base.specs.declared.pair.Pair.{Pair}
-use Rattle.pg_cert.specs.Text.{Bytes}
+use Rattle.pg_text.specs.Text.{Bytes, behind_spaces, spaced}
 use Rattle.pg_cert.specs.declared.reply.Reply.{Reply}
 use Rattle.pg_cert.specs.declared.node.Body.{Body}
 use Rattle.pg_cert.specs.declared.node.Body.TheVariants as bodies
 use Rattle.pg_cert.specs.declared.node.Node.{Node}
 use Rattle.pg_cert.specs.declared.cert.Claim.{Claim}
 use Rattle.pg_cert.specs.declared.cert.Cert.{Cert}
-
--- words, each behind a space
-abbrev pub behind_spaces : List Bytes → Bytes
-behind_spaces ws = flat_map (λ w. 32 ∷ w) ws
-
--- words with a space between each two
-abbrev pub spaced : List Bytes → Bytes
-spaced [] = []
-spaced (word ∷ others) = word ++ behind_spaces others
 
 -- the number, if the test holds
 abbrev pub one_where : Bool → ℕ → List ℕ
@@ -45,16 +34,6 @@ points_below s (suc n) = points_below s n ++ one_where (contains s n) n
 -- the points of a set as words
 abbrev pub set_words : FinSet nat_cmp → List Bytes
 set_words s = map decimal (points_below s 1024)
-
--- the word of a side
-abbrev pub side_name : Side → Bytes
-side_name sides.X = codes "x"
-side_name sides.Y = codes "y"
-
--- the word of a goal
-abbrev pub goal_name : Goal → Bytes
-goal_name goals.Win = codes "win"
-goal_name goals.Draw = codes "draw"
 
 -- a point and a child as a word
 abbrev pub reply_word : Reply → Bytes
@@ -101,11 +80,11 @@ body_text body = spaced (body_name body ∷ body_words body)
 
 -- a node line with its line feed
 unfoldable pub node_text : Node → Bytes
-node_text n = spaced (set_words n.x) ++ 124 ∷ (spaced (set_words n.y) ++ 124 ∷ (side_name n.turn ++ 124 ∷ (body_text n.body ++ 10 ∷ [])))
+node_text n = spaced (set_words n.x) ++ 124 ∷ (spaced (set_words n.y) ++ 124 ∷ (side_word n.turn ++ 124 ∷ (body_text n.body ++ 10 ∷ [])))
 
 -- the words of a claim line
 abbrev pub claim_words : Claim → List Bytes
-claim_words c = codes "claim" ∷ side_name c.turn ∷ side_name c.side ∷ goal_name c.goal ∷ []
+claim_words c = codes "claim" ∷ side_word c.turn ∷ side_word c.side ∷ goal_word c.goal ∷ []
 
 -- the words of a `nodes` line
 abbrev pub count_words : ℕ → List Bytes

@@ -1,18 +1,17 @@
 //! The text of a certificate.
 
-ghost use Rattle.std.specs.Prelude.{◌≡◌, ◌<◌, ◌≤◌, length, ◌||◌, true, ◌++◌, ◌∷◌, [], map, OnOk, IfOk, string_bytes};
+ghost use Rattle.std.specs.Prelude.{◌≡◌, ◌<◌, ◌||◌, true, ◌++◌, ◌∷◌, [], map, OnOk, IfOk, string_bytes};
 ghost use Rattle.std.specs.FinSet.{contains};
 ghost use Rattle.std.specs.Fmt.{decimal};
 ghost use Rattle.std.specs.List.{flat_map};
-ghost use Rattle.pg_cert.specs.CertFile.{certificate};
-ghost use Rattle.pg_cert.specs.declared.cert.Cert.{Cert};
+ghost use Rattle.pg_text.specs.Text.{spaced, behind_spaces};
 ghost use Rattle.pg_cert.specs.Limits.{IsNode, IsWithinLimits};
-ghost use Rattle.pg_cert.specs.Print.{one_where, separated, spaced, behind_spaces, set_words, side_name, goal_name, reply_word, pair_word, e_words, edge_words, body_name, body_words, body_text, node_text, claim_text, printed_certificate};
+ghost use Rattle.pg_cert.specs.Print.{one_where, separated, set_words, reply_word, pair_word, e_words, edge_words, body_name, body_words, body_text, node_text, claim_text, printed_certificate};
 
 use crate::cert::{Cert, Claim};
 use crate::node::{Body, Node};
 use crate::reply::Reply;
-use pg_base::{Goal, Memory, Pair, PointSet, Side};
+use pg_base::{Memory, Pair, PointSet};
 use std::alloc::{AllocError, Global};
 use std::fmt::Write;
 
@@ -125,26 +124,6 @@ fn put_edges(
     put_set(out, second)
 }
 
-/// The word of a side.
-fn side_name(side: Side) -> &'static str
-    ensures { result.now ≡ side_name side }
-{
-    match side {
-        Side::X => "x",
-        Side::Y => "y",
-    }
-}
-
-/// The word of a goal.
-fn goal_name(goal: Goal) -> &'static str
-    ensures { result.now ≡ goal_name goal }
-{
-    match goal {
-        Goal::Win => "win",
-        Goal::Draw => "draw",
-    }
-}
-
 /// The first word of a body.
 fn body_name(body: &Body) -> &'static str
     ensures { result.now ≡ body_name body.now }
@@ -200,7 +179,7 @@ fn put_node(out: &mut String, n: &Node) -> Result<(), AllocError>
     put_field(out, &n.x)?;
     out.push_str("|")?;
     put_field(out, &n.y)?;
-    let turn = side_name(n.turn);
+    let turn = n.turn.word();
     let name = body_name(&n.body);
     write!(out, "|{turn}|{name}")?;
     put_words(out, &n.body)?;
@@ -223,9 +202,9 @@ fn put_nodes(out: &mut String, nodes: &[Node]) -> Result<(), AllocError>
 fn put_claim(out: &mut String, claim: &Claim) -> Result<(), AllocError>
     ensures { OnOk result (string_bytes out.new ≡ string_bytes out.old ++ claim_text claim.now) }
 {
-    let turn = side_name(claim.turn);
-    let side = side_name(claim.side);
-    let goal = goal_name(claim.goal);
+    let turn = claim.turn.word();
+    let side = claim.side.word();
+    let goal = claim.goal.word();
     let nodes = claim.nodes.as_slice();
     let count = nodes.len();
     write!(out, "claim {turn} {side} {goal}\nnodes {count}\n")?;
@@ -263,8 +242,3 @@ pub fn print_node(alloc: Global, n: &Node) -> Result<Vec<u8>, Memory>
     put_node(&mut out, n)?;
     Ok(out.into_bytes())
 }
-
-/// A printed certificate reads back as itself, where its text isn't too large for a file.
-pub fn reads_back()
-    ensures { (c : Cert) → IsWithinLimits c → length (printed_certificate c) ≤ 268435456 → certificate (printed_certificate c) ≡ Ok c }
-{}

@@ -1,5 +1,7 @@
 -- Claims that a check accepts are forced.
-use Rattle.std.proofs.Common.{◌≡◌, ◌⊎◌, ℕ, List, [], ◌∷◌, map, slice_get, Option, Some, None, Result, Ok, Err, refl, sym, ◌∙◌, ap, subst, inl, inr, arith}
+use Rattle.std.proofs.Common.{◌≡◌, ◌⊎◌, ℕ, suc, Bool, true, false, cond, ◌&&◌, List, [], ◌∷◌, map, find, slice_get, Option, Some, None, Result, Ok, Err, refl, sym, ◌∙◌, ap, subst, inl, inr, arith}
+use Rattle.pg_base.specs.declared.side.Side.{Side}
+use Rattle.pg_base.specs.declared.side.Side.TheVariants.{X, Y}
 use Rattle.pg_io.specs.Files.{Bytes, Holding}
 use Rattle.pg_io.specs.Console.{Grows}
 use Rattle.pg_io.specs.declared.entry.Entry.{Entry}
@@ -7,15 +9,19 @@ use Rattle.pg_io.specs.declared.entry.Entry.TheVariants.{Said}
 use Rattle.pg_game.specs.declared.game.Game.{Game}
 use Rattle.pg_files.specs.GameFile.{game, Entry as GameEntry}
 use Rattle.pg_files.specs.Views.{entry}
-use Rattle.pg_cert.specs.CertFile.{certificate}
+use Rattle.pg_cert_files.specs.CertFile.{certificate}
 use Rattle.pg_cert.specs.Limits.{IsWithinLimits}
 use Rattle.pg_cert.specs.Valid.{IsValid}
 use Rattle.pg_cert.specs.declared.cert.Cert.{Cert}
 use Rattle.pg_cert.specs.declared.cert.Claim.{Claim}
-use Rattle.pg_cli.specs.Accepted.{IsForced, AreForced, AnnouncesForced}
+use Rattle.pg_game.specs.Game.{with_turn, start}
+use Rattle.pg_game.specs.Value.{Forces}
+use Rattle.pg_cli.specs.Accepted.{IsForced, AreForced, IsForcedOf, SaysForcedClaim, AnnouncesForced}
 use Rattle.pg_cli.specs.Answer.{Answer, lacking, or_answer, game_held, certificate_held, both, both_held, Checks, ChecksTo}
-use Rattle.pg_cli.specs.Run.{Told, told, Finished, Ran, RanOn}
-use Rattle.pg_cli.specs.Words.{Command, Check}
+use Rattle.pg_player.specs.Player.{is_same_side, is_win, is_claim_of, is_win_of, first_claim, chosen_claim}
+use Rattle.pg_cli.specs.Run.{Told, told, Finished, RefusesPlay, IsPlayedBy, Plays, Ran, RanOn}
+use Rattle.pg_cli.specs.Texts.{claim_text}
+use Rattle.pg_cli.specs.Words.{Command, Check, Play}
 use Rattle.pg_cli.specs.Work.{Search}
 
 or_answer_ok : {T F : Type 0} (answer_to : F → Answer) (r : Result T F) (x : T) → or_answer answer_to r ≡ Ok x → r ≡ Ok x
@@ -93,10 +99,105 @@ accepted_are_forced limits valid_forced g c a checks zero = go (both_held g c) r
       let four : a.status ≡ 4 = ap (λ (b : Answer). b.status) rejects.4 in
       absurd (omega (arith, four, zero))
 
-pub forced_when_ran : AcceptedAreForced → (command : Option Command) (held held' : Option Holding) (log log' : Option (List Entry)) (left left' : Option Bytes) (work : Search) (status : ℕ)
+-- ---- play
+
+-- what is found is in the list and passes the test
+found : {A : Type 0} (test : A → Bool) (xs : List A) (x : A) → find test xs ≡ Some x → (i : ℕ) × (slice_get xs i ≡ Some x) × (test x ≡ true)
+found test [] x e = absurd (cc e)
+found test (y ∷ ys) x e = go (test y) refl (found test ys x) e where
+  go : (b : Bool) → test y ≡ b → (find test ys ≡ Some x → (i : ℕ) × (slice_get ys i ≡ Some x) × (test x ≡ true)) → cond b (Some y) (find test ys) ≡ Some x
+      → (i : ℕ) × (slice_get (y ∷ ys) i ≡ Some x) × (test x ≡ true)
+  go true passes later e = let same : y ≡ x = cc e in (0, e, subst (λ z. test z ≡ true) same passes)
+  go false fails later e = let rest = later e in (suc rest.0, rest.1, rest.2)
+
+same_side : (a b : Side) → is_same_side a b ≡ true → a ≡ b
+same_side X X e = refl
+same_side X Y e = absurd (cc e)
+same_side Y X e = absurd (cc e)
+same_side Y Y e = refl
+
+both_true : (a b : Bool) → (a && b) ≡ true → (a ≡ true) × (b ≡ true)
+both_true true b e = (refl, e)
+both_true false b e = absurd (cc e)
+
+-- the claim that is chosen is one of the certificate, of the side and the game's turn
+IsChosen : Game → Cert → Side → Claim → Type 0
+IsChosen g c side claim = (i : ℕ) × (slice_get c.claims i ≡ Some claim) × (claim.side ≡ side) × (claim.turn ≡ g.turn)
+
+of_side : (g : Game) (c : Cert) (side : Side) (claim : Claim) → (i : ℕ) × (slice_get c.claims i ≡ Some claim) × (is_claim_of side g.turn claim ≡ true) → IsChosen g c side claim
+unfolding IsChosen
+of_side g c side claim (i, at, test) =
+    let parts = both_true (is_same_side claim.side side) (is_same_side claim.turn g.turn) test in
+    (i, at, same_side claim.side side parts.0, same_side claim.turn g.turn parts.1)
+
+chosen : (g : Game) (c : Cert) (side : Side) (claim : Claim) → chosen_claim g c side ≡ Some claim → IsChosen g c side claim
+unfolding chosen_claim
+chosen g c side claim e = go (find (is_win_of side g.turn) c.claims) refl e where
+  go : (o : Option Claim) → find (is_win_of side g.turn) c.claims ≡ o → first_claim o (find (is_claim_of side g.turn) c.claims) ≡ Some claim → IsChosen g c side claim
+  go (Some first) is e =
+      let there = found (is_win_of side g.turn) c.claims claim (is ∙ e) in
+      of_side g c side claim (there.0, there.1, (both_true (is_claim_of side g.turn claim) (is_win claim.goal) there.2).0)
+  go None is e = of_side g c side claim (found (is_claim_of side g.turn) c.claims claim e)
+
+-- a claim by which a side is played is forced
+abbrev pub PlayedAreForced : Type 0
+PlayedAreForced = (g c : Option Bytes) (side : Side) (played : Game) (claim : Claim) → IsPlayedBy side (both_held g c) played claim → IsForcedOf g c side claim
+
+pub played_are_forced : ReadsWithinLimits → ValidClaimsAreForced → PlayedAreForced
+unfolding IsChosen
+played_are_forced limits valid_forced g c side played claim by = go (both_held g c) refl by where
+  go : (r : Result (GameEntry × Cert) Answer) → both_held g c ≡ r → IsPlayedBy side r played claim → IsForcedOf g c side claim
+  go (Err refusal) e by = absurd by
+  go (Ok pair) e (said, valid, is) =
+      let parts = both_ok (game_held g) (certificate_held c) pair e in
+      let first = game_there g pair.0 parts.0 in
+      let second = certificate_there c pair.1 parts.1 in
+      let one = chosen played pair.1 side claim is in
+      let forces = valid_forced played pair.1 (limits second.0 pair.1 second.2) valid one.0 claim one.1 in
+      let of_turn = subst (λ (turn : Side). Forces played (with_turn played turn) claim.side claim.goal) one.3 forces in
+      record {
+        game_text = first.0;
+        game_held = first.1;
+        played = played;
+        game_said = first.2 ∙ ap (λ (x : GameEntry). Ok x) (sym said.0);
+        single = said.1;
+        certificate_text = second.0;
+        certificate_held = second.1;
+        checked = pair.1;
+        certificate_said = second.2;
+        place = one.0;
+        one = one.1;
+        own = one.2;
+        forced = subst (λ (s : Side). Forces played (start played) s claim.goal) one.2 of_turn;
+      }
+
+-- an answer that stands against a play has a status other than 0
+against : (g c : Option Bytes) (side : Side) (a : Answer) → RefusesPlay side (both_held g c) a → a.status ≡ 0 → ⊥
+against g c side a refuses zero = go (both_held g c) refl refuses where
+  go : (r : Result (GameEntry × Cert) Answer) → both_held g c ≡ r → RefusesPlay side r a → ⊥
+  go (Err refusal) e same =
+      let none : refusal.status ≡ 0 = ap (λ (b : Answer). b.status) (sym same) ∙ zero in
+      elim (both_err (game_held g) (certificate_held c) refusal e) as (λ _. ⊥) [ inl p ↦ game_status g refusal p none | inr q ↦ certificate_status c refusal q none ]
+  go (Ok pair) e (played, said, inl rejects) =
+      let four : a.status ≡ 4 = ap (λ (b : Answer). b.status) rejects.4 in
+      omega (arith, four, zero)
+  go (Ok pair) e (played, said, inr none) =
+      let two : a.status ≡ 2 = ap (λ (b : Answer). b.status) none.2 in
+      omega (arith, two, zero)
+
+-- ---- runs
+
+pub forced_when_ran : AcceptedAreForced → PlayedAreForced → (command : Option Command) (held held' : Option Holding) (log log' : Option (List Entry)) (left left' : Option Bytes) (work : Search) (status : ℕ)
     → Ran command (told held log left) (told held' log' left') work (Finished status) → status ≡ 0 → AnnouncesForced held command log log'
-forced_when_ran law command None held' log log' left left' work status ran zero = tt
-forced_when_ran law None (Some held) held' log log' left left' work status ran zero = tt
-forced_when_ran law (Some (Check g c)) (Some held) held' log log' left left' work status ran zero =
+forced_when_ran law played command None held' log log' left left' work status ran zero = tt
+forced_when_ran law played None (Some held) held' log log' left left' work status ran zero = tt
+forced_when_ran law played (Some (Check g c)) (Some held) held' log log' left left' work status ran zero =
     let one = ran.allowed in
     (one.0.texts, law (held g) (held c) one.0 one.1 (sym one.2.1 ∙ zero), subst (λ (l : List Entry). Grows log log' l) one.2.0 ran.logged)
+forced_when_ran law played (Some (Play g c side)) (Some held) held' log log' left left' work status ran zero = go ran.allowed.0 where
+  go : Plays side (both_held (held g) (held c)) ran.done.entries (Finished status) → SaysForcedClaim (held g) (held c) side log log'
+  go (inl (a, refuses, said, given)) = absurd (against (held g) (held c) side a refuses (sym given ∙ zero))
+  go (inr (game, claim, by, whole)) =
+      let forced = played (held g) (held c) side game claim by in
+      let entries = subst (λ (s : Side). ran.done.entries ≡ Said (claim_text s claim.goal) ∷ whole.others) forced.own whole.said in
+      (claim, whole.others, forced, subst (λ (l : List Entry). Grows log log' l) entries ran.logged)

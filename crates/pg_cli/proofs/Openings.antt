@@ -12,7 +12,7 @@ use Rattle.pg_io.specs.declared.stop.Stop.{Stop}
 use Rattle.pg_io.specs.declared.stop.Stop.TheVariants.{Read, Write, Memory}
 use Rattle.pg_game.specs.declared.game.Game.{Game}
 use Rattle.pg_files.specs.GameFile.{game, Entry as GameEntry}
-use Rattle.pg_cert.specs.CertFile.{certificate}
+use Rattle.pg_cert_files.specs.CertFile.{certificate}
 use Rattle.pg_cert.specs.declared.cert.Cert.{Cert}
 use Rattle.pg_cli.specs.Answer.{Answer, answer_of, lacking, or_answer, game_held, certificate_held, both, both_held, game_seen, certificate_seen, both_seen, OpensGame, OpensCertificate, OpensBoth, AreLacking}
 use Rattle.pg_cli.specs.declared.refusal.Refusal.{Refusal}

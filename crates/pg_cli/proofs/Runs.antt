@@ -6,16 +6,18 @@ use Rattle.pg_io.specs.declared.entry.Entry.{Entry}
 use Rattle.pg_io.specs.declared.entry.Entry.TheVariants.{Said}
 use Rattle.pg_io.specs.declared.stop.Stop.{Stop}
 use Rattle.pg_io.specs.declared.stop.Stop.TheVariants.{Read, Write, Memory}
+use Rattle.pg_base.specs.declared.side.Side.{Side}
 use Rattle.pg_game.specs.declared.game.Game.{Game}
+use Rattle.pg_files.specs.GameFile.{Entry as GameEntry}
 use Rattle.pg_cert.specs.declared.cert.Cert.{Cert}
 use Rattle.pg_cert.specs.declared.cert.Claim.{Claim}
 use Rattle.pg_cert.specs.Valid.{IsValid, IsFirstFault}
 use Rattle.pg_cli.specs.Answer.{Answer, answer, answer_of, refusal_status, accepting, Answers, Judges, Checks, ChecksTo, both_held, both_seen, OpensBoth}
 use Rattle.pg_cli.specs.Causes.{Speaks, IsCut}
 use Rattle.pg_cli.specs.Hearing.{Hearing, InOrder}
-use Rattle.pg_cli.specs.Run.{Done, End, Finished, Failed, Starved, end_of, Follows, FollowsOne, Allows, Keeps, RanOn, Ran, Told, told}
+use Rattle.pg_cli.specs.Run.{Done, End, Finished, Failed, Starved, end_of, Follows, FollowsOne, Plays, PlaysOut, Allows, Keeps, RanOn, Ran, Told, told}
 use Rattle.pg_cli.specs.Texts.{no_meaning, accepted_text}
-use Rattle.pg_cli.specs.Words.{Command, Check}
+use Rattle.pg_cli.specs.Words.{Command, Check, Play}
 use Rattle.pg_cli.specs.Work.{Search}
 use Rattle.pg_cli.specs.declared.refusal.Refusal.{Refusal}
 use Rattle.pg_cli.specs.declared.refusal.Refusal.TheVariants.{Rejected}
@@ -54,7 +56,7 @@ InOrder-texts : (left : Bytes) (texts : List Bytes) → InOrder left (map Said t
 InOrder-texts left [] = refl
 InOrder-texts left (text ∷ texts) = InOrder-texts left texts
 
-Hearing-texts : (left : Option Bytes) (texts : List Bytes) → Hearing left (map Said texts) left
+pub Hearing-texts : (left : Option Bytes) (texts : List Bytes) → Hearing left (map Said texts) left
 Hearing-texts None texts = tt
 Hearing-texts (Some left) texts = InOrder-texts left texts
 
@@ -88,6 +90,9 @@ module _ (h h' : Option Holding) (same : h' ≡ h) (log after : Option (List Ent
   nothing_yet held (Some (Check g c)) Read = inl (refl, refl)
   nothing_yet held (Some (Check g c)) Write = inl (refl, refl)
   nothing_yet held (Some (Check g c)) Memory = inl (refl, refl)
+  nothing_yet held (Some (Play g c side)) Read = (inl refl, refl)
+  nothing_yet held (Some (Play g c side)) Write = (inl refl, refl)
+  nothing_yet held (Some (Play g c side)) Memory = (refl, refl)
 
   pub ran_silent : (command : Option Command) (stop : Stop) → after ≡ log → Ran command (told h log left) (told h' after left') work (end_of (Err stop))
   ran_silent command stop quiet =
@@ -109,6 +114,19 @@ module _ (h h' : Option Holding) (same : h' ≡ h) (log after : Option (List Ent
       ran_saying (Some (Check g c)) cut.0 Failed cut.3 (λ held e. inr (a, checks_to g c b a opens is held e, ((cut.0, cut.1, cut.2, refl), refl)))
   ran_check g c b (Err Memory) opens (inr (a, is, cut)) =
       ran_saying (Some (Check g c)) cut.0 Starved cut.3 (λ held e. inr (a, checks_to g c b a opens is held e, ((cut.0, cut.1, cut.2, refl), refl)))
+
+  pub ran_play : (g c : Bytes) (side : Side) (b : Result (Game × Cert) Refusal) (end : End) → OpensBoth h g c b → PlaysOut side (both_seen b) log after left end
+      → Ran (Some (Play g c side)) (told h log left) (told h' after left') work end
+  ran_play g c side b end opens out = go h same opens where
+    go : (h : Option Holding) → h' ≡ h → OpensBoth h g c b → Ran (Some (Play g c side)) (told h log left) (told h' after left') work end
+    go None same opens = tt
+    go (Some held) same opens = record {
+      done = record { entries = out.entries; stored = [] };
+      allowed = (subst (λ (r : Result (GameEntry × Cert) Answer). Plays side r out.entries end) (sym opens) out.allowed, refl);
+      logged = out.logged;
+      heard = out.heard;
+      names = kept held h' same;
+    }
 
 pub ran_at : (command : Option Command) (before after : Told) (work : Search) (stop kind : Stop) → stop ≡ kind → Ran command before after work (end_of (Err stop)) → Ran command before after work (end_of (Err kind))
 ran_at command before after work stop kind same h = subst (λ (s : Stop). Ran command before after work (end_of (Err s))) same h

@@ -10,8 +10,8 @@ use Rattle.pg_game.specs.declared.game.Game.{Game}
 use Rattle.pg_files.specs.GameFile.{Entry as GameEntry, game}
 use Rattle.pg_files.specs.Views.{entry, number_of as game_fault_number}
 use Rattle.pg_cert.specs.declared.cert.Cert.{Cert}
-use Rattle.pg_cert.specs.CertFile.{certificate}
-use Rattle.pg_cert.specs.Views.{number_of as certificate_fault_number}
+use Rattle.pg_cert_files.specs.CertFile.{certificate}
+use Rattle.pg_cert_files.specs.Views.{number_of as certificate_fault_number}
 use Rattle.pg_cert.specs.Valid.{IsValid, IsFirstFault}
 use Rattle.pg_cli.specs.Texts.{game_text, certificate_text, rejected_text, accepted_text}
 use Rattle.pg_cli.specs.declared.refusal.Refusal.{Refusal}

@@ -4,5 +4,8 @@ pub mod Work
 pub mod Causes
 pub mod Answer
 pub mod Hearing
+pub mod Reply
+pub mod Dialogue
+pub mod Talk
 pub mod Run
 pub mod Accepted

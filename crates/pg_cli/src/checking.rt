@@ -1,5 +1,5 @@
 //! Checking a certificate for a game.
-ghost use Rattle.std.specs.Prelude.{◌≡◌, ◌∷◌, [], map, IfOk, Some};
+ghost use Rattle.std.specs.Prelude.{◌≡◌, ◌∷◌, [], map, IfOk, OnErr, Some};
 ghost use Rattle.pg_io.specs.Stop.{Causes};
 ghost use Rattle.pg_cert.specs.Limits.{IsWithinLimits};
 ghost use Rattle.pg_cli.specs.Answer.{Answers, AreLacking, Judges, answer_of, refusal_status};
@@ -41,12 +41,13 @@ fn accept_all<C: Console>(alloc: Global, console: &mut C, claims: &[Claim]) -> R
     Ok(())
 }
 
-/// Says the text of a refusal, and gives its status.
+/// Says the text of a refusal, and gives its status; where that fails, nothing is said.
 pub fn refuse<C: Console>(alloc: Global, console: &mut C, refusal: Refusal) -> Result<u8, Stop>
     ensures said { Speaks (answer_of refusal).texts (C.log console.old) (C.log console.new) result }
     ensures causes { Causes ⊥ (C.read_faults console.old) (C.read_faults console.new) (C.write_faults console.old) (C.write_faults console.new) result }
     ensures left { C.left console.new ≡ C.left console.old }
     ensures status { IfOk result (λ status. status ≡ refusal_status refusal) }
+    ensures silent { OnErr result (C.log console.new ≡ C.log console.old) }
 {
     let text = refusal.text(alloc)?;
     say(console, text.as_bytes())?;

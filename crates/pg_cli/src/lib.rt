@@ -2,9 +2,12 @@
 #![tactic(auto)]
 
 mod checking;
+mod dialogue;
 mod laws;
 mod opening;
+mod playing;
 mod refusal;
+mod reply;
 #[cfg(test)]
 mod tests;
 mod texts;

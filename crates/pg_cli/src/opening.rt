@@ -6,7 +6,8 @@ ghost use Rattle.pg_cert.specs.Limits.{IsWithinLimits};
 ghost use Rattle.pg_cli.specs.Answer.{OpensGame, OpensCertificate, OpensBoth, AreLacking};
 
 use crate::refusal::Refusal;
-use pg_cert::{Cert, CertFault, read_cert};
+use pg_cert::Cert;
+use pg_cert_files::{CertFault, read_cert};
 use pg_files::{GameFault, read_game};
 use pg_game::Game;
 use pg_io::{Files, Stop, read_whole};

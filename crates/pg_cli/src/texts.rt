@@ -1,30 +1,10 @@
 //! The texts that are said.
 ghost use Rattle.std.specs.Prelude.{◌≡◌, IfOk, string_bytes};
-ghost use Rattle.pg_cli.specs.Texts.{side_word, goal_word, game_text, certificate_text, rejected_text, accepted_text};
+ghost use Rattle.pg_cli.specs.Texts.{game_text, certificate_text, rejected_text, accepted_text, no_claim_text, claim_text, result_text};
 
-use pg_base::{Goal, Side};
+use pg_base::{Goal, Kind, Score, Side};
 use pg_cert::Claim;
 use std::alloc::{AllocError, Global};
-
-/// The word for a side.
-pub fn side_word(side: Side) -> &'static str
-    ensures { result.now ≡ side_word side }
-{
-    match side {
-        Side::X => "x",
-        Side::Y => "y",
-    }
-}
-
-/// The word for a goal.
-pub fn goal_word(goal: Goal) -> &'static str
-    ensures { result.now ≡ goal_word goal }
-{
-    match goal {
-        Goal::Win => "win",
-        Goal::Draw => "draw",
-    }
-}
 
 /// The text for a fault of the game file, by its number and that of its line.
 pub fn game_text(alloc: Global, number: u8, line: u32) -> Result<String, AllocError>
@@ -51,8 +31,47 @@ pub fn rejected_text(alloc: Global, claim: u32, node: u32, why: u8) -> Result<St
 pub fn accepted_text(alloc: Global, claim: &Claim) -> Result<String, AllocError>
     ensures { IfOk result (λ text. string_bytes text ≡ accepted_text claim.now) }
 {
-    let turn = side_word(claim.turn);
-    let side = side_word(claim.side);
-    let goal = goal_word(claim.goal);
+    let turn = claim.turn.word();
+    let side = claim.side.word();
+    let goal = claim.goal.word();
     format!(in alloc; "accepted {turn} {side} {goal}\n")
+}
+
+/// The text where the certificate has no claim of a side with the game's turn.
+pub fn no_claim_text(side: Side) -> &'static str
+    ensures { result.now ≡ no_claim_text side }
+{
+    match side {
+        Side::X => "words: no claim for side x\n",
+        Side::Y => "words: no claim for side y\n",
+    }
+}
+
+/// The text for the claim that is played: its side and its goal.
+pub fn claim_text(side: Side, goal: Goal) -> &'static str
+    ensures { result.now ≡ claim_text side goal }
+{
+    match (side, goal) {
+        (Side::X, Goal::Win) => "claim x win\n",
+        (Side::X, Goal::Draw) => "claim x draw\n",
+        (Side::Y, Goal::Win) => "claim y win\n",
+        (Side::Y, Goal::Draw) => "claim y draw\n",
+    }
+}
+
+/// The text for the outcome of a game of the kind.
+pub fn result_text(kind: Kind, score: Score) -> &'static str
+    ensures { result.now ≡ result_text kind score }
+{
+    match (kind, score) {
+        (Kind::MakerBreaker, Score::XWins) => "result maker\n",
+        (Kind::MakerBreaker, _) => "result breaker\n",
+        (Kind::MakerMaker, Score::XWins) => "result x\n",
+        (Kind::MakerMaker, Score::YWins) => "result y\n",
+        (Kind::MakerMaker, Score::Draw) => "result draw\n",
+        (Kind::AvoiderEnforcer, Score::XWins) => "result avoider\n",
+        (Kind::AvoiderEnforcer, _) => "result enforcer\n",
+        (Kind::Switching, Score::XWins) => "result short\n",
+        (Kind::Switching, _) => "result cut\n",
+    }
 }

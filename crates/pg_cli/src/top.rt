@@ -7,7 +7,8 @@ ghost use Rattle.pg_cli.specs.Words.{meaning_of};
 ghost use Rattle.pg_cli.specs.Work.{Search};
 
 use crate::checking::check;
-use crate::laws::accepted_claims_are_forced;
+use crate::laws::{accepted_claims_are_forced, played_claims_are_forced};
+use crate::playing::play;
 use crate::voice::say;
 use crate::words::{Command, read_words};
 use crate::work::Work;
@@ -40,6 +41,13 @@ fn carry_out<F: Files, C: Console>(
             files,
             console,
         ),
+        Some(
+            Command::Play {
+                game,
+                certificate,
+                side,
+            },
+        ) => play(alloc, game, certificate, side, files, console),
     }
 }
 
@@ -47,19 +55,22 @@ fn carry_out<F: Files, C: Console>(
 ///
 /// | status | when |
 /// |---|---|
-/// | 0 | done: each claim of the certificate is accepted |
-/// | 2 | the words have no meaning |
+/// | 0 | done: each claim of the certificate is accepted, or the game that was played is over |
+/// | 2 | the words have no meaning, or the certificate has no claim of the side to play with the game's turn |
 /// | 3 | the game file has a fault |
 /// | 4 | the certificate file has a fault, or the certificate isn't valid for the game |
 /// | 5 | a call that reads has failed, or a name isn't held; nothing is said of it |
 /// | 6 | a call that writes has failed; nothing is said of it |
-/// | 7 | memory is wanting; nothing is said of it |
+/// | 7 | memory is wanting; nothing is said of it, and it doesn't come once the claim to play was said |
+/// | 8 | the input has ended before the game that is played |
+/// | 9 | the hundredth reply was refused |
 ///
 /// The first failing call on files or console ends the run. At 5, 6 and 7 the first texts of another answer may have
 /// been said before.
 ///
-/// Where the files tell what they hold, `ran` says what is said at each status, and `forced` that every claim that is
-/// accepted is forced by its side. `causes` holds for all files and consoles.
+/// Where the files tell what they hold, `ran` says what is said at each status: in play, that the log is a dialogue of
+/// the side to its end, and that at 0 the outcome reaches the goal of the claim. `forced` says that every claim that is
+/// accepted or played is forced by its side. `causes` holds for all files and consoles.
 pub fn run<F: Files, C: Console>(
     alloc: Global,
     words: &[String],
@@ -76,6 +87,7 @@ pub fn run<F: Files, C: Console>(
         (faults (F.read_faults files.new) (F.write_faults files.new) (C.read_faults console.new) (C.write_faults console.new)) result }
 {
     accepted_claims_are_forced();
+    played_claims_are_forced();
     match carry_out(alloc, words, files, console) {
         Ok(status) => status,
         Err(Stop::Read) => 5,

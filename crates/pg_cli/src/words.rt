@@ -1,7 +1,9 @@
 //! The meaning of the words.
 ghost use Rattle.std.specs.Prelude.{◌≡◌, map, string_bytes};
 ghost use Rattle.std.specs.Option.{option_map};
-ghost use Rattle.pg_cli.specs.Words.{is_dashed, meaning_of, ordered};
+ghost use Rattle.pg_cli.specs.Words.{is_dashed, are_names, meaning_of, ordered};
+
+use pg_base::Side;
 
 /// What the words ask for.
 #[derive(Clone, Copy, Debug)]
@@ -12,6 +14,15 @@ pub enum Command<'a> {
         game: &'a str,
         /// The name of the certificate.
         certificate: &'a str,
+    },
+    /// Play a side of a game by a certificate.
+    Play {
+        /// The name of the game.
+        game: &'a str,
+        /// The name of the certificate.
+        certificate: &'a str,
+        /// The side.
+        side: Side,
     },
 }
 
@@ -25,15 +36,35 @@ fn is_dashed(word: &str) -> bool
     }
 }
 
+/// Whether both words can name files.
+fn are_names(first: &str, second: &str) -> bool
+    ensures { result ≡ are_names first.now second.now }
+{
+    !is_dashed(first) && !is_dashed(second)
+}
+
 /// The meaning of the words; none where they have none.
 pub fn read_words(words: &[String]) -> Option<Command<'_>>
     ensures { option_map ordered result ≡ meaning_of (map string_bytes words.now) }
 {
     match words {
         [name, game, certificate]
-            if name.as_bytes() == b"check".as_slice()
-                && !is_dashed(game)
-                && !is_dashed(certificate) => Some(Command::Check { game, certificate }),
+            if name.as_bytes() == b"check".as_slice() && are_names(game, certificate) => {
+            Some(Command::Check { game, certificate })
+        }
+        [name, game, certificate, option, side]
+            if name.as_bytes() == b"play".as_slice()
+                && are_names(game, certificate)
+                && option.as_bytes() == b"--side".as_slice() => {
+            match Side::from_word(side.as_bytes()) {
+                Some(side) => Some(Command::Play {
+                    game,
+                    certificate,
+                    side,
+                }),
+                None => None,
+            }
+        }
         _ => None,
     }
 }

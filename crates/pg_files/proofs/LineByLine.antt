@@ -4,7 +4,8 @@ use Rattle.std.specs.Prelude.{IfOk}
 use Rattle.std.specs.List.{before_first, after_first}
 use Rattle.std.proofs.lemmas.List.{nil_from_length}
 use Rattle.pg_files.specs.declared.fault.Fault.{Fault}
-use Rattle.pg_files.specs.Text.{Bytes, lines}
+use Rattle.pg_text.specs.Text.{Bytes}
+use Rattle.pg_files.specs.Text.{lines}
 use Rattle.pg_files.specs.GameFile.{Draft, go_on, after, reading}
 use Rattle.pg_files.specs.declared.fault.ReadError.{ReadError}
 use Rattle.pg_files.specs.declared.fault.ReadError.TheVariants as errors

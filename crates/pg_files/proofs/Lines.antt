@@ -9,7 +9,8 @@ use Rattle.std.specs.List.{slice_split, position, position_or_len, before_first,
 use Rattle.std.proofs.lemmas.Bool.{cases_lt}
 use Rattle.std.proofs.lemmas.List.Splits.{slice_split_first, slice_split_none, length-slice_split}
 use Rattle.std.proofs.lemmas.Bool.Decides.{nat_tests}
-use Rattle.pg_files.specs.Text.{Bytes, without_empty_end, lines}
+use Rattle.pg_text.specs.Text.{Bytes}
+use Rattle.pg_files.specs.Text.{without_empty_end, lines}
 
 abbrev pub is_feed : ℕ → Bool
 is_feed b = b == 10

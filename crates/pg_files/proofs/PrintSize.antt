@@ -20,10 +20,12 @@ use Rattle.pg_game.specs.declared.field.Field.TheVariants as fields
 use Rattle.pg_game.specs.declared.field.LineField.{LineField}
 use Rattle.pg_game.specs.Field.{field_points}
 use Rattle.pg_game.specs.Fit.{IsLineOf, AreLinesOf, IsBoard, IsFit}
-use Rattle.pg_files.specs.Text.{Bytes}
+use Rattle.pg_text.specs.Text.{Bytes, spaced}
 use Rattle.pg_files.specs.Sets.{members}
-use Rattle.pg_files.specs.Print.{spaced, spelled, header, numbered, worded, marked, size_words, edge_words, field_words, printed, printed_lines}
-use Rattle.pg_files.specs.Key.{key_name, kind_name, side_name}
+use Rattle.pg_files.specs.Print.{spelled, header, numbered, worded, marked, size_words, edge_words, field_words, printed, printed_lines}
+use Rattle.pg_base.specs.Kind.{kind_word}
+use Rattle.pg_base.specs.Side.{side_word}
+use Rattle.pg_files.specs.Key.{key_name}
 use Rattle.pg_files.specs.GameFile.{Entry}
 use Rattle.pg_files.specs.declared.key.Key.{Key}
 use Rattle.pg_files.specs.declared.key.Key.TheVariants as keys
@@ -105,13 +107,13 @@ numbered_len key ns small =
     let b : length (spaced (numbered key ns)) ≡ length (key_name key) + length (flat_map (λ (w : Bytes). 32 ∷ w) (map decimal ns)) = length-append (key_name key) (flat_map (λ (w : Bytes). 32 ∷ w) (map decimal ns)) in
     omega (arith, a, b, key_len key, others_len ns small)
 
-kind_line_len : (kind : Kind) → length (spelled (worded keys.Kind (kind_name kind))) ≤ 24
+kind_line_len : (kind : Kind) → length (spelled (worded keys.Kind (kind_word kind))) ≤ 24
 kind_line_len kinds.MakerBreaker = lit≤ tt
 kind_line_len kinds.MakerMaker = lit≤ tt
 kind_line_len kinds.AvoiderEnforcer = lit≤ tt
 kind_line_len kinds.Switching = lit≤ tt
 
-turn_line_len : (side : Side) → length (spelled (worded keys.Turn (side_name side))) ≤ 9
+turn_line_len : (side : Side) → length (spelled (worded keys.Turn (side_word side))) ≤ 9
 turn_line_len sides.X = lit≤ tt
 turn_line_len sides.Y = lit≤ tt
 
@@ -195,16 +197,16 @@ printed_small g fit =
     let field = few_points g.field (record { on_lines = fit.on_lines; on_graph = fit.on_graph }) in
     let x = smaller (field_points g.field) (members g.x) field.0 (below-members (field_points g.field) g.x fit.x_range) in
     let y = smaller (field_points g.field) (members g.y) field.0 (below-members (field_points g.field) g.y fit.y_range) in
-    let parts = parts_len header (worded keys.Kind (kind_name g.kind)) (worded keys.Turn (side_name g.turn)) (field_words g.field) (marked keys.X (members g.x)) (marked keys.Y (members g.y)) in
-    let kind_words : AreWords (worded keys.Kind (kind_name g.kind)) = rw (kind_is_word g.kind) refl in
-    let turn_words : AreWords (worded keys.Turn (side_name g.turn)) = rw (side_is_word g.turn) refl in (
+    let parts = parts_len header (worded keys.Kind (kind_word g.kind)) (worded keys.Turn (side_word g.turn)) (field_words g.field) (marked keys.X (members g.x)) (marked keys.Y (members g.y)) in
+    let kind_words : AreWords (worded keys.Kind (kind_word g.kind)) = rw (kind_is_word g.kind) refl in
+    let turn_words : AreWords (worded keys.Turn (side_word g.turn)) = rw (side_is_word g.turn) refl in (
       (
         refl,
         (
           kind_words,
-          both_words (field_words g.field) (marked keys.X (members g.x) ++ (marked keys.Y (members g.y) ++ worded keys.Turn (side_name g.turn) ∷ [])) field.1.0
-              (both_words (marked keys.X (members g.x)) (marked keys.Y (members g.y) ++ worded keys.Turn (side_name g.turn) ∷ []) (marks_words keys.X (members g.x) x)
-              (both_words (marked keys.Y (members g.y)) (worded keys.Turn (side_name g.turn) ∷ []) (marks_words keys.Y (members g.y) y) (turn_words, tt))),
+          both_words (field_words g.field) (marked keys.X (members g.x) ++ (marked keys.Y (members g.y) ++ worded keys.Turn (side_word g.turn) ∷ [])) field.1.0
+              (both_words (marked keys.X (members g.x)) (marked keys.Y (members g.y) ++ worded keys.Turn (side_word g.turn) ∷ []) (marks_words keys.X (members g.x) x)
+              (both_words (marked keys.Y (members g.y)) (worded keys.Turn (side_word g.turn) ∷ []) (marks_words keys.Y (members g.y) y) (turn_words, tt))),
         ),
       ),
       sum_len (length (printed g)) _ _ _ _ _ _ (ap length (printed_parts g) ∙ parts) (lit≤ tt) (kind_line_len g.kind) field.1.1 (marks_len keys.X (members g.x) x (members-length g.x)) (marks_len keys.Y (members g.y) y (members-length g.y)) (turn_line_len g.turn),

@@ -17,10 +17,13 @@ use Rattle.pg_base.specs.declared.kind.Kind.TheVariants as kinds
 use Rattle.pg_base.specs.declared.side.Side.{Side}
 use Rattle.pg_base.specs.declared.side.Side.TheVariants as sides
 use Rattle.pg_game.specs.Fit.{AreBelow, IsLineOf, is_switching}
-use Rattle.pg_files.specs.Text.{Bytes, words, lines, number, numbers}
+use Rattle.pg_text.specs.Text.{Bytes, number, spaced}
+use Rattle.pg_files.specs.Text.{words, lines, numbers}
 use Rattle.pg_files.specs.Sets.{set_of, ascending, members, repeats}
-use Rattle.pg_files.specs.Print.{spaced, spelled, header, numbered, worded, marked, size_words, edge_words}
-use Rattle.pg_files.specs.Key.{key_name, kind_name, side_name, key_of, rank_of, kind_of, side_of, belongs, needed_rank}
+use Rattle.pg_files.specs.Print.{spelled, header, numbered, worded, marked, size_words, edge_words}
+use Rattle.pg_base.specs.Kind.{kind_word, kind_of}
+use Rattle.pg_base.specs.Side.{side_word, side_of}
+use Rattle.pg_files.specs.Key.{key_name, key_of, rank_of, belongs, needed_rank}
 use Rattle.pg_files.specs.GameFile.{Draft, nothing, after, significant, keyed, reading, is_out_of_place, is_misplaced, lacks_grid, begins_comment, is_printable, points_for, points_so_far, is_outside}
 use Rattle.pg_files.specs.declared.key.Key.{Key}
 use Rattle.pg_files.specs.declared.key.Key.TheVariants as keys
@@ -37,13 +40,13 @@ after_words d w ws e plain =
     let longer : (length (w ∷ ws) == 0) ≡ false = grind (arith, nat_tests) in
     rw (spaced_printable (w ∷ ws) e, plain, words_spaced w ws e, longer) refl
 
-kind_again : (kind : Kind) → kind_of (kind_name kind) ≡ Some kind
+kind_again : (kind : Kind) → kind_of (kind_word kind) ≡ Some kind
 kind_again kinds.MakerBreaker = refl
 kind_again kinds.MakerMaker = refl
 kind_again kinds.AvoiderEnforcer = refl
 kind_again kinds.Switching = refl
 
-side_again : (side : Side) → side_of (side_name side) ≡ Some side
+side_again : (side : Side) → side_of (side_word side) ≡ Some side
 side_again sides.X = refl
 side_again sides.Y = refl
 
@@ -86,13 +89,13 @@ key_is_plain keys.X arguments = refl
 key_is_plain keys.Y arguments = refl
 key_is_plain keys.Turn arguments = refl
 
-pub kind_is_word : (kind : Kind) → is_word (kind_name kind) ≡ true
+pub kind_is_word : (kind : Kind) → is_word (kind_word kind) ≡ true
 kind_is_word kinds.MakerBreaker = refl
 kind_is_word kinds.MakerMaker = refl
 kind_is_word kinds.AvoiderEnforcer = refl
 kind_is_word kinds.Switching = refl
 
-pub side_is_word : (side : Side) → is_word (side_name side) ≡ true
+pub side_is_word : (side : Side) → is_word (side_word side) ≡ true
 side_is_word sides.X = refl
 side_is_word sides.Y = refl
 
@@ -194,7 +197,7 @@ pub keyed_y : (d : Draft) (ns : List ℕ) → is_out_of_place d keys.Y ≡ false
 unfolding keyed
 keyed_y d ns place below small different = let again = numbers_decimals ns small in rw (place, again, below, different) refl
 
-pub keyed_turn : (d : Draft) (turn : Side) → is_out_of_place d keys.Turn ≡ false → keyed d keys.Turn (side_name turn ∷ []) ≡ Ok (record d { rank = 7; turn = Some turn })
+pub keyed_turn : (d : Draft) (turn : Side) → is_out_of_place d keys.Turn ≡ false → keyed d keys.Turn (side_word turn ∷ []) ≡ Ok (record d { rank = 7; turn = Some turn })
 unfolding keyed
 keyed_turn d turn place = rw (place, side_again turn) refl
 
@@ -202,7 +205,7 @@ keyed_turn d turn place = rw (place, side_again turn) refl
 abbrev pub of_kind : Kind → Draft
 of_kind kind = record nothing { begun = true; rank = 1; kind = Some kind }
 
-pub keyed_kind : (kind : Kind) → keyed (record nothing { begun = true }) keys.Kind (kind_name kind ∷ []) ≡ Ok (of_kind kind)
+pub keyed_kind : (kind : Kind) → keyed (record nothing { begun = true }) keys.Kind (kind_word kind ∷ []) ≡ Ok (of_kind kind)
 unfolding keyed
 keyed_kind kind = rw (kind_again kind) refl
 

@@ -20,10 +20,12 @@ use Rattle.pg_game.specs.declared.field.LineField.{LineField}
 use Rattle.pg_game.specs.declared.game.Game.{Game}
 use Rattle.pg_game.specs.Field.{field_points}
 use Rattle.pg_game.specs.Fit.{AreBelow, ShareNone, IsLineOf, AreLinesOf, IsBoard, IsFit, is_switching}
-use Rattle.pg_files.specs.Text.{Bytes, words, lines}
+use Rattle.pg_text.specs.Text.{Bytes, spaced}
+use Rattle.pg_files.specs.Text.{words, lines}
 use Rattle.pg_files.specs.Sets.{set_of, ascending, members, repeats}
-use Rattle.pg_files.specs.Print.{spaced, spelled, header, numbered, worded, marked, size_words, edge_words, field_words, printed, printed_lines}
-use Rattle.pg_files.specs.Key.{kind_name, side_name}
+use Rattle.pg_files.specs.Print.{spelled, header, numbered, worded, marked, size_words, edge_words, field_words, printed, printed_lines}
+use Rattle.pg_base.specs.Kind.{kind_word}
+use Rattle.pg_base.specs.Side.{side_word}
 use Rattle.pg_files.specs.GameFile.{Draft, Entry, nothing, after, significant, reading, game, game_of, is_out_of_place, is_misplaced, points_for, points_so_far, field_of}
 use Rattle.pg_files.specs.Views.{entry}
 use Rattle.pg_files.specs.declared.fault.Fault.TheVariants as faults
@@ -194,14 +196,14 @@ marks_y kind d (m ∷ ms) s h six none is below different =
           (after_keyed d keys.Y (map decimal ns) h.begun (decimals_are_words ns small) ∙ keyed_y d ns place below small different ∙ ap (λ (y : FinSet nat_cmp). Ok (record d { rank = 6; y = y })) is),
     )
 
-the_turn : (kind : Kind) (d : Draft) (turn : Side) → TakesMarks kind d → d.rank < 7 → Goes d (text (worded keys.Turn (side_name turn) ∷ [])) (record d { rank = 7; turn = Some turn })
+the_turn : (kind : Kind) (d : Draft) (turn : Side) → TakesMarks kind d → d.rank < 7 → Goes d (text (worded keys.Turn (side_word turn) ∷ [])) (record d { rank = 7; turn = Some turn })
 the_turn kind d turn h seven =
     let place = ap (λ (k : Option Kind). is_misplaced k d keys.Turn) h.kind_is ∙ in_place kind d keys.Turn refl seven h.needed refl in
-    goes_one d (record d { rank = 7; turn = Some turn }) (spaced (worded keys.Turn (side_name turn))) (after_keyed d keys.Turn (side_name turn ∷ []) h.begun (rw (side_is_word turn) refl) ∙ keyed_turn d turn place)
+    goes_one d (record d { rank = 7; turn = Some turn }) (spaced (worded keys.Turn (side_word turn))) (after_keyed d keys.Turn (side_word turn ∷ []) h.begun (rw (side_is_word turn) refl) ∙ keyed_turn d turn place)
 
 -- the marks of both sides and the turn
 tail_goes : (kind : Kind) (d : Draft) (x y : FinSet nat_cmp) (turn : Side) (points : ℕ) → TakesMarks kind d → d.rank < 5 → d.x ≡ empty → d.y ≡ empty → points_so_far d ≡ points → AreBelow x points → AreBelow y points → ShareNone x y
-    → Goes d (text (marked keys.X (members x) ++ (marked keys.Y (members y) ++ worded keys.Turn (side_name turn) ∷ []))) (record d { rank = 7; x = x; y = y; turn = Some turn })
+    → Goes d (text (marked keys.X (members x) ++ (marked keys.Y (members y) ++ worded keys.Turn (side_word turn) ∷ []))) (record d { rank = 7; x = x; y = y; turn = Some turn })
 tail_goes kind d x y turn points h five no_x no_y is x_below y_below apart =
     let few : points ≤ 1000 = omega (arith, h.few, is) in
     let x_in : list_all (λ n. nat_lt n (points_so_far d)) (members x) ≡ true = ap (λ k. list_all (λ n. nat_lt n k) (members x)) is ∙ below-members points x x_below in
@@ -216,8 +218,8 @@ tail_goes kind d x y turn points h five no_x no_y is x_below y_below apart =
     let h2 : TakesMarks kind d2 = record { begun = h.begun; kind_is = h.kind_is; needed = b.1; few = h.few } in
     let e = the_turn kind d2 turn h2 b.2 in
     let d3 : Draft = record d2 { rank = 7; turn = Some turn } in
-    goes_both d d1 d3 (marked keys.X (members x)) (marked keys.Y (members y) ++ worded keys.Turn (side_name turn) ∷ []) a.3
-    (goes_both d1 d2 d3 (marked keys.Y (members y)) (worded keys.Turn (side_name turn) ∷ []) b.3 e)
+    goes_both d d1 d3 (marked keys.X (members x)) (marked keys.Y (members y) ++ worded keys.Turn (side_word turn) ∷ []) a.3
+    (goes_both d1 d2 d3 (marked keys.Y (members y)) (worded keys.Turn (side_word turn) ∷ []) b.3 e)
 
 -- ---- the first lines
 
@@ -225,11 +227,11 @@ header_is : after nothing (spaced header) ≡ Ok (record nothing { begun = true 
 unfolding after significant words
 header_is = refl
 
-head_goes : (kind : Kind) → Goes nothing (text (header ∷ worded keys.Kind (kind_name kind) ∷ [])) (of_kind kind)
+head_goes : (kind : Kind) → Goes nothing (text (header ∷ worded keys.Kind (kind_word kind) ∷ [])) (of_kind kind)
 head_goes kind =
     let d1 : Draft = record nothing { begun = true } in
-    goes_then nothing d1 (of_kind kind) (spaced header ∷ []) (spaced (worded keys.Kind (kind_name kind)) ∷ []) (goes_one nothing d1 (spaced header) header_is)
-    (goes_one d1 (of_kind kind) (spaced (worded keys.Kind (kind_name kind))) (after_keyed d1 keys.Kind (kind_name kind ∷ []) refl (rw (kind_is_word kind) refl) ∙ keyed_kind kind))
+    goes_then nothing d1 (of_kind kind) (spaced header ∷ []) (spaced (worded keys.Kind (kind_word kind)) ∷ []) (goes_one nothing d1 (spaced header) header_is)
+    (goes_one d1 (of_kind kind) (spaced (worded keys.Kind (kind_word kind))) (after_keyed d1 keys.Kind (kind_word kind ∷ []) refl (rw (kind_is_word kind) refl) ∙ keyed_kind kind))
 
 -- the draft after the number of points or the grid
 abbrev of_size : Kind → ℕ → Option Grid → Draft
@@ -331,9 +333,9 @@ at_end d g = record d { rank = 7; x = g.x; y = g.y; turn = Some g.turn }
 -- what is read of the field is all that is left to show
 file_goes : (g : Entry) (d : Draft) → IsFit g.kind g.field g.x g.y 1 → Goes (of_kind g.kind) (text (field_words g.field)) d → TakesMarks g.kind d → d.rank < 5 → d.x ≡ empty → d.y ≡ empty → points_so_far d ≡ field_points g.field → Goes nothing (text (printed_lines g)) (at_end d g)
 file_goes g d fit field takes five no_x no_y is =
-    let tail = marked keys.X (members g.x) ++ (marked keys.Y (members g.y) ++ worded keys.Turn (side_name g.turn) ∷ []) in
+    let tail = marked keys.X (members g.x) ++ (marked keys.Y (members g.y) ++ worded keys.Turn (side_word g.turn) ∷ []) in
     let marks = tail_goes g.kind d g.x g.y g.turn (field_points g.field) takes five no_x no_y is fit.x_range fit.y_range fit.disjoint in
-    goes_then nothing (of_kind g.kind) (at_end d g) (text (header ∷ worded keys.Kind (kind_name g.kind) ∷ [])) (text (field_words g.field ++ tail)) (head_goes g.kind)
+    goes_then nothing (of_kind g.kind) (at_end d g) (text (header ∷ worded keys.Kind (kind_word g.kind) ∷ [])) (text (field_words g.field ++ tail)) (head_goes g.kind)
     (goes_both (of_kind g.kind) d (at_end d g) (field_words g.field) tail field marks)
 
 chosen : (begun : Bool) (kind : Option Kind) (turn : Option Side) (d : Draft) (g : Entry) → begun ≡ true → kind ≡ Some g.kind → turn ≡ Some g.turn → field_of g.kind d ≡ g.field → d.x ≡ g.x → d.y ≡ g.y

@@ -19,9 +19,11 @@ use Rattle.pg_game.specs.declared.field.Field.{Field}
 use Rattle.pg_game.specs.declared.field.Field.TheVariants as fields
 use Rattle.pg_game.specs.declared.field.LineField.{LineField}
 use Rattle.pg_game.specs.Fit.{AreBelow, ShareNone, IsLineOf, AreLinesOf, IsBoard, IsFit, is_switching, greatest_bias}
-use Rattle.pg_files.specs.Text.{Bytes, lines, words, number, numbers, then_numbers}
+use Rattle.pg_text.specs.Text.{Bytes, number}
+use Rattle.pg_files.specs.Text.{lines, words, numbers, then_numbers}
 use Rattle.pg_files.specs.Sets.{set_of, ascending, repeats}
-use Rattle.pg_files.specs.Key.{rank_of, key_of, kind_of, belongs, needed_rank}
+use Rattle.pg_base.specs.Kind.{kind_of}
+use Rattle.pg_files.specs.Key.{rank_of, key_of, belongs, needed_rank}
 use Rattle.pg_files.specs.GameFile.{Draft, least, unless, keyed_faults, keyed_fault, said, with_numbers, keyed, significant, after, numbers_of, first_number, second_number, first, rest, nothing, named, is_header, begins_comment, is_printable, reading, go_on, is_misplaced, is_outside, points_for, field_of, Entry, game, ended, game_of}
 use Rattle.pg_files.specs.declared.fault.Fault.{Fault}
 use Rattle.pg_files.specs.declared.fault.Fault.TheVariants as faults

@@ -12,8 +12,10 @@ use Rattle.std.proofs.lemmas.List.Elements.{All-from_recursion}
 use Rattle.std.proofs.lemmas.List.Splits.{slice_split_at, slice_split_none, length-slice_split}
 use Rattle.std.proofs.lemmas.Str.Parse.{digit_from_value}
 use Rattle.std.proofs.lemmas.Bool.{ltb-true}
-use Rattle.pg_files.specs.Text.{Bytes, words, lines, without_empty_end, is_numeral, number, numbers, then_numbers}
-use Rattle.pg_files.specs.Print.{spaced, spelled}
+use Rattle.pg_text.specs.Text.{Bytes, number, spaced}
+use Rattle.pg_text.proofs.Decimals.{number_decimal}
+use Rattle.pg_files.specs.Text.{words, lines, without_empty_end, numbers, then_numbers}
+use Rattle.pg_files.specs.Print.{spelled}
 use Rattle.pg_files.specs.GameFile.{is_printable}
 use Rattle.pg_files.proofs.TextLemmas.{both_true}
 use Rattle.pg_files.proofs.Lines.{is_feed, without_empty_end-cons}
@@ -33,14 +35,6 @@ no_break c (b ∷ bs) e small =
 
 pub lacks : (c : ℕ) (w : Bytes) → list_all is_graphic w ≡ true → c < 33 → All (λ b. (b == c) ≡ false) w
 lacks c w e small = All-from_recursion (λ b. (b == c) ≡ false) w (no_break c w e small)
-
-zero_is : number (decimal 0) ≡ Some 0
-unfolding number
-zero_is = let e : number (48 ∷ []) ≡ Some 0 = refl in ap number (decimal_digit 0 (lit< tt)) ∙ e
-
-or_true : (b : Bool) {n : ℕ} → cond (b || true) (Some n) None ≡ Some n
-or_true true = refl
-or_true false = refl
 
 -- no byte of printed words is a line feed, and each may stand in a line
 graphic_is : (b : ℕ) → is_graphic b ≡ true → ((b == 10) ≡ false) × (is_printable b ≡ true)
@@ -96,31 +90,6 @@ words_spaced w (v ∷ vs) e =
     let parts = both_true (some w) (list_all is_graphic w) both.0 in
     let cut : slice_split is_space (spaced (w ∷ v ∷ vs)) ≡ w ∷ slice_split is_space (spaced (v ∷ vs)) = slice_split_at is_space w 32 (spaced (v ∷ vs)) (lacks 32 w parts.1 (lit< tt)) refl in
     ap (filter some) cut ∙ rw parts.0 (ap (λ (x : List Bytes). w ∷ x) (words_spaced v vs both.1))
-
-is_digit : (c : ℕ) → 48 ≤ c → c ≤ 57 → is_ascii_digit c ≡ true
-is_digit c low high = grind (arith, nat_tests)
-
-pub all_digits : (w : Bytes) → AllDigits 10 w → list_all is_ascii_digit w ≡ true
-all_digits [] h = refl
-all_digits (c ∷ cs) h =
-    let here : (48 ≤ c) × (c ≤ 57) = digit_from_value c h.0 in
-    let e = is_digit c here.0 here.1 in
-    rw e (all_digits cs h.1)
-
-pub numeral_is : (w : Bytes) → 0 < length w → length w < 10 → list_all is_ascii_digit w ≡ true → 48 < get_or w 0 0 → number w ≡ Some (digits_value 10 w)
-unfolding number
-numeral_is w some few digits first =
-    let a : nat_lt 0 (length w) ≡ true = grind (arith, nat_tests) in
-    let b : nat_lt (length w) 10 ≡ true = grind (arith, nat_tests) in
-    let c : (get_or w 0 0 == 48) ≡ false = grind (arith, nat_tests) in
-    rw (a, b, digits, c) (or_true (length w == 1))
-
-pub number_decimal : (n : ℕ) → n < 10 ^ 9 → number (decimal n) ≡ Some n
-number_decimal zero small = zero_is
-number_decimal (suc n) small =
-    let wide : suc n < 2 ^ 64 = omega arith in
-    let numeral = decimal_is_IsNumeral (suc n) wide in
-    numeral_is (decimal (suc n)) numeral.0.0 (omega (arith, length-decimal-le 9 (suc n) (lit< tt) small wide)) (all_digits (decimal (suc n)) numeral.0.1) (first_decimal (suc n) (omega arith) wide) ∙ ap Some numeral.1
 
 pub small_number : (n : ℕ) → nat_lt n 1000 ≡ true → n < 10 ^ 9
 small_number n e = omega (arith, ltb-true n 1000 e)

@@ -10,9 +10,12 @@ use Rattle.pg_base.specs.declared.kind.Kind.TheVariants as kinds
 use Rattle.pg_base.specs.declared.side.Side.{Side}
 use Rattle.pg_game.specs.declared.field.Field.{Field}
 use Rattle.pg_game.specs.declared.field.Field.TheVariants as fields
-use Rattle.pg_files.specs.Text.{Bytes, lines, words, numbers}
+use Rattle.pg_text.specs.Text.{Bytes}
+use Rattle.pg_files.specs.Text.{lines, words, numbers}
 use Rattle.pg_files.specs.Sets.{set_of, ascending, repeats}
-use Rattle.pg_files.specs.Key.{key_of, rank_of, belongs, needed_rank, kind_of, side_of}
+use Rattle.pg_base.specs.Kind.{kind_of}
+use Rattle.pg_base.specs.Side.{side_of}
+use Rattle.pg_files.specs.Key.{key_of, rank_of, belongs, needed_rank}
 use Rattle.pg_files.specs.declared.key.Key.{Key}
 use Rattle.pg_files.specs.declared.key.Key.TheVariants as keys
 use Rattle.pg_files.specs.declared.fault.Fault.{Fault}

@@ -1,11 +1,8 @@
--- The keys of a game file, and the words that some of them take.
+-- The keys of a game file.
 use Rattle.std.specs.Prelude.{ℕ, Bool, true, false, not, Option, Some, None, List, [], ◌∷◌, codes, find, if◌then◌else◌}
 use Rattle.std.specs.Str.{bytes_eq}
-use Rattle.pg_files.specs.Text.{Bytes}
+use Rattle.pg_text.specs.Text.{Bytes}
 use Rattle.pg_base.specs.declared.kind.Kind.{Kind}
-use Rattle.pg_base.specs.declared.kind.Kind.TheVariants as kinds
-use Rattle.pg_base.specs.declared.side.Side.{Side}
-use Rattle.pg_base.specs.declared.side.Side.TheVariants as sides
 use Rattle.pg_game.specs.Fit.{is_switching}
 use Rattle.pg_files.specs.declared.key.Key.{Key}
 use Rattle.pg_files.specs.declared.key.Key.TheVariants as keys
@@ -65,23 +62,3 @@ needed_rank kind keys.Grid = 1
 needed_rank kind keys.Vertices = 1
 needed_rank kind keys.Terminals = 2
 needed_rank kind _ = if is_switching kind then 3 else 2
-
--- the word that stands for a kind
-abbrev pub kind_name : Kind → Bytes
-kind_name kinds.MakerBreaker = codes "maker-breaker"
-kind_name kinds.MakerMaker = codes "maker-maker"
-kind_name kinds.AvoiderEnforcer = codes "avoider-enforcer"
-kind_name kinds.Switching = codes "switching"
-
--- the kind that a word stands for
-abbrev pub kind_of : Bytes → Option Kind
-kind_of word = find (λ kind. bytes_eq (kind_name kind) word) (kinds.MakerBreaker ∷ kinds.MakerMaker ∷ kinds.AvoiderEnforcer ∷ kinds.Switching ∷ [])
-
--- the word that stands for a side
-abbrev pub side_name : Side → Bytes
-side_name sides.X = codes "x"
-side_name sides.Y = codes "y"
-
--- the side that a word stands for
-abbrev pub side_of : Bytes → Option Side
-side_of word = find (λ side. bytes_eq (side_name side) word) (sides.X ∷ sides.Y ∷ [])

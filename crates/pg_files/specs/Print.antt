@@ -5,17 +5,14 @@ use Rattle.std.specs.Fmt.{decimal}
 use Rattle.pg_base.specs.declared.grid.Grid.{Grid}
 use Rattle.pg_game.specs.declared.field.Field.{Field}
 use Rattle.pg_game.specs.declared.field.Field.TheVariants as fields
-use Rattle.pg_files.specs.Text.{Bytes}
+use Rattle.pg_text.specs.Text.{Bytes, spaced}
 use Rattle.pg_files.specs.Sets.{members}
-use Rattle.pg_files.specs.Key.{key_name, kind_name, side_name}
+use Rattle.pg_base.specs.Kind.{kind_word}
+use Rattle.pg_base.specs.Side.{side_word}
+use Rattle.pg_files.specs.Key.{key_name}
 use Rattle.pg_files.specs.GameFile.{Entry}
 use Rattle.pg_files.specs.declared.key.Key.{Key}
 use Rattle.pg_files.specs.declared.key.Key.TheVariants as keys
-
--- words with a space between each two
-abbrev pub spaced : List Bytes → Bytes
-spaced [] = []
-spaced (word ∷ others) = word ++ flat_map (λ w. 32 ∷ w) others
 
 -- a line of words with its line feed
 abbrev pub spelled : List Bytes → Bytes
@@ -54,7 +51,7 @@ field_words (fields.Graph h) = numbered keys.Vertices (h.vertices ∷ []) ∷ nu
 
 -- the lines of a game, each as its words
 abbrev pub printed_lines : Entry → List (List Bytes)
-printed_lines g = header ∷ worded keys.Kind (kind_name g.kind) ∷ (field_words g.field ++ (marked keys.X (members g.x) ++ (marked keys.Y (members g.y) ++ worded keys.Turn (side_name g.turn) ∷ [])))
+printed_lines g = header ∷ worded keys.Kind (kind_word g.kind) ∷ (field_words g.field ++ (marked keys.X (members g.x) ++ (marked keys.Y (members g.y) ++ worded keys.Turn (side_word g.turn) ∷ [])))
 
 -- The printed text of a game.
 unfoldable pub printed : Entry → Bytes

@@ -1,8 +1,8 @@
-//! The keys of a game file, and the words that some of them take.
+//! The keys of a game file.
 ghost use Rattle.std.specs.Prelude.{◌≡◌};
-ghost use Rattle.pg_files.specs.Key.{key_name, key_of, rank_of, belongs, needed_rank, kind_name, kind_of, side_name, side_of};
+ghost use Rattle.pg_files.specs.Key.{key_name, key_of, rank_of, belongs, needed_rank};
 
-use pg_base::{Kind, Side};
+use pg_base::Kind;
 
 /// What a line speaks of.
 #[derive(Clone, Copy, Debug, PartialEq, Eq)]
@@ -112,57 +112,5 @@ impl Key {
             _ if kind == Kind::Switching => 3,
             _ => 2,
         }
-    }
-}
-
-/// The word that stands for a kind.
-pub fn kind_name(kind: Kind) -> &'static str
-    ensures { result.now ≡ kind_name kind }
-{
-    match kind {
-        Kind::MakerBreaker => "maker-breaker",
-        Kind::MakerMaker => "maker-maker",
-        Kind::AvoiderEnforcer => "avoider-enforcer",
-        Kind::Switching => "switching",
-    }
-}
-
-/// The kind that a word stands for.
-pub fn read_kind(word: &[u8]) -> Option<Kind>
-    ensures { result ≡ kind_of word.now }
-{
-    for kind in [
-        Kind::MakerBreaker,
-        Kind::MakerMaker,
-        Kind::AvoiderEnforcer,
-        Kind::Switching,
-    ] {
-        if kind_name(kind).as_bytes() == word {
-            return Some(kind);
-        }
-    }
-    None
-}
-
-/// The word that stands for a side.
-pub fn side_name(side: Side) -> &'static str
-    ensures { result.now ≡ side_name side }
-{
-    match side {
-        Side::X => "x",
-        Side::Y => "y",
-    }
-}
-
-/// The side that a word stands for.
-pub fn read_side(word: &[u8]) -> Option<Side>
-    ensures { result ≡ side_of word.now }
-{
-    if side_name(Side::X).as_bytes() == word {
-        Some(Side::X)
-    } else if side_name(Side::Y).as_bytes() == word {
-        Some(Side::Y)
-    } else {
-        None
     }
 }

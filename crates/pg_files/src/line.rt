@@ -10,10 +10,11 @@ ghost use Rattle.pg_files.specs.Views.{view, Becomes};
 
 use crate::draft::Draft;
 use crate::fault::{Fault, ReadError};
-use crate::key::{Key, read_kind, read_side};
+use crate::key::Key;
 use crate::sets::{are_below, line_of, repeats, set_of};
-use crate::text::{number, numbers, words};
-use pg_base::{Grid, Kind, PointSet};
+use crate::text::{numbers, words};
+use pg_base::{Grid, Kind, PointSet, Side};
+use pg_text::number;
 use std::alloc::Global;
 
 /// The greatest number of points of a game with lines.
@@ -90,7 +91,7 @@ impl Draft {
             }
             return Err(ReadError::Fault(Fault::Arguments));
         };
-        let Some(kind) = read_kind(word) else {
+        let Some(kind) = Kind::from_word(word) else {
             return Err(ReadError::Fault(Fault::Key));
         };
         if self.is_out_of_place(Key::Kind) {
@@ -334,7 +335,7 @@ impl Draft {
             }
             return Err(ReadError::Fault(Fault::Arguments));
         };
-        let Some(turn) = read_side(word) else {
+        let Some(turn) = Side::from_word(word) else {
             return Err(ReadError::Fault(Fault::Key));
         };
         if self.is_out_of_place(Key::Turn) {

@@ -7,7 +7,7 @@ ghost use Rattle.pg_files.specs.declared.key.Key.TheVariants as keys;
 ghost use Rattle.pg_game.specs.declared.field.Field.TheVariants as fields;
 ghost use Rattle.pg_files.specs.Views.{entry};
 
-use crate::key::{Key, kind_name, side_name};
+use crate::key::Key;
 use crate::sets::members;
 use pg_base::{Grid, Line, Memory};
 use pg_game::{Field, Game, LineField};
@@ -116,10 +116,10 @@ pub fn print_game(alloc: Global, g: &Game) -> Result<Vec<u8>, Memory>
     let y = members(alloc, &g.y)?;
     let mut out = String::new(alloc);
     out.push_str("posgame 1\n")?;
-    put_word(&mut out, Key::Kind, kind_name(g.kind))?;
+    put_word(&mut out, Key::Kind, g.kind.word())?;
     put_field(&mut out, &g.field)?;
     put_marks(&mut out, Key::X, &x)?;
     put_marks(&mut out, Key::Y, &y)?;
-    put_word(&mut out, Key::Turn, side_name(g.turn))?;
+    put_word(&mut out, Key::Turn, g.turn.word())?;
     Ok(out.into_bytes())
 }

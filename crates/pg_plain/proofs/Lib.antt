@@ -6,3 +6,7 @@ pub mod LeafGreatest
 pub mod LeafLaws
 pub mod LeafCounts
 pub mod LastPoint
+pub mod Reached
+pub mod EdgeConditions
+pub mod NearLines
+pub mod LeftPoints

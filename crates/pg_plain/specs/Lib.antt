@@ -1,2 +1,5 @@
 pub mod Classes
+pub mod EdgeSets
 pub mod Leaves
+pub mod PairParts
+pub mod Reach

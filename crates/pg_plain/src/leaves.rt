@@ -11,7 +11,7 @@ use pg_base::{Line, PointSet, Side};
 use pg_game::{Field, Game, Position};
 
 /// The lines, none on a graph.
-fn lines_of(g: &Game) -> &[Line]
+pub(crate) fn lines_of(g: &Game) -> &[Line]
     ensures lines { result.now ≡ lines_of g.now }
     ensures range { All (All (λ v. v < 256)) result.now }
 {
@@ -22,7 +22,7 @@ fn lines_of(g: &Game) -> &[Line]
 }
 
 /// Whether some point of the line is in the set.
-fn is_touched(points: &PointSet, line: &Line) -> bool
+pub(crate) fn is_touched(points: &PointSet, line: &Line) -> bool
     requires { All (λ v. v < 256) line.now }
     ensures { result ≡ is_touched points.now line.now }
 {
@@ -30,7 +30,7 @@ fn is_touched(points: &PointSet, line: &Line) -> bool
 }
 
 /// Whether the line holds the point.
-fn is_on(v: u16, line: &Line) -> bool
+pub(crate) fn is_on(v: u16, line: &Line) -> bool
     ensures { result ≡ is_on v line.now }
 {
     line.as_slice().iter().any(|q| *q == v)

@@ -46,7 +46,7 @@ fn lines_of(alloc: Global, lines: &[&[u16]]) -> Result<Lines, Fail> {
 }
 
 /// The set of these points, which are below 1,024.
-fn set_of(points: &[u16]) -> PointSet {
+pub(crate) fn set_of(points: &[u16]) -> PointSet {
     let mut set = PointSet::empty();
     for &v in points {
         if v < 1024 {
@@ -57,7 +57,7 @@ fn set_of(points: &[u16]) -> PointSet {
 }
 
 /// A game on lines, with X to move.
-fn game_of(
+pub(crate) fn game_of(
     alloc: Global,
     kind: Kind,
     points: u16,
@@ -75,7 +75,7 @@ fn game_of(
 }
 
 /// Noughts and crosses with marks.
-fn marked(alloc: Global, kind: Kind, x: &[u16], y: &[u16]) -> Result<Game, Fail> {
+pub(crate) fn marked(alloc: Global, kind: Kind, x: &[u16], y: &[u16]) -> Result<Game, Fail> {
     let lines = lines_of(alloc, &ROWS)?;
     let field = Field::Lines(LineField {
         points: 9,
@@ -93,7 +93,7 @@ fn value_with(alloc: Global, g: &Game, turn: Side) -> Result<Score, Fail> {
 }
 
 /// A graph with the terminals 0 and 1.
-fn graph_of(alloc: Global, vertices: u16, ends: &[(u16, u16)]) -> Result<Field, Fail> {
+pub(crate) fn graph_of(alloc: Global, vertices: u16, ends: &[(u16, u16)]) -> Result<Field, Fail> {
     Ok(Field::Graph(Graph {
         vertices,
         s: 0,

@@ -1,6 +1,7 @@
 use Rattle.std.proofs.Common.{◌≡◌, ◌++◌, take, map, length}
 use Rattle.std.specs.Prelude.{string_bytes}
-use Rattle.pg_cert.specs.Print.{behind_spaces, pair_word}
+use Rattle.pg_text.specs.Text.{behind_spaces}
+use Rattle.pg_cert.specs.Print.{pair_word}
 use Rattle.pg_cert.proofs.printing.put_pairs.Given as goal
 
 abbrev pub invariant-loop-pair : goal.invariant-loop-pair

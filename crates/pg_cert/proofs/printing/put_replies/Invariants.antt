@@ -1,6 +1,7 @@
 use Rattle.std.proofs.Common.{◌≡◌, ◌++◌, take, map, length}
 use Rattle.std.specs.Prelude.{string_bytes}
-use Rattle.pg_cert.specs.Print.{behind_spaces, reply_word}
+use Rattle.pg_text.specs.Text.{behind_spaces}
+use Rattle.pg_cert.specs.Print.{reply_word}
 use Rattle.pg_cert.proofs.printing.put_replies.Given as goal
 
 abbrev pub invariant-loop-reply : goal.invariant-loop-reply

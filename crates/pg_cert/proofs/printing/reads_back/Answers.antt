@@ -1,5 +1,0 @@
-use Rattle.pg_cert.proofs.Back as back
-use Rattle.pg_cert.proofs.printing.reads_back.Goals as goal
-
-pub returns : goal.returns
-returns c = λ cert within few. back.reads_back cert within few

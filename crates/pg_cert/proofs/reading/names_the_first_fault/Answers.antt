@@ -1,5 +1,0 @@
-use Rattle.pg_cert.proofs.FirstFaults.{first_fault}
-use Rattle.pg_cert.proofs.reading.names_the_first_fault.Goals as goal
-
-pub returns : goal.returns
-returns c = λ text fault number e. first_fault text fault number e

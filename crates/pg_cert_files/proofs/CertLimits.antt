@@ -1,0 +1,264 @@
+-- A certificate that is read is within the limits.
+use Rattle.std.proofs.Common.{◌≡◌, ℕ, zero, suc, ◌+◌, ◌-◌, ◌<◌, ◌≤◌, lit≤, Bool, true, false, cond, ◌&&◌, ◌||◌, inl, inr, List, [], ◌∷◌, ◌++◌, length, arith, refl, sym, ap, subst, ◌∙◌, Option, Some, None, Result, Ok, Err}
+use Rattle.std.specs.Prelude.{◌==◌, nat_lt, nat_le, not, fold, sum_by, codes, IfNone}
+use Rattle.std.specs.List.{All, AllByRecursion}
+use Rattle.std.specs.Str.{bytes_eq}
+use Rattle.std.proofs.lemmas.Bool.{ltb-true, ltb-false}
+use Rattle.std.proofs.lemmas.Bool.Decides.{nat_tests}
+use Rattle.std.proofs.lemmas.List.{length-append, append-nil}
+use Rattle.std.proofs.lemmas.List.Elements.{All-from_recursion}
+use Rattle.std.proofs.lemmas.List.Sums.{sum_by_push}
+use Rattle.pg_text.specs.Text.{Bytes, number}
+use Rattle.pg_cert_files.specs.Form.{has_bar}
+use Rattle.pg_cert_files.specs.NodeLine.{node_line}
+use Rattle.pg_cert_files.specs.Lines.{lines, head_of, count_of}
+use Rattle.pg_cert_files.specs.CertFile.{Step, start, header_step, claimed, claim_step, numbered, counted, count_step, behind, node_step, step_due, step, Seen, nothing, listed, taken, goes_on, after, seen, end_fault, or_at_end, outcome, fault_of, parts_of, Gathered, last_claim, closed, with_part, none_gathered, gathered, unless_faulty, certificate, at_number}
+use Rattle.pg_cert.specs.Limits.{IsNode, IsClaim, IsWithinLimits, node_count}
+use Rattle.pg_cert_files.specs.declared.fault.Fault.{Fault}
+use Rattle.pg_cert_files.specs.declared.fault.Fault.TheVariants as faults
+use Rattle.pg_cert_files.specs.declared.part.Head.{Head}
+use Rattle.pg_cert_files.specs.declared.part.Part.{Part}
+use Rattle.pg_cert_files.specs.declared.part.Part.TheVariants as parts
+use Rattle.pg_cert_files.specs.declared.progress.Due.{Due}
+use Rattle.pg_cert_files.specs.declared.progress.Due.TheVariants as due
+use Rattle.pg_cert_files.specs.declared.progress.Progress.{Progress}
+use Rattle.pg_cert.specs.declared.node.Node.{Node}
+use Rattle.pg_cert.specs.declared.cert.Claim.{Claim}
+use Rattle.pg_cert.specs.declared.cert.Cert.{Cert}
+use Rattle.pg_cert_files.proofs.NodeLimits.{ok_is, err_not, then_ok, chosen, or_false, done, node_ok}
+use Rattle.pg_cert_files.proofs.WholeFile.{gathered_more, gathered_none}
+
+-- claims that are whole, so many, with so many nodes
+pub record AreTold (claims nodes : ℕ) (cs : List Claim) : Type 0 where
+  pub count : length cs ≡ claims
+  pub few : claims ≤ 8
+  pub each : AllByRecursion IsClaim cs
+  pub sum : node_count cs ≡ nodes
+  pub room : nodes ≤ 200000
+
+-- a claim whose nodes come, behind the next of which so many others stand
+pub record AreComing (others : ℕ) (p : Progress) (g : Gathered) : Type 0 where
+  pub head : Head
+  pub is : g.head ≡ Some head
+  pub claims : ℕ
+  pub before : ℕ
+  pub counted : p.claims ≡ claims + 1
+  pub few : claims < 8
+  pub whole : AreTold claims before g.whole
+  pub nodes : AllByRecursion IsNode g.nodes
+  pub total : length g.nodes + (others + 1) ≤ 100000
+  pub sum : p.nodes ≡ before + (length g.nodes + (others + 1))
+  pub room : p.nodes ≤ 200000
+
+abbrev IsSound : Due → Progress → Gathered → Type 0
+IsSound due.Header p g = (g ≡ none_gathered) × (p.claims ≡ 0) × (p.nodes ≡ 0)
+IsSound due.Claim p g = AreTold p.claims p.nodes (closed g)
+IsSound (due.Count head) p g = (n : ℕ) × (p.claims ≡ n + 1) × (n < 8) × AreTold n p.nodes (closed g)
+IsSound (due.Node others) p g = AreComing others p g
+
+abbrev Next : Type 0
+Next = Progress × Option Part
+
+-- what was gathered with the part of a line fits what is due after it
+abbrev IsKept : Gathered → Next → Type 0
+IsKept g next = IsSound next.0.due next.0 (fold with_part g (listed next.1))
+
+sound_header : (p : Progress) (g : Gathered) (line : Bytes) (next : Next) → IsSound due.Header p g → header_step p line ≡ Ok next → IsKept g next
+sound_header p g line next sound e =
+    let made : Next = (record p { due = due.Claim }, None) in
+    elim (chosen (bytes_eq line (codes "posgame-cert 1")) (done made) (Err faults.Header) (Ok next) e) [
+      | inl h ↦ subst (IsKept g) (ok_is made next h.1) (rw sound.0 (record { count = sym sound.1; few = omega (arith, sound.1); each = tt; sum = sym sound.2; room = omega (arith, sound.2) }))
+      | inr h ↦ err_not faults.Header next (IsKept g next) h.1
+    ]
+
+sound_claimed : (p : Progress) (g : Gathered) (head : Option Head) (next : Next) → IsSound due.Claim p g → claimed p head ≡ Ok next → IsKept g next
+sound_claimed p g None next sound e = absurd cc
+sound_claimed p g (Some head) next sound e =
+    let made : Next = (record p { due = due.Count head; claims = p.claims + 1 }, None) in
+    elim (chosen (nat_le 8 p.claims) (Err faults.Limit) (done made) (Ok next) e) [
+      | inl h ↦ err_not faults.Limit next (IsKept g next) h.1
+      | inr h ↦ let few : p.claims < 8 = grind (arith, nat_tests, h.0) in subst (IsKept g) (ok_is made next h.1) (p.claims, refl, few, sound)
+    ]
+
+sound_claim : (p : Progress) (g : Gathered) (line : Bytes) (next : Next) → IsSound due.Claim p g → claim_step p line ≡ Ok next → IsKept g next
+sound_claim p g line next sound e = elim (chosen (has_bar line) (Err faults.Place) (claimed p (head_of line)) (Ok next) e) [
+  | inl h ↦ err_not faults.Place next (IsKept g next) h.1
+  | inr h ↦ sound_claimed p g (head_of line) next sound h.1
+]
+
+sound_numbered : (head : Head) (p : Progress) (g : Gathered) (n : Option ℕ) (next : Next) → IsSound (due.Count head) p g → numbered head p n ≡ Ok next → IsKept g next
+sound_numbered head p g None next sound e = absurd cc
+sound_numbered head p g (Some n) next sound e =
+    let made : Next = (record p { due = due.Node (n - 1); nodes = p.nodes + n }, Some (parts.Claim head n)) in
+    elim (chosen (n == 0) (Err faults.Number) (cond (nat_lt 100000 n || nat_lt 200000 (p.nodes + n)) (Err faults.Limit) (done made)) (Ok next) e) [
+      | inl h ↦ err_not faults.Number next (IsKept g next) h.1
+      | inr h ↦ elim (chosen (nat_lt 100000 n || nat_lt 200000 (p.nodes + n)) (Err faults.Limit) (done made) (Ok next) h.1) [
+        | inl k ↦ err_not faults.Limit next (IsKept g next) k.1
+        | inr k ↦
+            let limits = or_false (nat_lt 100000 n) (nat_lt 200000 (p.nodes + n)) k.0 in
+            let some : 0 < n = grind (arith, nat_tests, h.0) in
+            let few : n ≤ 100000 = ltb-false 100000 n limits.0 in
+            let room : p.nodes + n ≤ 200000 = ltb-false 200000 (p.nodes + n) limits.1 in
+            subst (IsKept g) (ok_is made next k.1) (record {
+              head = head;
+              is = refl;
+              claims = sound.0;
+              before = p.nodes;
+              counted = sound.1;
+              few = sound.2;
+              whole = sound.3;
+              nodes = tt;
+              total = omega arith;
+              sum = omega arith;
+              room = room;
+            })
+      ]
+    ]
+
+sound_counted : (head : Head) (p : Progress) (g : Gathered) (word : Option Bytes) (next : Next) → IsSound (due.Count head) p g → counted head p word ≡ Ok next → IsKept g next
+sound_counted head p g None next sound e = absurd cc
+sound_counted head p g (Some word) next sound e = sound_numbered head p g (number word) next sound e
+
+push_each : {A : Type 0} (P : A → Type 0) (as_were : List A) (a : A) → AllByRecursion P as_were → P a → AllByRecursion P (as_were ++ a ∷ [])
+push_each P [] a h f = (f, tt)
+push_each P (b ∷ bs) a h f = (h.0, push_each P bs a h.1 f)
+
+-- one node more, where others come
+node_comes : (others : ℕ) (p q : Progress) (g : Gathered) (node : Node) → q.claims ≡ p.claims → q.nodes ≡ p.nodes → AreComing (suc others) p g → IsNode node → AreComing others q (record g { nodes = g.nodes ++ node ∷ [] })
+node_comes others p q g node e f h fits =
+    let len = length-append g.nodes (node ∷ []) in
+    record {
+      head = h.head;
+      is = h.is;
+      claims = h.claims;
+      before = h.before;
+      counted = e ∙ h.counted;
+      few = h.few;
+      whole = h.whole;
+      nodes = push_each IsNode g.nodes node h.nodes fits;
+      total = omega (arith, len, h.total);
+      sum = omega (arith, len, h.sum, f);
+      room = omega (arith, h.room, f);
+    }
+
+abbrev claim_with : Head → List Node → Claim
+claim_with head nodes = record { turn = head.turn; side = head.side; goal = head.goal; nodes = nodes }
+
+-- the last node of a claim
+node_ends : (p q : Progress) (g : Gathered) (node : Node) → q.claims ≡ p.claims → q.nodes ≡ p.nodes → AreComing 0 p g → IsNode node → AreTold q.claims q.nodes (closed (record g { nodes = g.nodes ++ node ∷ [] }))
+node_ends p q g node e f h fits =
+    let len = length-append g.nodes (node ∷ []) in
+    let all = g.nodes ++ node ∷ [] in
+    let claim = claim_with h.head all in
+    let is : closed (record g { nodes = all }) ≡ g.whole ++ claim ∷ [] = ap (λ (o : Option Head). g.whole ++ last_claim o all) h.is in
+    let fit : IsClaim claim = record { some = omega (arith, len); few = omega (arith, len, h.total); nodes = All-from_recursion IsNode all (push_each IsNode g.nodes node h.nodes fits) } in
+    let told : AreTold q.claims q.nodes (g.whole ++ claim ∷ []) = record {
+      count = omega (arith, length-append g.whole (claim ∷ []), h.whole.count, h.counted, e);
+      few = omega (arith, h.few, h.counted, e);
+      each = push_each IsClaim g.whole claim h.whole.each fit;
+      sum = omega (arith, sum_by_push (λ (c : Claim). length c.nodes) g.whole claim, h.whole.sum, len, h.sum, f);
+      room = omega (arith, h.room, f);
+    } in
+    subst (AreTold q.claims q.nodes) (sym is) told
+
+pub behind_more : (others : ℕ) → behind (suc others) ≡ due.Node others
+behind_more others =
+    let some : (suc others == 0) ≡ false = grind (arith, nat_tests) in
+    let less : suc others - 1 ≡ others = omega arith in
+    rw (some, less) refl
+
+sound_node : (others : ℕ) (p : Progress) (g : Gathered) (line : Bytes) (next : Next) → IsSound (due.Node others) p g → node_step others p line ≡ Ok next → IsKept g next
+sound_node zero p g line next sound e =
+    let t = then_ok (node_line line) (λ node. done (record p { due = due.Claim }, Some (parts.Node node))) next e in
+    subst (IsKept g) (ok_is (record p { due = due.Claim }, Some (parts.Node t.0)) next t.2) (node_ends p (record p { due = due.Claim }) g t.0 refl refl sound (node_ok line t.0 t.1))
+sound_node (suc others) p g line next sound e =
+    let q : Progress = record p { due = behind (suc others) } in
+    let less : behind (suc others) ≡ due.Node others = behind_more others in
+    let t = then_ok (node_line line) (λ node. done (q, Some (parts.Node node))) next e in
+    let comes : AreComing others q (record g { nodes = g.nodes ++ t.0 ∷ [] }) = node_comes others p q g t.0 refl refl sound (node_ok line t.0 t.1) in
+    subst (IsKept g) (ok_is (q, Some (parts.Node t.0)) next t.2) (subst (λ (d : Due). IsSound d q (record g { nodes = g.nodes ++ t.0 ∷ [] })) (sym less) comes)
+
+sound_due : (d : Due) (p : Progress) (g : Gathered) (line : Bytes) (next : Next) → IsSound d p g → step_due d p line ≡ Ok next → IsKept g next
+sound_due due.Header p g line next sound e = sound_header p g line next sound e
+sound_due due.Claim p g line next sound e = sound_claim p g line next sound e
+sound_due (due.Count head) p g line next sound e = sound_counted head p g (count_of line) next sound e
+sound_due (due.Node others) p g line next sound e = sound_node others p g line next sound e
+
+sound_step : (p : Progress) (g : Gathered) (line : Bytes) (next : Next) → IsSound p.due p g → step p line ≡ Ok next → IsKept g next
+unfolding step
+sound_step p g line next sound e = sound_due p.due p g line next sound e
+
+-- ---- lines
+
+abbrev IsSeen : Seen → Type 0
+IsSeen s = IfNone s.fault (IsSound s.progress.due s.progress (gathered s.parts))
+
+sound_taken : (s : Seen) (r : Step) → ((next : Next) → r ≡ Ok next → IsKept (gathered s.parts) next) → IsSeen (taken s r)
+sound_taken s (Ok next) h = subst (λ (g : Gathered). IsSound next.0.due next.0 g) (sym (gathered_more s.parts (listed next.1))) (h next refl)
+sound_taken s (Err fault) h = tt
+
+sound_goes : (s : Seen) (line : Bytes) (fault : Option (Fault × ℕ)) → IsSeen s → IfNone fault (IsSound s.progress.due s.progress (gathered s.parts)) → IsSeen (goes_on fault s line)
+sound_goes s line None seen sound = sound_taken s (step s.progress line) (λ next e. sound_step s.progress (gathered s.parts) line next sound e)
+sound_goes s line (Some fault) seen sound = seen
+
+sound_after : (s : Seen) (line : Bytes) → IsSeen s → IsSeen (after s line)
+unfolding after
+sound_after s line h = sound_goes s line s.fault h h
+
+sound_lines : (ls : List Bytes) (s : Seen) → IsSeen s → IsSeen (fold after s ls)
+sound_lines [] s h = h
+sound_lines (line ∷ ls) s h = sound_lines ls (after s line) (sound_after s line h)
+
+sound_seen : (ls : List Bytes) → IsSeen (seen ls)
+unfolding seen
+sound_seen ls = sound_lines ls nothing (gathered_none, refl, refl)
+
+-- ---- the end
+
+end_of : (d : Due) (p : Progress) (g : Gathered) → IsSound d p g → end_fault p d ≡ None → AreTold p.claims p.nodes (closed g) × (0 < p.claims)
+end_of due.Header p g sound e = absurd cc
+end_of due.Claim p g sound e = elim (chosen (p.claims == 0) (Some faults.Form) None None e) [
+  | inl h ↦ absurd (cc h.1)
+  | inr h ↦ (sound, grind (arith, nat_tests, h.0))
+]
+end_of (due.Count head) p g sound e = absurd cc
+end_of (due.Node others) p g sound e = absurd cc
+
+none_at : (n : ℕ) (o : Option Fault) → at_number n o ≡ None → o ≡ None
+none_at n None e = refl
+none_at n (Some fault) e = absurd cc
+
+told_within : (claims nodes : ℕ) (cs : List Claim) → AreTold claims nodes cs → 0 < claims → IsWithinLimits (record { claims = cs })
+told_within claims nodes cs told some = record { some = omega (arith, told.count); few = omega (arith, told.count, told.few); claims = All-from_recursion IsClaim cs told.each; nodes = omega (arith, told.sum, told.room) }
+
+ended : (s : Seen) (fault : Option (Fault × ℕ)) → IfNone fault (IsSound s.progress.due s.progress (gathered s.parts)) → or_at_end s fault ≡ None → IsWithinLimits (record { claims = closed (gathered s.parts) })
+ended s None sound e =
+    let t = end_of s.progress.due s.progress (gathered s.parts) sound (none_at (s.count + 1) (end_fault s.progress s.progress.due) e) in
+    told_within s.progress.claims s.progress.nodes (closed (gathered s.parts)) t.0 t.1
+ended s (Some fault) sound e = absurd cc
+
+without_fault : (text : Bytes) → fault_of text ≡ None → IsWithinLimits (record { claims = closed (gathered (parts_of text)) })
+unfolding fault_of parts_of
+without_fault text e = ended (seen (lines text)) (seen (lines text)).fault (sound_seen (lines text)) e
+
+abbrev whole : Cert → Result Cert (Fault × ℕ)
+whole c = Ok c
+
+abbrev cert_or : Cert → Result Cert (Fault × ℕ) → Cert
+cert_or c (Ok d) = d
+cert_or c (Err bad) = c
+
+cert_is : (c d : Cert) → whole c ≡ whole d → c ≡ d
+cert_is c d e = ap (cert_or c) e
+
+within : (o : Option (Fault × ℕ)) (ps : List Part) (c : Cert) → (o ≡ None → IsWithinLimits (record { claims = closed (gathered ps) })) → unless_faulty o ps ≡ Ok c → IsWithinLimits c
+within None ps c h e = subst IsWithinLimits (cert_is (record { claims = closed (gathered ps) }) c e) (h refl)
+within (Some fault) ps c h e = absurd cc
+
+-- what reading gives is within the limits
+pub read_within : (text : Bytes) (c : Cert) → certificate text ≡ Ok c → IsWithinLimits c
+unfolding certificate
+read_within text c e = elim (chosen (nat_lt 268435456 (length text)) (Err (faults.Size, 0)) (unless_faulty (fault_of text) (parts_of text)) (Ok c) e) [
+  | inl h ↦ absurd (cc h.1)
+  | inr h ↦ within (fault_of text) (parts_of text) c (λ none. without_fault text none) h.1
+]

@@ -1,0 +1,12 @@
+pub mod Odd
+pub mod Following
+pub mod SetLists
+pub mod Growing
+pub mod Stands
+pub mod WholeFile
+pub mod NodeLimits
+pub mod CertLimits
+pub mod FirstFaults
+pub mod Words
+pub mod NodeBack
+pub mod Back

@@ -1,0 +1,407 @@
+-- A printed node line is read again as the same node.
+use Rattle.std.proofs.Common.{◌≡◌, ℕ, zero, suc, ◌+◌, ◌%◌, ◌^◌, ◌<◌, ◌≤◌, lit<, lit≤, Bool, true, false, cond, ◌&&◌, ◌||◌, ◌⊎◌, inl, inr, List, [], ◌∷◌, ◌++◌, length, map, arith, refl, sym, ap, subst, ◌∙◌, append_assoc, Option, Some, None, Result, Ok, Err, eqb, ltb}
+use Rattle.std.specs.Prelude.{◌==◌, nat_lt, nat_le, nat_eq, not, codes, is_some}
+use Rattle.std.specs.FinSet.{FinSet, contains, insert, empty, from_list, from_list_push, nat_cmp-IsAntisymmetric, contains-empty}
+use Rattle.std.specs.Fmt.{decimal}
+use Rattle.std.specs.List.{list_all, list_any, All, AllByRecursion}
+use Rattle.std.specs.Ordering.{nat_cmp}
+use Rattle.std.specs.Cmp.{nat_cmp_total}
+use Rattle.std.specs.Str.{bytes_eq}
+use Rattle.std.proofs.lemmas.Bool.{cases_Bool, cases_eq, le-ltb, lt-ltb, false≢true}
+use Rattle.std.proofs.lemmas.Bool.Decides.{nat_tests}
+use Rattle.std.proofs.lemmas.List.{append-nil, length-map, length-append}
+use Rattle.std.proofs.lemmas.Fmt.{decimal_is_IsNumeral}
+use Rattle.std.proofs.lemmas.List.Elements.{All-from_recursion, recursion_from_All}
+use Rattle.pg_base.specs.declared.side.Side.{Side}
+use Rattle.pg_base.specs.declared.side.Side.TheVariants as sides
+use Rattle.pg_base.specs.declared.pair.Pair.{Pair}
+use Rattle.pg_base.specs.WordLemmas.{in_insert, same_points}
+use Rattle.pg_text.specs.Text.{Bytes, Lacks, parts, pair_of, two_parts, four_parts, number, spaced, behind_spaces}
+use Rattle.pg_cert_files.specs.Form.{has_bar, form_of, are_none, are_odd, each_has_one, is_slash, has_one_slash, fits, Shape, with_form, with_body, with_fields, shape_of}
+use Rattle.pg_cert_files.specs.NodeLine.{point_of, child_of, onto, each_of, both_of, if_ascending, ascending_of, field_words, reply_of, points_pair, move_of, word_reply, word_pair, replies_of, is_e, begins_with_e, after_e, before_slash, after_slash, edges_with, edges_of, body_of, meets, node_with, node_of, formed, node_line}
+use Rattle.pg_cert.specs.Limits.{ArePoints, IsReply, IsPair, IsBody, IsNode, ascend_from}
+use Rattle.pg_base.specs.Side.{side_word, side_of}
+use Rattle.pg_cert.specs.Print.{one_where, points_below, set_words, reply_word, pair_word, e_words, edge_words, body_name, body_words, body_text, node_text}
+use Rattle.pg_cert_files.specs.Views.{and_then}
+use Rattle.pg_cert_files.specs.declared.fault.Fault.{Fault}
+use Rattle.pg_cert_files.specs.declared.fault.Fault.TheVariants as faults
+use Rattle.pg_cert_files.specs.declared.form.Form.{Form}
+use Rattle.pg_cert_files.specs.declared.form.Form.TheVariants as forms
+use Rattle.pg_cert.specs.declared.node.Body.{Body}
+use Rattle.pg_cert.specs.declared.node.Body.TheVariants as bodies
+use Rattle.pg_cert.specs.declared.node.Node.{Node}
+use Rattle.pg_cert.specs.declared.reply.Reply.{Reply}
+use Rattle.pg_cert_files.specs.declared.values.Edges.{Edges}
+use Rattle.pg_text.proofs.Cuts.{just_two, four_three}
+use Rattle.pg_cert_files.proofs.NodeLimits.{odd_len}
+use Rattle.pg_text.proofs.Decimals.{IsDigit, all_append, all_of, all_map, decimal_digits, decimal_not, two_decimals}
+use Rattle.pg_cert_files.proofs.Words.{IsPlain, IsQuiet, IsWord, decimal_is_word, lacks_bar, word_quiet, spaced_quiet, words_spaced, point_decimal, child_decimal, each_back, points_back}
+
+-- ---- sets
+
+members_small : (s : FinSet nat_cmp) (n : ℕ) → AllByRecursion (λ p. p < n) (points_below s n)
+unfolding points_below
+members_small s zero = tt
+members_small s (suc n) = all_append (λ p. p < suc n) (points_below s n) (one_where (contains s n) n) (all_of (λ p. p < n) (λ p. p < suc n) (λ p h. omega arith) (points_below s n) (members_small s n)) (one_small (contains s n) n)
+  where
+    one_small : (b : Bool) (n : ℕ) → AllByRecursion (λ p. p < suc n) (one_where b n)
+    one_small true n = (omega arith, tt)
+    one_small false n = tt
+
+members_in : (s : FinSet nat_cmp) (n : ℕ) → AllByRecursion (λ p. contains s p ≡ true) (points_below s n)
+unfolding points_below
+members_in s zero = tt
+members_in s (suc n) = all_append (λ p. contains s p ≡ true) (points_below s n) (one_where (contains s n) n) (members_in s n) (one_in (contains s n) n refl)
+  where
+    one_in : (b : Bool) (n : ℕ) → contains s n ≡ b → AllByRecursion (λ p. contains s p ≡ true) (one_where b n)
+    one_in true n e = (e, tt)
+    one_in false n e = tt
+
+abbrev set_from : List ℕ → FinSet nat_cmp
+set_from ps = from_list ps
+
+one_more : (ps : List ℕ) (b : Bool) (n q : ℕ) → contains (set_from (ps ++ one_where b n)) q ≡ cond b (eqb q n || contains (set_from ps) q) (contains (set_from ps) q)
+one_more ps true n q = ap (λ (s : FinSet nat_cmp). contains s q) (from_list_push nat_cmp_total nat_cmp-IsAntisymmetric ps n) ∙ in_insert (set_from ps) n q
+one_more ps false n q = ap (λ (l : List ℕ). contains (set_from l) q) (append-nil ps)
+
+in_members : (s : FinSet nat_cmp) (n q : ℕ) → contains (set_from (points_below s n)) q ≡ (ltb q n && contains s q)
+unfolding points_below
+in_members s zero q = contains-empty nat_cmp q ∙ ap (λ b. b && contains s q) (sym (le-ltb q 0 (omega arith)))
+in_members s (suc n) q =
+    one_more (points_below s n) (contains s n) n q
+    ∙ elim (cases_Bool (contains s n)) [
+      | inl on ↦ rw on (ap (λ b. eqb q n || b) (in_members s n q) ∙ last_in q on)
+      | inr off ↦ rw off (in_members s n q ∙ last_out q off)
+    ]
+  where
+    last_in : (q : ℕ) → contains s n ≡ true → (eqb q n || (ltb q n && contains s q)) ≡ (ltb q (suc n) && contains s q)
+    last_in q on = elim (cases_eq q n) [ inl e ↦ rw e (grind (arith, nat_tests)) | inr ne ↦ grind (arith, nat_tests) ]
+
+    last_out : (q : ℕ) → contains s n ≡ false → (ltb q n && contains s q) ≡ (ltb q (suc n) && contains s q)
+    last_out q off = elim (cases_eq q n) [ inl e ↦ rw e (grind (arith, nat_tests)) | inr ne ↦ grind (arith, nat_tests) ]
+
+and_false : (b : Bool) → (b && false) ≡ false
+and_false true = refl
+and_false false = refl
+
+-- the set of the points that are printed
+pub set_back : (s : FinSet nat_cmp) → ArePoints s → set_from (points_below s 1024) ≡ s
+set_back s small = same_points (set_from (points_below s 1024)) s (λ q. in_members s 1024 q ∙ elim (cases_Bool (contains s q)) [
+  | inl on ↦ let t : ltb q 1024 ≡ true = lt-ltb q 1024 (small q on) in rw t refl
+  | inr off ↦ rw off (and_false (ltb q 1024))
+])
+
+ascend_push : (m n : ℕ) (ps : List ℕ) → ascend_from m ps ≡ true → AllByRecursion (λ p. p < n) ps → m ≤ n → ascend_from m (ps ++ n ∷ []) ≡ true
+ascend_push m n [] e h le = let t : nat_le m n ≡ true = grind (arith, nat_tests) in rw t refl
+ascend_push m n (p ∷ ps) e h le =
+    let both = both_true (nat_le m p) (ascend_from (p + 1) ps) e in
+    let others = ascend_push (p + 1) n ps both.1 h.1 (omega (arith, h.0)) in
+    rw (both.0, others) refl
+  where
+    both_true : (a b : Bool) → (a && b) ≡ true → (a ≡ true) × (b ≡ true)
+    both_true true b e = (refl, e)
+    both_true false b e = absurd cc
+
+one_ascends : (b : Bool) (n : ℕ) (ps : List ℕ) → ascend_from 0 ps ≡ true → AllByRecursion (λ p. p < n) ps → ascend_from 0 (ps ++ one_where b n) ≡ true
+one_ascends true n ps e h = ascend_push 0 n ps e h (omega arith)
+one_ascends false n ps e h = ap (λ (qs : List ℕ). ascend_from 0 qs) (append-nil ps) ∙ e
+
+members_ascend : (s : FinSet nat_cmp) (n : ℕ) → ascend_from 0 (points_below s n) ≡ true
+unfolding points_below
+members_ascend s zero = refl
+members_ascend s (suc n) = one_ascends (contains s n) n (points_below s n) (members_ascend s n) (members_small s n)
+
+points_are : (ps : List ℕ) → ascend_from 0 ps ≡ true → AllByRecursion (λ p. p < 1024) ps → ascending_of (map decimal ps) ≡ Ok ps
+points_are ps e h = let read = points_back ps h in rw (read, e) refl
+
+pub set_points : (s : FinSet nat_cmp) → ascending_of (set_words s) ≡ Ok (points_below s 1024)
+set_points s = points_are (points_below s 1024) (members_ascend s 1024) (members_small s 1024)
+
+points_words : (ps : List ℕ) → AllByRecursion (λ p. p < 1024) ps → AllByRecursion IsWord (map decimal ps)
+points_words ps h = all_map decimal (λ p. p < 1024) IsWord (λ p k. decimal_is_word p (omega arith)) ps h
+
+pub set_are_words : (s : FinSet nat_cmp) → AllByRecursion IsWord (set_words s)
+set_are_words s = points_words (points_below s 1024) (members_small s 1024)
+
+some_len : (t : Bytes) → 0 < length t → field_words t ≡ parts 32 t
+some_len [] h = absurd (omega arith)
+some_len (b ∷ bs) h = let t : (length (b ∷ bs) == 0) ≡ false = grind (arith, nat_tests) in rw t refl
+
+field_word : (w : Bytes) (ws : List Bytes) → IsWord w → AllByRecursion IsWord ws → 0 < length w → field_words (spaced (w ∷ ws)) ≡ w ∷ ws
+field_word w ws h k some = some_len (spaced (w ∷ ws)) (omega (arith, length-append w (behind_spaces ws))) ∙ words_spaced w ws h k
+
+fields_of : (ps : List ℕ) → AllByRecursion (λ p. p < 1024) ps → field_words (spaced (map decimal ps)) ≡ map decimal ps
+fields_of [] h = refl
+fields_of (p ∷ ps) h = field_word (decimal p) (map decimal ps) (decimal_is_word p (omega (arith, h.0))) (points_words ps h.1) (decimal_is_IsNumeral p (omega (arith, h.0))).0.0
+
+pub field_back : (s : FinSet nat_cmp) → ascending_of (field_words (spaced (set_words s))) ≡ Ok (points_below s 1024)
+field_back s = ap ascending_of (fields_of (points_below s 1024) (members_small s 1024)) ∙ set_points s
+
+none_met : (s : FinSet nat_cmp) (ys : List ℕ) → AllByRecursion (λ v. contains s v ≡ false) ys → list_any (contains s) ys ≡ false
+none_met s [] h = refl
+none_met s (y ∷ ys) h = rw h.0 (none_met s ys h.1)
+
+not_in : (s t : FinSet nat_cmp) (v : ℕ) → (contains s v ≡ true → contains t v ≡ false) → contains t v ≡ true → contains s v ≡ false
+not_in s t v h on = elim (cases_Bool (contains s v)) [
+  | inl there ↦ absurd (false≢true (sym (h there) ∙ on))
+  | inr off ↦ off
+]
+
+apart_back : (s t : FinSet nat_cmp) → ((v : ℕ) → contains s v ≡ true → contains t v ≡ false) → meets s (points_below t 1024) ≡ false
+apart_back s t h = none_met s (points_below t 1024) (all_of (λ v. contains t v ≡ true) (λ v. contains s v ≡ false) (λ v on. not_in s t v (h v) on) (points_below t 1024) (members_in t 1024))
+
+-- ---- bodies
+
+abbrev form_is : Body → Form
+form_is bodies.Over = forms.Over
+form_is (bodies.Move v j) = forms.Move
+form_is (bodies.All rs) = forms.All
+form_is (bodies.Pairs ps) = forms.Pairs
+form_is bodies.Potential = forms.Potential
+form_is (bodies.Trees e a b) = forms.Trees
+form_is (bodies.Cuts e a b) = forms.Cuts
+form_is (bodies.Threat ps) = forms.Threat
+
+form_back : (body : Body) → form_of (body_name body) ≡ Some (form_is body)
+form_back bodies.Over = refl
+form_back (bodies.Move v j) = refl
+form_back (bodies.All rs) = refl
+form_back (bodies.Pairs ps) = refl
+form_back bodies.Potential = refl
+form_back (bodies.Trees e a b) = refl
+form_back (bodies.Cuts e a b) = refl
+form_back (bodies.Threat ps) = refl
+
+plain_at : (b : ℕ) → 32 < b → b < 124 → IsPlain b
+plain_at b low high = (low, high)
+
+name_is_word : (body : Body) → IsWord (body_name body)
+name_is_word bodies.Over = ((lit< tt, lit< tt), ((lit< tt, lit< tt), ((lit< tt, lit< tt), ((lit< tt, lit< tt), tt))))
+name_is_word (bodies.Move v j) = ((lit< tt, lit< tt), ((lit< tt, lit< tt), ((lit< tt, lit< tt), ((lit< tt, lit< tt), tt))))
+name_is_word (bodies.All rs) = ((lit< tt, lit< tt), ((lit< tt, lit< tt), ((lit< tt, lit< tt), tt)))
+name_is_word (bodies.Pairs ps) = ((lit< tt, lit< tt), ((lit< tt, lit< tt), ((lit< tt, lit< tt), ((lit< tt, lit< tt), ((lit< tt, lit< tt), tt)))))
+name_is_word bodies.Potential = ((lit< tt, lit< tt), ((lit< tt, lit< tt), ((lit< tt, lit< tt), ((lit< tt, lit< tt), ((lit< tt, lit< tt), ((lit< tt, lit< tt), ((lit< tt, lit< tt), ((lit< tt, lit< tt), ((lit< tt, lit< tt), tt)))))))))
+name_is_word (bodies.Trees e a b) = ((lit< tt, lit< tt), ((lit< tt, lit< tt), ((lit< tt, lit< tt), ((lit< tt, lit< tt), ((lit< tt, lit< tt), tt)))))
+name_is_word (bodies.Cuts e a b) = ((lit< tt, lit< tt), ((lit< tt, lit< tt), ((lit< tt, lit< tt), ((lit< tt, lit< tt), tt))))
+name_is_word (bodies.Threat ps) = ((lit< tt, lit< tt), ((lit< tt, lit< tt), ((lit< tt, lit< tt), ((lit< tt, lit< tt), ((lit< tt, lit< tt), ((lit< tt, lit< tt), tt))))))
+
+reply_is_word : (r : Reply) → IsReply r → IsWord (reply_word r)
+reply_is_word r h = all_append IsPlain (decimal r.point) (58 ∷ decimal r.child) (decimal_is_word r.point (omega (arith, h.0))) ((lit< tt, lit< tt), decimal_is_word r.child (omega (arith, h.1)))
+
+pair_is_word : (p : Pair) → IsPair p → IsWord (pair_word p)
+pair_is_word p h = all_append IsPlain (decimal p.a) (45 ∷ decimal p.b) (decimal_is_word p.a (omega (arith, h.0))) ((lit< tt, lit< tt), decimal_is_word p.b (omega (arith, h.1)))
+
+edges_are_words : (e : Bool) (a b : FinSet nat_cmp) → AllByRecursion IsWord (edge_words e a b)
+edges_are_words true a b = (((lit< tt, lit< tt), tt), all_append IsWord (set_words a) (codes "/" ∷ set_words b) (set_are_words a) (((lit< tt, lit< tt), tt), set_are_words b))
+edges_are_words false a b = all_append IsWord (set_words a) (codes "/" ∷ set_words b) (set_are_words a) (((lit< tt, lit< tt), tt), set_are_words b)
+
+body_are_words : (body : Body) → IsBody body → AllByRecursion IsWord (body_words body)
+body_are_words bodies.Over h = tt
+body_are_words (bodies.Move v j) h = (decimal_is_word v (omega (arith, h.0)), (decimal_is_word j (omega (arith, h.1)), tt))
+body_are_words (bodies.All rs) h = all_map reply_word IsReply IsWord reply_is_word rs (recursion_from_All IsReply rs h.0)
+body_are_words (bodies.Pairs ps) h = all_map pair_word IsPair IsWord pair_is_word ps (recursion_from_All IsPair ps h)
+body_are_words bodies.Potential h = tt
+body_are_words (bodies.Trees e a b) h = edges_are_words e a b
+body_are_words (bodies.Cuts e a b) h = edges_are_words e a b
+body_are_words (bodies.Threat ps) h = points_words ps (recursion_from_All (λ p. p < 1024) ps h.0)
+
+reply_parts : (r : Reply) → IsReply r → two_parts 58 (reply_word r) ≡ Some (decimal r.point, decimal r.child)
+reply_parts r h = two_decimals 58 r.point r.child (omega (arith, h.0)) (omega (arith, h.1)) (inr (lit< tt))
+
+pair_parts : (p : Pair) → IsPair p → two_parts 45 (pair_word p) ≡ Some (decimal p.a, decimal p.b)
+pair_parts p h = two_decimals 45 p.a p.b (omega (arith, h.0)) (omega (arith, h.1)) (inl (lit< tt))
+
+reply_back : (r : Reply) → IsReply r → word_reply (reply_word r) ≡ Ok r
+reply_back r h =
+    let cut = reply_parts r h in
+    let v = point_decimal r.point h.0 in
+    let j = child_decimal r.child h.1 in
+    ap reply_of cut ∙ rw (v, j) refl
+
+pair_back : (p : Pair) → IsPair p → word_pair (pair_word p) ≡ Ok p
+pair_back p h =
+    let cut = pair_parts p h in
+    let a = point_decimal p.a h.0 in
+    let b = point_decimal p.b h.1 in
+    ap points_pair cut ∙ rw (a, b) refl
+
+each_has : {A : Type 0} (sign : ℕ) (word : A → Bytes) (P : A → Type 0) → ((a : A) → P a → is_some (two_parts sign (word a)) ≡ true) → (all : List A) → AllByRecursion P all → each_has_one sign (map word all) ≡ true
+each_has sign word P h [] k = refl
+each_has sign word P h (a ∷ all) k = let here = h a k.0 in rw here (each_has sign word P h all k.1)
+
+-- ---- sets of edges
+
+abbrev slash : Bytes
+slash = codes "/"
+
+no_slashes : (ps : List ℕ) → AllByRecursion (λ p. p < 1024) ps → AllByRecursion (λ w. is_slash w ≡ false) (map decimal ps)
+no_slashes ps h = all_map decimal (λ p. p < 1024) (λ w. is_slash w ≡ false) (λ p k. decimal_not 47 p (omega arith) (inl (lit< tt))) ps h
+
+before_words : (ws vs : List Bytes) → AllByRecursion (λ w. is_slash w ≡ false) ws → before_slash (ws ++ slash ∷ vs) ≡ ws
+before_words [] vs h = refl
+before_words (w ∷ ws) vs h = rw h.0 (ap (λ (x : List Bytes). w ∷ x) (before_words ws vs h.1))
+
+after_words : (ws vs : List Bytes) → AllByRecursion (λ w. is_slash w ≡ false) ws → after_slash (ws ++ slash ∷ vs) ≡ vs
+after_words [] vs h = refl
+after_words (w ∷ ws) vs h = rw h.0 (after_words ws vs h.1)
+
+no_slash_in : (ws : List Bytes) → AllByRecursion (λ w. is_slash w ≡ false) ws → list_any is_slash ws ≡ false
+no_slash_in [] h = refl
+no_slash_in (w ∷ ws) h = rw h.0 (no_slash_in ws h.1)
+
+one_slash : (ws vs : List Bytes) → AllByRecursion (λ w. is_slash w ≡ false) ws → AllByRecursion (λ w. is_slash w ≡ false) vs → has_one_slash (ws ++ slash ∷ vs) ≡ true
+one_slash [] vs h k = let none = no_slash_in vs k in rw none refl
+one_slash (w ∷ ws) vs h k = rw h.0 (one_slash ws vs h.1 k)
+
+set_no_slashes : (s : FinSet nat_cmp) → AllByRecursion (λ w. is_slash w ≡ false) (set_words s)
+set_no_slashes s = no_slashes (points_below s 1024) (members_small s 1024)
+
+edges_fit : (e : Bool) (a b : FinSet nat_cmp) → has_one_slash (edge_words e a b) ≡ true
+edges_fit true a b = one_slash (set_words a) (set_words b) (set_no_slashes a) (set_no_slashes b)
+edges_fit false a b = one_slash (set_words a) (set_words b) (set_no_slashes a) (set_no_slashes b)
+
+begins_not : (ps : List ℕ) (vs : List Bytes) → AllByRecursion (λ p. p < 1024) ps → (begins_with_e (map decimal ps ++ slash ∷ vs) ≡ false) × (after_e (map decimal ps ++ slash ∷ vs) ≡ map decimal ps ++ slash ∷ vs)
+begins_not [] vs h = (refl, refl)
+begins_not (p ∷ ps) vs h = let no : is_e (decimal p) ≡ false = decimal_not 101 p (omega (arith, h.0)) (inr (lit< tt)) in (no, rw no refl)
+
+edges_start : (e : Bool) (a b : FinSet nat_cmp) → (begins_with_e (edge_words e a b) ≡ e) × (after_e (edge_words e a b) ≡ set_words a ++ slash ∷ set_words b)
+edges_start true a b = (refl, refl)
+edges_start false a b = begins_not (points_below a 1024) (set_words b) (members_small a 1024)
+
+abbrev edges : Bool → FinSet nat_cmp → FinSet nat_cmp → Edges
+edges e a b = record { with_e = e; first = a; second = b }
+
+abbrev read_edges : Edges → Result Edges Fault
+read_edges sets = Ok sets
+
+abbrev read_body : Body → Result Body Fault
+read_body body = Ok body
+
+sets_back : (e : Bool) (a b : FinSet nat_cmp) → ArePoints a → ArePoints b → edges_with e (set_words a ++ slash ∷ set_words b) ≡ Ok (edges e a b)
+sets_back e a b h k =
+    let front : ascending_of (before_slash (set_words a ++ slash ∷ set_words b)) ≡ Ok (points_below a 1024) = ap ascending_of (before_words (set_words a) (set_words b) (set_no_slashes a)) ∙ set_points a in
+    let behind : ascending_of (after_slash (set_words a ++ slash ∷ set_words b)) ≡ Ok (points_below b 1024) = ap ascending_of (after_words (set_words a) (set_words b) (set_no_slashes a)) ∙ set_points b in
+    ap (λ (r : Result (List ℕ) Fault). and_then r (λ first. and_then (ascending_of (after_slash (set_words a ++ slash ∷ set_words b))) (λ second. Ok (edges e (from_list first) (from_list second))))) front
+    ∙ ap (λ (r : Result (List ℕ) Fault). and_then r (λ second. Ok (edges e (from_list (points_below a 1024)) (from_list second)))) behind
+    ∙ ap (λ (s : FinSet nat_cmp). read_edges (edges e s (set_from (points_below b 1024)))) (set_back a h) ∙ ap (λ (s : FinSet nat_cmp). read_edges (edges e a s)) (set_back b k)
+
+edges_back : (e : Bool) (a b : FinSet nat_cmp) → ArePoints a → ArePoints b → edges_of (edge_words e a b) ≡ Ok (edges e a b)
+edges_back e a b h k =
+    let start = edges_start e a b in
+    ap (λ (x : Bool). edges_with x (after_e (edge_words e a b))) start.0 ∙ ap (λ (ws : List Bytes). edges_with e ws) start.1 ∙ sets_back e a b h k
+
+-- ---- the whole body
+
+odd_back : (ps : List ℕ) → length ps % 2 ≡ 1 → are_odd (map decimal ps) ≡ true
+odd_back ps odd = elim (cases_Bool (are_odd (map decimal ps))) [
+  | inl on ↦ on
+  | inr off ↦ let even : length (map decimal ps) % 2 ≡ 0 = (odd_len (map decimal ps)).1 off in absurd (omega (arith, length-map ps decimal))
+]
+
+some_test : {A : Type 0} (o : Option A) (a : A) → o ≡ Some a → is_some o ≡ true
+some_test o a e = rw e refl
+
+body_fits : (body : Body) → IsBody body → fits (form_is body) (body_words body) ≡ true
+body_fits bodies.Over h = refl
+body_fits (bodies.Move v j) h = refl
+body_fits (bodies.All rs) h = each_has 58 reply_word IsReply (λ r k. some_test (two_parts 58 (reply_word r)) (decimal r.point, decimal r.child) (reply_parts r k)) rs (recursion_from_All IsReply rs h.0)
+body_fits (bodies.Pairs ps) h = each_has 45 pair_word IsPair (λ p k. some_test (two_parts 45 (pair_word p)) (decimal p.a, decimal p.b) (pair_parts p k)) ps (recursion_from_All IsPair ps h)
+body_fits bodies.Potential h = refl
+body_fits (bodies.Trees e a b) h = edges_fit e a b
+body_fits (bodies.Cuts e a b) h = edges_fit e a b
+body_fits (bodies.Threat ps) h = odd_back ps h.1
+
+body_back : (body : Body) → IsBody body → body_of (form_is body) (body_words body) ≡ Ok body
+body_back bodies.Over h = refl
+body_back (bodies.Move v j) h = let a = point_decimal v h.0 in let b = child_decimal j h.1 in rw (a, b) refl
+body_back (bodies.All rs) h = let read = each_back word_reply reply_word IsReply reply_back rs (recursion_from_All IsReply rs h.0) in rw (read, h.1) refl
+body_back (bodies.Pairs ps) h = let read = each_back word_pair pair_word IsPair pair_back ps (recursion_from_All IsPair ps h) in rw read refl
+body_back bodies.Potential h = refl
+body_back (bodies.Trees e a b) h = ap (λ (r : Result Edges Fault). and_then r (λ s. read_body (bodies.Trees s.with_e s.first s.second))) (edges_back e a b h.0 h.1)
+body_back (bodies.Cuts e a b) h = ap (λ (r : Result Edges Fault). and_then r (λ s. read_body (bodies.Cuts s.with_e s.first s.second))) (edges_back e a b h.0 h.1)
+body_back (bodies.Threat ps) h = let read = points_back ps (recursion_from_All (λ p. p < 1024) ps h.0) in rw read refl
+
+-- ---- the line
+
+-- a node line without its line feed
+abbrev pub node_line_text : Node → Bytes
+node_line_text n = spaced (set_words n.x) ++ 124 ∷ (spaced (set_words n.y) ++ 124 ∷ (side_word n.turn ++ 124 ∷ body_text n.body))
+
+pub side_is_word : (side : Side) → IsWord (side_word side)
+side_is_word sides.X = ((lit< tt, lit< tt), tt)
+side_is_word sides.Y = ((lit< tt, lit< tt), tt)
+
+pub side_back : (side : Side) → side_of (side_word side) ≡ Some side
+side_back sides.X = refl
+side_back sides.Y = refl
+
+body_quiet : (body : Body) → IsBody body → AllByRecursion IsQuiet (body_text body)
+body_quiet body h = spaced_quiet (body_name body ∷ body_words body) (name_is_word body, body_are_words body h)
+
+abbrev shape_is : Node → Shape
+shape_is n = record { x = spaced (set_words n.x); y = spaced (set_words n.y); turn = n.turn; form = form_is n.body; words = body_words n.body }
+
+four_is : (n : Node) → IsBody n.body → four_parts 124 (node_line_text n) ≡ Some (record { first = spaced (set_words n.x); second = spaced (set_words n.y); third = side_word n.turn; fourth = body_text n.body })
+four_is n h =
+    let last = side_word n.turn ++ 124 ∷ body_text n.body in
+    let others = spaced (set_words n.y) ++ 124 ∷ last in
+    let two = just_two 124 last (side_word n.turn) (body_text n.body) refl (lacks_bar (side_word n.turn) (word_quiet (side_word n.turn) (side_is_word n.turn))) (lacks_bar (body_text n.body) (body_quiet n.body h)) in
+    four_three 124 (node_line_text n) (spaced (set_words n.x)) others (spaced (set_words n.y)) last (side_word n.turn) (body_text n.body) refl (lacks_bar _ (spaced_quiet (set_words n.x) (set_are_words n.x))) refl (lacks_bar _ (spaced_quiet (set_words n.y) (set_are_words n.y))) two
+
+shape_back : (n : Node) → IsBody n.body → shape_of (node_line_text n) ≡ Some (shape_is n)
+unfolding shape_of
+shape_back n h =
+    let side = side_back n.turn in
+    let words = words_spaced (body_name n.body) (body_words n.body) (name_is_word n.body) (body_are_words n.body h) in
+    let form = form_back n.body in
+    let fit = body_fits n.body h in
+    ap with_fields (four_is n h) ∙ rw (side, words, form, fit) refl
+
+bar_behind : (front : Bytes) (others : Bytes) → list_any (λ b. b == 124) (front ++ 124 ∷ others) ≡ true
+bar_behind [] others = refl
+bar_behind (b ∷ bs) others = rw (bar_behind bs others) (or_true (b == 124))
+  where
+    or_true : (b : Bool) → (b || true) ≡ true
+    or_true true = refl
+    or_true false = refl
+
+node_is_back : (n : Node) → IsNode n → node_of (shape_is n) ≡ Ok n
+node_is_back n h =
+    let x = field_back n.x in
+    let y = field_back n.y in
+    let body = body_back n.body h.body in
+    let xs = set_back n.x h.x in
+    let ys = set_back n.y h.y in
+    let apart = apart_back n.x n.y h.apart in
+    rw (x, y, body, xs, apart, ys, sym h.left) refl
+
+-- a printed node line is read as the node
+pub node_back : (n : Node) → IsNode n → node_line (node_line_text n) ≡ Ok n
+unfolding node_line
+node_back n h =
+    let bar = bar_behind (spaced (set_words n.x)) (spaced (set_words n.y) ++ 124 ∷ (side_word n.turn ++ 124 ∷ body_text n.body)) in
+    let shape = shape_back n h.body in
+    rw (bar, shape) (node_is_back n h)
+
+no_feed : (b : ℕ) → IsQuiet b → (b == 10) ≡ false
+no_feed b h = grind (arith, nat_tests, h.0)
+
+quiet_text : (t : Bytes) → AllByRecursion IsQuiet t → AllByRecursion (λ b. (b == 10) ≡ false) t
+quiet_text t h = all_of IsQuiet (λ b. (b == 10) ≡ false) no_feed t h
+
+pub quiet_lacks_feed : (t : Bytes) → AllByRecursion IsQuiet t → Lacks 10 t
+quiet_lacks_feed t h = All-from_recursion (λ b. (b == 10) ≡ false) t (quiet_text t h)
+
+-- no line feed stands in it
+pub node_lacks_feed : (n : Node) → IsNode n → Lacks 10 (node_line_text n)
+node_lacks_feed n h =
+    let P = λ (b : ℕ). (b == 10) ≡ false in
+    All-from_recursion P (node_line_text n)
+    (all_append P (spaced (set_words n.x)) _ (quiet_text _ (spaced_quiet (set_words n.x) (set_are_words n.x))) (
+      refl,
+      all_append P (spaced (set_words n.y)) _ (quiet_text _ (spaced_quiet (set_words n.y) (set_are_words n.y))) (
+        refl,
+        all_append P (side_word n.turn) _ (quiet_text _ (word_quiet (side_word n.turn) (side_is_word n.turn)))
+            (refl, quiet_text (body_text n.body) (body_quiet n.body h.body)),
+      ),
+    ))

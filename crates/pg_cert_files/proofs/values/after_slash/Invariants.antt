@@ -1,0 +1,11 @@
+use Rattle.std.proofs.Common.{◌≡◌, length}
+use Rattle.std.specs.Prelude.{option_map}
+use Rattle.pg_text.specs.Text.{words_of}
+use Rattle.pg_cert_files.specs.NodeLine.{after_slash}
+use Rattle.pg_cert_files.proofs.values.after_slash.Given as goal
+
+abbrev pub invariant-loop-rest : goal.invariant-loop-rest
+invariant-loop-rest l = after_slash (words_of (option_map (λ w. w.now) l.rest)) ≡ after_slash (words_of (option_map (λ w. w.now) l.words))
+
+abbrev pub decreases-loop-rest : goal.decreases-loop-rest
+decreases-loop-rest l = length (words_of (option_map (λ w. w.now) l.rest))

@@ -1,0 +1,94 @@
+-- The form of a node line, save for its numbers.
+use Rattle.std.specs.Prelude.{ℕ, Bool, true, false, ◌&&◌, ◌||◌, not, ◌==◌, if◌then◌else◌, List, [], ◌∷◌, Option, Some, None, is_some, codes}
+use Rattle.std.specs.List.{list_all, list_any, before_first, after_first}
+use Rattle.std.specs.Str.{bytes_eq}
+use Rattle.pg_base.specs.declared.side.Side.{Side}
+use Rattle.pg_base.specs.Side.{side_of}
+use Rattle.pg_text.specs.Text.{Bytes, Four, parts, pair_of, two_parts, four_parts}
+use Rattle.pg_cert_files.specs.declared.form.Form.{Form}
+use Rattle.pg_cert_files.specs.declared.form.Form.TheVariants as forms
+
+-- whether a bar stands in the line
+abbrev pub has_bar : Bytes → Bool
+has_bar line = list_any (λ b. b == 124) line
+
+-- the body that a word begins
+abbrev pub form_of : Bytes → Option Form
+form_of word =
+    if bytes_eq word (codes "over") then Some forms.Over
+    else if bytes_eq word (codes "move") then Some forms.Move
+    else if bytes_eq word (codes "all") then Some forms.All
+    else if bytes_eq word (codes "pairs") then Some forms.Pairs
+    else if bytes_eq word (codes "potential") then Some forms.Potential
+    else if bytes_eq word (codes "trees") then Some forms.Trees
+    else if bytes_eq word (codes "cuts") then Some forms.Cuts
+    else if bytes_eq word (codes "threat") then Some forms.Threat
+    else None
+
+-- no word
+abbrev pub are_none : List Bytes → Bool
+are_none [] = true
+are_none (w ∷ ws) = false
+
+-- two words
+abbrev pub are_two : List Bytes → Bool
+are_two ws = is_some (pair_of ws)
+
+-- an odd number of words
+abbrev pub are_odd : List Bytes → Bool
+are_odd [] = false
+are_odd (w ∷ ws) = not (are_odd ws)
+
+-- each word has the sign once
+abbrev pub each_has_one : ℕ → List Bytes → Bool
+each_has_one sign ws = list_all (λ w. is_some (two_parts sign w)) ws
+
+-- the word between two sets of edges
+abbrev pub is_slash : Bytes → Bool
+is_slash word = bytes_eq word (codes "/")
+
+-- just one of the words is that one
+abbrev pub has_one_slash : List Bytes → Bool
+has_one_slash [] = false
+has_one_slash (w ∷ ws) = if is_slash w then not (list_any is_slash ws) else has_one_slash ws
+
+-- the words behind the first fit the body
+abbrev pub fits : Form → List Bytes → Bool
+fits forms.Over ws = are_none ws
+fits forms.Move ws = are_two ws
+fits forms.All ws = each_has_one 58 ws
+fits forms.Pairs ws = each_has_one 45 ws
+fits forms.Potential ws = are_none ws
+fits forms.Trees ws = has_one_slash ws
+fits forms.Cuts ws = has_one_slash ws
+fits forms.Threat ws = are_odd ws
+
+-- a node line of the right form
+pub record Shape : Type 0 where
+  -- the field of X's points
+  pub x : Bytes
+  -- the field of Y's points
+  pub y : Bytes
+  pub turn : Side
+  pub form : Form
+  -- the words behind the first of the body
+  pub words : List Bytes
+
+-- the line with these fields, if the body has its form
+abbrev pub with_form : Bytes → Bytes → Side → Option Form → List Bytes → Option Shape
+with_form x y turn None ws = None
+with_form x y turn (Some form) ws = if fits form ws then Some (record { x = x; y = y; turn = turn; form = form; words = ws }) else None
+
+-- the same by the words of the body
+abbrev pub with_body : Bytes → Bytes → Option Side → List Bytes → Option Shape
+with_body x y (Some turn) (name ∷ ws) = with_form x y turn (form_of name) ws
+with_body x y _ _ = None
+
+-- the same by the four fields
+abbrev pub with_fields : Option Four → Option Shape
+with_fields (Some f) = with_body f.first f.second (side_of f.third) (parts 32 f.fourth)
+with_fields None = None
+
+-- a line that has the form of a node line
+unfoldable pub shape_of : Bytes → Option Shape
+shape_of line = with_fields (four_parts 124 line)

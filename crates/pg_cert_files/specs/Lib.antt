@@ -1,0 +1,9 @@
+pub mod Views
+pub mod Form
+pub mod NodeLine
+pub mod Lines
+pub mod CertFile
+pub mod Steps
+pub mod Reader
+pub mod Gatherer
+pub mod FirstFault

@@ -1,0 +1,55 @@
+-- A text as its lines, and what claim lines and `nodes` lines say.
+use Rattle.std.specs.Prelude.{ℕ, Bool, ◌==◌, not, if◌then◌else◌, List, [], ◌∷◌, ◌++◌, fold, Option, Some, None, codes}
+use Rattle.std.specs.Str.{bytes_eq}
+use Rattle.pg_base.specs.declared.side.Side.{Side}
+use Rattle.pg_base.specs.declared.goal.Goal.{Goal}
+use Rattle.pg_base.specs.Goal.{goal_of}
+use Rattle.pg_text.specs.Text.{Bytes, Four, two_parts, four_parts}
+use Rattle.pg_base.specs.Side.{side_of}
+use Rattle.pg_cert_files.specs.declared.part.Head.{Head}
+
+-- a text as its whole lines, and what stands after the last line feed
+pub record Cut : Type 0 where
+  -- the lines that have their line feed
+  pub whole : List Bytes
+  pub rest : Bytes
+
+-- one byte more
+abbrev pub with_byte : Cut → ℕ → Cut
+with_byte c b = if b == 10 then record { whole = c.whole ++ c.rest ∷ []; rest = [] } else record c { rest = c.rest ++ b ∷ [] }
+
+-- the text, byte for byte
+unfoldable pub cut : Bytes → Cut
+cut text = fold with_byte (record { whole = []; rest = [] }) text
+
+-- the last line, where it lacks its line feed
+abbrev pub unless_empty : Bytes → List Bytes
+unless_empty [] = []
+unless_empty (b ∷ bs) = (b ∷ bs) ∷ []
+
+-- the lines of a text; the last may lack its line feed
+unfoldable pub lines : Bytes → List Bytes
+lines text = (cut text).whole ++ unless_empty (cut text).rest
+
+-- a claim of two sides and a goal
+abbrev pub head_with : Option Side → Option Side → Option Goal → Option Head
+head_with (Some turn) (Some side) (Some goal) = Some (record { turn = turn; side = side; goal = goal })
+head_with _ _ _ = None
+
+-- what four words claim
+abbrev pub head_of_four : Option Four → Option Head
+head_of_four None = None
+head_of_four (Some f) = if bytes_eq f.first (codes "claim") then head_with (side_of f.second) (side_of f.third) (goal_of f.fourth) else None
+
+-- what a claim line says, if it has the form of one
+unfoldable pub head_of : Bytes → Option Head
+head_of line = head_of_four (four_parts 32 line)
+
+-- the second of two words of which the first is `nodes`
+abbrev pub count_of_two : Option (Bytes × Bytes) → Option Bytes
+count_of_two None = None
+count_of_two (Some p) = if bytes_eq p.0 (codes "nodes") then Some p.1 else None
+
+-- the word of a `nodes` line in which its number stands, if it has the form of one
+unfoldable pub count_of : Bytes → Option Bytes
+count_of line = count_of_two (two_parts 32 line)

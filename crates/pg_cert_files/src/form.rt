@@ -1,0 +1,196 @@
+//! The form of a node line, save for its numbers.
+
+ghost use Rattle.std.specs.Prelude.{◌≡◌, ◌==◌, option_map, is_some};
+ghost use Rattle.std.specs.List.{list_any};
+ghost use Rattle.pg_text.specs.Text.{two_parts, words_of};
+ghost use Rattle.pg_base.specs.Side.{side_of};
+ghost use Rattle.pg_cert_files.specs.Form.{form_of, are_none, are_two, are_odd, each_has_one, is_slash, has_one_slash, fits, shape_of};
+
+use pg_base::Side;
+use pg_text::{first_word, four_parts, two_parts};
+
+/// The eight bodies of a node line.
+#[derive(Clone, Copy, Debug, PartialEq, Eq)]
+pub(crate) enum Form {
+    /// `over`.
+    Over,
+    /// `move`: a point and a child.
+    Move,
+    /// `all`: points, each with a child.
+    All,
+    /// `pairs`: pairs of points.
+    Pairs,
+    /// `potential`.
+    Potential,
+    /// `trees`: two sets of edges.
+    Trees,
+    /// `cuts`: two sets of edges.
+    Cuts,
+    /// `threat`: an odd number of points.
+    Threat,
+}
+
+/// A node line of the right form, cut where its signs stand.
+#[derive(Clone, Copy, Debug)]
+pub(crate) struct Shape<'a> {
+    /// The field of X's points.
+    pub(crate) x: &'a [u8],
+    /// The field of Y's points.
+    pub(crate) y: &'a [u8],
+    /// The side to move.
+    pub(crate) turn: Side,
+    /// Which body it has.
+    pub(crate) form: Form,
+    /// The words behind the first of the body.
+    pub(crate) words: Option<&'a [u8]>,
+}
+
+/// The body that a word begins.
+fn form_of(word: &[u8]) -> Option<Form>
+    ensures { result ≡ form_of word.now }
+{
+    if word == b"over".as_slice() {
+        Some(Form::Over)
+    } else if word == b"move".as_slice() {
+        Some(Form::Move)
+    } else if word == b"all".as_slice() {
+        Some(Form::All)
+    } else if word == b"pairs".as_slice() {
+        Some(Form::Pairs)
+    } else if word == b"potential".as_slice() {
+        Some(Form::Potential)
+    } else if word == b"trees".as_slice() {
+        Some(Form::Trees)
+    } else if word == b"cuts".as_slice() {
+        Some(Form::Cuts)
+    } else if word == b"threat".as_slice() {
+        Some(Form::Threat)
+    } else {
+        None
+    }
+}
+
+/// Whether the word stands between two sets of edges.
+pub(crate) fn is_slash(word: &[u8]) -> bool
+    ensures { result ≡ is_slash word.now }
+{
+    word == b"/".as_slice()
+}
+
+/// Whether there is no word.
+#[tactic(auto, using(crate::proofs::Odd::some_words))]
+fn are_none(words: Option<&[u8]>) -> bool
+    ensures { result ≡ are_none (words_of (option_map (λ w. w.now) words.entry)) }
+{
+    match words {
+        Some(_) => false,
+        None => true,
+    }
+}
+
+/// Whether there are just two words.
+#[tactic(auto, unfolding(pg_text::specs::Text::two_parts))]
+fn are_two(words: Option<&[u8]>) -> bool
+    ensures { result ≡ are_two (words_of (option_map (λ w. w.now) words.entry)) }
+{
+    match words {
+        Some(text) => two_parts(b' ', text).is_some(),
+        None => false,
+    }
+}
+
+/// Whether the number of words is odd.
+fn are_odd(words: Option<&[u8]>) -> bool
+    ensures { result ≡ are_odd (words_of (option_map (λ w. w.now) words.entry)) }
+{
+    let mut odd = false;
+    let mut rest = words;
+    while let Some(text) = rest {
+        let (_, others) = first_word(text);
+        odd = !odd;
+        rest = others;
+    }
+    odd
+}
+
+/// Whether each word has the sign just once.
+fn each_has_one(sign: u8, words: Option<&[u8]>) -> bool
+    ensures { result ≡ each_has_one sign (words_of (option_map (λ w. w.now) words.entry)) }
+{
+    let mut rest = words;
+    while let Some(text) = rest {
+        let (word, others) = first_word(text);
+        if two_parts(sign, word).is_none() {
+            return false;
+        }
+        rest = others;
+    }
+    true
+}
+
+/// Whether one of the words is the one between two sets of edges.
+fn has_slash(words: Option<&[u8]>) -> bool
+    ensures { result ≡ list_any is_slash (words_of (option_map (λ w. w.now) words.entry)) }
+{
+    let mut rest = words;
+    while let Some(text) = rest {
+        let (word, others) = first_word(text);
+        if is_slash(word) {
+            return true;
+        }
+        rest = others;
+    }
+    false
+}
+
+/// Whether just one of the words is that one.
+fn has_one_slash(words: Option<&[u8]>) -> bool
+    ensures { result ≡ has_one_slash (words_of (option_map (λ w. w.now) words.entry)) }
+{
+    let mut rest = words;
+    while let Some(text) = rest {
+        let (word, others) = first_word(text);
+        if is_slash(word) {
+            return !has_slash(others);
+        }
+        rest = others;
+    }
+    false
+}
+
+impl Form {
+    /// Whether the words behind the first fit the body.
+    fn fits(self, words: Option<&[u8]>) -> bool
+        ensures { result ≡ fits self (words_of (option_map (λ w. w.now) words.entry)) }
+    {
+        match self {
+            Form::Over | Form::Potential => are_none(words),
+            Form::Move => are_two(words),
+            Form::All => each_has_one(b':', words),
+            Form::Pairs => each_has_one(b'-', words),
+            Form::Trees | Form::Cuts => has_one_slash(words),
+            Form::Threat => are_odd(words),
+        }
+    }
+}
+
+/// The parts of a line that has the form of a node line.
+#[tactic(auto, unfolding(crate::specs::Form::shape_of))]
+pub(crate) fn shape_of(line: &[u8]) -> Option<Shape>
+    ensures { option_map (λ s. record { x = s.x.now; y = s.y.now; turn = s.turn; form = s.form; words = words_of (option_map (λ w. w.now) s.words) }) result ≡ shape_of line.now }
+{
+    let (x, y, turn, body) = four_parts(b'|', line)?;
+    let turn = Side::from_word(turn)?;
+    let (name, words) = first_word(body);
+    let form = form_of(name)?;
+    if !form.fits(words) {
+        return None;
+    }
+    Some(Shape {
+        x,
+        y,
+        turn,
+        form,
+        words,
+    })
+}

@@ -1,0 +1,151 @@
+//! Which line is due.
+
+ghost use Rattle.std.specs.Prelude.{◌≡◌};
+ghost use Rattle.pg_cert_files.specs.Steps.{Steps};
+ghost use Rattle.pg_cert_files.specs.CertFile.{step, start, header_step, claim_step, count_step, node_step, end_fault};
+
+use crate::fault::{Fault, ReadError};
+use crate::line::{count_of, has_bar, head_of, node_line};
+use crate::part::{Head, Part};
+use pg_text::number;
+use std::alloc::Global;
+
+/// The greatest number of claims in a file.
+const GREATEST_CLAIMS: u32 = 8;
+
+/// The greatest number of nodes in a claim.
+const GREATEST_NODES: u32 = 100_000;
+
+/// The greatest number of nodes in a file.
+const GREATEST_SUM: u64 = 200_000;
+
+/// The line that is due.
+#[derive(Clone, Copy, Debug, PartialEq, Eq)]
+pub(crate) enum Due {
+    /// The first line.
+    Header,
+    /// A claim line, or the end.
+    Claim,
+    /// The `nodes` line of a claim.
+    Count(Head),
+    /// A node, behind which so many others stand.
+    Node(u32),
+}
+
+/// Which line is due, and how many claims and nodes have been told.
+#[derive(Clone, Copy, Debug)]
+pub(crate) struct Progress {
+    /// The line that is due.
+    pub(crate) due: Due,
+    /// How many claims have begun.
+    pub(crate) claims: u32,
+    /// How many nodes their `nodes` lines promise together.
+    pub(crate) nodes: u32,
+}
+
+impl Progress {
+    /// Before the first line.
+    pub(crate) fn new() -> Progress
+        ensures { result ≡ start }
+    {
+        Progress {
+            due: Due::Header,
+            claims: 0,
+            nodes: 0,
+        }
+    }
+
+    /// Reads the first line.
+    fn header(&mut self, line: &[u8]) -> Result<Option<Part>, ReadError>
+        ensures { Steps result self.new (header_step self.old line.now) }
+    {
+        if line != b"posgame-cert 1".as_slice() {
+            return Err(ReadError::Fault(Fault::Header));
+        }
+        self.due = Due::Claim;
+        Ok(None)
+    }
+
+    /// Reads a claim line.
+    fn claim(&mut self, line: &[u8]) -> Result<Option<Part>, ReadError>
+        ensures { Steps result self.new (claim_step self.old line.now) }
+    {
+        if has_bar(line) {
+            return Err(ReadError::Fault(Fault::Place));
+        }
+        let Some(head) = head_of(line) else {
+            return Err(ReadError::Fault(Fault::Form));
+        };
+        if self.claims >= GREATEST_CLAIMS {
+            return Err(ReadError::Fault(Fault::Limit));
+        }
+        self.claims += 1;
+        self.due = Due::Count(head);
+        Ok(None)
+    }
+
+    /// Reads the `nodes` line of a claim.
+    fn count(&mut self, head: Head, line: &[u8]) -> Result<Option<Part>, ReadError>
+        ensures { Steps result self.new (count_step head self.old line.now) }
+    {
+        let Some(word) = count_of(line) else {
+            return Err(ReadError::Fault(Fault::Form));
+        };
+        let Some(nodes) = number(word) else {
+            return Err(ReadError::Fault(Fault::Number));
+        };
+        if nodes == 0 {
+            return Err(ReadError::Fault(Fault::Number));
+        }
+        if nodes > GREATEST_NODES || u64::from(self.nodes) + u64::from(nodes) > GREATEST_SUM {
+            return Err(ReadError::Fault(Fault::Limit));
+        }
+        self.nodes += nodes;
+        self.due = Due::Node(nodes - 1);
+        Ok(Some(Part::Claim { head, nodes }))
+    }
+
+    /// Reads a node line, behind which so many others stand.
+    fn node(&mut self, alloc: Global, others: u32, line: &[u8]) -> Result<Option<Part>, ReadError>
+        ensures { Steps result self.new (node_step others self.old line.now) }
+    {
+        let node = node_line(alloc, line)?;
+        self.due = if others == 0 {
+            Due::Claim
+        } else {
+            Due::Node(others - 1)
+        };
+        Ok(Some(Part::Node(node)))
+    }
+
+    /// Reads the next line.
+    #[tactic(auto, unfolding(crate::specs::CertFile::step))]
+    pub(crate) fn read(&mut self, alloc: Global, line: &[u8]) -> Result<Option<Part>, ReadError>
+        ensures { Steps result self.new (step self.old line.now) }
+    {
+        match self.due {
+            Due::Header => self.header(line),
+            Due::Claim => self.claim(line),
+            Due::Count(head) => self.count(head, line),
+            Due::Node(others) => self.node(alloc, others, line),
+        }
+    }
+
+    /// The fault of a file that ends here.
+    pub(crate) fn end_fault(&self) -> Option<Fault>
+        ensures { result ≡ end_fault self.now self.now.due }
+    {
+        match self.due {
+            Due::Header => Some(Fault::Header),
+            Due::Claim => {
+                if self.claims == 0 {
+                    Some(Fault::Form)
+                } else {
+                    None
+                }
+            }
+            Due::Count(_) => Some(Fault::Form),
+            Due::Node(_) => Some(Fault::Place),
+        }
+    }
+}

@@ -1,0 +1,166 @@
+//! Reading in pieces.
+
+ghost use Rattle.std.specs.Prelude.{◌≡◌, ◌+◌, ◌<◌, ◌≤◌, ◌^◌, ◌++◌, ◌∷◌, [], List, ℕ, take, length, IfOk, IfSome, IfNone, IfErr, MatchResult};
+ghost use Rattle.pg_text.specs.Text.{Lacks};
+ghost use Rattle.pg_cert_files.specs.Steps.{Steps};
+ghost use Rattle.pg_cert_files.specs.CertFile.{step, listed, outcome, fault_of, parts_of};
+ghost use Rattle.pg_cert_files.specs.Reader.{StandsFor, told, IsEnd};
+
+use crate::fault::{CertFault, Fault, ReadError};
+use crate::part::Part;
+use crate::progress::Progress;
+use pg_base::Memory;
+use pg_text::cut_at;
+use std::alloc::Global;
+
+/// A certificate that comes in pieces: what its whole lines have said, and the line in hand.
+#[derive(Debug, Drop)]
+pub(crate) struct CertReader {
+    /// The bytes of the line in hand.
+    pub(crate) pending: Vec<u8>,
+    /// Which line is due.
+    pub(crate) progress: Progress,
+    /// How many lines have come, up to the first that is faulty.
+    pub(crate) count: u32,
+    /// The first fault with the number of its line.
+    pub(crate) fault: Option<(Fault, u32)>,
+}
+
+/// How many bytes were used, and the part that is whole with them.
+#[derive(Debug, Drop)]
+pub(crate) struct Fed {
+    /// How many bytes of the piece were used.
+    pub(crate) used: usize,
+    /// The part that is whole with them.
+    pub(crate) part: Option<Part>,
+}
+
+impl CertReader {
+    /// A reader to which nothing was fed.
+    pub(crate) fn new(alloc: Global) -> CertReader
+        ensures stands { StandsFor result [] }
+        ensures count { result.count ≡ 0 }
+    {
+        CertReader {
+            pending: Vec::new(alloc),
+            progress: Progress::new(),
+            count: 0,
+            fault: None,
+        }
+    }
+
+    /// Keeps bytes of a line that isn't whole yet.
+    fn keep(&mut self, bytes: &[u8]) -> Result<(), Memory>
+        requires { Lacks 10 bytes.now }
+        ensures count { self.new.count ≡ self.old.count }
+        ensures stands { IfOk result (λ _. (text : List ℕ) → StandsFor self.old text → StandsFor self.new (text ++ bytes.now) × (told (text ++ bytes.now) ≡ told text)) }
+    {
+        if self.fault.is_none() {
+            self.pending.extend_from_slice(bytes)?;
+        }
+        Ok(())
+    }
+
+    /// Reads the line in hand, whose last bytes these are.
+    fn read_line(&mut self, alloc: Global, last: &[u8]) -> Result<Option<Part>, ReadError>
+        ensures steps { Steps result self.new.progress (step self.old.progress (self.old.pending.items ++ last.now)) }
+        ensures count { self.new.count ≡ self.old.count }
+        ensures fault { self.new.fault ≡ self.old.fault }
+        ensures pending { IfOk result (λ _. self.new.pending.items ≡ []) }
+    {
+        if self.pending.is_empty() {
+            return self.progress.read(alloc, last);
+        }
+        self.pending.extend_from_slice(last)?;
+        let part = self.progress.read(alloc, &self.pending)?;
+        self.pending.clear();
+        Ok(part)
+    }
+
+    /// Ends the line in hand, whose last bytes these are.
+    fn end_line(&mut self, alloc: Global, last: &[u8]) -> Result<Option<Part>, Memory>
+        requires room { self.old.count < 2 ^ 31 }
+        requires line { Lacks 10 last.now }
+        ensures count { self.new.count ≤ self.old.count + 1 }
+        ensures stands { IfOk result (λ part. (text : List ℕ) → StandsFor self.old text
+            → StandsFor self.new (text ++ (last.now ++ 10 ∷ []))
+            × ((told (text ++ (last.now ++ 10 ∷ []))).parts ≡ (told text).parts ++ listed part)) }
+    {
+        if self.fault.is_some() {
+            return Ok(None);
+        }
+        self.count += 1;
+        match self.read_line(alloc, last) {
+            Ok(part) => Ok(part),
+            Err(ReadError::Memory) => Err(Memory),
+            Err(ReadError::Fault(fault)) => {
+                self.fault = Some((fault, self.count));
+                Ok(None)
+            }
+        }
+    }
+
+    /// Uses bytes of the piece until a part is whole or all are used.
+    pub(crate) fn feed(&mut self, alloc: Global, piece: &[u8]) -> Result<Fed, Memory>
+        requires { self.old.count + length piece.now < 2 ^ 31 }
+        ensures used { IfOk result (λ fed. fed.used ≤ length piece.now) }
+        ensures all { IfOk result (λ fed. IfNone fed.part (fed.used ≡ length piece.now)) }
+        ensures some { IfOk result (λ fed. IfSome fed.part (λ _. 0 < fed.used)) }
+        ensures count { IfOk result (λ fed. self.new.count ≤ self.old.count + fed.used) }
+        ensures stands { IfOk result (λ fed. (text : List ℕ) → StandsFor self.old text
+            → StandsFor self.new (text ++ take fed.used piece.now)
+            × ((told (text ++ take fed.used piece.now)).parts ≡ (told text).parts ++ listed fed.part)) }
+    {
+        let mut rest = piece;
+        while let Some((line, behind)) = cut_at(b'\n', rest) {
+            rest = behind;
+            if let Some(part) = self.end_line(alloc, line)? {
+                return Ok(Fed {
+                    used: piece.len() - rest.len(),
+                    part: Some(part),
+                });
+            }
+        }
+        self.keep(rest)?;
+        Ok(Fed {
+            used: piece.len(),
+            part: None,
+        })
+    }
+
+    /// What the end of the input means, where no line is unfinished.
+    fn outcome(&self) -> Option<(Fault, u32)>
+        requires { self.now.count < 2 ^ 31 }
+        ensures { (text : List ℕ) → StandsFor self.now text → result ≡ outcome (told text) }
+    {
+        if let Some(bad) = self.fault {
+            return Some(bad);
+        }
+        match self.progress.end_fault() {
+            None => None,
+            Some(fault) => Some((fault, self.count + 1)),
+        }
+    }
+
+    /// Ends the input: the last part, where its line feed was lacking, or the fault of all that was fed.
+    pub(crate) fn end(self, alloc: Global) -> Result<Option<Part>, CertFault>
+        requires { self.count + 1 < 2 ^ 31 }
+        ensures { (text : List ℕ) → StandsFor self text → IsEnd result (fault_of text) (parts_of text) (told text).parts }
+    {
+        if let Some((fault, line)) = self.fault {
+            return Err(fault.at(line));
+        }
+        if self.pending.is_empty() {
+            if let Some((fault, line)) = self.outcome() {
+                return Err(fault.at(line));
+            }
+            return Ok(None);
+        }
+        let mut reader = self;
+        let part = reader.end_line(alloc, &[])?;
+        match reader.outcome() {
+            Some((fault, line)) => Err(fault.at(line)),
+            None => Ok(part),
+        }
+    }
+}

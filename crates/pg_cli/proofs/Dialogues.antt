@@ -1,0 +1,152 @@
+-- What follows from the rules of dialogues.
+use Rattle.std.proofs.Common.{◌≡◌, ◌≢◌, ◌⊎◌, ℕ, suc, ◌+◌, ◌-◌, ◌<◌, ◌≤◌, nat_eq, nat_lt, if◌then◌else◌, Bool, true, false, List, [], ◌∷◌, length, Option, Some, None, Result, Ok, Err, refl, sym, ◌∙◌, ap, subst, inl, inr, arith}
+use Rattle.std.proofs.lemmas.Bool.Decides.{nat_tests}
+use Rattle.std.specs.List.{count_by}
+use Rattle.std.proofs.lemmas.List.Sums.{sum_by-cons}
+use Rattle.pg_base.specs.Side.{other}
+use Rattle.pg_base.specs.declared.side.Side.{Side}
+use Rattle.pg_base.specs.declared.side.Side.TheVariants.{X, Y}
+use Rattle.pg_io.specs.Files.{Bytes}
+use Rattle.pg_io.specs.declared.entry.Entry.{Entry}
+use Rattle.pg_io.specs.declared.entry.Entry.TheVariants.{Said, Heard, Skipped, Ended}
+use Rattle.pg_game.specs.declared.game.Game.{Game}
+use Rattle.pg_game.specs.declared.position.Position.{Position}
+use Rattle.pg_game.specs.Game.{point_count, free_points, after, is_over}
+use Rattle.pg_game.specs.Play.{IsLegalPlay, played}
+use Rattle.pg_game.specs.Position.{is_free}
+use Rattle.pg_cli.specs.Dialogue.{Stage, At, Owes, Over, Steps, Leads, IsOwnMove, position_at, is_heard, after_refusal, after_reply}
+use Rattle.pg_cli.specs.Reply.{said_number, point_or_refusal, replied_point}
+use Rattle.pg_cli.specs.Texts.{not_a_number, no_such_point, taken}
+
+-- no side is the other side
+apart : (side turn : Side) → turn ≡ side → turn ≢ other side
+apart X X same e = absurd (cc e)
+apart X Y same e = absurd (cc same)
+apart Y X same e = absurd (cc same)
+apart Y Y same e = absurd (cc e)
+
+-- where the side is to move, the next entry is its move
+pub own_first : (g : Game) (side : Side) (p : Position) (refusals : ℕ) (entry : Entry) (next : Stage) → is_over g p ≡ false → p.turn ≡ side → Steps g side (At p refusals) entry next → IsOwnMove g p entry
+own_first g side p refusals (Said text) next going own (inl result) = absurd (cc (going, result.0))
+own_first g side p refusals (Said text) next going own (inr move) = (move.0, move.3, move.4, ap Said move.5)
+own_first g side p refusals (Heard line) next going own theirs = absurd (apart side p.turn own theirs.0.1)
+own_first g side p refusals (Skipped line) next going own theirs = absurd (apart side p.turn own theirs.0.1)
+own_first g side p refusals Ended next going own theirs = absurd (apart side p.turn own theirs.0.1)
+
+-- a point that a line says is free
+said_free : (g : Game) (p : Position) (o : Option ℕ) (v : ℕ) → point_or_refusal g p o ≡ Ok v → (v < point_count g) × (is_free p v ≡ true)
+said_free g p None v e = absurd (cc e)
+said_free g p (Some n) v e = go (nat_lt n (point_count g)) (is_free p n) refl refl e where
+  go : (within free : Bool) → nat_lt n (point_count g) ≡ within → is_free p n ≡ free → (if within then (if free then Ok n else Err taken) else Err no_such_point) ≡ Ok v → (v < point_count g) × (is_free p v ≡ true)
+  go true true lt is e =
+      let same : n ≡ v = cc e in
+      let below : n < point_count g = grind (arith, nat_tests, lt) in
+      (subst (λ (m : ℕ). m < point_count g) same below, subst (λ (m : ℕ). is_free p m ≡ true) same is)
+  go true false lt is e = absurd (cc e)
+  go false free lt is e = absurd (cc e)
+
+-- ---- positions
+
+-- after a refusal the position is the same
+refusal_stays : (p : Position) (refusals : ℕ) → position_at (after_refusal p refusals) ≡ p
+refusal_stays p refusals = go (nat_eq (refusals + 1) 100) where
+  go : (last : Bool) → position_at (if last then Over p 9 else At p (refusals + 1)) ≡ p
+  go true = refl
+  go false = refl
+
+-- a move of the game leads from one position to another, or they are the same
+abbrev pub IsStep : Game → Position → Position → Type 0
+IsStep g p q = (q ≡ p) ⊎ ((v : ℕ) × (is_over g p ≡ false) × (v < point_count g) × (is_free p v ≡ true) × (q ≡ after g p v))
+
+reply_moves : (g : Game) (p : Position) (refusals : ℕ) (o : Option ℕ) (r : Result ℕ Bytes) → is_over g p ≡ false → point_or_refusal g p o ≡ r → IsStep g p (position_at (after_reply g p refusals r))
+reply_moves g p refusals o (Ok v) going e = let legal = said_free g p o v e in inr (v, going, legal.0, legal.1, refl)
+reply_moves g p refusals o (Err text) going e = inl refl
+
+steps_move : (g : Game) (side : Side) (s m : Stage) (entry : Entry) → Steps g side s entry m → IsStep g (position_at s) (position_at m)
+steps_move g side (At p refusals) m (Said text) (inl result) = inl (ap position_at result.2)
+steps_move g side (At p refusals) m (Said text) (inr move) = inr (move.0, move.1, move.3, move.4, ap position_at move.6)
+steps_move g side (At p refusals) m (Heard line) h =
+    subst (λ (q : Position). IsStep g p q) (sym (ap position_at h.1)) (reply_moves g p refusals (said_number line) (replied_point g p line) h.0.0 refl)
+steps_move g side (At p refusals) m (Skipped line) h = inl (ap position_at h.1)
+steps_move g side (At p refusals) m Ended h = inl (ap position_at h.1)
+steps_move g side (Owes p refusals text) m (Said said) h = inl (ap position_at h.1 ∙ refusal_stays p refusals)
+steps_move g side (Owes p refusals text) m (Heard line) h = absurd h
+steps_move g side (Owes p refusals text) m (Skipped line) h = absurd h
+steps_move g side (Owes p refusals text) m Ended h = absurd h
+steps_move g side (Over p status) m entry h = absurd h
+
+-- a legal play leads from one position to another
+abbrev pub IsPlayTo : Game → Position → Position → Type 0
+IsPlayTo g p q = (moves : List ℕ) × IsLegalPlay g p moves × (played g p moves ≡ q)
+
+step_first : (g : Game) (p q last : Position) → IsStep g p q → IsPlayTo g q last → IsPlayTo g p last
+step_first g p q last (inl same) play = subst (λ (r : Position). IsPlayTo g r last) same play
+step_first g p q last (inr (v, going, within, free, made)) play =
+    let next = subst (λ (r : Position). IsPlayTo g r last) made play in
+    (v ∷ next.0, (going, within, free, next.1), next.2)
+
+pub dialogues_play : (g : Game) (side : Side) (s t : Stage) (entries : List Entry) → Leads g side s entries t → IsPlayTo g (position_at s) (position_at t)
+dialogues_play g side s t [] same = ([], tt, sym (ap position_at same))
+dialogues_play g side s t (entry ∷ entries) (m, step, rest) =
+    step_first g (position_at s) (position_at m) (position_at t) (steps_move g side s m entry step) (dialogues_play g side m t entries rest)
+
+-- ---- how much is heard
+
+-- a legal move leaves fewer points free
+abbrev pub LeavesFewer : Type 0
+LeavesFewer = (g : Game) (p : Position) (v : ℕ) → v < point_count g → is_free p v ≡ true → length (free_points g (after g p v)) < length (free_points g p)
+
+-- how often something may still be heard, and that fewer than a hundred replies have been refused
+abbrev pub budget : Game → Stage → ℕ
+budget g (At p refusals) = length (free_points g p) + (100 - refusals)
+budget g (Owes p refusals text) = length (free_points g p) + (99 - refusals)
+budget g (Over p status) = 0
+
+abbrev pub Under : Stage → Type 0
+Under (At p refusals) = refusals < 100
+Under (Owes p refusals text) = refusals < 100
+Under (Over p status) = Unit {0}
+
+-- an entry that takes so much leaves the rest
+abbrev pub Leaves : Game → Stage → ℕ → Stage → Type 0
+Leaves g s taken m = Under m × (taken + budget g m ≤ budget g s)
+
+refusal_leaves : (g : Game) (p : Position) (refusals : ℕ) (text : Bytes) (m : Stage) → refusals < 100 → m ≡ after_refusal p refusals → Leaves g (Owes p refusals text) 0 m
+refusal_leaves g p refusals text m few is = subst (λ (n : Stage). Leaves g (Owes p refusals text) 0 n) (sym is) (go (nat_eq (refusals + 1) 100) refl) where
+  go : (last : Bool) → nat_eq (refusals + 1) 100 ≡ last → Leaves g (Owes p refusals text) 0 (if last then Over p 9 else At p (refusals + 1))
+  go true e = (tt, omega arith)
+  go false e = let other : refusals + 1 ≢ 100 = grind (arith, nat_tests, e) in (omega (arith, few, other), omega (arith, few, other))
+
+reply_leaves : LeavesFewer → (g : Game) (p : Position) (refusals : ℕ) (o : Option ℕ) (r : Result ℕ Bytes) → refusals < 100 → point_or_refusal g p o ≡ r → Leaves g (At p refusals) 1 (after_reply g p refusals r)
+reply_leaves fewer g p refusals o (Ok v) few e = let legal = said_free g p o v e in (few, omega (arith, few, fewer g p v legal.0 legal.1))
+reply_leaves fewer g p refusals o (Err text) few e = (few, omega (arith, few))
+
+result_leaves : (g : Game) (p : Position) (refusals status : ℕ) (m : Stage) → m ≡ Over p status → refusals < 100 → Leaves g (At p refusals) 1 m
+result_leaves g p refusals status m is few = subst (λ (n : Stage). Leaves g (At p refusals) 1 n) (sym is) (tt, omega (arith, few))
+
+-- how often an entry was heard
+abbrev heard_in : Entry → ℕ
+heard_in entry = if is_heard entry then 1 else 0
+
+steps_leave : LeavesFewer → (g : Game) (side : Side) (s m : Stage) (entry : Entry) → Under s → Steps g side s entry m → Leaves g s (heard_in entry) m
+steps_leave fewer g side (At p refusals) m (Said text) few (inl result) =
+    let left = result_leaves g p refusals 0 m result.2 few in (left.0, omega (arith, left.1))
+steps_leave fewer g side (At p refusals) m (Said text) few (inr (v, going, own, within, free, said, is)) =
+    subst (λ (n : Stage). Leaves g (At p refusals) 0 n) (sym is) (few, omega (arith, few, fewer g p v within free))
+steps_leave fewer g side (At p refusals) m (Heard line) few h =
+    subst (λ (n : Stage). Leaves g (At p refusals) 1 n) (sym h.1) (reply_leaves fewer g p refusals (said_number line) (replied_point g p line) few refl)
+steps_leave fewer g side (At p refusals) m (Skipped line) few h = subst (λ (n : Stage). Leaves g (At p refusals) 1 n) (sym h.1) (few, omega (arith, few))
+steps_leave fewer g side (At p refusals) m Ended few h = result_leaves g p refusals 8 m h.1 few
+steps_leave fewer g side (Owes p refusals text) m (Said said) few h = refusal_leaves g p refusals text m few h.1
+steps_leave fewer g side (Owes p refusals text) m (Heard line) few h = absurd h
+steps_leave fewer g side (Owes p refusals text) m (Skipped line) few h = absurd h
+steps_leave fewer g side (Owes p refusals text) m Ended few h = absurd h
+steps_leave fewer g side (Over p status) m entry few h = absurd h
+
+pub hears_few : LeavesFewer → (g : Game) (side : Side) (s t : Stage) (entries : List Entry) → Under s → Leads g side s entries t → count_by is_heard entries ≤ budget g s
+hears_few fewer g side s t [] few same = omega arith
+hears_few fewer g side s t (entry ∷ entries) few (m, step, rest) =
+    let one = steps_leave fewer g side s m entry few step in
+    let others = hears_few fewer g side m t entries one.0 rest in
+    let count : count_by is_heard (entry ∷ entries) ≡ heard_in entry + count_by is_heard entries = sum_by-cons heard_in entry entries in
+    omega (arith, one.1, others, count)

@@ -1,0 +1,35 @@
+-- What a line that was heard says.
+use Rattle.std.specs.Prelude.{ℕ, ◌==◌, ◌||◌, not, Bool, List, [], ◌∷◌, reverse, nat_lt, Option, Some, None, Result, Ok, Err, if◌then◌else◌}
+use Rattle.pg_io.specs.Files.{Bytes}
+use Rattle.pg_text.specs.Text.{number}
+use Rattle.pg_game.specs.declared.game.Game.{Game}
+use Rattle.pg_game.specs.declared.position.Position.{Position}
+use Rattle.pg_game.specs.Game.{point_count}
+use Rattle.pg_game.specs.Position.{is_free}
+use Rattle.pg_cli.specs.Texts.{not_a_number, no_such_point, taken}
+
+-- a space, a tab, or a carriage return
+abbrev pub is_blank : ℕ → Bool
+is_blank b = b == 32 || (b == 9 || b == 13)
+
+-- the text without the blank bytes at its beginning
+abbrev pub trimmed_start : Bytes → Bytes
+trimmed_start [] = []
+trimmed_start (b ∷ others) = if is_blank b then trimmed_start others else b ∷ others
+
+-- the text without the blank bytes at its end
+abbrev pub trimmed_end : Bytes → Bytes
+trimmed_end text = reverse (trimmed_start (reverse text))
+
+-- the number that a line says, none where it says none: the line without the blank bytes at both ends is one to nine decimal digits, the first of several not 0
+abbrev pub said_number : Bytes → Option ℕ
+said_number line = number (trimmed_end (trimmed_start line))
+
+-- the free point that the number is, or the text by which it is refused
+abbrev pub point_or_refusal : Game → Position → Option ℕ → Result ℕ Bytes
+point_or_refusal g p None = Err not_a_number
+point_or_refusal g p (Some v) = if nat_lt v (point_count g) then (if is_free p v then Ok v else Err taken) else Err no_such_point
+
+-- the same of a line
+abbrev pub replied_point : Game → Position → Bytes → Result ℕ Bytes
+replied_point g p line = point_or_refusal g p (said_number line)

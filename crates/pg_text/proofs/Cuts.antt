@@ -1,0 +1,109 @@
+-- A text that is cut at a sign.
+use Rattle.std.proofs.Common.{◌≡◌, ℕ, ◌+◌, ◌-◌, ◌<◌, ◌≤◌, Bool, true, false, cond, ltb, List, [], ◌∷◌, ◌++◌, length, take, drop, get_or, arith, refl, sym, ap, subst, ◌∙◌, Option, Some, None}
+use Rattle.std.specs.Prelude.{◌==◌}
+use Rattle.std.specs.List.{slice_split, position, position_or_len, before_first, after_first, All}
+use Rattle.std.proofs.lemmas.Bool.{ltb-true, ltb-false, eqb-true}
+use Rattle.std.proofs.lemmas.Bool.Decides.{nat_tests}
+use Rattle.std.proofs.lemmas.List.{take_all, length-take, length-drop, get_or-take}
+use Rattle.std.proofs.lemmas.List.Sums.{fails_before_first, passes_at_first, split_at_first}
+use Rattle.std.proofs.lemmas.List.Splits.{slice_split_at, slice_split_none, length-slice_split}
+use Rattle.pg_text.specs.Text.{Bytes, Lacks, parts, pair_of, two_parts, Four, four_of, four_parts}
+
+abbrev is_sign : ℕ → ℕ → Bool
+is_sign sign b = b == sign
+
+cases_position : (b : Bool) (i end : ℕ) → cond b (Some i) None ≡ Some end → (b ≡ true) × (i ≡ end)
+cases_position true i end e = (refl, cc)
+cases_position false i end e = absurd cc
+
+cases_no_position : (b : Bool) (i : ℕ) → cond b (Some i) None ≡ None → b ≡ false
+cases_no_position true i e = absurd cc
+cases_no_position false i e = refl
+
+front_lacks : (sign : ℕ) (text : Bytes) → Lacks sign (before_first (is_sign sign) text)
+front_lacks sign text = λ i d lt.
+    let inside : i < position_or_len (is_sign sign) text = omega (arith, length-take (position_or_len (is_sign sign) text) text) in
+    rw (get_or-take (position_or_len (is_sign sign) text) text i d inside) (fails_before_first (is_sign sign) text i d inside)
+
+pub found_at : (sign : ℕ) (text : Bytes) (end : ℕ) → position (is_sign sign) text ≡ Some end → (text ≡ take end text ++ sign ∷ take (length text - (end + 1)) (drop (end + 1) text)) × Lacks sign (take end text)
+found_at sign text end e =
+    let found = cases_position (ltb (position_or_len (is_sign sign) text) (length text)) (position_or_len (is_sign sign) text) end e in
+    let lt = ltb-true _ _ found.0 in
+    let here : get_or text (position_or_len (is_sign sign) text) 0 ≡ sign = eqb-true _ _ (passes_at_first (is_sign sign) text 0 lt) in
+    let all : take (length text - (end + 1)) (drop (end + 1) text) ≡ drop (end + 1) text = take_all _ _ (omega (arith, length-drop (end + 1) text)) in
+    let cut : text ≡ take (position_or_len (is_sign sign) text) text ++ (get_or text (position_or_len (is_sign sign) text) 0 ∷ drop (position_or_len (is_sign sign) text + 1) text) = split_at_first (is_sign sign) text 0 lt in
+    let at_end = subst (λ (b : ℕ). text ≡ take (position_or_len (is_sign sign) text) text ++ b ∷ drop (position_or_len (is_sign sign) text + 1) text) here cut in
+    let moved = subst (λ (i : ℕ). text ≡ take i text ++ sign ∷ drop (i + 1) text) found.1 at_end in
+    (subst (λ (t : Bytes). text ≡ take end text ++ sign ∷ t) (sym all) moved, subst (λ (i : ℕ). Lacks sign (take i text)) found.1 (front_lacks sign text))
+
+pub not_found : (sign : ℕ) (text : Bytes) → position (is_sign sign) text ≡ None → Lacks sign text
+not_found sign text e =
+    let none = cases_no_position (ltb (position_or_len (is_sign sign) text) (length text)) (position_or_len (is_sign sign) text) e in
+    subst (Lacks sign) (take_all (position_or_len (is_sign sign) text) text (ltb-false _ _ none)) (front_lacks sign text)
+
+is_itself : (sign : ℕ) → is_sign sign sign ≡ true
+is_itself sign = grind (arith, nat_tests)
+
+cut_parts : (sign : ℕ) (text front behind : Bytes) → text ≡ front ++ sign ∷ behind → Lacks sign front → parts sign text ≡ front ∷ parts sign behind
+cut_parts sign text front behind e lacks = ap (parts sign) e ∙ slice_split_at (is_sign sign) front sign behind lacks (is_itself sign)
+
+pub no_parts : (sign : ℕ) (word : Bytes) → Lacks sign word → two_parts sign word ≡ None
+unfolding two_parts
+no_parts sign word lacks = ap pair_of (slice_split_none (is_sign sign) word lacks)
+
+pub just_two : (sign : ℕ) (word a b : Bytes) → word ≡ a ++ sign ∷ b → Lacks sign a → Lacks sign b → two_parts sign word ≡ Some (a, b)
+unfolding two_parts
+just_two sign word a b e lacks lacking = ap pair_of (cut_parts sign word a b e lacks ∙ ap (λ (ps : List Bytes). a ∷ ps) (slice_split_none (is_sign sign) b lacking))
+
+many : (a c : Bytes) (ps : List Bytes) → 0 < length ps → pair_of (a ∷ c ∷ ps) ≡ None
+many a c [] h = absurd (omega arith)
+many a c (p ∷ ps) h = refl
+
+pub too_many : (sign : ℕ) (word a b c d : Bytes) → word ≡ a ++ sign ∷ b → Lacks sign a → b ≡ c ++ sign ∷ d → Lacks sign c → two_parts sign word ≡ None
+unfolding two_parts
+too_many sign word a b c d e lacks f lacking =
+    ap pair_of (cut_parts sign word a b e lacks ∙ ap (λ (ps : List Bytes). a ∷ ps) (cut_parts sign b c d f lacking)) ∙ many a c (parts sign d) (omega (arith, length-slice_split (is_sign sign) d))
+
+-- ---- words
+
+pub first_and_others : (text word others : Bytes) → text ≡ word ++ 32 ∷ others → Lacks 32 word → parts 32 text ≡ word ∷ parts 32 others
+first_and_others text word others e lacks = cut_parts 32 text word others e lacks
+
+pub only_word : (text : Bytes) → Lacks 32 text → parts 32 text ≡ text ∷ []
+only_word text lacks = slice_split_none (is_sign 32) text lacks
+
+-- a text has at least one part
+pub some_part : (sign : ℕ) (text : Bytes) → 0 < length (parts sign text)
+some_part sign text = omega (arith, length-slice_split (is_sign sign) text)
+
+-- ---- four parts
+
+pub four_none : (sign : ℕ) (text : Bytes) → Lacks sign text → four_parts sign text ≡ None
+unfolding four_parts
+four_none sign text lacks = ap four_of (slice_split_none (is_sign sign) text lacks)
+
+pub four_one : (sign : ℕ) (text a b : Bytes) → text ≡ a ++ sign ∷ b → Lacks sign a → Lacks sign b → four_parts sign text ≡ None
+unfolding four_parts
+four_one sign text a b e lacks lacking = ap four_of (cut_parts sign text a b e lacks ∙ ap (λ (ps : List Bytes). a ∷ ps) (slice_split_none (is_sign sign) b lacking))
+
+-- the last two parts of four
+abbrev four_from : Bytes → Bytes → Option (Bytes × Bytes) → Option Four
+four_from a c None = None
+four_from a c (Some p) = Some (record { first = a; second = c; third = p.0; fourth = p.1 })
+
+four_from_list : (a c : Bytes) (ps : List Bytes) → four_of (a ∷ c ∷ ps) ≡ four_from a c (pair_of ps)
+four_from_list a c [] = refl
+four_from_list a c (p ∷ []) = refl
+four_from_list a c (p ∷ q ∷ []) = refl
+four_from_list a c (p ∷ q ∷ r ∷ ps) = refl
+
+four_is : (sign : ℕ) (text a b c d : Bytes) → text ≡ a ++ sign ∷ b → Lacks sign a → b ≡ c ++ sign ∷ d → Lacks sign c → four_parts sign text ≡ four_from a c (two_parts sign d)
+unfolding four_parts two_parts
+four_is sign text a b c d e lacks f lacking =
+    ap four_of (cut_parts sign text a b e lacks ∙ ap (λ (ps : List Bytes). a ∷ ps) (cut_parts sign b c d f lacking)) ∙ four_from_list a c (parts sign d)
+
+pub four_two : (sign : ℕ) (text a b c d : Bytes) → text ≡ a ++ sign ∷ b → Lacks sign a → b ≡ c ++ sign ∷ d → Lacks sign c → two_parts sign d ≡ None → four_parts sign text ≡ None
+four_two sign text a b c d e lacks f lacking none = four_is sign text a b c d e lacks f lacking ∙ ap (four_from a c) none
+
+pub four_three : (sign : ℕ) (text a b c d p q : Bytes) → text ≡ a ++ sign ∷ b → Lacks sign a → b ≡ c ++ sign ∷ d → Lacks sign c → two_parts sign d ≡ Some (p, q) → four_parts sign text ≡ Some (record { first = a; second = c; third = p; fourth = q })
+four_three sign text a b c d p q e lacks f lacking some = four_is sign text a b c d e lacks f lacking ∙ ap (four_from a c) some

@@ -1,0 +1,64 @@
+-- Text of signs and words: parts with one sign between each two, words behind single spaces, and numbers.
+use Rattle.std.specs.Prelude.{◌≡◌, ℕ, Bool, true, false, ◌&&◌, ◌||◌, not, nat_lt, ◌==◌, if◌then◌else◌, List, [], ◌∷◌, ◌++◌, length, slice_index, Option, Some, None}
+use Rattle.std.specs.Char.{is_ascii_digit}
+use Rattle.std.specs.List.{slice_split, list_all, flat_map, All}
+use Rattle.std.specs.Str.Parse.{digits_value}
+
+-- the bytes of a text
+abbrev pub Bytes : Type 0
+Bytes = List ℕ
+
+-- what stands between the signs, empty parts too
+abbrev pub parts : ℕ → Bytes → List Bytes
+parts sign text = slice_split (λ b. b == sign) text
+
+-- two parts, and no more
+abbrev pub pair_of : List Bytes → Option (Bytes × Bytes)
+pair_of (a ∷ b ∷ []) = Some (a, b)
+pair_of _ = None
+
+-- what stands on both sides of the one sign
+unfoldable pub two_parts : ℕ → Bytes → Option (Bytes × Bytes)
+two_parts sign text = pair_of (parts sign text)
+
+-- four parts of a text
+pub record Four : Type 0 where
+  pub first : Bytes
+  pub second : Bytes
+  pub third : Bytes
+  pub fourth : Bytes
+
+-- four parts, and no more
+abbrev pub four_of : List Bytes → Option Four
+four_of (a ∷ b ∷ c ∷ d ∷ []) = Some (record { first = a; second = b; third = c; fourth = d })
+four_of _ = None
+
+-- what stands around the three signs
+unfoldable pub four_parts : ℕ → Bytes → Option Four
+four_parts sign text = four_of (parts sign text)
+
+-- the words of a text, of which there may be none at all; a space stands between each two
+abbrev pub words_of : Option Bytes → List Bytes
+words_of None = []
+words_of (Some text) = parts 32 text
+
+-- one to nine digits, the first of several not 0
+abbrev pub is_numeral : Bytes → Bool
+is_numeral word = nat_lt 0 (length word) && nat_lt (length word) 10 && list_all is_ascii_digit word && (length word == 1 || not (slice_index word 0 == 48))
+
+-- the number that a word spells
+unfoldable pub number : Bytes → Option ℕ
+number word = if is_numeral word then Some (digits_value 10 word) else None
+
+-- no byte of the text is the sign
+abbrev pub Lacks : ℕ → Bytes → Type 0
+Lacks sign text = All (λ b. (b == sign) ≡ false) text
+
+-- words, each behind a space
+abbrev pub behind_spaces : List Bytes → Bytes
+behind_spaces ws = flat_map (λ w. 32 ∷ w) ws
+
+-- words with a space between each two
+abbrev pub spaced : List Bytes → Bytes
+spaced [] = []
+spaced (word ∷ others) = word ++ behind_spaces others

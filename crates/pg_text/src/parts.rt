@@ -1,0 +1,66 @@
+//! Text that is cut at a sign.
+ghost use Rattle.std.specs.Prelude.{◌≡◌, ◌==◌, ◌++◌, ◌∷◌, IfSome, IfNone, option_map};
+ghost use Rattle.std.specs.List.{list_any, position};
+ghost use Rattle.pg_text.specs.Text.{parts, two_parts, four_parts, words_of, Lacks};
+
+/// Where the first sign stands.
+fn sign_at(sign: u8, text: &[u8]) -> Option<usize>
+    ensures { result ≡ position (λ b. b == sign) text.now }
+{
+    text.iter().position(|b| *b == sign)
+}
+
+/// Whether the sign stands in the text.
+pub fn has_sign(sign: u8, text: &[u8]) -> bool
+    ensures { result ≡ list_any (λ b. b == sign) text.now }
+{
+    text.iter().any(|b| *b == sign)
+}
+
+/// What stands before the first sign, and what behind it.
+#[tactic(auto, using(crate::proofs::Cuts::not_found))]
+pub fn cut_at(sign: u8, text: &[u8]) -> Option<(&[u8], &[u8])>
+    ensures found { IfSome result (λ p. (text.now ≡ p.0.now ++ sign ∷ p.1.now) × Lacks sign p.0.now) }
+    ensures none { IfNone result (Lacks sign text.now) }
+{
+    match sign_at(sign, text) {
+        Some(end) => Some((&text[..end], &text[end + 1..])),
+        None => None,
+    }
+}
+
+/// What stands on both sides of the one sign.
+#[tactic(auto, using(crate::proofs::Cuts::no_parts, crate::proofs::Cuts::just_two, crate::proofs::Cuts::too_many))]
+pub fn two_parts(sign: u8, text: &[u8]) -> Option<(&[u8], &[u8])>
+    ensures { option_map (λ p. (p.0.now, p.1.now)) result ≡ two_parts sign text.now }
+{
+    let Some((first, second)) = cut_at(sign, text) else {
+        return None;
+    };
+    match cut_at(sign, second) {
+        Some(_) => None,
+        None => Some((first, second)),
+    }
+}
+
+/// What stands around the three signs.
+#[tactic(auto, using(crate::proofs::Cuts::four_none, crate::proofs::Cuts::four_one, crate::proofs::Cuts::four_two, crate::proofs::Cuts::four_three))]
+pub fn four_parts(sign: u8, text: &[u8]) -> Option<(&[u8], &[u8], &[u8], &[u8])>
+    ensures { option_map (λ p. record { first = p.0.now; second = p.1.now; third = p.2.now; fourth = p.3.now }) result ≡ four_parts sign text.now }
+{
+    let (first, behind) = cut_at(sign, text)?;
+    let (second, others) = cut_at(sign, behind)?;
+    let (third, fourth) = two_parts(sign, others)?;
+    Some((first, second, third, fourth))
+}
+
+/// The first word, and the text of the others if there are any.
+#[tactic(auto, using(crate::proofs::Cuts::first_and_others, crate::proofs::Cuts::only_word))]
+pub fn first_word(text: &[u8]) -> (&[u8], Option<&[u8]>)
+    ensures { parts 32 text.now ≡ result.0.now ∷ words_of (option_map (λ w. w.now) result.1) }
+{
+    match cut_at(b' ', text) {
+        Some((word, others)) => (word, Some(others)),
+        None => (text, None),
+    }
+}
