@@ -1,5 +1,5 @@
 -- What a player has at a node of its claim when it comes there.
-use Rattle.std.proofs.Common.{◌≡◌, ◌∙◌, ℕ, Bool, true, false, List, Option, Some, None, option_map, slice_get, refl, sym, ap, subst, inl, inr, ◌⊎◌}
+use Rattle.std.proofs.Common.{◌≡◌, ◌∙◌, ℕ, true, false, Some, None, option_map, slice_get, refl, sym, ap, subst, inl, inr}
 use Rattle.std.proofs.Math.Logic.{∥∥₁_elim}
 use Rattle.std.proofs.lemmas.Bool.{false≢true}
 use Rattle.std.specs.Coded.{Coded-set, coded_bool}
@@ -10,7 +10,7 @@ use Rattle.pg_base.specs.declared.side.Side.{Side}
 use Rattle.pg_game.specs.declared.game.Game.{Game}
 use Rattle.pg_game.specs.declared.position.Position.{Position}
 use Rattle.pg_game.specs.Game.{is_over}
-use Rattle.pg_game.specs.Value.{reaches, value, Forces}
+use Rattle.pg_game.specs.Value.{Forces}
 use Rattle.pg_game.proofs.Moves.{side≢other}
 use Rattle.pg_pairing.proofs.OpenPairs.{RestHolds-from, ArePairsOf-from}
 use Rattle.pg_cert.specs.declared.cert.Claim.{Claim}

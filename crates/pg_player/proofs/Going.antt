@@ -1,5 +1,5 @@
 -- What a player keeps through a move and through a reply.
-use Rattle.std.proofs.Common.{◌≡◌, ◌∙◌, ℕ, ◌<◌, ◌≤◌, Bool, true, false, Option, Some, None, Ok, if◌then◌else◌, refl, sym, ap, subst, inl, inr, ◌⊎◌, arith}
+use Rattle.std.proofs.Common.{◌≡◌, ◌∙◌, ℕ, ◌<◌, true, false, Option, Some, None, if◌then◌else◌, sym, subst, inl, inr, arith}
 use Rattle.std.proofs.lemmas.Bool.{false≢true}
 use Rattle.pg_base.specs.Points.{AreBelow}
 use Rattle.pg_base.specs.Side.{other}
@@ -8,18 +8,15 @@ use Rattle.pg_graph.specs.Joiner.{Room}
 use Rattle.pg_game.specs.declared.game.Game.{Game}
 use Rattle.pg_game.specs.declared.position.Position.{Position}
 use Rattle.pg_game.specs.Position.{is_free}
-use Rattle.pg_game.specs.Game.{point_count, is_over, outcome, after, IsPosition}
-use Rattle.pg_game.specs.Judge.{IsMadeForGame, judged_move}
+use Rattle.pg_game.specs.Game.{point_count, is_over, outcome, after}
+use Rattle.pg_game.specs.Judge.{IsMadeForGame}
 use Rattle.pg_game.proofs.Limits.{point_count-le}
 use Rattle.pg_game.proofs.Moves.{IsPosition-after}
 use Rattle.pg_cert.specs.declared.cert.Claim.{Claim}
-use Rattle.pg_cert.specs.OwnMove.{Standing, replied, replied_by}
-use Rattle.pg_player.specs.Stand.{LeadsOn}
-use Rattle.pg_player.specs.InPlay.{InPlay, HasJoiner, IsPlaying, KeepsUp}
+use Rattle.pg_cert.specs.OwnMove.{Standing}
+use Rattle.pg_player.specs.InPlay.{InPlay, HasJoiner, IsPlaying}
 use Rattle.pg_player.specs.Player.{Play, Waits, TakesReply, Moves, Answers}
 use Rattle.pg_player.proofs.Plays.{IsPosition-reached}
-use Rattle.pg_player.proofs.Keeping.{InPlay-after}
-use Rattle.pg_player.proofs.Replying.{IsLegal, judged-legal, leads_on, InPlay-replied}
 
 -- X's points are points of the game
 pub x_range : (g : Game) (c : Claim) (p : Position) (s : Standing) → InPlay g c p s → AreBelow p.x (point_count g)

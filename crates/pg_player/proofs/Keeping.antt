@@ -1,7 +1,7 @@
 -- What an own move keeps, body by body.
-use Rattle.std.proofs.Common.{◌≡◌, ◌≢◌, ◌∙◌, ℕ, ◌<◌, ◌≤◌, Bool, true, false, ◌&&◌, List, Option, Some, None, if◌then◌else◌, slice_get, refl, sym, ap, subst, inl, inr, ◌⊎◌, arith, eqb, eqb-true}
-use Rattle.std.proofs.lemmas.Bool.{cases_Bool, false≢true, and_parts}
-use Rattle.std.specs.FinSet.{FinSet, contains, insert}
+use Rattle.std.proofs.Common.{◌≡◌, ◌≢◌, ◌∙◌, ℕ, ◌<◌, Bool, true, false, ◌&&◌, List, Option, Some, None, if◌then◌else◌, refl, sym, ap, subst, inl, inr, ◌⊎◌, eqb-true}
+use Rattle.std.proofs.lemmas.Bool.{cases_Bool, false≢true}
+use Rattle.std.specs.FinSet.{FinSet, insert}
 use Rattle.std.specs.Ordering.{nat_cmp}
 use Rattle.pg_base.specs.Side.{other}
 use Rattle.pg_base.specs.declared.goal.Goal.{Goal}
@@ -23,23 +23,22 @@ use Rattle.pg_game.specs.Value.{reaches, value, Forces}
 use Rattle.pg_game.specs.Pairs.{PairsHold, pairs_answer}
 use Rattle.pg_game.specs.Potential.{PotentialHolds, potential_answer}
 use Rattle.pg_game.specs.Avoider.{AvoiderHolds, avoider_answer}
-use Rattle.pg_game.specs.Trees.{Answered, TreesHold, CutsHold, trees_answer, cuts_answer}
+use Rattle.pg_game.specs.Trees.{Answered, TreesHold, CutsHold}
 use Rattle.pg_game.specs.Field.{field_points}
 use Rattle.pg_game.proofs.Moves.{turn-after_x, IsPosition-after}
 use Rattle.pg_game.proofs.ValueLaws.{Forces-over, Forces-all}
-use Rattle.pg_pairing.specs.Rest.{ArePairsOf, rest, RestHolds, MayClaim, HeldBefore}
+use Rattle.pg_pairing.specs.Rest.{rest, RestHolds, MayClaim, HeldBefore}
 use Rattle.pg_pairing.proofs.PairLaws.{Forces-pairs_breaker, Forces-pairs_draw, Forces-pairs_avoider}
 use Rattle.pg_potential.proofs.PotentialLaws.{Forces-potential_breaker, Forces-potential_draw}
 use Rattle.pg_avoider.proofs.AvoiderLaws.{Forces-avoider}
 use Rattle.pg_switch.specs.Replies.{HeldUntil, IsTreesAnswer, IsCutsAnswer}
 use Rattle.pg_switch.proofs.SwitchLaws.{Forces-trees, Forces-cuts}
 use Rattle.pg_cert.specs.declared.cert.Claim.{Claim}
-use Rattle.pg_cert.specs.declared.node.Node.{Node}
 use Rattle.pg_cert.specs.declared.node.Body.{Body}
-use Rattle.pg_cert.specs.declared.node.Body.TheVariants.{Over, Move, All, Pairs, Potential, Trees, Cuts, Threat}
-use Rattle.pg_cert.specs.OwnMove.{Standing, OwnMove, own_move, own_move_by, arrives, stays, potential_point, with_further, trees_point, cuts_point, stays_with_trees, stays_with_cuts}
-use Rattle.pg_cert.specs.Valid.{is_allowed, shows_defence, shows_trees, shows_cuts, pairs_fit, PotentialFits, with_e_named}
-use Rattle.pg_player.specs.InPlay.{Ready, Waiting, Stands, PairsReady, PairsWaiting, PotentialWaiting, AvoiderWaiting, InPlay, KeepsUp}
+use Rattle.pg_cert.specs.declared.node.Body.TheVariants.{Move, Pairs, Potential, Trees, Cuts}
+use Rattle.pg_cert.specs.OwnMove.{Standing, own_move, arrives, stays, potential_point, trees_point, cuts_point, stays_with_trees, stays_with_cuts}
+use Rattle.pg_cert.specs.Valid.{shows_defence, shows_trees, shows_cuts, pairs_fit, PotentialFits, with_e_named}
+use Rattle.pg_player.specs.InPlay.{PotentialWaiting, InPlay, KeepsUp}
 use Rattle.pg_player.proofs.Plays.{IsPosition-reached, reached-after, single, not-again}
 use Rattle.pg_player.proofs.Arriving.{arrived}
 

@@ -1,5 +1,5 @@
 -- What a player has when it is opened.
-use Rattle.std.proofs.Common.{◌≡◌, ◌∙◌, ℕ, suc, ◌+◌, ◌-◌, ◌<◌, ◌≤◌, Bool, true, false, ◌&&◌, List, [], ◌∷◌, Option, Some, None, find, length, get_or, slice_get, if◌then◌else◌, IfSome, refl, sym, ap, subst, inl, inr, ◌⊎◌, arith, All, Contains}
+use Rattle.std.proofs.Common.{◌≡◌, ◌∙◌, ℕ, ◌-◌, ◌<◌, Bool, true, List, [], ◌∷◌, Option, Some, None, find, length, get_or, slice_get, if◌then◌else◌, IfSome, refl, sym, ap, subst, inl, inr, arith, Contains}
 use Rattle.std.proofs.Math.Logic.{∥∥₁_elim, ∥∥₁_map}
 use Rattle.std.proofs.Math.Bridge.{le_prop}
 use Rattle.std.proofs.lemmas.Bool.{cases_Bool, and_parts, false≢true}
@@ -18,7 +18,6 @@ use Rattle.pg_cert.specs.declared.cert.Claim.{Claim}
 use Rattle.pg_cert.specs.declared.node.Node.{Node}
 use Rattle.pg_cert.specs.declared.node_fault.NodeFault.TheVariants as faults
 use Rattle.pg_cert.specs.Limits.{IsClaim, IsWithinLimits}
-use Rattle.pg_cert.specs.Node.{position_of}
 use Rattle.pg_cert.specs.OwnMove.{Standing, arrives}
 use Rattle.pg_cert.specs.Valid.{IsNodeOf, IsValid}
 use Rattle.pg_player.specs.InPlay.{InPlay, IsSoundClaim}

@@ -1,17 +1,15 @@
 -- The soundness of a node is decided by tests, so that it holds wherever it is known to hold without a proof at hand.
-use Rattle.std.proofs.Common.{◌≡◌, ◌≢◌, ◌∙◌, ℕ, suc, ◌+◌, ◌<◌, ◌≤◌, Bool, true, false, ◌&&◌, List, Option, Some, None, map, length, slice_get, refl, sym, ap, subst, inl, inr, ◌⊎◌, arith, eqb, All, Any, Contains}
+use Rattle.std.proofs.Common.{◌≡◌, ◌∙◌, ℕ, suc, ◌<◌, ◌≤◌, Bool, true, false, ◌&&◌, List, Option, Some, None, slice_get, refl, sym, ap, inl, inr, ◌⊎◌, arith, eqb, Any}
 use Rattle.std.proofs.Math.Logic.{∥∥₁_elim, ∥∥₁_map}
 use Rattle.std.proofs.Math.Bridge.{le_prop}
 use Rattle.std.proofs.lemmas.Bool.{cases_lt, false≢true, and_parts}
-use Rattle.std.specs.Coded.{Coded, Coded-set, coded_ℕ, coded_bool, coded_list}
+use Rattle.std.specs.Coded.{Coded-set, coded_ℕ, coded_bool, coded_list}
 use Rattle.std.specs.FinSet.{FinSet, contains}
 use Rattle.std.specs.List.{list_any}
 use Rattle.std.specs.Ordering.{nat_cmp}
 use Rattle.pg_base.specs.Points.{AreBelow}
-use Rattle.pg_base.specs.Sets.{IsBelow, minus}
-use Rattle.pg_base.specs.Side.{other}
+use Rattle.pg_base.specs.Sets.{IsBelow}
 use Rattle.pg_base.specs.declared.goal.Goal.{Goal}
-use Rattle.pg_base.specs.declared.goal.Goal.TheVariants.{Win, Draw as AtLeastDraw}
 use Rattle.pg_base.specs.declared.kind.Kind.{Kind}
 use Rattle.pg_base.specs.declared.kind.Kind.TheVariants.{MakerBreaker, MakerMaker, AvoiderEnforcer, Switching}
 use Rattle.pg_base.specs.declared.pair.Pair.{Pair}
@@ -19,7 +17,7 @@ use Rattle.pg_base.specs.declared.side.Side.{Side}
 use Rattle.pg_base.specs.declared.side.Side.TheVariants.{X, Y}
 use Rattle.pg_base.specs.contracts.side.Side as side_row
 use Rattle.pg_graph.specs.declared.graph.Graph.{Graph}
-use Rattle.pg_graph.specs.Graph.{edge_count, joins_in, IsJoinedIn}
+use Rattle.pg_graph.specs.Graph.{edge_count, IsJoinedIn}
 use Rattle.pg_graph.proofs.GraphLemmas.{joins_in-sound, joins_in-complete}
 use Rattle.pg_game.specs.contracts.position.Position as position_row
 use Rattle.pg_game.specs.declared.field.Field.{Field}
@@ -27,13 +25,10 @@ use Rattle.pg_game.specs.declared.field.Field.TheVariants.{Lines, Graph as OnGra
 use Rattle.pg_game.specs.declared.game.Game.{Game}
 use Rattle.pg_game.specs.declared.position.Position.{Position}
 use Rattle.pg_game.specs.Field.{field_points}
-use Rattle.pg_game.specs.Game.{point_count, free_points, is_over, outcome, after, with_turn, is_touched}
+use Rattle.pg_game.specs.Game.{point_count, after}
 use Rattle.pg_game.specs.Position.{is_free}
-use Rattle.pg_game.specs.Pairs.{PairsHold, PairsLeaveNone, HoldsPair, IsSafe}
-use Rattle.pg_game.specs.Avoider.{AvoiderHolds}
-use Rattle.pg_game.specs.Potential.{PotentialHolds}
-use Rattle.pg_game.specs.Trees.{IsFreeEdge, AreFreeWithE, AreTrees, AreCuts, JoinsEndsOf, TreesHold, TreesHoldOn, CutsHold, CutsHoldOn, with_set}
-use Rattle.pg_game.specs.Value.{reaches}
+use Rattle.pg_game.specs.Pairs.{PairsHold, HoldsPair}
+use Rattle.pg_game.specs.Trees.{IsFreeEdge, AreFreeWithE, AreTrees, AreCuts, TreesHoldOn, CutsHoldOn, with_set}
 use Rattle.pg_game.proofs.Members.{list_any-one, member-from_any}
 use Rattle.pg_switch.proofs.EdgeSets.{with_e-edges, free-edges, with_set-edges}
 use Rattle.pg_pairing.proofs.PairLoops.{Contains-any, any-Contains}
@@ -43,9 +38,8 @@ use Rattle.pg_cert.specs.declared.node.Body.{Body}
 use Rattle.pg_cert.specs.declared.node.Body.TheVariants.{Over, Move, All as Every, Pairs, Potential, Trees, Cuts, Threat}
 use Rattle.pg_cert.specs.declared.node_fault.NodeFault.{NodeFault}
 use Rattle.pg_cert.specs.declared.node_fault.NodeFault.TheVariants as faults
-use Rattle.pg_cert.specs.declared.reply.Reply.{Reply}
 use Rattle.pg_cert.specs.Node.{position_of}
-use Rattle.pg_cert.specs.Valid.{is_allowed, is_built, IsInGame, NamesEarlier, IsNodeOf, FollowsMove, FollowMoves, HasTurn, TakesFree, EndsRight, PotentialFits, AreEdgeSets, with_e_named, HasPairs, HasPotential, HasTrees, HasCuts, HasThreat, IsRoot, IsOwed, Passes, IsSound, IsValidClaim}
+use Rattle.pg_cert.specs.Valid.{is_allowed, is_built, IsInGame, NamesEarlier, IsNodeOf, FollowsMove, FollowMoves, HasTurn, TakesFree, EndsRight, PotentialFits, with_e_named, HasPairs, HasPotential, HasTrees, HasCuts, HasThreat, Passes, IsSound, IsValidClaim}
 
 -- ---- facts that have one proof at most
 

@@ -1,5 +1,5 @@
 -- What keeps a player going: facts on its claim, its position and where it stands, which every move and every reply keep.
-use Rattle.std.specs.Prelude.{◌≡◌, ◌≢◌, ◌⊎◌, ℕ, ◌<◌, ◌-◌, Bool, true, false, List, length, map, Option, Some, None, slice_get, if◌then◌else◌}
+use Rattle.std.specs.Prelude.{◌≡◌, ◌≢◌, ◌⊎◌, ℕ, ◌<◌, true, false, List, map, Option, Some, None, if◌then◌else◌}
 use Rattle.std.specs.List.{All as Each}
 use Rattle.pg_base.specs.Side.{other}
 use Rattle.pg_base.specs.declared.kind.Kind.{Kind}
@@ -25,7 +25,7 @@ use Rattle.pg_cert.specs.declared.node.Body.TheVariants.{Over, Move, All, Pairs,
 use Rattle.pg_cert.specs.declared.reply.Reply.{Reply}
 use Rattle.pg_cert.specs.Limits.{IsClaim}
 use Rattle.pg_cert.specs.Valid.{is_allowed, IsNodeOf, FollowsMove, PotentialFits, with_e_named, IsValidClaim}
-use Rattle.pg_cert.specs.OwnMove.{Standing, OwnMove, own_move}
+use Rattle.pg_cert.specs.OwnMove.{Standing, own_move}
 use Rattle.pg_pairing.specs.Rest.{ArePairsOf, RestHolds, HeldBefore}
 use Rattle.pg_switch.specs.Replies.{HeldUntil}
 

@@ -12,7 +12,7 @@ use Rattle.pg_game.specs.Game.{point_count, is_over, after}
 use Rattle.pg_game.specs.Judge.{judged_move}
 use Rattle.pg_cert.specs.declared.cert.Cert.{Cert}
 use Rattle.pg_cert.specs.declared.cert.Claim.{Claim}
-use Rattle.pg_cert.specs.OwnMove.{Standing, OwnMove, own_move, replied}
+use Rattle.pg_cert.specs.OwnMove.{Standing, own_move, replied}
 
 -- the game, the claim that is played, the position, and where the player stands
 pub record Play : Type 0 where

@@ -1,11 +1,11 @@
 //! The own moves of a player.
-ghost use Rattle.std.specs.Prelude.{◌≡◌, ◌≢◌, ◌<◌, ℕ, false, Option, slice_get};
+ghost use Rattle.std.specs.Prelude.{◌≡◌, ◌≢◌, ℕ, false, Option, slice_get};
 ghost use Rattle.pg_base.specs.declared.kind.Kind.TheVariants.{Switching};
 ghost use Rattle.pg_base.specs.declared.side.Side.TheVariants.{X, Y};
 ghost use Rattle.pg_cert.specs.Valid.{with_e_named};
 ghost use Rattle.pg_cert.specs.declared.cert.Claim.{Claim};
 ghost use Rattle.pg_cert.specs.declared.node.Body.TheVariants.{Potential, Trees, Cuts};
-ghost use Rattle.pg_game.specs.Game.{point_count, is_over, is_full, after, IsPosition};
+ghost use Rattle.pg_game.specs.Game.{is_over, IsPosition};
 ghost use Rattle.pg_game.specs.Trees.{TreesHold, CutsHold};
 ghost use Rattle.pg_player.specs.InPlay.{InPlay, HasJoiner, KeepsUp};
 ghost use Rattle.pg_player.specs.Stand.{body_at, standing_of};

@@ -9,7 +9,8 @@ ghost use Rattle.pg_player.specs.Player.{Waits};
 
 use crate::{OpenFault, Player};
 use pg_base::{Goal, Kind, Line, Lines, PointSet, Score, Side};
-use pg_cert::{Cert, read_cert};
+use pg_cert::Cert;
+use pg_cert_files::read_cert;
 use pg_check::check;
 use pg_game::{Field, Game, LineField};
 use pg_graph::{Ends, Graph};
@@ -230,6 +231,25 @@ fn plays_by_moves_and_pairs(rt: HostRuntime) -> Result<(), Fail> {
         "maker-maker 4 x 1:0 1,2 3:=claim x x draw;nodes 1;||x|pairs 0-1 2-3=x=2 1:0 3:draw=0 1 3:0 1000 2:draw",
         "avoider-enforcer 5 x 1:0 1,2 3:=claim x x win;nodes 1;||x|pairs 0-1 2-3=x=0 2:4 1:x=3 4 1:4 2 1000:x",
         "avoider-enforcer 4 y 1:0 1,2 3:=claim y x win;nodes 1;||y|pairs 0-1 2-3=x=0 3:1:x=4 2 1:1000 3:x",
+    ] {
+        assert!(rt; holds(rt.alloc(), row)?, "{row}");
+    }
+    Ok(())
+}
+
+#[test]
+fn plays_by_potentials_trees_and_cuts(rt: HostRuntime) -> Result<(), Fail> {
+    for row in [
+        "maker-breaker 3 x 1:0 1 2:=claim x y win;nodes 1;||x|potential=y=1:0:y=3 0:1000 1:y",
+        "maker-breaker 4 x 2:0 1,0 2:=claim x y win;nodes 1;||x|potential=y=0:1 2:y=1:0:y",
+        "maker-maker 3 x 1:0 1 2:=claim x y draw;nodes 1;||x|potential=y=0 2:1:draw=2 2 1:0 1000:draw",
+        "maker-maker 3 x 1:0 1 2:=claim x x draw;nodes 1;||x|potential=x=1:0 2:draw=0 2:0 1000 1:draw",
+        "avoider-enforcer 3 y 1:0 1,0 2,1 2:=claim y x win;nodes 1;||y|potential=x=0 2:1:x=3 1 2:1000 0:x",
+        "avoider-enforcer 6 x 1:0 1 2,3 4 5:=claim x x win;nodes 1;||x|potential=x=5 1:0 3:x=1 0 4:0 2 1000:x",
+        "switching 4 x 1:0 2,0 3,2 3,2 1,3 1:=claim x x win;nodes 1;||x|trees e 0 4 / 1 2 3=x=4 0:1 3 2:x=1 4 5 0:1 1000 3 1000 2:x",
+        "switching 2 y 1:0 1,1 0:=claim y x win;nodes 1;||y|trees 0 / 1=x=0:1:x=1:0:x",
+        "switching 4 y 1:0 2,0 3,2 3,2 1,3 1:=claim y y win;nodes 1;||y|cuts e 0 4 / 1 2 3=y=0 4:1 3 2:y=1 0 5 4:1 1000 3 1000 2:y",
+        "switching 3 x 1:0 2,2 1:=claim x y win;nodes 1;||x|cuts 0 / 1=y=0:1:y=1:0:y",
     ] {
         assert!(rt; holds(rt.alloc(), row)?, "{row}");
     }

@@ -1,7 +1,6 @@
-use Rattle.std.proofs.Common.{◌≡◌, ◌∙◌, ℕ, List, Option, Some, subst, sym, ap}
-use Rattle.pg_base.specs.declared.pair.Pair.{Pair}
+use Rattle.std.proofs.Common.{◌∙◌, subst, sym, ap}
 use Rattle.pg_cert.specs.declared.node.Body.{Body}
-use Rattle.pg_cert.specs.declared.node.Body.TheVariants.{Pairs, Potential}
+use Rattle.pg_cert.specs.declared.node.Body.TheVariants.{Pairs}
 use Rattle.pg_player.specs.InPlay.{InPlay, KeepsUp}
 use Rattle.pg_player.specs.Stand.{standing_of}
 use Rattle.pg_player.proofs.Plays.{IsPosition-reached, not-full}

@@ -1,4 +1,4 @@
-use Rattle.std.proofs.Common.{◌≡◌, ◌∙◌, refl, sym}
+use Rattle.std.proofs.Common.{refl, sym}
 use Rattle.pg_game.specs.Game.{start}
 use Rattle.pg_player.specs.Stand.{standing_of}
 use Rattle.pg_player.proofs.Opening.{chosen-is, sound-chosen, some_node, InPlay-root}

@@ -1,4 +1,4 @@
-use Rattle.std.proofs.Common.{◌≡◌, ◌∙◌, refl, sym, subst}
+use Rattle.std.proofs.Common.{◌∙◌, refl, sym, subst}
 use Rattle.pg_graph.specs.Joiner.{Room}
 use Rattle.pg_game.specs.Game.{after}
 use Rattle.pg_game.specs.Judge.{IsMadeForGame}
