@@ -112,7 +112,6 @@ fn cuts_move(
 }
 
 /// The own move at a node's body.
-#[allow(clippy::too_many_arguments)]
 fn body_move(
     g: &Game,
     claim: &Claim,
