@@ -10,3 +10,6 @@ mod player;
 mod standing;
 
 pub use player::{OpenFault, Player};
+
+#[cfg(test)]
+mod tests;

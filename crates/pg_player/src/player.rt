@@ -2,7 +2,7 @@
 ghost use Rattle.std.specs.Prelude.{◌≡◌, ◌-◌, ℕ, List, Some, None, Err, length, true, false, IfOk, IfErr, IfSome, OnOk, if◌then◌else◌};
 ghost use Rattle.pg_cert.specs.OwnMove.{arrives};
 ghost use Rattle.pg_game.specs.Game.{start, is_over, outcome};
-ghost use Rattle.pg_game.specs.Judge.{IsMadeForGame, judged_move};
+ghost use Rattle.pg_game.specs.Judge.{judged_move};
 ghost use Rattle.pg_game.specs.Play.{IsLegalPlay, played};
 ghost use Rattle.pg_game.specs.Value.{reaches};
 ghost use Rattle.pg_player.specs.InPlay.{HasJoiner};
@@ -101,13 +101,12 @@ impl<'a> Player<'a> {
         let Some(claim) = chosen_claim(game, c.cert, side) else {
             return Err(OpenFault::NoClaim);
         };
-        let Ok(judge) = Judge::new(alloc, game) else {
+        let Ok(mut judge) = Judge::new(alloc, game) else {
             return Err(OpenFault::Memory);
         };
         let Ok(joiner) = joiner_for(alloc, game) else {
             return Err(OpenFault::Memory);
         };
-        let mut judge = judge;
         let position = game.start();
         let ending = judge.over(game, &position);
         Ok(Player {
@@ -189,10 +188,10 @@ impl<'a> Player<'a> {
         ensures refused { IfErr result (λ fault. judged_move self.old.game self.old.position v ≡ Err fault) }
         ensures same { IfErr result (λ _. self.new ≡ self.old) }
     {
-        let next = self.judge.play(self.game, &self.position, v)?;
-        self.ending = self.judge.over(self.game, &next);
+        let position = self.judge.play(self.game, &self.position, v)?;
+        self.ending = self.judge.over(self.game, &position);
         self.stand = replied(self.claim, self.stand.rest, v);
-        self.position = next;
+        self.position = position;
         Ok(())
     }
 

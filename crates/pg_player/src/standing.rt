@@ -45,6 +45,16 @@ pub(crate) fn root(claim: &Claim) -> Stand
     arrive(claim, claim.nodes.as_slice().len() - 1)
 }
 
+/// Where a player stands that stays after a reply.
+fn stay(rest: Rest, v: u16) -> Stand
+    ensures { result ≡ record { rest = rest; last = Some v } }
+{
+    Stand {
+        rest,
+        last: Some(v),
+    }
+}
+
 /// The reply that takes the point.
 fn find_reply(replies: &[Reply], v: u16) -> Option<&Reply>
     ensures { option_map (λ r. r.now) result ≡ find (λ r. r.point == v) replies.now }
@@ -71,10 +81,7 @@ fn body_replied(claim: &Claim, number: usize, body: &Body, v: u16) -> Stand
             Some(reply) => arrive(claim, reply.child as usize),
             None => unreachable!(),
         },
-        _ => Stand {
-            rest: Rest::Whole(number),
-            last: Some(v),
-        },
+        _ => stay(Rest::Whole(number), v),
     }
 }
 
@@ -85,9 +92,6 @@ pub(crate) fn replied(claim: &Claim, rest: Rest, v: u16) -> Stand
 {
     match rest {
         Rest::Whole(number) => body_replied(claim, number, body_at(claim, number), v),
-        Rest::Short(_) | Rest::Cut(_) => Stand {
-            rest,
-            last: Some(v),
-        },
+        Rest::Short(_) | Rest::Cut(_) => stay(rest, v),
     }
 }
