@@ -5,6 +5,7 @@ Usage: checking.py PROGRAM
 Games and certificates are made in a temporary folder and handed on as `PROGRAM check GAME CERTIFICATE`.
 """
 import itertools
+import multiprocessing
 import os
 import subprocess
 import sys
@@ -60,7 +61,7 @@ def tree_files(folder, count=100_000):
     nodes, (x, y) = tree(count)
     game = f"posgame 1\nkind maker-maker\npoints {POINTS}\nx {field(x)}\ny {field(y)}\nturn x\n"
     claim = f"claim x y draw\nnodes {count}\n" + "".join(nodes)
-    return write(folder, game, "posgame-cert 1\n" + claim + claim)
+    write(folder, game, "posgame-cert 1\n" + claim + claim)
 
 
 def pair_files(folder, size=100_000_000):
@@ -70,24 +71,38 @@ def pair_files(folder, size=100_000_000):
     lines = "".join(f"line {v} {v + 1} {(v + 7) % 256}\n" for v in range(0, 256, 2))
     game = f"posgame 1\nkind maker-maker\npoints 256\n{lines}turn x\n"
     claim = f"claim x y draw\nnodes {count}\n" + node * count
-    return write(folder, game, "posgame-cert 1\n" + claim + claim)
+    write(folder, game, "posgame-cert 1\n" + claim + claim)
+
+
+def potential_files(folder, count=100):
+    lines = "".join("line " + field(sorted((v + 7 * i) % 256 for i in range(20))) + "\n" for v in range(256))
+    lines = "".join(itertools.islice(itertools.cycle(lines.splitlines(True)), 20_000))
+    game = f"posgame 1\nkind maker-maker\npoints 256\n{lines}turn x\n"
+    claim = f"claim x y draw\nnodes {count}\n" + "||x|potential\n" * count
+    write(folder, game, "posgame-cert 1\n" + claim)
+
+
+def paths(folder):
+    return os.path.join(folder, "game"), os.path.join(folder, "certificate")
 
 
 def write(folder, game, certificate):
-    paths = os.path.join(folder, "game"), os.path.join(folder, "certificate")
-    for path, text in zip(paths, (game, certificate)):
+    for path, text in zip(paths(folder), (game, certificate)):
         with open(path, "w", encoding="ascii") as file:
             file.write(text)
-    return paths
 
 
 def measure(program, name, make):
+    """Makes the files in a process of their own: a program that is started counts the memory of the one that starts it."""
     with tempfile.TemporaryDirectory() as folder:
-        game, certificate = make(folder)
+        maker = multiprocessing.Process(target=make, args=(folder,))
+        maker.start()
+        maker.join()
+        game, certificate = paths(folder)
         size = os.path.getsize(certificate)
         begin = time.monotonic()
         process = subprocess.Popen([program, "check", game, certificate], stdout=subprocess.PIPE)
-        said = process.stdout.read().decode().split("\n")[0]
+        said = ", ".join(process.stdout.read().decode().splitlines())
         _, status, used = os.wait4(process.pid, 0)
         seconds = time.monotonic() - begin
         print(f"{name}: {size} bytes, {seconds:.2f} s, {used.ru_maxrss // 1024} MB, {said}")
@@ -98,6 +113,7 @@ def main():
         sys.exit(__doc__)
     measure(sys.argv[1], "200,000 nodes of over, move and all on 16 points", tree_files)
     measure(sys.argv[1], "100 MB of pairs on 256 points", pair_files)
+    measure(sys.argv[1], "100 nodes of potential on 20,000 lines with 400,000 points", potential_files)
 
 
 if __name__ == "__main__":

@@ -7,3 +7,6 @@ mod reply;
 
 pub use condition::holds;
 pub use reply::answer;
+
+#[cfg(test)]
+mod tests;

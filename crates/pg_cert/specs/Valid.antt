@@ -75,13 +75,8 @@ is_allowed kind bias side goal (Trees with_e first second) = shows_trees kind si
 is_allowed kind bias side goal (Cuts with_e first second) = shows_cuts kind side
 is_allowed kind bias side goal (Threat points) = shows_threats kind side && bias == 1
 
--- whether this version checks the body in games of a kind that allows it: potentials, trees, cuts and threat lines come later
+-- whether this version checks the body in games of a kind that allows it: all but threat lines, which come later
 abbrev pub is_built : Kind → Body → Bool
-is_built MakerBreaker Potential = false
-is_built MakerMaker Potential = false
-is_built AvoiderEnforcer Potential = false
-is_built Switching (Trees with_e first second) = false
-is_built Switching (Cuts with_e first second) = false
 is_built MakerBreaker (Threat points) = false
 is_built MakerMaker (Threat points) = false
 is_built _ _ = true

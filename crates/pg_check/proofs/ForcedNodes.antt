@@ -1,12 +1,11 @@
 -- Every node of a valid claim is forced, by induction on its number.
-use Rattle.std.proofs.Common.{◌≡◌, ◌∙◌, ℕ, zero, suc, ◌+◌, ◌<◌, ◌≤◌, Bool, true, false, ◌&&◌, List, [], ◌∷◌, Some, slice_get, length, map, get_or, refl, sym, ap, subst, inl, inr, arith, eqb, eqb-true, eq-eqb}
+use Rattle.std.proofs.Common.{◌≡◌, ◌∙◌, ℕ, zero, suc, ◌+◌, ◌<◌, true, ◌&&◌, List, [], ◌∷◌, Some, slice_get, length, map, get_or, refl, sym, ap, subst, inl, inr, arith, eqb, eqb-true, eq-eqb}
 use Rattle.std.specs.List.{list_any, All as Each}
 use Rattle.std.specs.FinSet.{FinSet}
 use Rattle.std.specs.Ordering.{nat_cmp}
 use Rattle.std.proofs.lemmas.List.{get_or_default}
 use Rattle.std.proofs.lemmas.Option.{slice_get_within, slice_get-get_or}
-use Rattle.std.proofs.lemmas.Bool.{cases_Bool, false≢true, and_parts, or_parts}
-use Rattle.pg_base.specs.Side.{other}
+use Rattle.std.proofs.lemmas.Bool.{cases_Bool, false≢true}
 use Rattle.pg_base.specs.declared.goal.Goal.{Goal}
 use Rattle.pg_base.specs.declared.goal.Goal.TheVariants.{Win, Draw as AtLeastDraw}
 use Rattle.pg_base.specs.declared.kind.Kind.{Kind}
@@ -19,12 +18,16 @@ use Rattle.pg_base.specs.declared.side.Side.TheVariants.{X, Y}
 use Rattle.pg_game.specs.declared.game.Game.{Game}
 use Rattle.pg_game.specs.declared.position.Position.{Position}
 use Rattle.pg_game.specs.Position.{is_free}
-use Rattle.pg_game.specs.Game.{point_count, free_points, is_over, after, with_turn, IsPosition}
+use Rattle.pg_game.specs.Game.{point_count, free_points, after, with_turn, IsPosition}
 use Rattle.pg_game.specs.Value.{reaches, value, Forces}
 use Rattle.pg_game.specs.Pairs.{PairsHold}
 use Rattle.pg_game.proofs.ValueLaws.{Forces-over, Forces-move, Forces-all}
 use Rattle.pg_game.proofs.FreePoints.{any-free_points}
+use Rattle.pg_game.specs.Trees.{TreesHold, CutsHold}
 use Rattle.pg_pairing.proofs.PairLaws.{Forces-pairs_breaker, Forces-pairs_draw, Forces-pairs_avoider}
+use Rattle.pg_potential.proofs.PotentialLaws.{Forces-potential_breaker, Forces-potential_draw}
+use Rattle.pg_avoider.proofs.AvoiderLaws.{Forces-avoider}
+use Rattle.pg_switch.proofs.SwitchLaws.{Forces-trees, Forces-cuts}
 use Rattle.pg_cert.specs.declared.cert.Claim.{Claim}
 use Rattle.pg_cert.specs.declared.cert.Cert.{Cert}
 use Rattle.pg_cert.specs.declared.node.Node.{Node}
@@ -34,7 +37,7 @@ use Rattle.pg_cert.specs.declared.reply.Reply.{Reply}
 use Rattle.pg_cert.specs.declared.node_fault.NodeFault.TheVariants as faults
 use Rattle.pg_cert.specs.Node.{position_of}
 use Rattle.pg_cert.specs.Limits.{IsNode, IsClaim, IsWithinLimits}
-use Rattle.pg_cert.specs.Valid.{is_allowed, is_built, shows_defence, pairs_fit, IsInGame, NamesEarlier, IsNodeOf, FollowsMove, FollowMoves, HasTurn, TakesFree, EndsRight, HasPairs, IsOwed, IsSound, IsValidClaim, IsValid}
+use Rattle.pg_cert.specs.Valid.{is_allowed, is_built, shows_defence, shows_trees, shows_cuts, pairs_fit, IsInGame, NamesEarlier, IsNodeOf, FollowsMove, FollowMoves, HasTurn, TakesFree, EndsRight, PotentialFits, with_e_named, HasPairs, HasPotential, HasTrees, HasCuts, IsOwed, IsSound, IsValidClaim, IsValid}
 
 -- a win is a draw at least
 win_is_draw : (side : Side) (s : Score) → reaches side Win s ≡ true → reaches side AtLeastDraw s ≡ true
@@ -63,25 +66,40 @@ pairs_at AvoiderEnforcer bias X goal g p pairs kind ok position h = Forces-any g
 pairs_at AvoiderEnforcer bias Y goal g p pairs kind ok position h = absurd (false≢true ok)
 pairs_at Switching bias side goal g p pairs kind ok position h = absurd (false≢true ok)
 
+-- ---- potentials
+
+-- where a potential is allowed and holds, it forces the goal
+potential_at : (kind : Kind) (side : Side) (goal : Goal) (g : Game) (p : Position) → g.kind ≡ kind
+    → shows_defence kind side goal ≡ true → IsPosition g p → PotentialFits kind g p side → Forces g p side goal
+potential_at MakerBreaker X goal g p kind ok position h = absurd (false≢true ok)
+potential_at MakerBreaker Y goal g p kind ok position h = Forces-any g p Y goal (Forces-potential_breaker g p kind position h)
+potential_at MakerMaker side Win g p kind ok position h = absurd (false≢true ok)
+potential_at MakerMaker side AtLeastDraw g p kind ok position h = Forces-potential_draw g p side kind position h
+potential_at AvoiderEnforcer X goal g p kind ok position h = Forces-any g p X goal (Forces-avoider g p kind position h)
+potential_at AvoiderEnforcer Y goal g p kind ok position h = absurd (false≢true ok)
+potential_at Switching side goal g p kind ok position h = absurd (false≢true ok)
+
+-- ---- trees and cuts
+
+-- where trees are allowed and hold, they force the goal
+trees_at : (kind : Kind) (side : Side) (goal : Goal) (g : Game) (p : Position) (first second : FinSet nat_cmp)
+    → shows_trees kind side ≡ true → IsPosition g p → TreesHold g p first second → Forces g p side goal
+trees_at MakerBreaker side goal g p first second ok position h = absurd (false≢true ok)
+trees_at MakerMaker side goal g p first second ok position h = absurd (false≢true ok)
+trees_at AvoiderEnforcer side goal g p first second ok position h = absurd (false≢true ok)
+trees_at Switching X goal g p first second ok position h = Forces-any g p X goal (Forces-trees g p first second position h)
+trees_at Switching Y goal g p first second ok position h = absurd (false≢true ok)
+
+-- where cuts are allowed and hold, they force the goal
+cuts_at : (kind : Kind) (side : Side) (goal : Goal) (g : Game) (p : Position) (first second : FinSet nat_cmp)
+    → shows_cuts kind side ≡ true → IsPosition g p → CutsHold g p first second → Forces g p side goal
+cuts_at MakerBreaker side goal g p first second ok position h = absurd (false≢true ok)
+cuts_at MakerMaker side goal g p first second ok position h = absurd (false≢true ok)
+cuts_at AvoiderEnforcer side goal g p first second ok position h = absurd (false≢true ok)
+cuts_at Switching X goal g p first second ok position h = absurd (false≢true ok)
+cuts_at Switching Y goal g p first second ok position h = Forces-any g p Y goal (Forces-cuts g p first second position h)
+
 -- ---- bodies that aren't built
-
-no_potential : (kind : Kind) (bias : ℕ) (side : Side) (goal : Goal) → is_built kind Potential ≡ true → is_allowed kind bias side goal Potential ≡ true → ⊥
-no_potential MakerBreaker bias side goal built allowed = false≢true built
-no_potential MakerMaker bias side goal built allowed = false≢true built
-no_potential AvoiderEnforcer bias side goal built allowed = false≢true built
-no_potential Switching bias side goal built allowed = false≢true allowed
-
-no_trees : (kind : Kind) (bias : ℕ) (side : Side) (goal : Goal) (with_e : Bool) (first second : FinSet nat_cmp) → is_built kind (Trees with_e first second) ≡ true → is_allowed kind bias side goal (Trees with_e first second) ≡ true → ⊥
-no_trees MakerBreaker bias side goal with_e first second built allowed = false≢true allowed
-no_trees MakerMaker bias side goal with_e first second built allowed = false≢true allowed
-no_trees AvoiderEnforcer bias side goal with_e first second built allowed = false≢true allowed
-no_trees Switching bias side goal with_e first second built allowed = false≢true built
-
-no_cuts : (kind : Kind) (bias : ℕ) (side : Side) (goal : Goal) (with_e : Bool) (first second : FinSet nat_cmp) → is_built kind (Cuts with_e first second) ≡ true → is_allowed kind bias side goal (Cuts with_e first second) ≡ true → ⊥
-no_cuts MakerBreaker bias side goal with_e first second built allowed = false≢true allowed
-no_cuts MakerMaker bias side goal with_e first second built allowed = false≢true allowed
-no_cuts AvoiderEnforcer bias side goal with_e first second built allowed = false≢true allowed
-no_cuts Switching bias side goal with_e first second built allowed = false≢true built
 
 no_threat : (kind : Kind) (bias : ℕ) (side : Side) (goal : Goal) (points : List ℕ) → is_built kind (Threat points) ≡ true → is_allowed kind bias side goal (Threat points) ≡ true → ⊥
 no_threat MakerBreaker bias side goal points built allowed = false≢true built
@@ -167,18 +185,23 @@ module _ (g : Game) (c : Claim) where
       (subst (λ (q : ℕ). IsNodeOf c.nodes r.child (after g p q)) point (next.leads (subst (λ (q : ℕ). q < point_count g) (sym point) range) (subst (λ (q : ℕ). is_free p q ≡ true) (sym point) free)))
 
   body : (k : ℕ) (p : Position) (b : Body) → ForcedBefore k → is_built g.kind b ≡ true → is_allowed g.kind g.bias c.side c.goal b ≡ true → IsPosition g p
-      → NamesEarlier k b → FollowMoves g c.nodes p b → HasTurn c.side p b → TakesFree g p b → EndsRight g c.side c.goal p b → HasPairs g c.side p b → Forces g p c.side c.goal
-  body k p Over before built allowed position earlier follow turn takes ends pairs = Forces-over g p c.side c.goal ends.0 ends.1
-  body k p (Move point j) before built allowed position earlier follow turn takes ends pairs =
+      → NamesEarlier k b → FollowMoves g c.nodes p b → HasTurn c.side p b → TakesFree g p b → EndsRight g c.side c.goal p b
+      → HasPairs g c.side p b → HasPotential g c.side p b → HasTrees g p b → HasCuts g p b → Forces g p c.side c.goal
+  body k p Over before built allowed position earlier follow turn takes ends pairs potential trees cuts = Forces-over g p c.side c.goal ends.0 ends.1
+  body k p (Move point j) before built allowed position earlier follow turn takes ends pairs potential trees cuts =
       Forces-move g p c.side c.goal ends turn point takes.0 takes.1 (child k j (after g p point) before earlier (follow.leads takes.0 takes.1))
-  body k p (All replies) before built allowed position earlier follow turn takes ends pairs =
+  body k p (All replies) before built allowed position earlier follow turn takes ends pairs potential trees cuts =
       Forces-all g p c.side c.goal ends turn (reply_forced k p replies before earlier follow takes)
-  body k p (Pairs pairs_of) before built allowed position earlier follow turn takes ends pairs =
+  body k p (Pairs pairs_of) before built allowed position earlier follow turn takes ends pairs potential trees cuts =
       pairs_at g.kind g.bias c.side c.goal g p pairs_of refl allowed position pairs
-  body k p Potential before built allowed position earlier follow turn takes ends pairs = absurd (no_potential g.kind g.bias c.side c.goal built allowed)
-  body k p (Trees with_e first second) before built allowed position earlier follow turn takes ends pairs = absurd (no_trees g.kind g.bias c.side c.goal with_e first second built allowed)
-  body k p (Cuts with_e first second) before built allowed position earlier follow turn takes ends pairs = absurd (no_cuts g.kind g.bias c.side c.goal with_e first second built allowed)
-  body k p (Threat points) before built allowed position earlier follow turn takes ends pairs = absurd (no_threat g.kind g.bias c.side c.goal points built allowed)
+  body k p Potential before built allowed position earlier follow turn takes ends pairs potential trees cuts =
+      potential_at g.kind c.side c.goal g p refl allowed position potential
+  body k p (Trees with_e first second) before built allowed position earlier follow turn takes ends pairs potential trees cuts =
+      trees_at g.kind c.side c.goal g p (with_e_named g with_e first) second allowed position trees.1
+  body k p (Cuts with_e first second) before built allowed position earlier follow turn takes ends pairs potential trees cuts =
+      cuts_at g.kind c.side c.goal g p (with_e_named g with_e first) second allowed position cuts.1
+  body k p (Threat points) before built allowed position earlier follow turn takes ends pairs potential trees cuts =
+      absurd (no_threat g.kind g.bias c.side c.goal points built allowed)
 
   sound : (k : ℕ) (n : Node) → ForcedBefore k → IsNode n → IsSound g c k n → Forces g (position_of n) c.side c.goal
   sound k n before limits h =
@@ -186,7 +209,8 @@ module _ (g : Game) (c : Claim) where
       let marks = h faults.Marks in
       let owed : IsOwed g c n = record { allowed = allowed; in_game = marks.0 } in
       body k (position_of n) n.body before (h faults.Unbuilt) allowed (position-of g n limits marks.0)
-      (h faults.Child) marks.1 (h faults.Turn owed) (h faults.Moves owed) (h faults.End owed) (h faults.Pairs owed)
+      (h faults.Child) marks.1 (h faults.Turn owed) (h faults.Moves owed) (h faults.End owed)
+      (h faults.Pairs owed) (h faults.Potential owed) (h faults.Trees owed) (h faults.Cuts owed)
 
   forced-before : IsClaim c → IsValidClaim g c → (k : ℕ) → ForcedBefore k
   unfolding ForcedBefore

@@ -1,4 +1,5 @@
 mod NodeTests
 mod ReplyLemmas
+mod NamedEdges
 pub mod ClaimLemmas
 pub mod ForcedNodes

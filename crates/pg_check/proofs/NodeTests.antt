@@ -1,5 +1,5 @@
 -- Tests of a node's body.
-use Rattle.std.proofs.Common.{◌≡◌, ◌∙◌, ℕ, Bool, List, Option, Some, None, slice_get, refl, sym, ap, IsTrue}
+use Rattle.std.proofs.Common.{◌≡◌, ◌∙◌, ℕ, Bool, List, Some, None, slice_get, sym, ap, IsTrue}
 use Rattle.pg_game.specs.declared.position.Position.{Position}
 use Rattle.pg_game.specs.PositionLemmas.{equal_positions, equal_positions-decides}
 use Rattle.pg_cert.specs.declared.node.Node.{Node}

@@ -72,9 +72,13 @@ pub(crate) fn is_built(kind: Kind, body: &Body) -> bool
     ensures { result ≡ is_built kind body.now }
 {
     match body {
-        Body::Over | Body::Move { .. } | Body::All(_) | Body::Pairs(_) => true,
-        Body::Potential => matches!(kind, Kind::Switching),
-        Body::Trees { .. } | Body::Cuts { .. } => !matches!(kind, Kind::Switching),
+        Body::Over
+        | Body::Move { .. }
+        | Body::All(_)
+        | Body::Pairs(_)
+        | Body::Potential
+        | Body::Trees { .. }
+        | Body::Cuts { .. } => true,
         Body::Threat(_) => matches!(kind, Kind::AvoiderEnforcer | Kind::Switching),
     }
 }

@@ -1,15 +1,16 @@
 //! The first fault of a claim, and of several claims.
 ghost use Rattle.std.specs.Prelude.{◌≡◌, ◌≤◌, ◌<◌, ℕ, length, IfSome, IfNone, IfOk};
 ghost use Rattle.std.specs.List.{All};
-ghost use Rattle.pg_game.specs.Judge.{IsMadeForGame};
 ghost use Rattle.pg_cert.specs.Valid.{IsValidClaim};
 ghost use Rattle.pg_cert.specs.Limits.{IsClaim};
+ghost use Rattle.pg_check.specs.Tester.{IsReadyFor};
 ghost use Rattle.pg_check.specs.Faulty.{IsFaultyAt, IsFirstAmong, IsFirstOf, AreValidBefore};
 
 use crate::node::first_fault;
+use crate::tester::Tester;
 use pg_base::Memory;
 use pg_cert::{Claim, NodeFault};
-use pg_game::{Game, Judge};
+use pg_game::Game;
 use std::alloc::Global;
 
 /// A faulty node of a claim.
@@ -22,15 +23,15 @@ pub(crate) struct Faulty {
 }
 
 /// The first faulty node of a claim, with its least fault.
-fn first_in_claim(judge: &mut Judge, g: &Game, claim: &Claim) -> Option<Faulty>
-    requires made { IsMadeForGame judge.old g.now }
+fn first_in_claim(tester: &mut Tester, g: &Game, claim: &Claim) -> Option<Faulty>
+    requires made { IsReadyFor tester.old g.now }
     requires limits { IsClaim claim.now }
     ensures valid { IfNone result (IsValidClaim g.now claim.now) }
     ensures first { IfSome result (λ faulty. IsFaultyAt g.now claim.now faulty.node faulty.fault) }
-    ensures kept { judge.new ≡ judge.old }
+    ensures kept { tester.new ≡ tester.old }
 {
     for (k, node) in claim.nodes.as_slice().iter().enumerate() {
-        match first_fault(judge, g, claim, k, node) {
+        match first_fault(tester, g, claim, k, node) {
             Some(fault) => {
                 return Some(Faulty {
                     node: k as u32,
@@ -44,15 +45,15 @@ fn first_in_claim(judge: &mut Judge, g: &Game, claim: &Claim) -> Option<Faulty>
 }
 
 /// The first faulty claim's number, and in it the first faulty node with its least fault.
-pub(crate) fn first_among(judge: &mut Judge, g: &Game, claims: &[Claim]) -> Option<(u32, Faulty)>
-    requires made { IsMadeForGame judge.old g.now }
+pub(crate) fn first_among(tester: &mut Tester, g: &Game, claims: &[Claim]) -> Option<(u32, Faulty)>
+    requires made { IsReadyFor tester.old g.now }
     requires few { length claims.now ≤ 8 }
     requires limits { All IsClaim claims.now }
     ensures valid { IfNone result (AreValidBefore g.now claims.now (length claims.now)) }
     ensures first { IfSome result (λ found. IsFirstAmong g.now claims.now found.0 found.1.node found.1.fault) }
 {
     for (i, claim) in claims.iter().enumerate() {
-        match first_in_claim(judge, g, claim) {
+        match first_in_claim(tester, g, claim) {
             Some(faulty) => return Some((i as u32, faulty)),
             None => {}
         }
@@ -60,7 +61,7 @@ pub(crate) fn first_among(judge: &mut Judge, g: &Game, claims: &[Claim]) -> Opti
     None
 }
 
-/// The first fault of a certificate's claims, found by a judge made for the game.
+/// The first fault of a certificate's claims, found by a tester made for the game.
 pub(crate) fn first_of_game(
     alloc: Global,
     g: &Game,
@@ -70,6 +71,6 @@ pub(crate) fn first_of_game(
     requires limits { All IsClaim claims.now }
     ensures judged { IfOk result (λ found. IsFirstOf g.now claims.now found) }
 {
-    let mut judge = Judge::new(alloc, g)?;
-    Ok(first_among(&mut judge, g, claims))
+    let mut tester = Tester::new(alloc, g)?;
+    Ok(first_among(&mut tester, g, claims))
 }

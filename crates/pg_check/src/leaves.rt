@@ -1,13 +1,17 @@
 //! Nodes that stand on a criterion.
-ghost use Rattle.std.specs.Prelude.{◌≡◌, ◌↔◌, IsTrue, true, List, ℕ};
+ghost use Rattle.std.specs.Prelude.{◌≡◌, ◌≢◌, ◌↔◌, IsTrue, true, List, ℕ};
+ghost use Rattle.pg_base.specs.declared.kind.Kind.TheVariants.{Switching};
 ghost use Rattle.pg_base.specs.declared.side.Side.{Side};
 ghost use Rattle.pg_base.specs.declared.goal.Goal.{Goal};
 ghost use Rattle.pg_game.specs.Game.{IsPosition};
-ghost use Rattle.pg_cert.specs.Valid.{HasPairs, HasPotential, HasTrees, HasCuts, HasThreat, is_built, is_allowed};
+ghost use Rattle.pg_game.specs.Judge.{IsMadeForGame, room_of};
+ghost use Rattle.pg_cert.specs.Valid.{HasPairs, PotentialFits, HasPotential, HasTrees, HasCuts, HasThreat, is_built, is_allowed};
 
-use pg_base::{Goal, Side};
+use crate::edge_sets::{named_cuts_hold, named_trees_hold};
+use pg_base::{Goal, Kind, Side};
 use pg_cert::Body;
 use pg_game::{Game, Position};
+use pg_graph::Joiner;
 
 /// Whether pairs meet their condition.
 pub(crate) fn has_pairs(g: &Game, side: Side, p: &Position, body: &Body) -> bool
@@ -26,14 +30,26 @@ pub(crate) fn has_pairs(g: &Game, side: Side, p: &Position, body: &Body) -> bool
     }
 }
 
+/// Whether Breaker's potential, or Avoider's by the kind, is low enough.
+fn potential_fits(g: &Game, side: Side, p: &Position) -> bool
+    requires lines { g.now.kind ≢ Switching }
+    requires position { IsPosition g.now p.now }
+    ensures { IsTrue result ↔ PotentialFits g.now.kind g.now p.now side }
+{
+    match g.kind {
+        Kind::AvoiderEnforcer => pg_avoider::holds(g, p),
+        Kind::MakerBreaker | Kind::MakerMaker | Kind::Switching => pg_potential::holds(g, p, side),
+    }
+}
+
 /// Whether a potential meets its condition.
 pub(crate) fn has_potential(g: &Game, side: Side, p: &Position, body: &Body) -> bool
-    requires built { is_built g.now.kind body.now ≡ true }
     requires allowed { (bias : ℕ) × (s : Side) × (goal : Goal) × (is_allowed g.now.kind bias s goal body.now ≡ true) }
+    requires position { IsPosition g.now p.now }
     ensures { IsTrue result ↔ HasPotential g.now side p.now body.now }
 {
     match body {
-        Body::Potential => unreachable!(),
+        Body::Potential => potential_fits(g, side, p),
         Body::Over
         | Body::Move { .. }
         | Body::All(_)
@@ -45,13 +61,19 @@ pub(crate) fn has_potential(g: &Game, side: Side, p: &Position, body: &Body) -> 
 }
 
 /// Whether the sets of edges are trees.
-pub(crate) fn has_trees(g: &Game, p: &Position, body: &Body) -> bool
-    requires built { is_built g.now.kind body.now ≡ true }
+pub(crate) fn has_trees(joiner: &mut Option<Joiner>, g: &Game, p: &Position, body: &Body) -> bool
     requires allowed { (bias : ℕ) × (s : Side) × (goal : Goal) × (is_allowed g.now.kind bias s goal body.now ≡ true) }
-    ensures { IsTrue result ↔ HasTrees g.now p.now body.now }
+    requires made { IsMadeForGame (room_of joiner.old) g.now }
+    requires position { IsPosition g.now p.now }
+    ensures trees { IsTrue result ↔ HasTrees g.now p.now body.now }
+    ensures kept { joiner.new ≡ joiner.old }
 {
     match body {
-        Body::Trees { .. } => unreachable!(),
+        Body::Trees {
+            with_e,
+            first,
+            second,
+        } => named_trees_hold(joiner, g, p, *with_e, first, second),
         Body::Over
         | Body::Move { .. }
         | Body::All(_)
@@ -63,13 +85,19 @@ pub(crate) fn has_trees(g: &Game, p: &Position, body: &Body) -> bool
 }
 
 /// Whether the sets of edges are cuts.
-pub(crate) fn has_cuts(g: &Game, p: &Position, body: &Body) -> bool
-    requires built { is_built g.now.kind body.now ≡ true }
+pub(crate) fn has_cuts(joiner: &mut Option<Joiner>, g: &Game, p: &Position, body: &Body) -> bool
     requires allowed { (bias : ℕ) × (s : Side) × (goal : Goal) × (is_allowed g.now.kind bias s goal body.now ≡ true) }
-    ensures { IsTrue result ↔ HasCuts g.now p.now body.now }
+    requires made { IsMadeForGame (room_of joiner.old) g.now }
+    requires position { IsPosition g.now p.now }
+    ensures cuts { IsTrue result ↔ HasCuts g.now p.now body.now }
+    ensures kept { joiner.new ≡ joiner.old }
 {
     match body {
-        Body::Cuts { .. } => unreachable!(),
+        Body::Cuts {
+            with_e,
+            first,
+            second,
+        } => named_cuts_hold(joiner, g, p, *with_e, first, second),
         Body::Over
         | Body::Move { .. }
         | Body::All(_)

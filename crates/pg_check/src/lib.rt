@@ -4,8 +4,10 @@
 mod allowed;
 mod checked;
 mod claims;
+mod edge_sets;
 mod leaves;
 mod moves;
 mod node;
+mod tester;
 
 pub use checked::{CheckFault, Checked, check, valid_claims_are_forced};

@@ -5,11 +5,13 @@ ghost use Rattle.pg_game.specs.Judge.{IsMadeForGame};
 ghost use Rattle.pg_game.specs.Game.{IsPosition, is_over, outcome};
 ghost use Rattle.pg_game.specs.Value.{reaches};
 ghost use Rattle.pg_cert.specs.Node.{position_of};
+ghost use Rattle.pg_check.specs.Tester.{IsReadyFor};
 ghost use Rattle.pg_cert.specs.Valid.{Passes, IsOwed, IsRoot, IsSound, IsLeastFault, EndsRight, is_built};
 
 use crate::allowed::{is_allowed, is_built, is_in_game};
 use crate::leaves::{has_cuts, has_pairs, has_potential, has_threat, has_trees};
 use crate::moves::{follow_moves, has_turn, names_earlier, takes_free};
+use crate::tester::Tester;
 use pg_base::{Goal, Side};
 use pg_cert::{Body, Claim, Node, NodeFault};
 use pg_game::{Game, Judge, Position, reaches};
@@ -73,7 +75,7 @@ fn is_root(g: &Game, claim: &Claim, k: usize, node: &Node) -> bool
 /// Whether the node owes nothing under the fault's name.
 #[allow(clippy::too_many_arguments)]
 fn passes(
-    judge: &mut Judge,
+    tester: &mut Tester,
     g: &Game,
     claim: &Claim,
     k: usize,
@@ -81,14 +83,14 @@ fn passes(
     owed: bool,
     fault: NodeFault,
 ) -> bool
-    requires made { IsMadeForGame judge.old g.now }
+    requires made { IsReadyFor tester.old g.now }
     requires place { k < length claim.now.nodes }
     requires marks { ShareNone node.now.x node.now.y }
     requires left { 1 ≤ node.now.left }
     requires owed { IsTrue owed ↔ IsOwed g.now claim.now node.now }
     requires built { fault ≢ NodeFault.Unbuilt → is_built g.now.kind node.now.body ≡ true }
     ensures passes { IsTrue result ↔ Passes g.now claim.now k node.now fault }
-    ensures kept { judge.new ≡ judge.old }
+    ensures kept { tester.new ≡ tester.old }
 {
     let p = node.position();
     match fault {
@@ -99,11 +101,13 @@ fn passes(
         }
         NodeFault::Turn => !owed || has_turn(claim.side, &p, &node.body),
         NodeFault::Moves => !owed || takes_free(g, &p, &node.body),
-        NodeFault::End => !owed || ends_right(judge, g, claim.side, claim.goal, &p, &node.body),
+        NodeFault::End => {
+            !owed || ends_right(&mut tester.judge, g, claim.side, claim.goal, &p, &node.body)
+        }
         NodeFault::Pairs => !owed || has_pairs(g, claim.side, &p, &node.body),
         NodeFault::Potential => !owed || has_potential(g, claim.side, &p, &node.body),
-        NodeFault::Trees => !owed || has_trees(g, &p, &node.body),
-        NodeFault::Cuts => !owed || has_cuts(g, &p, &node.body),
+        NodeFault::Trees => !owed || has_trees(&mut tester.joiner, g, &p, &node.body),
+        NodeFault::Cuts => !owed || has_cuts(&mut tester.joiner, g, &p, &node.body),
         NodeFault::Threat => !owed || has_threat(g, claim.side, &p, &node.body),
         NodeFault::Root => is_root(g, claim, k, node),
         NodeFault::Body => is_allowed(g.kind, g.bias, claim.side, claim.goal, &node.body),
@@ -112,19 +116,19 @@ fn passes(
 
 /// The least fault of the node, or none where it owes nothing.
 pub(crate) fn first_fault(
-    judge: &mut Judge,
+    tester: &mut Tester,
     g: &Game,
     claim: &Claim,
     k: usize,
     node: &Node,
 ) -> Option<NodeFault>
-    requires made { IsMadeForGame judge.old g.now }
+    requires made { IsReadyFor tester.old g.now }
     requires place { k < length claim.now.nodes }
     requires marks { ShareNone node.now.x node.now.y }
     requires left { 1 ≤ node.now.left }
     ensures sound { IfNone result (IsSound g.now claim.now k node.now) }
     ensures least { IfSome result (λ fault. IsLeastFault g.now claim.now k node.now fault) }
-    ensures kept { judge.new ≡ judge.old }
+    ensures kept { tester.new ≡ tester.old }
 {
     let owed = is_owed(g, claim, node);
     for fault in [
@@ -142,7 +146,7 @@ pub(crate) fn first_fault(
         NodeFault::Root,
         NodeFault::Body,
     ] {
-        if !passes(judge, g, claim, k, node, owed, fault) {
+        if !passes(tester, g, claim, k, node, owed, fault) {
             return Some(fault);
         }
     }

@@ -251,28 +251,43 @@ fn two_lines() -> &'static str {
     "posgame 1\nkind maker-breaker\npoints 3\nline 0 1\nline 0 2\nturn x\n"
 }
 
-/// Whether the check of a certificate says what it must: a row is the certificate behind its first line, with `;` for
-/// each line feed, then `=` and the text.
+/// These lines, which are separated by `;`, each with its line feed.
+fn lines(alloc: Global, row: &str) -> Result<String, AllocError> {
+    let mut text = String::new(alloc);
+    for line in row.split(';') {
+        text.push_str(line)?;
+        text.push_str("\n")?;
+    }
+    Ok(text)
+}
+
+/// Whether the check of a certificate says what it must: a row is the lines of the certificate behind its first line,
+/// then `=`, then those of the answer.
 fn row_holds(alloc: Global, game: &str, row: &str) -> Result<bool, AllocError> {
-    let Some((lines, text)) = row.split_once('=') else {
+    let Some((certificate, texts)) = row.split_once('=') else {
         return Ok(false);
     };
-    let mut certificate = String::from_str(alloc, "posgame-cert 1\n")?;
-    for line in lines.split(';') {
-        certificate.push_str(line)?;
-        certificate.push_str("\n")?;
-    }
-    let mut texts = String::from_str(alloc, text)?;
-    texts.push_str("\n")?;
-    let status = if text.starts_with("accepted") { 0 } else { 4 };
+    let mut whole = String::from_str(alloc, "posgame-cert 1\n")?;
+    whole.push_str(lines(alloc, certificate)?.as_str())?;
+    let status = if texts.starts_with("accepted") { 0 } else { 4 };
     answers(
         alloc,
         "check G C",
         game,
-        certificate.as_str(),
+        whole.as_str(),
         status,
-        texts.as_str(),
+        lines(alloc, texts)?.as_str(),
     )
+}
+
+/// The same where the lines of the game behind its first line, and another `=`, stand before the row.
+fn game_row_holds(alloc: Global, row: &str) -> Result<bool, AllocError> {
+    let Some((game, rest)) = row.split_once('=') else {
+        return Ok(false);
+    };
+    let mut whole = String::from_str(alloc, "posgame 1\n")?;
+    whole.push_str(lines(alloc, game)?.as_str())?;
+    row_holds(alloc, whole.as_str(), rest)
 }
 
 #[test]
@@ -301,7 +316,7 @@ fn trees_of_moves(rt: HostRuntime) -> Result<(), Fail> {
 #[test]
 fn single_nodes(rt: HostRuntime) -> Result<(), Fail> {
     for row in [
-        "claim x y win;nodes 1;||x|potential=rejected J0 claim 0 node 0",
+        "claim x y win;nodes 1;||x|potential=rejected J7 claim 0 node 0",
         "claim x x win;nodes 1;||x|threat 0 1 2=rejected J0 claim 0 node 0",
         "claim x x win;nodes 1;||x|move 0 0=rejected J1 claim 0 node 0",
         "claim x x win;nodes 1;||x|move 3 0=rejected J1 claim 0 node 0",
@@ -351,7 +366,7 @@ fn other_kinds(rt: HostRuntime) -> Result<(), Fail> {
         row_holds(
             alloc,
             graph,
-            "claim x y win;nodes 1;||x|cuts e / 0=rejected J0 claim 0 node 0"
+            "claim x y win;nodes 1;||x|cuts e / 0=rejected J9 claim 0 node 0"
         )?
     );
     let avoider = "posgame 1\nkind avoider-enforcer\npoints 2\nline 0 1\nturn y\n";
@@ -362,5 +377,76 @@ fn other_kinds(rt: HostRuntime) -> Result<(), Fail> {
             "claim y x win;nodes 1;||y|pairs 0-1=accepted y x win"
         )?
     );
+    Ok(())
+}
+
+#[test]
+fn potentials(rt: HostRuntime) -> Result<(), Fail> {
+    for row in [
+        "kind maker-breaker;grid 4 4;line 0 1 2 3;line 4 5 6 7;line 8 9 10 11;line 12 13 14 15;line 0 4 8 12;line 1 5 9 13;line 2 6 10 14;line 3 7 11 15;line 0 5 10 15;line 3 6 9 12;turn x=claim x y win;nodes 1;||x|potential=accepted x y win",
+        "kind maker-breaker;points 3;line 0 1;line 0 2;turn x=claim x y win;nodes 1;||x|potential=rejected J7 claim 0 node 0",
+        "kind maker-breaker;points 3;line 0 1;line 0 2;turn x=claim y y win;nodes 1;||y|potential=accepted y y win",
+        "kind maker-breaker;points 3;line 0 1;line 0 2;turn x=claim x x win;nodes 1;||x|potential=rejected J12 claim 0 node 0",
+        "kind avoider-enforcer;points 3;line 0 1;line 0 2;line 1 2;turn y=claim y x win;nodes 1;||y|potential=accepted y x win",
+        "kind avoider-enforcer;points 3;line 0 1;line 0 2;line 1 2;turn x=claim x x win;nodes 1;||x|potential=rejected J7 claim 0 node 0",
+        "kind avoider-enforcer;points 6;line 0 1 2;line 3 4 5;turn x=claim x x win;nodes 1;||x|potential=accepted x x win",
+        "kind maker-maker;points 1;turn x=claim x y draw;nodes 1;||x|potential;claim x x draw;nodes 1;||x|potential=accepted x y draw;accepted x x draw",
+    ] {
+        assert!(rt; game_row_holds(rt.alloc(), row)?, "{row}");
+    }
+    Ok(())
+}
+
+/// Five in a row, column or diagonal of five by five as a race.
+fn five_by_five() -> &'static str {
+    "posgame 1\nkind maker-maker\ngrid 5 5\nline 0 1 2 3 4\nline 5 6 7 8 9\nline 10 11 12 13 14\nline 15 16 17 18 19\nline 20 21 22 23 24\nline 0 5 10 15 20\nline 1 6 11 16 21\nline 2 7 12 17 22\nline 3 8 13 18 23\nline 4 9 14 19 24\nline 0 6 12 18 24\nline 4 8 12 16 20\nturn x\n"
+}
+
+#[test]
+fn potentials_and_pairs_on_five_by_five(rt: HostRuntime) -> Result<(), Fail> {
+    for row in [
+        "claim x y draw;nodes 1;||x|potential;claim x x draw;nodes 1;||x|potential=accepted x y draw;accepted x x draw",
+        "claim x y draw;nodes 1;||x|pairs 1-3 6-7 10-14 17-18 21-23 5-15 11-16 2-22 8-13 9-19 0-24 4-20;claim x x draw;nodes 1;||x|pairs 1-3 6-7 10-14 17-18 21-23 5-15 11-16 2-22 8-13 9-19 0-24 4-20=accepted x y draw;accepted x x draw",
+        "claim x y win;nodes 1;||x|potential=rejected J12 claim 0 node 0",
+    ] {
+        assert!(rt; row_holds(rt.alloc(), five_by_five(), row)?, "{row}");
+    }
+    Ok(())
+}
+
+#[test]
+fn trees_and_cuts(rt: HostRuntime) -> Result<(), Fail> {
+    for row in [
+        "kind switching;vertices 2;terminals 0 1;edge 0 1;turn x=claim x x win;nodes 1;||x|trees e / 0;claim y y win;nodes 1;||y|cuts e / 0=accepted x x win;accepted y y win",
+        "kind switching;vertices 2;terminals 0 1;edge 0 1;turn x=claim x y win;nodes 1;||x|cuts e / 0=rejected J9 claim 0 node 0",
+        "kind switching;vertices 2;terminals 0 1;edge 0 1;turn x=claim y x win;nodes 1;||y|trees e / 0=rejected J8 claim 0 node 0",
+        "kind switching;vertices 2;terminals 0 1;edge 0 1;turn x=claim x x win;nodes 1;||x|trees 1 / 0=rejected J8 claim 0 node 0",
+        "kind switching;vertices 2;terminals 0 1;edge 0 1;turn x=claim y y win;nodes 1;||y|cuts e / 1=rejected J9 claim 0 node 0",
+        "kind switching;vertices 2;terminals 0 1;edge 0 1;edge 0 1;turn x=claim x x win;nodes 1;||x|trees 0 / 1;claim y x win;nodes 1;||y|trees 0 / 1=accepted x x win;accepted y x win",
+        "kind switching;vertices 3;terminals 0 1;edge 0 2;edge 2 1;turn x=claim x y win;nodes 1;||x|cuts 0 / 1;claim y y win;nodes 1;||y|cuts 0 / 1=accepted x y win;accepted y y win",
+        "kind switching;vertices 3;terminals 0 1;edge 0 2;edge 2 1;turn x=claim x x win;nodes 1;||x|trees e 0 / 1=rejected J8 claim 0 node 0",
+        "kind switching;vertices 3;terminals 0 1;edge 0 2;edge 2 1;turn x=claim x x win;nodes 1;||x|cuts 0 / 1=rejected J12 claim 0 node 0",
+        "kind switching;vertices 3;terminals 0 1;turn x=claim x y win;nodes 1;||x|cuts /=accepted x y win",
+    ] {
+        assert!(rt; game_row_holds(rt.alloc(), row)?, "{row}");
+    }
+    Ok(())
+}
+
+/// Two paths of two edges between the terminals, and an edge between their middles.
+fn bridged() -> &'static str {
+    "posgame 1\nkind switching\nvertices 4\nterminals 0 1\nedge 0 2\nedge 0 3\nedge 2 3\nedge 2 1\nedge 3 1\nturn x\n"
+}
+
+#[test]
+fn trees_and_cuts_on_the_bridged_graph(rt: HostRuntime) -> Result<(), Fail> {
+    for row in [
+        "claim x x win;nodes 1;||x|trees e 0 4 / 1 2 3;claim y y win;nodes 1;||y|cuts e 0 4 / 1 2 3=accepted x x win;accepted y y win",
+        "claim x x win;nodes 2;1||y|trees 0 4 / 2 3;||x|move 1 0=accepted x x win",
+        "claim x x win;nodes 1;||x|trees e 0 4 / 1 2 4=rejected J8 claim 0 node 0",
+        "claim x x win;nodes 1;||x|trees 0 4 / 1 2 3=rejected J8 claim 0 node 0",
+    ] {
+        assert!(rt; row_holds(rt.alloc(), bridged(), row)?, "{row}");
+    }
     Ok(())
 }

@@ -9,3 +9,6 @@ mod weights;
 pub use condition::{holds, limit, total, weight};
 pub use reply::{answer, lowest_with};
 pub use weights::{Weights, full_weight, weigh};
+
+#[cfg(test)]
+mod tests;

@@ -1,6 +1,5 @@
-use Rattle.std.proofs.Common.{◌≡◌, ℕ, Ok, Err, Result, Some, None, Option, subst}
+use Rattle.std.proofs.Common.{◌≡◌, ℕ, Option, subst}
 use Rattle.pg_check.specs.declared.claims.Faulty.{Faulty}
-use Rattle.pg_check.specs.declared.checked.CheckFault.TheVariants.{Reject}
 use Rattle.pg_check.specs.Faulty.{IsFirstOf}
 use Rattle.pg_check.proofs.ClaimLemmas.{valid-all, first-fault, first-fault_same}
 use Rattle.pg_check.proofs.checked.check.Goals as goal

@@ -1,4 +1,4 @@
-use Rattle.std.proofs.Common.{◌≡◌, ◌∙◌, length, refl}
+use Rattle.std.proofs.Common.{◌∙◌, length, refl}
 use Rattle.std.proofs.lemmas.Option.{slice_get_read}
 use Rattle.pg_cert.specs.Valid.{IsValidClaim}
 use Rattle.pg_check.proofs.ClaimLemmas.{one_more}

@@ -4,6 +4,6 @@ use Rattle.pg_check.proofs.claims.first_among.Given as goal
 
 abbrev pub invariant-loop-i : goal.invariant-loop-i
 invariant-loop-i l = record {
-  kept : l.judge ≡ l.fn.judge;
+  kept : l.tester ≡ l.fn.tester;
   before : AreValidBefore l.g l.claims l.i;
 }

@@ -1,4 +1,4 @@
-use Rattle.std.proofs.Common.{◌≡◌, ◌∙◌, Some, slice_get, sym}
+use Rattle.std.proofs.Common.{◌∙◌}
 use Rattle.pg_cert.specs.Valid.{IsSound}
 use Rattle.pg_check.proofs.ClaimLemmas.{stands_at, one_more, up_to_end}
 use Rattle.pg_check.proofs.claims.first_in_claim.Goals as goal

@@ -4,6 +4,6 @@ use Rattle.pg_check.proofs.claims.first_in_claim.Given as goal
 
 abbrev pub invariant-loop-k : goal.invariant-loop-k
 invariant-loop-k l = record {
-  kept : l.judge ≡ l.fn.judge;
+  kept : l.tester ≡ l.fn.tester;
   before : AreSoundBefore l.g l.claim l.k;
 }

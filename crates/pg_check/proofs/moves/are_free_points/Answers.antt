@@ -1,7 +1,7 @@
-use Rattle.std.proofs.Common.{◌≡◌, ◌≢◌, ◌∙◌, ◌<◌, ◌≤◌, ◌+◌, ℕ, true, false, get_or, List, length, map, sym, subst, arith, refl, ap, inl, inr, eqb-true, eq-eqb}
+use Rattle.std.proofs.Common.{◌≡◌, ◌∙◌, ◌<◌, ◌≤◌, ◌+◌, ℕ, true, false, get_or, length, sym, subst, arith, inl, inr, eqb-true, eq-eqb}
 use Rattle.std.proofs.lemmas.Bool.{false≢true, cases_eq}
 use Rattle.pg_cert.specs.declared.reply.Reply.{Reply}
-use Rattle.pg_game.specs.Game.{point_count, free_points}
+use Rattle.pg_game.specs.Game.{point_count}
 use Rattle.pg_game.specs.Position.{is_free}
 use Rattle.pg_check.proofs.ReplyLemmas.{points_from, free_from, points_from-start, free_from-start, points_from-next, points_from-end, free_from-free, free_from-taken, free_from-end, same_rest, same_whole, other_head, no_head}
 use Rattle.pg_check.proofs.moves.are_free_points.Goals as goal

@@ -6,6 +6,6 @@ use Rattle.pg_check.proofs.node.first_fault.Given as goal
 
 abbrev pub invariant-loop-fault : goal.invariant-loop-fault
 invariant-loop-fault l = record {
-  kept : l.judge ≡ l.fn.judge;
+  kept : l.tester ≡ l.fn.tester;
   passed : (before : NodeFault) → fault_number before < l.fault-index → Passes l.g l.claim l.k l.node before;
 }

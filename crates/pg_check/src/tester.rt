@@ -1,0 +1,40 @@
+//! What the tests of a node work with.
+ghost use Rattle.std.specs.Prelude.{IfOk};
+ghost use Rattle.pg_game.specs.Judge.{IsMadeForGame, room_of};
+ghost use Rattle.pg_check.specs.Tester.{IsReadyFor};
+
+use pg_base::Memory;
+use pg_game::{Field, Game, Judge};
+use pg_graph::Joiner;
+use std::alloc::Global;
+
+/// A judge and, for a game on a graph, a joiner.
+#[derive(Debug, Drop)]
+pub(crate) struct Tester {
+    /// Says whether the game is over.
+    pub(crate) judge: Judge,
+    /// Says what edges join; there is none on lines.
+    pub(crate) joiner: Option<Joiner>,
+}
+
+/// A joiner for the game's graph, and none on lines.
+fn joiner_for(alloc: Global, g: &Game) -> Result<Option<Joiner>, Memory>
+    ensures { IfOk result (λ joiner. IsMadeForGame (room_of joiner) g.now) }
+{
+    match &g.field {
+        Field::Lines(_) => Ok(None),
+        Field::Graph(graph) => Ok(Some(Joiner::new(alloc, graph)?)),
+    }
+}
+
+impl Tester {
+    /// A tester for this game. No test of a node takes memory after this.
+    pub(crate) fn new(alloc: Global, g: &Game) -> Result<Tester, Memory>
+        ensures { IfOk result (λ tester. IsReadyFor tester g.now) }
+    {
+        Ok(Tester {
+            judge: Judge::new(alloc, g)?,
+            joiner: joiner_for(alloc, g)?,
+        })
+    }
+}
