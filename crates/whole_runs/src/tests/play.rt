@@ -1,7 +1,7 @@
 //! Whole runs that play.
 use super::{a_node_missing, a_pair_missing, files, game, lines, pairs, split, two_lines};
-use crate::{Work, run};
 use pg_base::Side;
+use pg_cli::{Work, run};
 use pg_io::{Console, Entry, Failed, Files, MemConsole, Text};
 use std::alloc::{AllocError, Global};
 use std::test::Fail;
