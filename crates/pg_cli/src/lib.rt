@@ -8,8 +8,6 @@ mod opening;
 mod playing;
 mod refusal;
 mod reply;
-#[cfg(test)]
-mod tests;
 mod texts;
 mod top;
 mod voice;

@@ -2,7 +2,7 @@
 mod places;
 mod play;
 
-use crate::{Work, run};
+use pg_cli::{Work, run};
 use pg_io::{Console, Entry, Failed, Files, MemConsole, MemFiles, Text};
 use std::alloc::{AllocError, Global};
 use std::test::Fail;

@@ -1,6 +1,7 @@
 //! Whole runs that play.
-use super::{a_node_missing, a_pair_missing, files, game, pairs, split, two_lines};
-use crate::{Work, run};
+use super::{a_node_missing, a_pair_missing, files, game, lines, pairs, split, two_lines};
+use pg_base::Side;
+use pg_cli::{Work, run};
 use pg_io::{Console, Entry, Failed, Files, MemConsole, Text};
 use std::alloc::{AllocError, Global};
 use std::test::Fail;
@@ -259,6 +260,104 @@ fn each_call_on_the_files_fails_in_turn(rt: HostRuntime) -> Result<(), Fail> {
         let answer = run(alloc, &words, &mut files, &mut console, &mut work);
         let quiet = files.open("G") == Err(Failed) && console.entries().is_empty();
         assert!(rt; answer == 5 && quiet, "call {call}");
+    }
+    Ok(())
+}
+
+/// Two paths of two edges between the terminals, and an edge between their middles, with this side to move.
+fn bridged(turn: Side) -> &'static str {
+    match turn {
+        Side::X =>
+            "posgame 1\nkind switching\nvertices 4\nterminals 0 1\nedge 0 2\nedge 0 3\nedge 2 3\nedge 2 1\nedge 3 1\nturn x\n",
+        Side::Y =>
+            "posgame 1\nkind switching\nvertices 4\nterminals 0 1\nedge 0 2\nedge 0 3\nedge 2 3\nedge 2 1\nedge 3 1\nturn y\n",
+    }
+}
+
+/// Whoever moves first wins the game on that graph.
+fn trees_and_cuts() -> &'static str {
+    "posgame-cert 1\nclaim x x win\nnodes 1\n||x|trees e 0 4 / 1 2 3\nclaim y y win\nnodes 1\n||y|cuts e 0 4 / 1 2 3\n"
+}
+
+#[test]
+fn short_plays_by_trees(rt: HostRuntime) -> Result<(), Fail> {
+    for row in [
+        "4;0=claim x win;move 1;<4;move 3;<0;move 2;result short",
+        "1;4;0=claim x win;move 1;<1;refused: taken;<4;move 3;<0;move 2;result short",
+    ] {
+        assert!(rt;
+            plays(
+                rt.alloc(),
+                "play G C --side x",
+                bridged(Side::X),
+                trees_and_cuts(),
+                0,
+                row
+            )?,
+            "{row}"
+        );
+    }
+    Ok(())
+}
+
+#[test]
+fn cut_plays_by_cuts(rt: HostRuntime) -> Result<(), Fail> {
+    for row in [
+        "0;4=claim y win;move 1;<0;move 3;<4;move 2;result cut",
+        "5;0;4=claim y win;move 1;<5;refused: no such point;<0;move 3;<4;move 2;result cut",
+    ] {
+        assert!(rt;
+            plays(
+                rt.alloc(),
+                "play G C --side y",
+                bridged(Side::Y),
+                trees_and_cuts(),
+                0,
+                row
+            )?,
+            "{row}"
+        );
+    }
+    Ok(())
+}
+
+/// Whether a play to the end says what it must. A row is the lines of the game and of the certificate, each behind its
+/// first line, then the words, the lines of the input and those of the log, with `=` between them.
+fn row_plays(alloc: Global, row: &str) -> Result<bool, AllocError> {
+    let Some((game, rest)) = row.split_once('=') else {
+        return Ok(false);
+    };
+    let Some((certificate, rest)) = rest.split_once('=') else {
+        return Ok(false);
+    };
+    let Some((words, rest)) = rest.split_once('=') else {
+        return Ok(false);
+    };
+    let mut whole_game = String::from_str(alloc, "posgame 1\n")?;
+    whole_game.push_str(lines(alloc, game)?.as_str())?;
+    let mut whole_certificate = String::from_str(alloc, "posgame-cert 1\n")?;
+    whole_certificate.push_str(lines(alloc, certificate)?.as_str())?;
+    plays(
+        alloc,
+        words,
+        whole_game.as_str(),
+        whole_certificate.as_str(),
+        0,
+        rest,
+    )
+}
+
+#[test]
+fn outcomes_of_each_kind(rt: HostRuntime) -> Result<(), Fail> {
+    for row in [
+        "kind avoider-enforcer;points 4;line 0 1;line 2 3;turn y=claim y x win;nodes 1;||y|pairs 0-1 2-3=play G C --side x=0;2=claim x win;<0;move 1;<2;result avoider",
+        "kind avoider-enforcer;points 1;line 0;turn x=claim x y win;nodes 2;0||y|over;||x|all 0:0=play G C --side y=0=claim y win;<0;result enforcer",
+        "kind maker-maker;points 1;turn x=claim x y draw;nodes 1;||x|potential=play G C --side y=0=claim y draw;<0;result draw",
+        "kind maker-maker;points 1;line 0;turn x=claim x x win;nodes 2;0||y|over;||x|move 0 0=play G C --side x==claim x win;move 0;result x",
+        "kind maker-maker;points 1;line 0;turn y=claim y y win;nodes 2;|0|x|over;||y|move 0 0=play G C --side y==claim y win;move 0;result y",
+        "kind maker-breaker;points 12;line 10 11;turn y=claim y y win;nodes 1;||y|potential=play G C --side y==claim y win;move 10;result breaker",
+    ] {
+        assert!(rt; row_plays(rt.alloc(), row)?, "{row}");
     }
     Ok(())
 }
