@@ -1,5 +1,5 @@
 -- What follows from the rules of dialogues.
-use Rattle.std.proofs.Common.{◌≡◌, ◌≢◌, ◌⊎◌, ℕ, suc, ◌+◌, ◌-◌, ◌<◌, ◌≤◌, nat_eq, nat_lt, if◌then◌else◌, Bool, true, false, List, [], ◌∷◌, length, Option, Some, None, Result, Ok, Err, refl, sym, ◌∙◌, ap, subst, inl, inr, arith}
+use Rattle.std.proofs.Common.{◌≡◌, ◌≢◌, ◌⊎◌, ℕ, ◌+◌, ◌-◌, ◌<◌, ◌≤◌, nat_eq, nat_lt, if◌then◌else◌, Bool, true, false, List, [], ◌∷◌, length, Option, Some, None, Result, Ok, Err, refl, sym, ◌∙◌, ap, subst, inl, inr, arith}
 use Rattle.std.proofs.lemmas.Bool.Decides.{nat_tests}
 use Rattle.std.specs.List.{count_by}
 use Rattle.std.proofs.lemmas.List.Sums.{sum_by-cons}
@@ -16,7 +16,7 @@ use Rattle.pg_game.specs.Play.{IsLegalPlay, played}
 use Rattle.pg_game.specs.Position.{is_free}
 use Rattle.pg_cli.specs.Dialogue.{Stage, At, Owes, Over, Steps, Leads, IsOwnMove, position_at, is_heard, after_refusal, after_reply}
 use Rattle.pg_cli.specs.Reply.{said_number, point_or_refusal, replied_point}
-use Rattle.pg_cli.specs.Texts.{not_a_number, no_such_point, taken}
+use Rattle.pg_cli.specs.Texts.{no_such_point, taken}
 
 -- no side is the other side
 apart : (side turn : Side) → turn ≡ side → turn ≢ other side

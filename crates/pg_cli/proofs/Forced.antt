@@ -1,5 +1,5 @@
 -- Claims that a check accepts are forced.
-use Rattle.std.proofs.Common.{◌≡◌, ◌⊎◌, ℕ, suc, Bool, true, false, cond, ◌&&◌, List, [], ◌∷◌, map, find, slice_get, Option, Some, None, Result, Ok, Err, refl, sym, ◌∙◌, ap, subst, inl, inr, arith}
+use Rattle.std.proofs.Common.{◌≡◌, ◌⊎◌, ℕ, suc, Bool, true, false, cond, ◌&&◌, List, [], ◌∷◌, find, slice_get, Option, Some, None, Result, Ok, Err, refl, sym, ◌∙◌, ap, subst, inl, inr, arith}
 use Rattle.pg_base.specs.declared.side.Side.{Side}
 use Rattle.pg_base.specs.declared.side.Side.TheVariants.{X, Y}
 use Rattle.pg_io.specs.Files.{Bytes, Holding}
@@ -8,7 +8,6 @@ use Rattle.pg_io.specs.declared.entry.Entry.{Entry}
 use Rattle.pg_io.specs.declared.entry.Entry.TheVariants.{Said}
 use Rattle.pg_game.specs.declared.game.Game.{Game}
 use Rattle.pg_files.specs.GameFile.{game, Entry as GameEntry}
-use Rattle.pg_files.specs.Views.{entry}
 use Rattle.pg_cert_files.specs.CertFile.{certificate}
 use Rattle.pg_cert.specs.Limits.{IsWithinLimits}
 use Rattle.pg_cert.specs.Valid.{IsValid}
@@ -19,7 +18,7 @@ use Rattle.pg_game.specs.Value.{Forces}
 use Rattle.pg_cli.specs.Accepted.{IsForced, AreForced, IsForcedOf, SaysForcedClaim, AnnouncesForced}
 use Rattle.pg_cli.specs.Answer.{Answer, lacking, or_answer, game_held, certificate_held, both, both_held, Checks, ChecksTo}
 use Rattle.pg_player.specs.Player.{is_same_side, is_win, is_claim_of, is_win_of, first_claim, chosen_claim}
-use Rattle.pg_cli.specs.Run.{Told, told, Finished, RefusesPlay, IsPlayedBy, Plays, Ran, RanOn}
+use Rattle.pg_cli.specs.Run.{told, Finished, RefusesPlay, IsPlayedBy, Plays, Ran}
 use Rattle.pg_cli.specs.Texts.{claim_text}
 use Rattle.pg_cli.specs.Words.{Command, Check, Play}
 use Rattle.pg_cli.specs.Work.{Search}

@@ -1,5 +1,5 @@
 -- What names hold, from what was read of them.
-use Rattle.std.proofs.Common.{◌≡◌, ◌≢◌, ◌⊎◌, ℕ, ◌+◌, ◌<◌, ◌≤◌, Bool, true, nat_lt, min, List, length, take, Option, Some, None, Result, Ok, Err, refl, sym, ◌∙◌, ap, subst, inl, inr, arith, length-take}
+use Rattle.std.proofs.Common.{◌≡◌, ℕ, ◌+◌, ◌<◌, true, nat_lt, min, length, take, Option, Some, None, Result, Ok, Err, refl, sym, ◌∙◌, ap, subst, inl, inr, arith, length-take}
 use Rattle.std.proofs.lemmas.Bool.{cases_lt}
 use Rattle.std.proofs.lemmas.Bool.Decides.{nat_tests}
 use Rattle.std.proofs.lemmas.List.{take_all}
@@ -14,7 +14,7 @@ use Rattle.pg_game.specs.declared.game.Game.{Game}
 use Rattle.pg_files.specs.GameFile.{game, Entry as GameEntry}
 use Rattle.pg_cert_files.specs.CertFile.{certificate}
 use Rattle.pg_cert.specs.declared.cert.Cert.{Cert}
-use Rattle.pg_cli.specs.Answer.{Answer, answer_of, lacking, or_answer, game_held, certificate_held, both, both_held, game_seen, certificate_seen, both_seen, OpensGame, OpensCertificate, OpensBoth, AreLacking}
+use Rattle.pg_cli.specs.Answer.{Answer, or_answer, game_held, certificate_held, both, game_seen, certificate_seen, both_seen, OpensGame, OpensCertificate, OpensBoth, AreLacking}
 use Rattle.pg_cli.specs.declared.refusal.Refusal.{Refusal}
 
 is_above : (n m : ℕ) → n < m → nat_lt n m ≡ true

@@ -1,5 +1,5 @@
 -- What a play may say, put together.
-use Rattle.std.proofs.Common.{◌≡◌, ◌≢◌, ℕ, List, [], ◌∷◌, ◌++◌, map, Option, Some, None, Result, Ok, Err, true, refl, sym, subst, inl, inr, IfOk}
+use Rattle.std.proofs.Common.{◌≡◌, ◌≢◌, ℕ, List, [], ◌∷◌, map, Option, Some, Result, Ok, Err, refl, sym, subst, inl, inr, IfOk}
 use Rattle.std.specs.Prelude.{OnErr, IsTrue}
 use Rattle.pg_base.specs.declared.side.Side.{Side}
 use Rattle.pg_io.specs.Files.{Bytes}
@@ -22,7 +22,7 @@ use Rattle.pg_cli.specs.Causes.{Speaks}
 use Rattle.pg_cli.specs.Dialogue.{At, Over}
 use Rattle.pg_cli.specs.Hearing.{Hearing}
 use Rattle.pg_player.specs.Player.{Play, chosen_claim}
-use Rattle.pg_cli.specs.Run.{Finished, Failed, end_of, RefusesPlay, IsPlayedBy, PlaysOut}
+use Rattle.pg_cli.specs.Run.{Failed, end_of, RefusesPlay, IsPlayedBy, PlaysOut}
 use Rattle.pg_cli.specs.Talk.{moment, BreaksOff, Talks}
 use Rattle.pg_cli.specs.Texts.{claim_text}
 use Rattle.pg_cli.proofs.Runs.{Hearing-texts}

@@ -1,5 +1,5 @@
 -- Runs that only read files and talk.
-use Rattle.std.proofs.Common.{◌≡◌, ◌⊎◌, ℕ, List, [], ◌∷◌, ◌++◌, map, Option, Some, None, Result, Ok, Err, refl, sym, ◌∙◌, ap, subst, inl, inr, IfOk}
+use Rattle.std.proofs.Common.{◌≡◌, ℕ, List, [], ◌∷◌, map, Option, Some, None, Result, Ok, Err, refl, sym, subst, inl, inr, IfOk}
 use Rattle.pg_io.specs.Files.{Bytes, Holding}
 use Rattle.pg_io.specs.Console.{Grows}
 use Rattle.pg_io.specs.declared.entry.Entry.{Entry}
@@ -12,10 +12,10 @@ use Rattle.pg_files.specs.GameFile.{Entry as GameEntry}
 use Rattle.pg_cert.specs.declared.cert.Cert.{Cert}
 use Rattle.pg_cert.specs.declared.cert.Claim.{Claim}
 use Rattle.pg_cert.specs.Valid.{IsValid, IsFirstFault}
-use Rattle.pg_cli.specs.Answer.{Answer, answer, answer_of, refusal_status, accepting, Answers, Judges, Checks, ChecksTo, both_held, both_seen, OpensBoth}
-use Rattle.pg_cli.specs.Causes.{Speaks, IsCut}
+use Rattle.pg_cli.specs.Answer.{Answer, answer_of, refusal_status, accepting, Answers, Judges, Checks, ChecksTo, both_held, both_seen, OpensBoth}
+use Rattle.pg_cli.specs.Causes.{Speaks}
 use Rattle.pg_cli.specs.Hearing.{Hearing, InOrder}
-use Rattle.pg_cli.specs.Run.{Done, End, Finished, Failed, Starved, end_of, Follows, FollowsOne, Plays, PlaysOut, Allows, Keeps, RanOn, Ran, Told, told}
+use Rattle.pg_cli.specs.Run.{End, Finished, Failed, Starved, end_of, Plays, PlaysOut, Allows, Keeps, Ran, Told, told}
 use Rattle.pg_cli.specs.Texts.{no_meaning, accepted_text}
 use Rattle.pg_cli.specs.Words.{Command, Check, Play}
 use Rattle.pg_cli.specs.Work.{Search}

@@ -1,5 +1,5 @@
 -- How a log agrees with the input of a console.
-use Rattle.std.specs.Prelude.{◌≡◌, ℕ, List, [], ◌∷◌, drop, Option, Some, None, ⊤}
+use Rattle.std.specs.Prelude.{◌≡◌, List, [], ◌∷◌, drop, Option, Some, None, ⊤}
 use Rattle.pg_io.specs.Files.{Bytes}
 use Rattle.pg_io.specs.Console.{reply}
 use Rattle.pg_io.specs.declared.entry.Entry.{Entry}

@@ -1,5 +1,5 @@
 -- What a line that was heard says.
-use Rattle.std.specs.Prelude.{ℕ, ◌==◌, ◌||◌, not, Bool, List, [], ◌∷◌, reverse, nat_lt, Option, Some, None, Result, Ok, Err, if◌then◌else◌}
+use Rattle.std.specs.Prelude.{ℕ, ◌==◌, ◌||◌, Bool, [], ◌∷◌, reverse, nat_lt, Option, Some, None, Result, Ok, Err, if◌then◌else◌}
 use Rattle.pg_io.specs.Files.{Bytes}
 use Rattle.pg_text.specs.Text.{number}
 use Rattle.pg_game.specs.declared.game.Game.{Game}

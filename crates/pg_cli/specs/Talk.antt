@@ -8,7 +8,7 @@ use Rattle.pg_io.specs.Console.{Grows}
 use Rattle.pg_game.specs.declared.game.Game.{Game}
 use Rattle.pg_game.specs.declared.position.Position.{Position}
 use Rattle.pg_game.specs.Game.{free_points}
-use Rattle.pg_cli.specs.Dialogue.{Stage, At, Owes, Over, Leads, IsOpen, after_refusal}
+use Rattle.pg_cli.specs.Dialogue.{Stage, At, Over, Leads, IsOpen, after_refusal}
 use Rattle.pg_cli.specs.Hearing.{Hearing}
 use Rattle.pg_player.specs.Player.{Play}
 use Rattle.pg_cli.specs.Texts.{not_a_number, no_such_point, taken}

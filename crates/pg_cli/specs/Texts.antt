@@ -1,5 +1,5 @@
 -- What the program says: each text is one line with its line feed.
-use Rattle.std.specs.Prelude.{ℕ, List, [], ◌∷◌, ◌++◌, codes, decimal}
+use Rattle.std.specs.Prelude.{ℕ, ◌++◌, codes, decimal}
 use Rattle.pg_base.specs.Goal.{goal_word}
 use Rattle.pg_base.specs.Side.{side_word}
 use Rattle.pg_base.specs.declared.goal.Goal.{Goal}

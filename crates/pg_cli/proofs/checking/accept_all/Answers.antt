@@ -1,4 +1,4 @@
-use Rattle.std.proofs.Common.{◌≡◌, ◌<◌, ◌≤◌, map, arith, rules}
+use Rattle.std.proofs.Common.{map, arith, rules}
 use Rattle.pg_cli.proofs.Speaking.{Speaks-from_err, cut_more, grows_more}
 use Rattle.pg_cli.specs.Texts.{accepted_text}
 use Rattle.pg_cli.proofs.checking.accept_all.Goals as goal

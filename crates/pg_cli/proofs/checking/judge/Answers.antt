@@ -1,4 +1,4 @@
-use Rattle.std.proofs.Common.{◌≡◌, Ok, Err, ap, refl}
+use Rattle.std.proofs.Common.{Ok, Err, ap, refl}
 use Rattle.std.proofs.lemmas.Result.{err_from_is_err_and}
 use Rattle.pg_check.specs.declared.checked.CheckFault.{CheckFault}
 use Rattle.pg_cli.proofs.Runs.{judged_accepts, judged_rejects}

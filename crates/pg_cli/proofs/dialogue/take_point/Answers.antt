@@ -1,4 +1,4 @@
-use Rattle.std.proofs.Common.{◌≡◌, ◌∙◌, ap, subst, Some, Option, ℕ, arith}
+use Rattle.std.proofs.Common.{Some, ℕ, arith}
 use Rattle.std.proofs.lemmas.Result.{err_from_is_err_and}
 use Rattle.pg_game.proofs.Limits.{point_count-le}
 use Rattle.pg_cli.specs.Dialogue.{after_reply}

@@ -1,9 +1,8 @@
-use Rattle.std.proofs.Common.{◌≡◌, ◌∙◌, ap, sym, subst, Ok, Err}
+use Rattle.std.proofs.Common.{◌∙◌, ap, sym, subst, Ok, Err}
 use Rattle.pg_io.specs.Files.{Bytes}
 use Rattle.pg_cert_files.specs.CertFile.{certificate}
 use Rattle.pg_cert_files.specs.Views.{IsReadAs, number_of}
 use Rattle.pg_cert_files.specs.declared.fault.CertFault.{CertFault}
-use Rattle.pg_cert_files.specs.declared.fault.CertFault.TheVariants.{Bad}
 use Rattle.pg_cli.proofs.Openings.{ok_answer, bad_answer, opens_certificate}
 use Rattle.pg_cli.specs.Answer.{certificate_refusal}
 use Rattle.pg_cli.specs.declared.refusal.Refusal.TheVariants.{Certificate}

@@ -1,9 +1,8 @@
-use Rattle.std.proofs.Common.{◌≡◌, ◌∙◌, ap, sym, subst, Ok, Err}
+use Rattle.std.proofs.Common.{◌∙◌, ap, sym, subst, Ok, Err}
 use Rattle.pg_io.specs.Files.{Bytes}
 use Rattle.pg_files.specs.GameFile.{game}
 use Rattle.pg_files.specs.Views.{IsReadAs, entry, number_of}
 use Rattle.pg_files.specs.declared.fault.GameFault.{GameFault}
-use Rattle.pg_files.specs.declared.fault.GameFault.TheVariants.{Bad}
 use Rattle.pg_cli.proofs.Openings.{ok_answer, bad_answer, opens_game}
 use Rattle.pg_cli.specs.Answer.{game_refusal}
 use Rattle.pg_cli.specs.declared.refusal.Refusal.TheVariants.{Game}

@@ -1,4 +1,4 @@
-use Rattle.std.proofs.Common.{Ok, Err, Result, IfOk, subst, refl, ◌≡◌}
+use Rattle.std.proofs.Common.{Ok, Err, Result, subst, refl}
 use Rattle.std.proofs.lemmas.Result.{err_from_is_err_and}
 use Rattle.pg_game.specs.declared.game.Game.{Game}
 use Rattle.pg_cert.specs.declared.cert.Cert.{Cert}

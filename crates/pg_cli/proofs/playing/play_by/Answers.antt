@@ -1,4 +1,4 @@
-use Rattle.std.proofs.Common.{◌≡◌, ap, Ok, Err, refl, inl}
+use Rattle.std.proofs.Common.{ap, Ok, Err, refl, inl}
 use Rattle.pg_io.specs.declared.stop.Stop.TheVariants.{Memory}
 use Rattle.pg_files.specs.Views.{entry}
 use Rattle.pg_check.specs.declared.checked.CheckFault.{CheckFault}

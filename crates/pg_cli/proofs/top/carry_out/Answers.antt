@@ -1,4 +1,4 @@
-use Rattle.std.proofs.Common.{sym, ◌≡◌, refl, Ok, Err, [], ◌∷◌}
+use Rattle.std.proofs.Common.{sym, refl, Ok, Err, [], ◌∷◌}
 use Rattle.std.proofs.lemmas.Result.{err_from_is_err_and}
 use Rattle.pg_cli.proofs.Runs.{ran_meaningless}
 use Rattle.pg_cli.proofs.Speaking.{cut_nothing}
