@@ -14,7 +14,7 @@ use Rattle.pg_game.specs.declared.position.Position.{Position}
 use Rattle.pg_game.specs.Game.{point_count, free_points, after, is_over}
 use Rattle.pg_game.specs.Play.{IsLegalPlay, played}
 use Rattle.pg_game.specs.Position.{is_free}
-use Rattle.pg_cli.specs.Dialogue.{Stage, At, Owes, Over, Steps, Leads, IsOwnMove, position_at, is_heard, after_refusal, after_reply}
+use Rattle.pg_cli.specs.Dialogue.{Stage, At, Owes, Over, Steps, Leads, EndsWith, IsOwnMove, position_at, is_heard, after_refusal, after_reply}
 use Rattle.pg_cli.specs.Reply.{said_number, point_or_refusal, replied_point}
 use Rattle.pg_cli.specs.Texts.{no_such_point, taken}
 
@@ -89,6 +89,40 @@ pub dialogues_play : (g : Game) (side : Side) (s t : Stage) (entries : List Entr
 dialogues_play g side s t [] same = ([], tt, sym (ap position_at same))
 dialogues_play g side s t (entry ∷ entries) (m, step, rest) =
     step_first g (position_at s) (position_at m) (position_at t) (steps_move g side s m entry step) (dialogues_play g side m t entries rest)
+
+-- ---- how dialogues end
+
+-- a refusal is owed in a game that goes on, and an end has its status
+abbrev pub IsFair : Game → Stage → Type 0
+IsFair g (At p refusals) = Unit {0}
+IsFair g (Owes p refusals text) = is_over g p ≡ false
+IsFair g (Over p status) = EndsWith g p status
+
+refusal_fair : (g : Game) (p : Position) (refusals : ℕ) (m : Stage) → is_over g p ≡ false → m ≡ after_refusal p refusals → IsFair g m
+refusal_fair g p refusals m going is = subst (λ (n : Stage). IsFair g n) (sym is) (go (nat_eq (refusals + 1) 100)) where
+  go : (last : Bool) → IsFair g (if last then Over p 9 else At p (refusals + 1))
+  go true = inr (going, inr refl)
+  go false = tt
+
+reply_fair : (g : Game) (p : Position) (refusals : ℕ) (r : Result ℕ Bytes) → is_over g p ≡ false → IsFair g (after_reply g p refusals r)
+reply_fair g p refusals (Ok v) going = tt
+reply_fair g p refusals (Err text) going = going
+
+steps_fair : (g : Game) (side : Side) (s m : Stage) (entry : Entry) → IsFair g s → Steps g side s entry m → IsFair g m
+steps_fair g side (At p refusals) m (Said text) fair (inl result) = subst (λ (n : Stage). IsFair g n) (sym result.2) (inl (result.0, refl))
+steps_fair g side (At p refusals) m (Said text) fair (inr move) = subst (λ (n : Stage). IsFair g n) (sym move.6) tt
+steps_fair g side (At p refusals) m (Heard line) fair h = subst (λ (n : Stage). IsFair g n) (sym h.1) (reply_fair g p refusals (replied_point g p line) h.0.0)
+steps_fair g side (At p refusals) m (Skipped line) fair h = subst (λ (n : Stage). IsFair g n) (sym h.1) h.0.0
+steps_fair g side (At p refusals) m Ended fair h = subst (λ (n : Stage). IsFair g n) (sym h.1) (inr (h.0.0, inl refl))
+steps_fair g side (Owes p refusals text) m (Said said) fair h = refusal_fair g p refusals m fair h.1
+steps_fair g side (Owes p refusals text) m (Heard line) fair h = absurd h
+steps_fair g side (Owes p refusals text) m (Skipped line) fair h = absurd h
+steps_fair g side (Owes p refusals text) m Ended fair h = absurd h
+steps_fair g side (Over p status) m entry fair h = absurd h
+
+pub stays_fair : (g : Game) (side : Side) (s t : Stage) (entries : List Entry) → IsFair g s → Leads g side s entries t → IsFair g t
+stays_fair g side s t [] fair same = subst (λ (n : Stage). IsFair g n) (sym same) fair
+stays_fair g side s t (entry ∷ entries) fair (m, step, rest) = stays_fair g side m t entries (steps_fair g side s m entry fair step) rest
 
 -- ---- how much is heard
 

@@ -86,3 +86,7 @@ IsOpenDialogue g side p entries = (stage : Stage) × IsOpen stage × Leads g sid
 -- the entry says a legal move at the position
 abbrev pub IsOwnMove : Game → Position → Entry → Type 0
 IsOwnMove g p entry = (v : ℕ) × (v < point_count g) × (is_free p v ≡ true) × (entry ≡ Said (move_text v))
+
+-- at status 0 the game is over; it goes on where the input has ended, at 8, and where a hundred replies were refused, at 9
+abbrev pub EndsWith : Game → Position → ℕ → Type 0
+EndsWith g last status = ((is_over g last ≡ true) × (status ≡ 0)) ⊎ ((is_over g last ≡ false) × ((status ≡ 8) ⊎ (status ≡ 9)))

@@ -10,7 +10,7 @@ ghost use Rattle.pg_game.specs.declared.position.Position.{Position};
 ghost use Rattle.pg_cert.specs.declared.cert.Claim.{Claim};
 ghost use Rattle.pg_cli.specs.Accepted.{AreForced, IsForcedOf};
 ghost use Rattle.pg_cli.specs.Answer.{Answer, ChecksTo, both_held};
-ghost use Rattle.pg_cli.specs.Dialogue.{Stage, At, Steps, Leads, IsOwnMove, position_at, is_heard};
+ghost use Rattle.pg_cli.specs.Dialogue.{Stage, At, Steps, Leads, IsDialogue, EndsWith, IsOwnMove, position_at, is_heard};
 ghost use Rattle.pg_cli.specs.Run.{IsPlayedBy};
 
 use pg_cert_files::reads_within_limits;
@@ -45,6 +45,11 @@ pub fn own_moves_come_first()
 /// the stage that it has reached.
 pub fn dialogues_are_legal_plays()
     ensures { (g : Game) (side : Side) (p : Position) (entries : List Entry) (stage : Stage) → Leads g side (At p 0) entries stage → (moves : List ℕ) × IsLegalPlay g p moves × (played g p moves ≡ position_at stage) }
+{}
+
+/// A dialogue ends with status 0 where the game is over, and else with 8 or 9.
+pub fn dialogues_end()
+    ensures { (g : Game) (side : Side) (p : Position) (entries : List Entry) (last : Position) (status : ℕ) → IsDialogue g side p entries last status → EndsWith g last status }
 {}
 
 /// In a dialogue something is heard at most as often as points are free at its beginning, and a hundred times more.

@@ -14,6 +14,9 @@ mod voice;
 mod words;
 mod work;
 
-pub use laws::accepted_claims_are_forced;
+pub use laws::{
+    accepted_claims_are_forced, dialogues_are_legal_plays, dialogues_end, little_is_heard,
+    own_moves_come_first, played_claims_are_forced,
+};
 pub use top::run;
 pub use work::Work;
