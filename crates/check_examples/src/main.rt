@@ -7,7 +7,7 @@ use std::alloc::{AllocError, Global};
 use std::io;
 
 /// Each game with a certificate for it.
-const EXAMPLES: [(&str, &str); 15] = [
+const EXAMPLES: [(&str, &str); 21] = [
     ("noughts-and-crosses.game", "breaker-in-the-centre.cert"),
     ("noughts-and-crosses.game", "a-pair-missing.cert"),
     ("two-lines.game", "maker-takes-the-middle.cert"),
@@ -23,6 +23,12 @@ const EXAMPLES: [(&str, &str); 15] = [
     ("bridg-it.game", "bridg-it-trees-and-cuts.cert"),
     ("path.game", "path-cuts.cert"),
     ("two-edges.game", "two-edges-trees.cert"),
+    ("two-edges.game", "two-edges-moves.cert"),
+    ("corners.game", "corners-pairs.cert"),
+    ("corners.game", "corners-a-pair-missing.cert"),
+    ("corners.game", "corners-too-heavy.cert"),
+    ("corners-breaker-begins.game", "corners-potential.cert"),
+    ("diamond.game", "diamond-an-edge-missing.cert"),
 ];
 
 /// The words that check a certificate for a game.
