@@ -5,7 +5,7 @@ use Rattle.std.specs.List.{list_all, All, AllByRecursion}
 use Rattle.std.specs.List.Sorted.{IsStrictlyIncreasing}
 use Rattle.std.specs.FinSet.{FinSet, contains, empty, contains-empty}
 use Rattle.std.specs.Ordering.{nat_cmp}
-use Rattle.std.proofs.lemmas.Bool.{cases_lt, cases_Bool, ltb-true, ltb-false, eqb-false, and_parts}
+use Rattle.std.proofs.lemmas.Bool.{cases_lt, cases_Bool, ltb-true, ltb-false, eqb-false, and_parts, or_parts}
 use Rattle.std.proofs.lemmas.Bool.Decides.{nat_tests}
 use Rattle.std.proofs.lemmas.List.{length-append}
 use Rattle.std.proofs.lemmas.List.Elements.{All-push}
@@ -42,10 +42,6 @@ pub none_applies : (rows : List (Fault × Bool)) → least rows ≡ None → All
 none_applies [] e = tt
 none_applies (row ∷ rows) e = split row.0 row.1 rows (none_applies rows) e
 
-or_false : (a b : Bool) → (a || b) ≡ false → (a ≡ false) × (b ≡ false)
-or_false true b e = absurd cc
-or_false false b e = (refl, e)
-
 not_false : (a : Bool) → not a ≡ false → a ≡ true
 not_false true e = refl
 not_false false e = absurd cc
@@ -55,7 +51,7 @@ unless_ok None x y e = (refl, cc)
 unless_ok (Some f) x y e = absurd cc
 
 outside_not : (low high n : ℕ) → is_outside low high n ≡ false → (low ≤ n) × (n ≤ high)
-outside_not low high n e = let parts = or_false (nat_lt n low) (nat_lt high n) e in (ltb-false n low parts.0, ltb-false high n parts.1)
+outside_not low high n e = let parts = or_parts (nat_lt n low) (nat_lt high n) e in (ltb-false n low parts.0, ltb-false high n parts.1)
 
 -- ---- what holds of a draft
 
@@ -121,10 +117,10 @@ placed of d key e =
     let r = d.rank in
     let k = rank_of key in
     let lacks = nat_lt r (needed_rank of key) || lacks_grid d key in
-    let first = or_false (not (belongs of key)) (nat_lt k r || ((k == r && not (k == 4)) || lacks)) e in
-    let second = or_false (nat_lt k r) ((k == r && not (k == 4)) || lacks) first.1 in
-    let third = or_false (k == r && not (k == 4)) lacks second.1 in
-    let fourth = or_false (nat_lt r (needed_rank of key)) (lacks_grid d key) third.1 in
+    let first = or_parts (not (belongs of key)) (nat_lt k r || ((k == r && not (k == 4)) || lacks)) e in
+    let second = or_parts (nat_lt k r) ((k == r && not (k == 4)) || lacks) first.1 in
+    let third = or_parts (k == r && not (k == 4)) lacks second.1 in
+    let fourth = or_parts (nat_lt r (needed_rank of key)) (lacks_grid d key) third.1 in
     record {
       of = of;
       is = refl;
@@ -351,9 +347,9 @@ sound_line d arguments sound e =
     let same = kind.points d.points (length d.ends) in
     let few = (kind.few d.points d.vertices count).1 in
     let below = ap (λ n. list_all (λ p. nat_lt p n) ns) (sym same) ∙ not_false (list_all (λ n. nat_lt n (points_for d.kind d.points (length d.ends))) ns) rows.1.1.1.1.0 in
-    let len = or_false (length ns == 0) (nat_lt 100 (length ns)) rows.1.1.1.1.1.1.0 in
+    let len = or_parts (length ns == 0) (nat_lt 100 (length ns)) rows.1.1.1.1.1.1.0 in
     let some : 0 < length ns = grind (arith, nat_tests, len.0) in
-    let room = or_false (nat_le 20000 (length d.lines)) (nat_lt 400000 (sum_by length d.lines + length ns)) rows.1.1.1.1.1.1.1.0 in
+    let room = or_parts (nat_le 20000 (length d.lines)) (nat_lt 400000 (sum_by length d.lines + length ns)) rows.1.1.1.1.1.1.1.0 in
     let fewer : length d.lines < 20000 = grind (arith, nat_tests, room.0) in
     let kept = length-ascending ns (below_more d.points ns (omega (arith, few)) below) rows.1.1.1.1.1.0 in
     record {
@@ -372,7 +368,7 @@ sound_edge d arguments sound e =
     let at = place d.kind d keys.Edge refl rows.1.0 in
     let before = later at (λ of. refl) in
     let two = before.two in
-    let form = or_false (not (length arguments == 2)) (is_none (numbers arguments)) rows.1.1.0 in
+    let form = or_parts (not (length arguments == 2)) (is_none (numbers arguments)) rows.1.1.0 in
     let pair : length arguments ≡ 2 = grind (arith, nat_tests, form.0) in
     let each = two_below d.vertices arguments pair form.1 (not_false (list_all (λ n. nat_lt n d.vertices) ns) rows.1.1.1.1.0) in
     let room : nat_le 1000 (length d.ends) ≡ false = rows.1.1.1.1.1.1.1.0 in
@@ -392,7 +388,7 @@ sound_terminals d arguments sound e =
     let ns = numbers_of arguments in
     let at = place d.kind d keys.Terminals refl rows.1.0 in
     let two : 2 ≤ d.rank = at.needed in
-    let form = or_false (not (length arguments == 2)) (is_none (numbers arguments)) rows.1.1.0 in
+    let form = or_parts (not (length arguments == 2)) (is_none (numbers arguments)) rows.1.1.0 in
     let pair : length arguments ≡ 2 = grind (arith, nat_tests, form.0) in
     let each = two_below d.vertices arguments pair form.1 (not_false (list_all (λ n. nat_lt n d.vertices) ns) rows.1.1.1.1.0) in
     let one : (first_number ns == second_number ns) ≡ false = rows.1.1.1.1.1.1.1.1.0 in
@@ -420,21 +416,25 @@ sound_vertices d arguments sound e =
       marks = sound.marks;
     }
 
+-- a game with lines is given its points, and its grid where they are the cells of one
+sized : (d : Draft) (n : ℕ) (grid : Option Grid) → IsSound d → 1 ≤ d.rank → d.rank ≤ 2 → IsLinesKind d.kind → is_outside 1 256 n ≡ false → ((g : Grid) → grid ≡ Some g → g.width * g.height ≡ n) → IsSound (record d { rank = 2; points = n; grid = grid })
+sized d n grid sound some up kind inside cells =
+    let limits = outside_not 1 256 n inside in
+    record {
+      order = raised d (record d { rank = 2; points = n; grid = grid }) sound.order some up refl refl;
+      count = λ h. kind.count n d.vertices limits.0 limits.1;
+      terminals = λ h. absurd (omega arith);
+      lines = no_lines n grid d.lines cells (sound.order.lines (omega (arith, up))).0;
+      ends = sound.ends;
+      marks = no_marks _ d.x d.y (sound.order.x (omega (arith, up))) (sound.order.y (omega (arith, up)));
+    }
+
 sound_points : (d : Draft) (arguments : List Bytes) → IsSound d → keyed_fault d keys.Points arguments ≡ None → IsSound (said d keys.Points arguments)
 sound_points d arguments sound e =
     let rows = none_applies (keyed_faults d keys.Points arguments) e in
-    let n = first_number (numbers_of arguments) in
     let at = place d.kind d keys.Points refl rows.1.0 in
-    let limits = outside_not 1 256 n rows.1.1.1.1.1.1.1.0 in
     let bare : d.grid ≡ None = sound.order.grid (at.under refl) in
-    record {
-      order = raised d (said d keys.Points arguments) sound.order at.needed (omega (arith, at.up)) refl refl;
-      count = λ h. (in_lines at (λ of. refl)).count n d.vertices limits.0 limits.1;
-      terminals = λ h. absurd (omega arith);
-      lines = no_lines n d.grid d.lines (λ g is. absurd (cc)) (sound.order.lines (omega (arith, at.up))).0;
-      ends = sound.ends;
-      marks = no_marks _ d.x d.y (sound.order.x (omega (arith, at.up))) (sound.order.y (omega (arith, at.up)));
-    }
+    sized d (first_number (numbers_of arguments)) d.grid sound at.needed at.up (in_lines at (λ of. refl)) rows.1.1.1.1.1.1.1.0 (λ g is. absurd cc)
 
 same_grid : (g h : Grid) → ◌≡◌ {A = Option Grid} (Some g) (Some h) → g ≡ h
 same_grid g h e = cc
@@ -442,18 +442,9 @@ same_grid g h e = cc
 sound_grid : (d : Draft) (arguments : List Bytes) → IsSound d → keyed_fault d keys.Grid arguments ≡ None → IsSound (said d keys.Grid arguments)
 sound_grid d arguments sound e =
     let rows = none_applies (keyed_faults d keys.Grid arguments) e in
-    let w = first_number (numbers_of arguments) in
-    let h = second_number (numbers_of arguments) in
+    let grid : Grid = record { width = first_number (numbers_of arguments); height = second_number (numbers_of arguments) } in
     let at = place d.kind d keys.Grid refl rows.1.0 in
-    let limits = outside_not 1 256 (w * h) rows.1.1.1.1.1.1.1.0 in
-    record {
-      order = raised d (said d keys.Grid arguments) sound.order at.needed (omega (arith, at.up)) refl refl;
-      count = λ k. (in_lines at (λ of. refl)).count (w * h) d.vertices limits.0 limits.1;
-      terminals = λ k. absurd (omega arith);
-      lines = no_lines (w * h) (Some (record { width = w; height = h })) d.lines (λ g is. ap (λ (k : Grid). k.width * k.height) (sym (same_grid (record { width = w; height = h }) g is))) (sound.order.lines (omega (arith, at.up))).0;
-      ends = sound.ends;
-      marks = no_marks _ d.x d.y (sound.order.x (omega (arith, at.up))) (sound.order.y (omega (arith, at.up)));
-    }
+    sized d (grid.width * grid.height) (Some grid) sound at.needed at.up (in_lines at (λ of. refl)) rows.1.1.1.1.1.1.1.0 (λ g is. ap (λ (k : Grid). k.width * k.height) (sym (same_grid grid g is)))
 
 known : (kind : Option Kind) → is_none kind ≡ false → kind ≡ None → ⊥
 known None some e = absurd cc
@@ -502,14 +493,11 @@ pub keyed_ok : (d next : Draft) (key : Key) (arguments : List Bytes) → keyed d
 unfolding keyed
 keyed_ok d next key arguments e = unless_ok (keyed_fault d key arguments) (said d key arguments) next e
 
-abbrev done : Draft → Result Draft Fault
+abbrev done : {A B : Type 0} → A → Result A B
 done x = Ok x
 
-abbrev read_done : Draft → Result Draft (Fault × ℕ)
-read_done x = Ok x
-
-read_is : (x y : Draft) → read_done x ≡ read_done y → x ≡ y
-read_is x y e = cc
+ok_is : {A B : Type 0} (x y : A) → ◌≡◌ {A = Result A B} (Ok x) (Ok y) → x ≡ y
+ok_is x y e = cc
 
 sound_named : (d next : Draft) (key : Option Key) (arguments : List Bytes) → IsSound d → named d key arguments ≡ Ok next → IsSound next
 sound_named d next None arguments sound e = absurd cc
@@ -526,9 +514,6 @@ begins d sound = record {
   ends = sound.ends;
   marks = sound.marks;
 }
-
-ok_is : (x y : Draft) → done x ≡ done y → x ≡ y
-ok_is x y e = cc
 
 -- an if-chain, by the way that the test went
 chosen : {A : Type 0} (b : Bool) (x y z : A) → cond b x y ≡ z → ((b ≡ true) × (x ≡ z)) ⊎ ((b ≡ false) × (y ≡ z))
@@ -563,7 +548,7 @@ sound_step n (Err f) others last h e = absurd cc
 
 pub sound_reading : (n : ℕ) (d last : Draft) (ls : List Bytes) → IsSound d → reading n d ls ≡ Ok last → IsSound last
 unfolding reading
-sound_reading n d last [] sound e = subst IsSound (read_is d last e) sound
+sound_reading n d last [] sound e = subst IsSound (ok_is d last e) sound
 sound_reading n d last (line ∷ others) sound e = sound_step n (after d line) others last (λ next went f. sound_reading (n + 1) next last others (sound_after d next line sound went) f) e
 
 pub sound_nothing : IsSound nothing
@@ -636,17 +621,11 @@ fits_sound d kind turn sound is said =
 abbrev entry_of : Draft → Kind → Side → Entry
 entry_of d kind turn = record { kind = kind; field = field_of kind d; x = d.x; y = d.y; turn = turn }
 
-abbrev right : Entry → Result Entry (Fault × ℕ)
-right g = Ok g
-
-right_is : (g h : Entry) → right g ≡ right h → g ≡ h
-right_is g h e = cc
-
 abbrev IsFitting : Entry → Type 0
 IsFitting g = IsFit g.kind g.field g.x g.y 1
 
 game_of_fits : (d : Draft) (kind : Option Kind) (turn : Option Side) (g : Entry) → IsSound d → d.kind ≡ kind → d.turn ≡ turn → game_of d kind turn ≡ Ok g → IsFitting g
-game_of_fits d (Some kind) (Some turn) g sound is said e = subst IsFitting (right_is (entry_of d kind turn) g e) (fits_sound d kind turn sound is said)
+game_of_fits d (Some kind) (Some turn) g sound is said e = subst IsFitting (ok_is (entry_of d kind turn) g e) (fits_sound d kind turn sound is said)
 game_of_fits d (Some kind) None g sound is said e = absurd cc
 game_of_fits d None turn g sound is said e = absurd cc
 
