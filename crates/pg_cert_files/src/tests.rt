@@ -261,11 +261,8 @@ fn two_hundred_thousand_nodes(rt: HostRuntime) -> Result<(), Fail> {
 }
 
 /// Whether a file of so many bytes has this fault.
-fn size_gives(alloc: Global, length: u32, fault: &str) -> Result<bool, AllocError> {
-    let mut text = Vec::new(alloc);
-    for _ in 0..length {
-        text.push(b'#')?;
-    }
+fn size_gives(alloc: Global, length: usize, fault: &str) -> Result<bool, AllocError> {
+    let text = vec![in alloc; b'#'; length]?;
     Ok(answer(alloc, &text)?.as_str() == fault)
 }
 
