@@ -34,7 +34,7 @@ use Rattle.pg_cert.specs.declared.cert.Cert.{Cert}
 use Rattle.pg_text.proofs.Cuts.{just_two}
 use Rattle.pg_cert_files.proofs.Growing.{told_line, rest_line}
 use Rattle.pg_cert_files.proofs.Stands.{after_none, at_feed}
-use Rattle.pg_cert_files.proofs.WholeFile.{gathered_more, gathered_none, fits_file}
+use Rattle.pg_cert_files.proofs.WholeFile.{gathered_more, gathered_none, fits_file, cert_of}
 use Rattle.pg_cert_files.proofs.CertLimits.{behind_more}
 use Rattle.pg_text.proofs.Decimals.{number_decimal}
 use Rattle.pg_cert_files.proofs.Words.{IsWord, IsQuiet, decimal_is_word, lacks_space, spaced_quiet}
@@ -197,9 +197,6 @@ after_header = line_read [] header start (record start { due = due.Claim }) None
 
 at_outcome : (s : Seen) (p : Progress) → s.fault ≡ None → s.progress ≡ p → end_fault p p.due ≡ None → outcome s ≡ None
 at_outcome s p fault progress ends = rw (fault, progress, ends) refl
-
-abbrev cert_of : List Claim → Result Cert (Fault × ℕ)
-cert_of cs = Ok (record { claims = cs })
 
 closed_none : (text : Bytes) (p : Progress) (g : Gathered) (claims : List Claim) → IsAt text p g → p.due ≡ due.Claim → 0 < p.claims → closed g ≡ claims → length text ≤ 268435456 → certificate text ≡ Ok (record { claims = claims })
 unfolding fault_of parts_of

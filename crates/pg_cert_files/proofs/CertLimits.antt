@@ -3,7 +3,7 @@ use Rattle.std.proofs.Common.{◌≡◌, ℕ, zero, suc, ◌+◌, ◌-◌, ◌<�
 use Rattle.std.specs.Prelude.{◌==◌, nat_lt, nat_le, not, fold, sum_by, codes, IfNone}
 use Rattle.std.specs.List.{All, AllByRecursion}
 use Rattle.std.specs.Str.{bytes_eq}
-use Rattle.std.proofs.lemmas.Bool.{ltb-true, ltb-false}
+use Rattle.std.proofs.lemmas.Bool.{ltb-true, ltb-false, or_parts}
 use Rattle.std.proofs.lemmas.Bool.Decides.{nat_tests}
 use Rattle.std.proofs.lemmas.List.{length-append, append-nil}
 use Rattle.std.proofs.lemmas.List.Elements.{All-from_recursion}
@@ -25,7 +25,7 @@ use Rattle.pg_cert_files.specs.declared.progress.Progress.{Progress}
 use Rattle.pg_cert.specs.declared.node.Node.{Node}
 use Rattle.pg_cert.specs.declared.cert.Claim.{Claim}
 use Rattle.pg_cert.specs.declared.cert.Cert.{Cert}
-use Rattle.pg_cert_files.proofs.NodeLimits.{ok_is, err_not, then_ok, chosen, or_false, done, node_ok}
+use Rattle.pg_cert_files.proofs.NodeLimits.{ok_is, err_not, then_ok, chosen, done, node_ok}
 use Rattle.pg_cert_files.proofs.WholeFile.{gathered_more, gathered_none}
 
 -- claims that are whole, so many, with so many nodes
@@ -95,7 +95,7 @@ sound_numbered head p g (Some n) next sound e =
       | inr h ↦ elim (chosen (nat_lt 100000 n || nat_lt 200000 (p.nodes + n)) (Err faults.Limit) (done made) (Ok next) h.1) [
         | inl k ↦ err_not faults.Limit next (IsKept g next) k.1
         | inr k ↦
-            let limits = or_false (nat_lt 100000 n) (nat_lt 200000 (p.nodes + n)) k.0 in
+            let limits = or_parts (nat_lt 100000 n) (nat_lt 200000 (p.nodes + n)) k.0 in
             let some : 0 < n = grind (arith, nat_tests, h.0) in
             let few : n ≤ 100000 = ltb-false 100000 n limits.0 in
             let room : p.nodes + n ≤ 200000 = ltb-false 200000 (p.nodes + n) limits.1 in

@@ -11,6 +11,8 @@ use Rattle.pg_cert_files.specs.declared.fault.Fault.TheVariants as faults
 use Rattle.pg_cert_files.specs.declared.part.Part.{Part}
 use Rattle.pg_cert.specs.declared.cert.Cert.{Cert}
 use Rattle.pg_cert_files.proofs.NodeLimits.{chosen}
+use Rattle.pg_cert_files.proofs.Stands.{after_none, after_some}
+use Rattle.pg_cert_files.proofs.LeastFaults.{step_first}
 
 abbrev Bad : Type 0
 Bad = Fault × ℕ
@@ -38,14 +40,6 @@ pub record Stops (s : Seen) (ls : List Bytes) (fault : Fault) (number : ℕ) : T
   pub place : number ≡ s.count + (length before + 1)
   pub sound : (fold after s before).fault ≡ None
   pub here : step (fold after s before).progress line ≡ Err fault
-
-after_none : (s : Seen) (line : Bytes) → s.fault ≡ None → after s line ≡ taken s (step s.progress line)
-unfolding after
-after_none s line e = rw e refl
-
-after_some : (s : Seen) (line : Bytes) (b : Bad) → s.fault ≡ Some b → after s line ≡ s
-unfolding after
-after_some s line b e = rw e refl
 
 stays : (ls : List Bytes) (s : Seen) (b : Bad) → s.fault ≡ Some b → fold after s ls ≡ s
 stays [] s b e = refl
@@ -97,7 +91,7 @@ line_is : (text : Bytes) (fault : Fault) (number : ℕ) → (seen (lines text)).
 unfolding seen
 line_is text fault number e =
     let h = stops (lines text) nothing fault number refl e in
-    record { before = h.before; line = h.line; behind = h.behind; cut = h.cut; place = omega (arith, h.place); sound = h.sound; here = h.here }
+    record { before = h.before; line = h.line; behind = h.behind; cut = h.cut; place = omega (arith, h.place); sound = h.sound; here = h.here; least = step_first (seen h.before).progress h.line fault h.here }
 
 numbered_is : (n m : ℕ) (o : Option Fault) (fault : Fault) → at_number n o ≡ Some (fault, m) → (o ≡ Some fault) × (m ≡ n)
 numbered_is n m None fault e = absurd cc

@@ -6,6 +6,7 @@ pub mod Stands
 pub mod WholeFile
 pub mod NodeLimits
 pub mod CertLimits
+pub mod LeastFaults
 pub mod FirstFaults
 pub mod Words
 pub mod NodeBack

@@ -7,7 +7,7 @@ use Rattle.std.specs.List.{list_all, list_any, All, AllByRecursion}
 use Rattle.std.specs.Ordering.{nat_cmp}
 use Rattle.std.specs.Cmp.{nat_cmp_total}
 use Rattle.std.specs.Str.{bytes_eq}
-use Rattle.std.proofs.lemmas.Bool.{cases_Bool, cases_eq, le-ltb, lt-ltb, false≢true}
+use Rattle.std.proofs.lemmas.Bool.{cases_Bool, cases_eq, le-ltb, lt-ltb, and_parts, and_right, or_right, false≢true}
 use Rattle.std.proofs.lemmas.Bool.Decides.{nat_tests}
 use Rattle.std.proofs.lemmas.List.{append-nil, length-map, length-append}
 use Rattle.std.proofs.lemmas.Fmt.{decimal_is_IsNumeral}
@@ -33,7 +33,7 @@ use Rattle.pg_cert.specs.declared.node.Node.{Node}
 use Rattle.pg_cert.specs.declared.reply.Reply.{Reply}
 use Rattle.pg_cert_files.specs.declared.values.Edges.{Edges}
 use Rattle.pg_text.proofs.Cuts.{just_two, four_three}
-use Rattle.pg_cert_files.proofs.NodeLimits.{odd_len}
+use Rattle.pg_cert_files.proofs.NodeLimits.{odd_len, set_from}
 use Rattle.pg_text.proofs.Decimals.{IsDigit, all_append, all_of, all_map, decimal_digits, decimal_not, two_decimals}
 use Rattle.pg_cert_files.proofs.Words.{IsPlain, IsQuiet, IsWord, decimal_is_word, lacks_bar, word_quiet, spaced_quiet, words_spaced, point_decimal, child_decimal, each_back, points_back}
 
@@ -57,9 +57,6 @@ members_in s (suc n) = all_append (λ p. contains s p ≡ true) (points_below s 
     one_in true n e = (e, tt)
     one_in false n e = tt
 
-abbrev set_from : List ℕ → FinSet nat_cmp
-set_from ps = from_list ps
-
 one_more : (ps : List ℕ) (b : Bool) (n q : ℕ) → contains (set_from (ps ++ one_where b n)) q ≡ cond b (eqb q n || contains (set_from ps) q) (contains (set_from ps) q)
 one_more ps true n q = ap (λ (s : FinSet nat_cmp). contains s q) (from_list_push nat_cmp_total nat_cmp-IsAntisymmetric ps n) ∙ in_insert (set_from ps) n q
 one_more ps false n q = ap (λ (l : List ℕ). contains (set_from l) q) (append-nil ps)
@@ -80,27 +77,19 @@ in_members s (suc n) q =
     last_out : (q : ℕ) → contains s n ≡ false → (ltb q n && contains s q) ≡ (ltb q (suc n) && contains s q)
     last_out q off = elim (cases_eq q n) [ inl e ↦ rw e (grind (arith, nat_tests)) | inr ne ↦ grind (arith, nat_tests) ]
 
-and_false : (b : Bool) → (b && false) ≡ false
-and_false true = refl
-and_false false = refl
-
 -- the set of the points that are printed
 pub set_back : (s : FinSet nat_cmp) → ArePoints s → set_from (points_below s 1024) ≡ s
 set_back s small = same_points (set_from (points_below s 1024)) s (λ q. in_members s 1024 q ∙ elim (cases_Bool (contains s q)) [
   | inl on ↦ let t : ltb q 1024 ≡ true = lt-ltb q 1024 (small q on) in rw t refl
-  | inr off ↦ rw off (and_false (ltb q 1024))
+  | inr off ↦ rw off (and_right (ltb q 1024) false refl)
 ])
 
 ascend_push : (m n : ℕ) (ps : List ℕ) → ascend_from m ps ≡ true → AllByRecursion (λ p. p < n) ps → m ≤ n → ascend_from m (ps ++ n ∷ []) ≡ true
 ascend_push m n [] e h le = let t : nat_le m n ≡ true = grind (arith, nat_tests) in rw t refl
 ascend_push m n (p ∷ ps) e h le =
-    let both = both_true (nat_le m p) (ascend_from (p + 1) ps) e in
+    let both = and_parts (nat_le m p) (ascend_from (p + 1) ps) e in
     let others = ascend_push (p + 1) n ps both.1 h.1 (omega (arith, h.0)) in
     rw (both.0, others) refl
-  where
-    both_true : (a b : Bool) → (a && b) ≡ true → (a ≡ true) × (b ≡ true)
-    both_true true b e = (refl, e)
-    both_true false b e = absurd cc
 
 one_ascends : (b : Bool) (n : ℕ) (ps : List ℕ) → ascend_from 0 ps ≡ true → AllByRecursion (λ p. p < n) ps → ascend_from 0 (ps ++ one_where b n) ≡ true
 one_ascends true n ps e h = ascend_push 0 n ps e h (omega arith)
@@ -359,11 +348,7 @@ shape_back n h =
 
 bar_behind : (front : Bytes) (others : Bytes) → list_any (λ b. b == 124) (front ++ 124 ∷ others) ≡ true
 bar_behind [] others = refl
-bar_behind (b ∷ bs) others = rw (bar_behind bs others) (or_true (b == 124))
-  where
-    or_true : (b : Bool) → (b || true) ≡ true
-    or_true true = refl
-    or_true false = refl
+bar_behind (b ∷ bs) others = rw (bar_behind bs others) (or_right (b == 124) true refl)
 
 node_is_back : (n : Node) → IsNode n → node_of (shape_is n) ≡ Ok n
 node_is_back n h =

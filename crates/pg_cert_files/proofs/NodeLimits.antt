@@ -4,7 +4,7 @@ use Rattle.std.specs.Prelude.{◌==◌, nat_lt, nat_le, nat_eq, not}
 use Rattle.std.specs.FinSet.{FinSet, contains, from_list, contains-from_list_nat}
 use Rattle.std.specs.List.{list_any, All, AllByRecursion}
 use Rattle.std.specs.Ordering.{nat_cmp}
-use Rattle.std.proofs.lemmas.Bool.{cases_Bool, ltb-true, ltb-false, false≢true}
+use Rattle.std.proofs.lemmas.Bool.{cases_Bool, ltb-true, ltb-false, or_cases, or_parts, false≢true}
 use Rattle.std.proofs.lemmas.Bool.Decides.{nat_tests}
 use Rattle.std.proofs.lemmas.List.Elements.{All-from_recursion}
 use Rattle.pg_base.specs.declared.side.Side.{Side}
@@ -46,14 +46,6 @@ then_ok (Err fault) f b e = absurd cc
 pub chosen : {A : Type 0} (b : Bool) (x y z : A) → cond b x y ≡ z → ((b ≡ true) × (x ≡ z)) ⊎ ((b ≡ false) × (y ≡ z))
 chosen true x y z e = inl (refl, e)
 chosen false x y z e = inr (refl, e)
-
-pub or_false : (a b : Bool) → (a || b) ≡ false → (a ≡ false) × (b ≡ false)
-or_false true b e = absurd cc
-or_false false b e = (refl, e)
-
-or_true : (a b : Bool) → (a || b) ≡ true → (a ≡ true) ⊎ (b ≡ true)
-or_true true b e = inl refl
-or_true false b e = inr e
 
 onto_ok : {A : Type 0} (P : A → Type 0) (r : Result A Fault) (rs : Result (List A) Fault) (found : List A) → ((a : A) → r ≡ Ok a → P a) → ((others : List A) → rs ≡ Ok others → AllByRecursion P others) → onto r rs ≡ Ok found → AllByRecursion P found
 onto_ok P (Err fault) rs found h hs e = absurd cc
@@ -129,12 +121,12 @@ same_number a b e = grind (arith, nat_tests)
 
 in_list : (P : ℕ → Type 0) (ps : List ℕ) (v : ℕ) → AllByRecursion P ps → list_any (λ y. nat_eq y v) ps ≡ true → P v
 in_list P [] v h e = absurd (false≢true e)
-in_list P (p ∷ ps) v h e = elim (or_true (nat_eq p v) (list_any (λ y. nat_eq y v) ps) e) [
+in_list P (p ∷ ps) v h e = elim (or_cases (nat_eq p v) (list_any (λ y. nat_eq y v) ps) e) [
   | inl t ↦ subst P (same_number p v t) h.0
   | inr t ↦ in_list P ps v h.1 t
 ]
 
-abbrev set_from : List ℕ → FinSet nat_cmp
+abbrev pub set_from : List ℕ → FinSet nat_cmp
 set_from ps = from_list ps
 
 in_set : (P : ℕ → Type 0) (ps : List ℕ) (v : ℕ) → AllByRecursion P ps → contains (set_from ps) v ≡ true → P v
@@ -145,7 +137,7 @@ set_ok ps h = λ v e. in_set (λ p. p < 1024) ps v h e
 
 not_met : (s : FinSet nat_cmp) (ys : List ℕ) → list_any (contains s) ys ≡ false → AllByRecursion (λ v. contains s v ≡ false) ys
 not_met s [] e = tt
-not_met s (y ∷ ys) e = let both = or_false (contains s y) (list_any (contains s) ys) e in (both.0, not_met s ys both.1)
+not_met s (y ∷ ys) e = let both = or_parts (contains s y) (list_any (contains s) ys) e in (both.0, not_met s ys both.1)
 
 apart_ok : (s : FinSet nat_cmp) (ys : List ℕ) → meets s ys ≡ false → (v : ℕ) → contains s v ≡ true → contains (set_from ys) v ≡ false
 apart_ok s ys e v on = elim (cases_Bool (contains (set_from ys) v)) [

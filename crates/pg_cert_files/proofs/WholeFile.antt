@@ -66,7 +66,7 @@ read_bad r g bytes rest (outcomes.Bad number line) few read none ends =
     subst (λ (x : Result Cert (Fault × ℕ)). IsErrAnd x (λ bad. (number ≡ number_of bad.0) × (line ≡ bad.1))) (sym (fits_file bytes few)) (err_from (fault_of bytes) (parts_of bytes) number line bad)
 
 -- a file without a fault
-abbrev cert_of : List Claim → Result Cert (Fault × ℕ)
+abbrev pub cert_of : List Claim → Result Cert (Fault × ℕ)
 cert_of cs = Ok (record { claims = cs })
 
 pub read_good : (r : CertReader) (g more : Gatherer) (bytes rest : Bytes) (last : Option Part) (claims : List Claim) → length bytes ≤ 268435456 → HasRead r g bytes rest → length rest ≡ 0

@@ -1,10 +1,47 @@
 -- What the first fault of a file is, in words of its lines.
-use Rattle.std.specs.Prelude.{◌≡◌, ℕ, ◌+◌, ◌<◌, ◌⊎◌, List, ◌∷◌, ◌++◌, length, Option, Some, None, Result, Ok, Err}
-use Rattle.pg_text.specs.Text.{Bytes}
-use Rattle.pg_cert_files.specs.Lines.{lines}
+use Rattle.std.specs.Prelude.{◌≡◌, ℕ, ◌+◌, ◌<◌, ◌⊎◌, ◌||◌, ◌==◌, Bool, true, false, not, nat_lt, nat_le, is_none, is_err, find, codes, List, [], ◌∷◌, ◌++◌, length, Option, Some, None, Result, Ok, Err}
+use Rattle.std.specs.Str.{bytes_eq}
+use Rattle.pg_text.specs.Text.{Bytes, number}
+use Rattle.pg_cert_files.specs.Form.{has_bar, Shape, shape_of}
+use Rattle.pg_cert_files.specs.NodeLine.{node_of}
+use Rattle.pg_cert_files.specs.Lines.{lines, head_of, count_of}
 use Rattle.pg_cert_files.specs.CertFile.{seen, step, end_fault}
 use Rattle.pg_cert_files.specs.declared.fault.Fault.{Fault}
 use Rattle.pg_cert_files.specs.declared.fault.Fault.TheVariants as faults
+use Rattle.pg_cert_files.specs.declared.progress.Due.{Due}
+use Rattle.pg_cert_files.specs.declared.progress.Due.TheVariants as due
+use Rattle.pg_cert_files.specs.declared.progress.Progress.{Progress}
+
+-- the number of a `nodes` line, where there is one
+abbrev pub counted_number : Option Bytes → Option ℕ
+counted_number None = None
+counted_number (Some word) = number word
+
+-- no number, or 0
+abbrev pub is_no_count : Option ℕ → Bool
+is_no_count None = true
+is_no_count (Some n) = n == 0
+
+-- more nodes than a claim or a file may have
+abbrev pub is_too_many : Progress → Option ℕ → Bool
+is_too_many p None = false
+is_too_many p (Some n) = nat_lt 100000 n || nat_lt 200000 (p.nodes + n)
+
+-- a number's place of the line that holds no such number
+abbrev pub has_wrong_number : Option Shape → Bool
+has_wrong_number None = false
+has_wrong_number (Some shape) = is_err (node_of shape)
+
+-- the faults that a line can have where this one is due, each with whether it applies; what stands higher counts first
+abbrev pub line_faults : Due → Progress → Bytes → List (Fault × Bool)
+line_faults due.Header p line = (faults.Header, not (bytes_eq line (codes "posgame-cert 1"))) ∷ []
+line_faults due.Claim p line = (faults.Place, has_bar line) ∷ (faults.Form, is_none (head_of line)) ∷ (faults.Limit, nat_le 8 p.claims) ∷ []
+line_faults (due.Count head) p line = (faults.Form, is_none (count_of line)) ∷ (faults.Number, is_no_count (counted_number (count_of line))) ∷ (faults.Limit, is_too_many p (counted_number (count_of line))) ∷ []
+line_faults (due.Node others) p line = (faults.Place, not (has_bar line)) ∷ (faults.Form, is_none (shape_of line)) ∷ (faults.Number, has_wrong_number (shape_of line)) ∷ []
+
+-- the first fault of a table that applies
+abbrev pub first_of : List (Fault × Bool) → Option (Fault × Bool)
+first_of rows = find (λ row. row.1) rows
 
 -- the file is too large
 pub record IsTooLarge (text : Bytes) (fault : Fault) (number : ℕ) : Type 0 where
@@ -12,7 +49,7 @@ pub record IsTooLarge (text : Bytes) (fault : Fault) (number : ℕ) : Type 0 whe
   pub fault_is : fault ≡ faults.Size
   pub whole_file : number ≡ 0
 
--- the lines before this one have no fault, and where they end it has this one
+-- the lines before this one have no fault, and this is the first that applies to it
 pub record IsFaultOfLine (text : Bytes) (fault : Fault) (number : ℕ) : Type 0 where
   pub before : List Bytes
   pub line : Bytes
@@ -21,6 +58,7 @@ pub record IsFaultOfLine (text : Bytes) (fault : Fault) (number : ℕ) : Type 0 
   pub place : number ≡ length before + 1
   pub sound : (seen before).fault ≡ None
   pub here : step (seen before).progress line ≡ Err fault
+  pub least : first_of (line_faults (seen before).progress.due (seen before).progress line) ≡ Some (fault, true)
 
 -- no line has a fault, and the file ends too early
 pub record IsFaultOfEnd (text : Bytes) (fault : Fault) (number : ℕ) : Type 0 where

@@ -13,7 +13,8 @@ pub fn reads_within_limits()
 {}
 
 /// A fault that reading gives is the first: the file is too large; or the lines before the one it names have none, and
-/// there it is the least; or no line has one, and the file ends too early.
+/// of those that apply to that line it counts first: C5, and else the least number; or no line has one, and the file ends
+/// too early.
 pub fn names_the_first_fault()
     ensures { (text : List ℕ) (fault : Fault) (number : ℕ) → certificate text ≡ Err (fault, number) → IsFirstFault text fault number }
 {}

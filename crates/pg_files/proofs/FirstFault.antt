@@ -10,11 +10,12 @@ use Rattle.pg_text.specs.Text.{Bytes}
 use Rattle.pg_files.specs.Text.{lines, words}
 use Rattle.pg_files.specs.Key.{key_of}
 use Rattle.pg_files.specs.GameFile.{Draft, Entry, nothing, reading, after, significant, keyed, keyed_fault, named, unless, said, least, keyed_faults, first, rest, is_header, is_printable, begins_comment, game, ended, game_of}
-use Rattle.pg_files.specs.Laws.{named_faults, words_faults, line_faults, IsLeast, IsFirstFault, IsWholeFault}
+use Rattle.pg_files.specs.Laws.{named_faults, words_faults, line_faults, IsLeast, IsFirstFault, Lacks, IsWholeFault}
 use Rattle.pg_files.specs.declared.fault.Fault.{Fault}
 use Rattle.pg_files.specs.declared.fault.Fault.TheVariants as faults
 use Rattle.pg_files.specs.declared.key.Key.{Key}
 use Rattle.pg_files.proofs.LineByLine.{bad, err_is, first_fault}
+use Rattle.pg_files.proofs.Sound.{IsSound, sound_reading, sound_nothing}
 
 -- ---- the least of a line
 
@@ -66,19 +67,23 @@ wrong_is f g n m e =
     let p : ◌≡◌ {A = Fault × ℕ} (f, n) (g, m) = cc in
     (ap (λ (x : Fault × ℕ). x.0) p, ap (λ (x : Fault × ℕ). x.1) p)
 
-game_of_err : (d : Draft) (kind : Option Kind) (turn : Option Side) (fault : Fault) (m : ℕ) → game_of d kind turn ≡ Err (fault, m) → m ≡ 0
-game_of_err d (Some kind) (Some turn) fault m e = absurd cc
-game_of_err d (Some kind) None fault m e = sym (wrong_is faults.Ends fault 0 m e).1
-game_of_err d None turn fault m e = sym (wrong_is faults.Ends fault 0 m e).1
+game_of_err : (d : Draft) (kind : Option Kind) (turn : Option Side) (fault : Fault) (m : ℕ) → (kind ≡ None → turn ≡ None) → game_of d kind turn ≡ Err (fault, m) → (m ≡ 0) × (turn ≡ None) × (fault ≡ faults.Ends)
+game_of_err d (Some kind) (Some turn) fault m unsaid e = absurd cc
+game_of_err d (Some kind) None fault m unsaid e = let same = wrong_is faults.Ends fault 0 m e in (sym same.1, refl, sym same.0)
+game_of_err d None turn fault m unsaid e = let same = wrong_is faults.Ends fault 0 m e in (sym same.1, unsaid refl, sym same.0)
 
-end_err : (begun : Bool) (d : Draft) (fault : Fault) (m : ℕ) → cond begun (game_of d d.kind d.turn) (Err (faults.Header, 0)) ≡ Err (fault, m) → m ≡ 0
-end_err true d fault m e = game_of_err d d.kind d.turn fault m e
-end_err false d fault m e = sym (wrong_is faults.Header fault 0 m e).1
+-- before the kind no turn has been said
+unsaid_turn : (d : Draft) → IsSound d → d.kind ≡ None → d.turn ≡ None
+unsaid_turn d sound e = let zero : d.rank ≡ 0 = sound.order.kind e in sound.order.turn (omega arith)
+
+end_err : (begun : Bool) (d : Draft) (fault : Fault) (m : ℕ) → d.begun ≡ begun → IsSound d → cond begun (game_of d d.kind d.turn) (Err (faults.Header, 0)) ≡ Err (fault, m) → (m ≡ 0) × Lacks d fault
+end_err true d fault m is sound e = let h = game_of_err d d.kind d.turn fault m (unsaid_turn d sound) e in (h.0, inr (is, h.1, h.2))
+end_err false d fault m is sound e = let same = wrong_is faults.Header fault 0 m e in (sym same.1, inl (is, sym same.0))
 
 -- a fault at the end has line 0, and one of a line is that of reading
-ended_err : (read : Result Draft (Fault × ℕ)) (fault : Fault) (m : ℕ) → ended read ≡ Err (fault, m) → ((m ≡ 0) × (d : Draft) × (read ≡ Ok d)) ⊎ (read ≡ bad fault m)
-ended_err (Ok d) fault m e = inl (end_err d.begun d fault m e, d, refl)
-ended_err (Err f) fault m e = let same = wrong_is f.0 fault f.1 m e in inr (ap (λ (g : Fault). bad g f.1) same.0 ∙ ap (λ (n : ℕ). bad fault n) same.1)
+ended_err : (read : Result Draft (Fault × ℕ)) (fault : Fault) (m : ℕ) → ((d : Draft) → read ≡ Ok d → IsSound d) → ended read ≡ Err (fault, m) → ((m ≡ 0) × (d : Draft) × (read ≡ Ok d) × Lacks d fault) ⊎ (read ≡ bad fault m)
+ended_err (Ok d) fault m sound e = let h = end_err d.begun d fault m refl (sound d refl) e in inl (h.0, d, refl, h.1)
+ended_err (Err f) fault m sound e = let same = wrong_is f.0 fault f.1 m e in inr (ap (λ (g : Fault). bad g f.1) same.0 ∙ ap (λ (n : ℕ). bad fault n) same.1)
 
 size_or : (big : Bool) (read : Result Draft (Fault × ℕ)) (fault : Fault) (m : ℕ) → cond big (Err (faults.Size, 0)) (ended read) ≡ Err (fault, m) → ((big ≡ true) × (faults.Size ≡ fault) × (0 ≡ m)) ⊎ (ended read ≡ wrong fault m)
 size_or true read fault m e = let same = wrong_is faults.Size fault 0 m e in inl (refl, same.0, same.1)
@@ -88,7 +93,7 @@ pub first_of_file : (text : Bytes) (fault : Fault) (m : ℕ) → game text ≡ E
 unfolding game
 first_of_file text fault m e some = elim (size_or (nat_lt 4194304 (length text)) (reading 1 nothing (lines text)) fault m e) [
   | inl h ↦ absurd (omega (arith, h.2))
-  | inr h ↦ elim (ended_err (reading 1 nothing (lines text)) fault m h) [
+  | inr h ↦ elim (ended_err (reading 1 nothing (lines text)) fault m (λ d read. sound_reading 1 nothing d (lines text) sound_nothing read) h) [
     | inl k ↦ absurd (omega (arith, k.0))
     | inr k ↦
         let found = first_fault nothing 1 (lines text) fault m k in
@@ -101,8 +106,8 @@ pub whole_of_file : (text : Bytes) (fault : Fault) → game text ≡ Err (fault,
 unfolding game
 whole_of_file text fault e = elim (size_or (nat_lt 4194304 (length text)) (reading 1 nothing (lines text)) fault 0 e) [
   | inl h ↦ record { why = inl (ltb-true 4194304 (length text) h.0, sym h.1) }
-  | inr h ↦ elim (ended_err (reading 1 nothing (lines text)) fault 0 h) [
-    | inl k ↦ record { why = inr (k.1, k.2) }
+  | inr h ↦ elim (ended_err (reading 1 nothing (lines text)) fault 0 (λ d read. sound_reading 1 nothing d (lines text) sound_nothing read) h) [
+    | inl k ↦ record { why = inr (record { draft = k.1; sound = k.2; lacks = k.3 }) }
     | inr k ↦ let found = first_fault nothing 1 (lines text) fault 0 k in absurd (omega (arith, found.1))
   ]
 ]

@@ -1,4 +1,3 @@
-pub mod TextLemmas
 pub mod Finds
 pub mod Lines
 pub mod SetLaws

@@ -3,7 +3,7 @@ use Rattle.std.proofs.Common.{◌≡◌, ℕ, zero, suc, ◌+◌, ◌*◌, ◌^�
 use Rattle.std.specs.Prelude.{nat_lt, sum_by, Option, Some, None}
 use Rattle.std.specs.Fmt.{decimal}
 use Rattle.std.specs.List.{list_all, flat_map, All, AllByRecursion}
-use Rattle.std.proofs.lemmas.Bool.{ltb-true}
+use Rattle.std.proofs.lemmas.Bool.{ltb-true, and_parts}
 use Rattle.std.proofs.lemmas.Fmt.{length-decimal-le}
 use Rattle.std.proofs.lemmas.List.{length-append}
 use Rattle.std.proofs.lemmas.List.Elements.{All-tail}
@@ -29,7 +29,6 @@ use Rattle.pg_files.specs.Key.{key_name}
 use Rattle.pg_files.specs.GameFile.{Entry}
 use Rattle.pg_files.specs.declared.key.Key.{Key}
 use Rattle.pg_files.specs.declared.key.Key.TheVariants as keys
-use Rattle.pg_files.proofs.TextLemmas.{both_true}
 use Rattle.pg_files.proofs.Words.{is_word, decimals_are_words}
 use Rattle.pg_files.proofs.SetLaws.{members-length, below-members}
 use Rattle.pg_files.proofs.RoundTrip.{AreSmall, smaller, one_small, two_small, all_below, factors, key_is_word, kind_is_word, side_is_word}
@@ -82,7 +81,7 @@ both_words (x ∷ a) b p q = (p.0, both_words a b p.1 q)
 others_len : (ns : List ℕ) → AreSmall ns → length (flat_map (λ (w : Bytes). 32 ∷ w) (map decimal ns)) ≤ 4 * length ns
 others_len [] e = lit≤ tt
 others_len (n ∷ ns) e =
-    let both = both_true (nat_lt n 1000) (list_all (λ n. nat_lt n 1000) ns) e in
+    let both = and_parts (nat_lt n 1000) (list_all (λ n. nat_lt n 1000) ns) e in
     let below = ltb-true n 1000 both.0 in
     let here : length (decimal n) ≤ 3 = length-decimal-le 3 n (lit< tt) (omega (arith, below)) (omega (arith, below)) in
     let cut : length (decimal n ++ flat_map (λ (w : Bytes). 32 ∷ w) (map decimal ns)) ≡ length (decimal n) + length (flat_map (λ (w : Bytes). 32 ∷ w) (map decimal ns)) = length-append (decimal n) (flat_map (λ (w : Bytes). 32 ∷ w) (map decimal ns)) in

@@ -6,7 +6,7 @@ use Rattle.std.specs.List.{list_all, flat_map, All, AllByRecursion}
 use Rattle.std.specs.FinSet.{FinSet, contains, empty}
 use Rattle.std.specs.Ordering.{nat_cmp}
 use Rattle.std.proofs.Math.Nat.{le-mul_of_pos_right, mul_comm}
-use Rattle.std.proofs.lemmas.Bool.{cases_lt, lt-ltb, ne_eqb}
+use Rattle.std.proofs.lemmas.Bool.{cases_lt, lt-ltb, ne_eqb, and_parts, and_right}
 use Rattle.std.proofs.lemmas.Bool.Decides.{nat_tests}
 use Rattle.std.proofs.lemmas.List.{append-nil, length-append, map-append}
 use Rattle.std.proofs.lemmas.List.Elements.{All-tail}
@@ -27,7 +27,6 @@ use Rattle.pg_files.specs.Key.{key_name, key_of, rank_of, belongs, needed_rank}
 use Rattle.pg_files.specs.GameFile.{Draft, nothing, after, significant, keyed, reading, is_out_of_place, is_misplaced, lacks_grid, begins_comment, is_printable, points_for, points_so_far, is_outside}
 use Rattle.pg_files.specs.declared.key.Key.{Key}
 use Rattle.pg_files.specs.declared.key.Key.TheVariants as keys
-use Rattle.pg_files.proofs.TextLemmas.{both_true}
 use Rattle.pg_files.proofs.Words.{is_word, is_graphic, words_spaced, lines_spelled, numbers_decimals, decimals_are_words, decimal_is_word, spaced_printable}
 use Rattle.pg_files.proofs.SetLaws.{ascending_is, repeats_none, set_of-members}
 
@@ -114,7 +113,7 @@ AreSmall ns = list_all (λ n. nat_lt n 1000) ns ≡ true
 pub smaller : (limit : ℕ) (ns : List ℕ) → limit ≤ 1000 → list_all (λ n. nat_lt n limit) ns ≡ true → AreSmall ns
 smaller limit [] few e = refl
 smaller limit (n ∷ ns) few e =
-    let both = both_true (nat_lt n limit) (list_all (λ n. nat_lt n limit) ns) e in
+    let both = and_parts (nat_lt n limit) (list_all (λ n. nat_lt n limit) ns) e in
     let here : nat_lt n 1000 ≡ true = grind (arith, nat_tests, both.0) in
     rw here (smaller limit ns few both.1)
 
@@ -150,21 +149,17 @@ in_place kind d key fits below needed grid =
     let c : nat_lt d.rank (needed_rank kind key) ≡ false = grind (arith, nat_tests) in
     rw (fits, a, b, c, grid) refl
 
-and_false : (b : Bool) → (b && false) ≡ false
-and_false true = refl
-and_false false = refl
-
 pub line_in_place : (kind : Kind) (d : Draft) → is_switching kind ≡ false → d.kind ≡ Some kind → 2 ≤ d.rank → d.rank ≤ 4 → is_out_of_place d keys.Line ≡ false
 line_in_place kind d lines is two four =
     let a : nat_lt 4 d.rank ≡ false = grind (arith, nat_tests) in
-    let b : ((4 == d.rank) && false) ≡ false = and_false (4 == d.rank) in
+    let b : ((4 == d.rank) && false) ≡ false = and_right (4 == d.rank) false refl in
     let c : nat_lt d.rank 2 ≡ false = grind (arith, nat_tests) in
     rw (is, lines, a, b, c) refl
 
 pub edge_in_place : (d : Draft) → d.kind ≡ Some kinds.Switching → 3 ≤ d.rank → d.rank ≤ 4 → is_out_of_place d keys.Edge ≡ false
 edge_in_place d is three four =
     let a : nat_lt 4 d.rank ≡ false = grind (arith, nat_tests) in
-    let b : ((4 == d.rank) && false) ≡ false = and_false (4 == d.rank) in
+    let b : ((4 == d.rank) && false) ≡ false = and_right (4 == d.rank) false refl in
     let c : nat_lt d.rank 3 ≡ false = grind (arith, nat_tests) in
     rw (is, a, b, c) refl
 

@@ -7,7 +7,7 @@ use Rattle.std.specs.FinSet.{FinSet, contains, insert, empty, from_list, from_li
 use Rattle.std.specs.Cmp.{nat_cmp_total, IsEquivalence, decided}
 use Rattle.std.specs.FinMap.{nat_cmp-IsAntisymmetric}
 use Rattle.std.specs.Ordering.{nat_cmp}
-use Rattle.std.proofs.lemmas.Bool.{cases_Bool, cases_eq, cases_lt, eq-eqb, ne_eqb, eqb-true, ltb-true, and_parts, or_cases, or_right}
+use Rattle.std.proofs.lemmas.Bool.{cases_Bool, cases_eq, cases_lt, eq-eqb, ne_eqb, eqb-true, ltb-true, and_parts, and_right, or_cases, or_parts, or_right}
 use Rattle.std.proofs.lemmas.Bool.Decides.{nat_tests}
 use Rattle.std.proofs.lemmas.List.Sums.{sum_by-cons, length-filter, count_by-le-length}
 use Rattle.std.proofs.lemmas.List.Sorted.{sum_by-IsPermutation}
@@ -134,12 +134,8 @@ in_range_here a n = grind (arith, nat_tests)
 in_range_more : (a n q : ℕ) → q ≢ a → (nat_le (a + 1) q && nat_lt q (a + 1 + n)) ≡ (nat_le a q && nat_lt q (a + suc n))
 in_range_more a n q apart = grind (arith, nat_tests)
 
-and_false : (b : Bool) → (b && false) ≡ false
-and_false true = refl
-and_false false = refl
-
 has-filter-range : (p : ℕ → Bool) (a n q : ℕ) → has (filter p (range_with_len a n)) q ≡ (p q && (nat_le a q && nat_lt q (a + n)))
-has-filter-range p a zero q = rw (in_range_end a q) (sym (and_false (p q)))
+has-filter-range p a zero q = rw (in_range_end a q) (sym (and_right (p q) false refl))
 has-filter-range p a (suc n) q =
     let later = has-filter-range p (a + 1) n q in
     elim (cases_eq q a) [
@@ -199,14 +195,6 @@ sorted_is_ascending ns line below moved up =
 
 -- ---- repeated numbers
 
-pub or_false : (a b : Bool) → (a || b) ≡ false → (a ≡ false) × (b ≡ false)
-or_false true b e = absurd cc
-or_false false b e = (refl, e)
-
-or_true : (b : Bool) → (b || true) ≡ true
-or_true true = refl
-or_true false = refl
-
 repeats_twice : (s : FinSet nat_cmp) (v : ℕ) (ns : List ℕ) → 2 ≤ cond (contains s v) 1 0 + times v ns → repeats s ns ≡ true
 repeats_twice s v [] two = elim (cases_Bool (contains s v)) [
   | inl on ↦ absurd (omega (arith, rw on at two))
@@ -233,10 +221,10 @@ repeats_from_twice ns h = repeats_twice empty h.point ns (omega (arith, h.twice)
 pub repeats_apart : (s : FinSet nat_cmp) (ns : List ℕ) (q : ℕ) → repeats s ns ≡ false → contains s q ≡ true → has ns q ≡ false
 repeats_apart s [] q none h = refl
 repeats_apart s (n ∷ ns) q none h =
-    let both = or_false (contains s n) (repeats (insert s n) ns) none in
+    let both = or_parts (contains s n) (repeats (insert s n) ns) none in
     elim (cases_eq n q) [
       | inl here ↦ let there : contains s n ≡ true = ap (contains s) here ∙ h in absurd (cc)
-      | inr apart ↦ rw (ne_eqb n q apart) (repeats_apart (insert s n) ns q both.1 (rw (in_insert s n q, h) (or_true (eqb q n))))
+      | inr apart ↦ rw (ne_eqb n q apart) (repeats_apart (insert s n) ns q both.1 (rw (in_insert s n q, h) (or_right (eqb q n) true refl)))
     ]
 
 -- a list in strict order repeats nothing of a set that it shares nothing with
@@ -284,13 +272,13 @@ same-equivalence = decided same (λ q n. (λ h. sym (eqb-true n q h), λ e. eq-e
 
 has_none : (q : ℕ) (ns : List ℕ) → has ns q ≡ false → AllByRecursion (λ n. same q n ≡ false) ns
 has_none q [] none = tt
-has_none q (n ∷ ns) none = let both = or_false (nat_eq n q) (has ns q) none in (both.0, has_none q ns both.1)
+has_none q (n ∷ ns) none = let both = or_parts (nat_eq n q) (has ns q) none in (both.0, has_none q ns both.1)
 
 distinct_from_repeats : (s : FinSet nat_cmp) (ns : List ℕ) → repeats s ns ≡ false → IsDistinct same ns
 unfolding IsDistinct
 distinct_from_repeats s [] none = tt
 distinct_from_repeats s (n ∷ ns) none =
-    let both = or_false (contains s n) (repeats (insert s n) ns) none in
+    let both = or_parts (contains s n) (repeats (insert s n) ns) none in
     let held : contains (insert s n) n ≡ true = rw (in_insert s n n, eq-eqb n n refl) refl in
     (has_none n ns (repeats_apart (insert s n) ns n both.1 held), distinct_from_repeats (insert s n) ns both.1)
 

@@ -5,7 +5,7 @@ use Rattle.std.specs.List.{list_all, All, AllByRecursion}
 use Rattle.std.specs.List.Sorted.{IsStrictlyIncreasing}
 use Rattle.std.specs.FinSet.{FinSet, contains, empty, contains-empty}
 use Rattle.std.specs.Ordering.{nat_cmp}
-use Rattle.std.proofs.lemmas.Bool.{cases_lt, cases_Bool, ltb-true, ltb-false, eqb-false, and_parts}
+use Rattle.std.proofs.lemmas.Bool.{cases_lt, cases_Bool, ltb-true, ltb-false, eqb-false, and_parts, or_parts}
 use Rattle.std.proofs.lemmas.Bool.Decides.{nat_tests}
 use Rattle.std.proofs.lemmas.List.{length-append}
 use Rattle.std.proofs.lemmas.List.Elements.{All-push}
@@ -24,7 +24,7 @@ use Rattle.pg_files.specs.Text.{lines, words, numbers, then_numbers}
 use Rattle.pg_files.specs.Sets.{set_of, ascending, repeats}
 use Rattle.pg_base.specs.Kind.{kind_of}
 use Rattle.pg_files.specs.Key.{rank_of, key_of, belongs, needed_rank}
-use Rattle.pg_files.specs.GameFile.{Draft, least, unless, keyed_faults, keyed_fault, said, with_numbers, keyed, significant, after, numbers_of, first_number, second_number, first, rest, nothing, named, is_header, begins_comment, is_printable, reading, go_on, is_misplaced, is_outside, points_for, field_of, Entry, game, ended, game_of}
+use Rattle.pg_files.specs.GameFile.{Draft, least, unless, keyed_faults, keyed_fault, said, with_numbers, keyed, significant, after, numbers_of, first_number, second_number, first, rest, nothing, named, is_header, begins_comment, is_printable, reading, go_on, is_misplaced, lacks_grid, is_outside, points_for, field_of, Entry, game, ended, game_of}
 use Rattle.pg_files.specs.declared.fault.Fault.{Fault}
 use Rattle.pg_files.specs.declared.fault.Fault.TheVariants as faults
 use Rattle.pg_files.specs.declared.key.Key.{Key}
@@ -42,10 +42,6 @@ pub none_applies : (rows : List (Fault × Bool)) → least rows ≡ None → All
 none_applies [] e = tt
 none_applies (row ∷ rows) e = split row.0 row.1 rows (none_applies rows) e
 
-or_false : (a b : Bool) → (a || b) ≡ false → (a ≡ false) × (b ≡ false)
-or_false true b e = absurd cc
-or_false false b e = (refl, e)
-
 not_false : (a : Bool) → not a ≡ false → a ≡ true
 not_false true e = refl
 not_false false e = absurd cc
@@ -55,7 +51,7 @@ unless_ok None x y e = (refl, cc)
 unless_ok (Some f) x y e = absurd cc
 
 outside_not : (low high n : ℕ) → is_outside low high n ≡ false → (low ≤ n) × (n ≤ high)
-outside_not low high n e = let parts = or_false (nat_lt n low) (nat_lt high n) e in (ltb-false n low parts.0, ltb-false high n parts.1)
+outside_not low high n e = let parts = or_parts (nat_lt n low) (nat_lt high n) e in (ltb-false n low parts.0, ltb-false high n parts.1)
 
 -- ---- what holds of a draft
 
@@ -107,34 +103,51 @@ pub record IsSound (d : Draft) : Type 0 where
 
 -- ---- where a key stands
 
-record IsPlaced (b : Bool) (r k need : ℕ) : Type 0 where
-  fits : b ≡ true
-  up : r ≤ k
-  again : k ≡ r → k ≡ 4
-  needed : need ≤ r
+-- the kind has been said and has the key, whose rank is in order, and nothing that it needs before it lacks
+record IsPlaced (kind : Option Kind) (d : Draft) (key : Key) : Type 0 where
+  of : Kind
+  is : kind ≡ Some of
+  fits : belongs of key ≡ true
+  up : d.rank ≤ rank_of key
+  under : (rank_of key == 4) ≡ false → d.rank < rank_of key
+  needed : needed_rank of key ≤ d.rank
 
-placed : (b : Bool) (r k need : ℕ) (lacks : Bool) → (not b || (nat_lt k r || ((k == r && not (k == 4)) || (nat_lt r need || lacks)))) ≡ false → IsPlaced b r k need
-placed b r k need lacks e =
-    let first = or_false (not b) (nat_lt k r || ((k == r && not (k == 4)) || (nat_lt r need || lacks))) e in
-    let second = or_false (nat_lt k r) ((k == r && not (k == 4)) || (nat_lt r need || lacks)) first.1 in
-    let third = or_false (k == r && not (k == 4)) (nat_lt r need || lacks) second.1 in
-    let fourth = or_false (nat_lt r need) lacks third.1 in
-    record { fits = not_false b first.0; up = ltb-false k r second.0; again = grind (arith, nat_tests, third.0); needed = ltb-false r need fourth.0 }
+placed : (of : Kind) (d : Draft) (key : Key) → is_misplaced (Some of) d key ≡ false → IsPlaced (Some of) d key
+placed of d key e =
+    let r = d.rank in
+    let k = rank_of key in
+    let lacks = nat_lt r (needed_rank of key) || lacks_grid d key in
+    let first = or_parts (not (belongs of key)) (nat_lt k r || ((k == r && not (k == 4)) || lacks)) e in
+    let second = or_parts (nat_lt k r) ((k == r && not (k == 4)) || lacks) first.1 in
+    let third = or_parts (k == r && not (k == 4)) lacks second.1 in
+    let fourth = or_parts (nat_lt r (needed_rank of key)) (lacks_grid d key) third.1 in
+    record {
+      of = of;
+      is = refl;
+      fits = not_false (belongs of key) first.0;
+      up = ltb-false k r second.0;
+      under = λ h. grind (arith, nat_tests, second.0, third.0, h);
+      needed = ltb-false r (needed_rank of key) fourth.0;
+    }
 
--- a rank that the key's isn't equal to
-under : (r k : ℕ) → r ≤ k → (k ≡ r → k ≡ 4) → k ≢ 4 → r < k
-under r k up again four = elim (cases_lt r k) [ inl lt ↦ lt | inr ge ↦ let e : k ≡ r = omega arith in absurd (four (again e)) ]
+-- before the kind only that may come
+place : (kind : Option Kind) (d : Draft) (key : Key) → nat_lt 1 (rank_of key) ≡ true → is_misplaced kind d key ≡ false → IsPlaced kind d key
+place None d key above e = let both : false ≡ true = sym e ∙ above in absurd cc
+place (Some of) d key above e = placed of d key e
 
 -- after the count, and after the terminals where the kind needs them
 record IsLater (kind : Option Kind) (r : ℕ) : Type 0 where
   two : 2 ≤ r
   terminals : (v s t : ℕ) → (3 ≤ r → HasTerminals kind v s t) → HasTerminals kind v s t
 
-later : (kind : Kind) (r : ℕ) → cond (is_switching kind) 3 2 ≤ r → IsLater (Some kind) r
-later kinds.MakerBreaker r le = record { two = le; terminals = λ v s t h. tt }
-later kinds.MakerMaker r le = record { two = le; terminals = λ v s t h. tt }
-later kinds.AvoiderEnforcer r le = record { two = le; terminals = λ v s t h. tt }
-later kinds.Switching r le = record { two = omega (arith, le); terminals = λ v s t h. h le }
+later_of : (kind : Kind) (r : ℕ) → cond (is_switching kind) 3 2 ≤ r → IsLater (Some kind) r
+later_of kinds.MakerBreaker r le = record { two = le; terminals = λ v s t h. tt }
+later_of kinds.MakerMaker r le = record { two = le; terminals = λ v s t h. tt }
+later_of kinds.AvoiderEnforcer r le = record { two = le; terminals = λ v s t h. tt }
+later_of kinds.Switching r le = record { two = omega (arith, le); terminals = λ v s t h. h le }
+
+later : {kind : Option Kind} {d : Draft} {key : Key} → IsPlaced kind d key → ((of : Kind) → needed_rank of key ≡ cond (is_switching of) 3 2) → IsLater kind d.rank
+later {d = d} at needs = subst (λ (k : Option Kind). IsLater k d.rank) (sym at.is) (later_of at.of d.rank (subst (λ n. n ≤ d.rank) (needs at.of) at.needed))
 
 pub record IsLinesKind (kind : Option Kind) : Type 0 where
   pub points : (p e : ℕ) → points_for kind p e ≡ p
@@ -147,6 +160,9 @@ lines_kind kinds.MakerMaker h = record { points = λ p e. refl; count = λ p v a
 lines_kind kinds.AvoiderEnforcer h = record { points = λ p e. refl; count = λ p v a b. (a, b); few = λ p v h. h }
 lines_kind kinds.Switching h = absurd cc
 
+in_lines : {kind : Option Kind} {d : Draft} {key : Key} → IsPlaced kind d key → ((of : Kind) → belongs of key ≡ not (is_switching of)) → IsLinesKind kind
+in_lines at has = subst IsLinesKind (sym at.is) (lines_kind at.of (sym (has at.of) ∙ at.fits))
+
 pub record IsGraphKind (kind : Option Kind) : Type 0 where
   count : (p v : ℕ) → 2 ≤ v → v ≤ 500 → HasCount kind p v
   terminals : (v s t : ℕ) → s < v → t < v → s ≢ t → HasTerminals kind v s t
@@ -157,45 +173,12 @@ graph_kind kinds.MakerMaker h = absurd cc
 graph_kind kinds.AvoiderEnforcer h = absurd cc
 graph_kind kinds.Switching h = record { count = λ p v a b. (a, b); terminals = λ v s t a b c. (a, b, c) }
 
+in_graph : {kind : Option Kind} {d : Draft} {key : Key} → IsPlaced kind d key → ((of : Kind) → belongs of key ≡ is_switching of) → IsGraphKind kind
+in_graph at has = subst IsGraphKind (sym at.is) (graph_kind at.of (sym (has at.of) ∙ at.fits))
+
 kind_place : (kind : Option Kind) (d : Draft) → is_misplaced kind d keys.Kind ≡ false → (kind ≡ None → d.rank ≡ 0) → d.rank ≡ 0
 kind_place None d h first = first refl
-kind_place (Some kind) d h first = let p = placed true d.rank 1 0 false h in let low = under d.rank 1 p.up p.again (λ e. absurd (cc e)) in omega arith
-
-points_place : (kind : Option Kind) (d : Draft) → is_misplaced kind d keys.Points ≡ false → (d.rank < 2) × (1 ≤ d.rank) × IsLinesKind kind
-points_place None d h = absurd (cc h)
-points_place (Some kind) d h = let p = placed (not (is_switching kind)) d.rank 2 1 false h in (under d.rank 2 p.up p.again (λ e. absurd (cc e)), p.needed, lines_kind kind p.fits)
-
-grid_place : (kind : Option Kind) (d : Draft) → is_misplaced kind d keys.Grid ≡ false → (d.rank < 2) × (1 ≤ d.rank) × IsLinesKind kind
-grid_place None d h = absurd (cc h)
-grid_place (Some kind) d h = let p = placed (not (is_switching kind)) d.rank 2 1 false h in (under d.rank 2 p.up p.again (λ e. absurd (cc e)), p.needed, lines_kind kind p.fits)
-
-vertices_place : (kind : Option Kind) (d : Draft) → is_misplaced kind d keys.Vertices ≡ false → (d.rank < 2) × (1 ≤ d.rank) × IsGraphKind kind
-vertices_place None d h = absurd (cc h)
-vertices_place (Some kind) d h = let p = placed (is_switching kind) d.rank 2 1 false h in (under d.rank 2 p.up p.again (λ e. absurd (cc e)), p.needed, graph_kind kind p.fits)
-
-terminals_place : (kind : Option Kind) (d : Draft) → is_misplaced kind d keys.Terminals ≡ false → (d.rank < 3) × (2 ≤ d.rank) × IsGraphKind kind
-terminals_place None d h = absurd (cc h)
-terminals_place (Some kind) d h = let p = placed (is_switching kind) d.rank 3 2 false h in (under d.rank 3 p.up p.again (λ e. absurd (cc e)), p.needed, graph_kind kind p.fits)
-
-line_place : (kind : Option Kind) (d : Draft) → is_misplaced kind d keys.Line ≡ false → (d.rank ≤ 4) × IsLater kind d.rank × IsLinesKind kind
-line_place None d h = absurd (cc h)
-line_place (Some kind) d h = let p = placed (not (is_switching kind)) d.rank 4 (cond (is_switching kind) 3 2) false h in (p.up, later kind d.rank p.needed, lines_kind kind p.fits)
-
-edge_place : (kind : Option Kind) (d : Draft) → is_misplaced kind d keys.Edge ≡ false → (d.rank ≤ 4) × IsLater kind d.rank
-edge_place None d h = absurd (cc h)
-edge_place (Some kind) d h = let p = placed (is_switching kind) d.rank 4 (cond (is_switching kind) 3 2) false h in (p.up, later kind d.rank p.needed)
-
-x_place : (kind : Option Kind) (d : Draft) → is_misplaced kind d keys.X ≡ false → (d.rank < 5) × IsLater kind d.rank
-x_place None d h = absurd (cc h)
-x_place (Some kind) d h = let p = placed true d.rank 5 (cond (is_switching kind) 3 2) false h in (under d.rank 5 p.up p.again (λ e. absurd (cc e)), later kind d.rank p.needed)
-
-y_place : (kind : Option Kind) (d : Draft) → is_misplaced kind d keys.Y ≡ false → (d.rank < 6) × IsLater kind d.rank
-y_place None d h = absurd (cc h)
-y_place (Some kind) d h = let p = placed true d.rank 6 (cond (is_switching kind) 3 2) false h in (under d.rank 6 p.up p.again (λ e. absurd (cc e)), later kind d.rank p.needed)
-
-turn_place : (kind : Option Kind) (d : Draft) → is_misplaced kind d keys.Turn ≡ false → (d.rank < 7) × IsLater kind d.rank
-turn_place None d h = absurd (cc h)
-turn_place (Some kind) d h = let p = placed true d.rank 7 (cond (is_switching kind) 3 2) false h in (under d.rank 7 p.up p.again (λ e. absurd (cc e)), later kind d.rank p.needed)
+kind_place (Some of) d h first = omega (arith, (placed of d keys.Kind h).under refl)
 
 -- ---- the parts
 
@@ -264,22 +247,48 @@ two_below limit arguments two some all = pair_below limit (numbers_of arguments)
 has_kind : (d : Draft) → IsBefore d → 1 ≤ d.rank → d.kind ≡ None → ⊥
 has_kind d order low e = let zero : d.rank ≡ 0 = order.kind e in omega arith
 
+-- the parts of a draft that come behind a rank; the others are as before the first line
+abbrev behind : ℕ → Draft → Draft
+behind r d = record nothing {
+  grid = cond (nat_lt r 2) d.grid None;
+  lines = cond (nat_lt r 4) d.lines [];
+  ends = cond (nat_lt r 4) d.ends [];
+  x = cond (nat_lt r 5) d.x empty;
+  y = cond (nat_lt r 6) d.y empty;
+  turn = cond (nat_lt r 7) d.turn None;
+}
+
+same_part : {A : Type 0} (r k : ℕ) (a b c : A) → r < k → cond (nat_lt r k) a c ≡ cond (nat_lt r k) b c → a ≡ b
+same_part r k a b c lt e = step (nat_lt r k) a b c (grind (arith, nat_tests, lt)) e
+  where
+    step : {A : Type 0} (t : Bool) (a b c : A) → t ≡ true → cond t a c ≡ cond t b c → a ≡ b
+    step true a b c h e = e
+    step false a b c h e = absurd cc
+
+-- a line leaves the parts behind its rank as they were, and nothing has said them
+raised : (d new : Draft) → IsBefore d → 1 ≤ d.rank → d.rank ≤ new.rank → new.kind ≡ d.kind → behind new.rank new ≡ behind new.rank d → IsBefore new
+raised d new order some up kind same = record {
+  kind = λ none. absurd (has_kind d order some (sym kind ∙ none));
+  grid = λ lt. same_part new.rank 2 new.grid d.grid None lt (ap (λ (u : Draft). u.grid) same) ∙ order.grid (omega (arith, lt, up));
+  lines = λ lt. let old = order.lines (omega (arith, lt, up)) in (
+    same_part new.rank 4 new.lines d.lines [] lt (ap (λ (u : Draft). u.lines) same) ∙ old.0,
+    same_part new.rank 4 new.ends d.ends [] lt (ap (λ (u : Draft). u.ends) same) ∙ old.1,
+  );
+  x = λ lt. same_part new.rank 5 new.x d.x empty lt (ap (λ (u : Draft). u.x) same) ∙ order.x (omega (arith, lt, up));
+  y = λ lt. same_part new.rank 6 new.y d.y empty lt (ap (λ (u : Draft). u.y) same) ∙ order.y (omega (arith, lt, up));
+  turn = λ lt. same_part new.rank 7 new.turn d.turn None lt (ap (λ (u : Draft). u.turn) same) ∙ order.turn (omega (arith, lt, up));
+}
+
 sound_turn : (d : Draft) (arguments : List Bytes) → IsSound d → keyed_fault d keys.Turn arguments ≡ None → IsSound (said d keys.Turn arguments)
 sound_turn d arguments sound e =
     let rows = none_applies (keyed_faults d keys.Turn arguments) e in
-    let at = turn_place d.kind d rows.1.0 in
-    let two = at.1.two in
+    let at = place d.kind d keys.Turn refl rows.1.0 in
+    let before = later at (λ of. refl) in
+    let two = before.two in
     record {
-      order = record {
-        kind = λ none. absurd (has_kind d sound.order (omega arith) none);
-        grid = λ lt. absurd (omega arith);
-        lines = λ lt. absurd (omega arith);
-        x = λ lt. absurd (omega arith);
-        y = λ lt. absurd (omega arith);
-        turn = λ lt. absurd (omega arith);
-      };
+      order = raised d (said d keys.Turn arguments) sound.order (omega (arith, two)) (omega (arith, at.up)) refl refl;
       count = λ h. sound.count two;
-      terminals = λ h. at.1.terminals d.vertices d.s d.t sound.terminals;
+      terminals = λ h. before.terminals d.vertices d.s d.t sound.terminals;
       lines = sound.lines;
       ends = sound.ends;
       marks = sound.marks;
@@ -288,21 +297,15 @@ sound_turn d arguments sound e =
 sound_x : (d : Draft) (arguments : List Bytes) → IsSound d → keyed_fault d keys.X arguments ≡ None → IsSound (said d keys.X arguments)
 sound_x d arguments sound e =
     let rows = none_applies (keyed_faults d keys.X arguments) e in
-    let at = x_place d.kind d rows.1.0 in
-    let two = at.1.two in
+    let at = place d.kind d keys.X refl rows.1.0 in
+    let before = later at (λ of. refl) in
+    let two = before.two in
     let below = not_false (list_all (λ n. nat_lt n (points_for d.kind d.points (length d.ends))) (numbers_of arguments)) rows.1.1.1.1.0 in
-    let none = sound.order.y (omega (arith, at.0)) in
+    let none = sound.order.y (omega (arith, at.up)) in
     record {
-      order = record {
-        kind = λ none. absurd (has_kind d sound.order (omega arith) none);
-        grid = λ lt. absurd (omega arith);
-        lines = λ lt. absurd (omega arith);
-        x = λ lt. absurd (omega arith);
-        y = λ lt. none;
-        turn = λ lt. sound.order.turn (omega (arith, at.0));
-      };
+      order = raised d (said d keys.X arguments) sound.order (omega (arith, two)) (omega (arith, at.up)) refl refl;
       count = λ h. sound.count two;
-      terminals = λ h. at.1.terminals d.vertices d.s d.t sound.terminals;
+      terminals = λ h. before.terminals d.vertices d.s d.t sound.terminals;
       lines = sound.lines;
       ends = sound.ends;
       marks = record {
@@ -315,20 +318,14 @@ sound_x d arguments sound e =
 sound_y : (d : Draft) (arguments : List Bytes) → IsSound d → keyed_fault d keys.Y arguments ≡ None → IsSound (said d keys.Y arguments)
 sound_y d arguments sound e =
     let rows = none_applies (keyed_faults d keys.Y arguments) e in
-    let at = y_place d.kind d rows.1.0 in
-    let two = at.1.two in
+    let at = place d.kind d keys.Y refl rows.1.0 in
+    let before = later at (λ of. refl) in
+    let two = before.two in
     let below = not_false (list_all (λ n. nat_lt n (points_for d.kind d.points (length d.ends))) (numbers_of arguments)) rows.1.1.1.1.0 in
     record {
-      order = record {
-        kind = λ none. absurd (has_kind d sound.order (omega arith) none);
-        grid = λ lt. absurd (omega arith);
-        lines = λ lt. absurd (omega arith);
-        x = λ lt. absurd (omega arith);
-        y = λ lt. absurd (omega arith);
-        turn = λ lt. sound.order.turn (omega (arith, at.0));
-      };
+      order = raised d (said d keys.Y arguments) sound.order (omega (arith, two)) (omega (arith, at.up)) refl refl;
       count = λ h. sound.count two;
-      terminals = λ h. at.1.terminals d.vertices d.s d.t sound.terminals;
+      terminals = λ h. before.terminals d.vertices d.s d.t sound.terminals;
       lines = sound.lines;
       ends = sound.ends;
       marks = record {
@@ -342,28 +339,23 @@ sound_line : (d : Draft) (arguments : List Bytes) → IsSound d → keyed_fault 
 sound_line d arguments sound e =
     let rows = none_applies (keyed_faults d keys.Line arguments) e in
     let ns = numbers_of arguments in
-    let at = line_place d.kind d rows.1.0 in
-    let two = at.1.two in
+    let at = place d.kind d keys.Line refl rows.1.0 in
+    let before = later at (λ of. refl) in
+    let two = before.two in
     let count = sound.count two in
-    let same = at.2.points d.points (length d.ends) in
-    let few = (at.2.few d.points d.vertices count).1 in
+    let kind = in_lines at (λ of. refl) in
+    let same = kind.points d.points (length d.ends) in
+    let few = (kind.few d.points d.vertices count).1 in
     let below = ap (λ n. list_all (λ p. nat_lt p n) ns) (sym same) ∙ not_false (list_all (λ n. nat_lt n (points_for d.kind d.points (length d.ends))) ns) rows.1.1.1.1.0 in
-    let len = or_false (length ns == 0) (nat_lt 100 (length ns)) rows.1.1.1.1.1.1.0 in
+    let len = or_parts (length ns == 0) (nat_lt 100 (length ns)) rows.1.1.1.1.1.1.0 in
     let some : 0 < length ns = grind (arith, nat_tests, len.0) in
-    let room = or_false (nat_le 20000 (length d.lines)) (nat_lt 400000 (sum_by length d.lines + length ns)) rows.1.1.1.1.1.1.1.0 in
+    let room = or_parts (nat_le 20000 (length d.lines)) (nat_lt 400000 (sum_by length d.lines + length ns)) rows.1.1.1.1.1.1.1.0 in
     let fewer : length d.lines < 20000 = grind (arith, nat_tests, room.0) in
     let kept = length-ascending ns (below_more d.points ns (omega (arith, few)) below) rows.1.1.1.1.1.0 in
     record {
-      order = record {
-        kind = λ none. absurd (has_kind d sound.order (omega arith) none);
-        grid = λ lt. absurd (omega arith);
-        lines = λ lt. absurd (omega arith);
-        x = λ lt. sound.order.x (omega (arith, at.0));
-        y = λ lt. sound.order.y (omega (arith, at.0));
-        turn = λ lt. sound.order.turn (omega (arith, at.0));
-      };
+      order = raised d (said d keys.Line arguments) sound.order (omega (arith, two)) (omega (arith, at.up)) refl refl;
       count = λ h. count;
-      terminals = λ h. at.1.terminals d.vertices d.s d.t sound.terminals;
+      terminals = λ h. before.terminals d.vertices d.s d.t sound.terminals;
       lines = more_lines d.points d.grid d.lines (ascending ns) sound.lines (line_is d.points ns few below rows.1.1.1.1.1.0 some (ltb-false 100 (length ns) len.1)) fewer (omega (arith, kept, ltb-false 400000 (sum_by length d.lines + length ns) room.1));
       ends = sound.ends;
       marks = sound.marks;
@@ -373,50 +365,37 @@ sound_edge : (d : Draft) (arguments : List Bytes) → IsSound d → keyed_fault 
 sound_edge d arguments sound e =
     let rows = none_applies (keyed_faults d keys.Edge arguments) e in
     let ns = numbers_of arguments in
-    let at = edge_place d.kind d rows.1.0 in
-    let two = at.1.two in
-    let form = or_false (not (length arguments == 2)) (is_none (numbers arguments)) rows.1.1.0 in
+    let at = place d.kind d keys.Edge refl rows.1.0 in
+    let before = later at (λ of. refl) in
+    let two = before.two in
+    let form = or_parts (not (length arguments == 2)) (is_none (numbers arguments)) rows.1.1.0 in
     let pair : length arguments ≡ 2 = grind (arith, nat_tests, form.0) in
     let each = two_below d.vertices arguments pair form.1 (not_false (list_all (λ n. nat_lt n d.vertices) ns) rows.1.1.1.1.0) in
     let room : nat_le 1000 (length d.ends) ≡ false = rows.1.1.1.1.1.1.1.0 in
     let fewer : length d.ends < 1000 = grind (arith, nat_tests) in
     record {
-      order = record {
-        kind = λ none. absurd (has_kind d sound.order (omega arith) none);
-        grid = λ lt. absurd (omega arith);
-        lines = λ lt. absurd (omega arith);
-        x = λ lt. sound.order.x (omega (arith, at.0));
-        y = λ lt. sound.order.y (omega (arith, at.0));
-        turn = λ lt. sound.order.turn (omega (arith, at.0));
-      };
+      order = raised d (said d keys.Edge arguments) sound.order (omega (arith, two)) (omega (arith, at.up)) refl refl;
       count = λ h. sound.count two;
-      terminals = λ h. at.1.terminals d.vertices d.s d.t sound.terminals;
+      terminals = λ h. before.terminals d.vertices d.s d.t sound.terminals;
       lines = sound.lines;
       ends = more_ends d.vertices (first_number ns) (second_number ns) d.ends sound.ends each.0 each.1 fewer;
-      marks = no_marks _ d.x d.y (sound.order.x (omega (arith, at.0))) (sound.order.y (omega (arith, at.0)));
+      marks = no_marks _ d.x d.y (sound.order.x (omega (arith, at.up))) (sound.order.y (omega (arith, at.up)));
     }
 
 sound_terminals : (d : Draft) (arguments : List Bytes) → IsSound d → keyed_fault d keys.Terminals arguments ≡ None → IsSound (said d keys.Terminals arguments)
 sound_terminals d arguments sound e =
     let rows = none_applies (keyed_faults d keys.Terminals arguments) e in
     let ns = numbers_of arguments in
-    let at = terminals_place d.kind d rows.1.0 in
-    let two = at.1 in
-    let form = or_false (not (length arguments == 2)) (is_none (numbers arguments)) rows.1.1.0 in
+    let at = place d.kind d keys.Terminals refl rows.1.0 in
+    let two : 2 ≤ d.rank = at.needed in
+    let form = or_parts (not (length arguments == 2)) (is_none (numbers arguments)) rows.1.1.0 in
     let pair : length arguments ≡ 2 = grind (arith, nat_tests, form.0) in
     let each = two_below d.vertices arguments pair form.1 (not_false (list_all (λ n. nat_lt n d.vertices) ns) rows.1.1.1.1.0) in
     let one : (first_number ns == second_number ns) ≡ false = rows.1.1.1.1.1.1.1.1.0 in
     record {
-      order = record {
-        kind = λ none. absurd (has_kind d sound.order (omega arith) none);
-        grid = λ lt. absurd (omega arith);
-        lines = λ lt. sound.order.lines (omega (arith, at.0));
-        x = λ lt. sound.order.x (omega (arith, at.0));
-        y = λ lt. sound.order.y (omega (arith, at.0));
-        turn = λ lt. sound.order.turn (omega (arith, at.0));
-      };
+      order = raised d (said d keys.Terminals arguments) sound.order (omega (arith, two)) (omega (arith, at.up)) refl refl;
       count = λ h. sound.count two;
-      terminals = λ h. at.2.terminals d.vertices (first_number ns) (second_number ns) each.0 each.1 (eqb-false (first_number ns) (second_number ns) one);
+      terminals = λ h. (in_graph at (λ of. refl)).terminals d.vertices (first_number ns) (second_number ns) each.0 each.1 (eqb-false (first_number ns) (second_number ns) one);
       lines = sound.lines;
       ends = sound.ends;
       marks = sound.marks;
@@ -426,46 +405,36 @@ sound_vertices : (d : Draft) (arguments : List Bytes) → IsSound d → keyed_fa
 sound_vertices d arguments sound e =
     let rows = none_applies (keyed_faults d keys.Vertices arguments) e in
     let n = first_number (numbers_of arguments) in
-    let at = vertices_place d.kind d rows.1.0 in
+    let at = place d.kind d keys.Vertices refl rows.1.0 in
     let limits = outside_not 2 500 n rows.1.1.1.1.1.1.1.0 in
     record {
-      order = record {
-        kind = λ none. absurd (has_kind d sound.order at.1 none);
-        grid = λ lt. absurd (omega arith);
-        lines = λ lt. sound.order.lines (omega (arith, at.0));
-        x = λ lt. sound.order.x (omega (arith, at.0));
-        y = λ lt. sound.order.y (omega (arith, at.0));
-        turn = λ lt. sound.order.turn (omega (arith, at.0));
-      };
-      count = λ h. at.2.count d.points n limits.0 limits.1;
+      order = raised d (said d keys.Vertices arguments) sound.order at.needed (omega (arith, at.up)) refl refl;
+      count = λ h. (in_graph at (λ of. refl)).count d.points n limits.0 limits.1;
       terminals = λ h. absurd (omega arith);
       lines = sound.lines;
-      ends = no_ends n d.ends (sound.order.lines (omega (arith, at.0))).1;
+      ends = no_ends n d.ends (sound.order.lines (omega (arith, at.up))).1;
       marks = sound.marks;
+    }
+
+-- a game with lines is given its points, and its grid where they are the cells of one
+sized : (d : Draft) (n : ℕ) (grid : Option Grid) → IsSound d → 1 ≤ d.rank → d.rank ≤ 2 → IsLinesKind d.kind → is_outside 1 256 n ≡ false → ((g : Grid) → grid ≡ Some g → g.width * g.height ≡ n) → IsSound (record d { rank = 2; points = n; grid = grid })
+sized d n grid sound some up kind inside cells =
+    let limits = outside_not 1 256 n inside in
+    record {
+      order = raised d (record d { rank = 2; points = n; grid = grid }) sound.order some up refl refl;
+      count = λ h. kind.count n d.vertices limits.0 limits.1;
+      terminals = λ h. absurd (omega arith);
+      lines = no_lines n grid d.lines cells (sound.order.lines (omega (arith, up))).0;
+      ends = sound.ends;
+      marks = no_marks _ d.x d.y (sound.order.x (omega (arith, up))) (sound.order.y (omega (arith, up)));
     }
 
 sound_points : (d : Draft) (arguments : List Bytes) → IsSound d → keyed_fault d keys.Points arguments ≡ None → IsSound (said d keys.Points arguments)
 sound_points d arguments sound e =
     let rows = none_applies (keyed_faults d keys.Points arguments) e in
-    let n = first_number (numbers_of arguments) in
-    let at = points_place d.kind d rows.1.0 in
-    let limits = outside_not 1 256 n rows.1.1.1.1.1.1.1.0 in
-    let bare : d.grid ≡ None = sound.order.grid at.0 in
-    record {
-      order = record {
-        kind = λ none. absurd (has_kind d sound.order at.1 none);
-        grid = λ lt. absurd (omega arith);
-        lines = λ lt. sound.order.lines (omega (arith, at.0));
-        x = λ lt. sound.order.x (omega (arith, at.0));
-        y = λ lt. sound.order.y (omega (arith, at.0));
-        turn = λ lt. sound.order.turn (omega (arith, at.0));
-      };
-      count = λ h. at.2.count n d.vertices limits.0 limits.1;
-      terminals = λ h. absurd (omega arith);
-      lines = no_lines n d.grid d.lines (λ g is. absurd (cc)) (sound.order.lines (omega (arith, at.0))).0;
-      ends = sound.ends;
-      marks = no_marks _ d.x d.y (sound.order.x (omega (arith, at.0))) (sound.order.y (omega (arith, at.0)));
-    }
+    let at = place d.kind d keys.Points refl rows.1.0 in
+    let bare : d.grid ≡ None = sound.order.grid (at.under refl) in
+    sized d (first_number (numbers_of arguments)) d.grid sound at.needed at.up (in_lines at (λ of. refl)) rows.1.1.1.1.1.1.1.0 (λ g is. absurd cc)
 
 same_grid : (g h : Grid) → ◌≡◌ {A = Option Grid} (Some g) (Some h) → g ≡ h
 same_grid g h e = cc
@@ -473,25 +442,9 @@ same_grid g h e = cc
 sound_grid : (d : Draft) (arguments : List Bytes) → IsSound d → keyed_fault d keys.Grid arguments ≡ None → IsSound (said d keys.Grid arguments)
 sound_grid d arguments sound e =
     let rows = none_applies (keyed_faults d keys.Grid arguments) e in
-    let w = first_number (numbers_of arguments) in
-    let h = second_number (numbers_of arguments) in
-    let at = grid_place d.kind d rows.1.0 in
-    let limits = outside_not 1 256 (w * h) rows.1.1.1.1.1.1.1.0 in
-    record {
-      order = record {
-        kind = λ none. absurd (has_kind d sound.order at.1 none);
-        grid = λ lt. absurd (omega arith);
-        lines = λ lt. sound.order.lines (omega (arith, at.0));
-        x = λ lt. sound.order.x (omega (arith, at.0));
-        y = λ lt. sound.order.y (omega (arith, at.0));
-        turn = λ lt. sound.order.turn (omega (arith, at.0));
-      };
-      count = λ k. at.2.count (w * h) d.vertices limits.0 limits.1;
-      terminals = λ k. absurd (omega arith);
-      lines = no_lines (w * h) (Some (record { width = w; height = h })) d.lines (λ g is. ap (λ (k : Grid). k.width * k.height) (sym (same_grid (record { width = w; height = h }) g is))) (sound.order.lines (omega (arith, at.0))).0;
-      ends = sound.ends;
-      marks = no_marks _ d.x d.y (sound.order.x (omega (arith, at.0))) (sound.order.y (omega (arith, at.0)));
-    }
+    let grid : Grid = record { width = first_number (numbers_of arguments); height = second_number (numbers_of arguments) } in
+    let at = place d.kind d keys.Grid refl rows.1.0 in
+    sized d (grid.width * grid.height) (Some grid) sound at.needed at.up (in_lines at (λ of. refl)) rows.1.1.1.1.1.1.1.0 (λ g is. ap (λ (k : Grid). k.width * k.height) (sym (same_grid grid g is)))
 
 known : (kind : Option Kind) → is_none kind ≡ false → kind ≡ None → ⊥
 known None some e = absurd cc
@@ -540,14 +493,11 @@ pub keyed_ok : (d next : Draft) (key : Key) (arguments : List Bytes) → keyed d
 unfolding keyed
 keyed_ok d next key arguments e = unless_ok (keyed_fault d key arguments) (said d key arguments) next e
 
-abbrev done : Draft → Result Draft Fault
+abbrev done : {A B : Type 0} → A → Result A B
 done x = Ok x
 
-abbrev read_done : Draft → Result Draft (Fault × ℕ)
-read_done x = Ok x
-
-read_is : (x y : Draft) → read_done x ≡ read_done y → x ≡ y
-read_is x y e = cc
+ok_is : {A B : Type 0} (x y : A) → ◌≡◌ {A = Result A B} (Ok x) (Ok y) → x ≡ y
+ok_is x y e = cc
 
 sound_named : (d next : Draft) (key : Option Key) (arguments : List Bytes) → IsSound d → named d key arguments ≡ Ok next → IsSound next
 sound_named d next None arguments sound e = absurd cc
@@ -564,9 +514,6 @@ begins d sound = record {
   ends = sound.ends;
   marks = sound.marks;
 }
-
-ok_is : (x y : Draft) → done x ≡ done y → x ≡ y
-ok_is x y e = cc
 
 -- an if-chain, by the way that the test went
 chosen : {A : Type 0} (b : Bool) (x y z : A) → cond b x y ≡ z → ((b ≡ true) × (x ≡ z)) ⊎ ((b ≡ false) × (y ≡ z))
@@ -601,7 +548,7 @@ sound_step n (Err f) others last h e = absurd cc
 
 pub sound_reading : (n : ℕ) (d last : Draft) (ls : List Bytes) → IsSound d → reading n d ls ≡ Ok last → IsSound last
 unfolding reading
-sound_reading n d last [] sound e = subst IsSound (read_is d last e) sound
+sound_reading n d last [] sound e = subst IsSound (ok_is d last e) sound
 sound_reading n d last (line ∷ others) sound e = sound_step n (after d line) others last (λ next went f. sound_reading (n + 1) next last others (sound_after d next line sound went) f) e
 
 pub sound_nothing : IsSound nothing
@@ -674,17 +621,11 @@ fits_sound d kind turn sound is said =
 abbrev entry_of : Draft → Kind → Side → Entry
 entry_of d kind turn = record { kind = kind; field = field_of kind d; x = d.x; y = d.y; turn = turn }
 
-abbrev right : Entry → Result Entry (Fault × ℕ)
-right g = Ok g
-
-right_is : (g h : Entry) → right g ≡ right h → g ≡ h
-right_is g h e = cc
-
 abbrev IsFitting : Entry → Type 0
 IsFitting g = IsFit g.kind g.field g.x g.y 1
 
 game_of_fits : (d : Draft) (kind : Option Kind) (turn : Option Side) (g : Entry) → IsSound d → d.kind ≡ kind → d.turn ≡ turn → game_of d kind turn ≡ Ok g → IsFitting g
-game_of_fits d (Some kind) (Some turn) g sound is said e = subst IsFitting (right_is (entry_of d kind turn) g e) (fits_sound d kind turn sound is said)
+game_of_fits d (Some kind) (Some turn) g sound is said e = subst IsFitting (ok_is (entry_of d kind turn) g e) (fits_sound d kind turn sound is said)
 game_of_fits d (Some kind) None g sound is said e = absurd cc
 game_of_fits d None turn g sound is said e = absurd cc
 

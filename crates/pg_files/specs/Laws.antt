@@ -40,6 +40,16 @@ pub record IsFirstFault (text : Bytes) (fault : Fault) (number : ℕ) : Type 0 w
   pub least : IsLeast fault (line_faults draft line)
   pub counted : number ≡ length before + 1
 
--- the text is too long, or no line has a fault
+-- what is told where no line has a fault: that there is no significant line, or else that the turn lacks
+abbrev pub Lacks : Draft → Fault → Type 0
+Lacks draft fault = ((draft.begun ≡ false) × (fault ≡ faults.Header)) ⊎ ((draft.begun ≡ true) × (draft.turn ≡ None) × (fault ≡ faults.Ends))
+
+-- no line has a fault, and at the end something lacks
+pub record IsFaultOfEnd (text : Bytes) (fault : Fault) : Type 0 where
+  pub draft : Draft
+  pub sound : reading 1 nothing (lines text) ≡ Ok draft
+  pub lacks : Lacks draft fault
+
+-- the text is too long, or no line has a fault and something lacks
 pub record IsWholeFault (text : Bytes) (fault : Fault) : Type 0 where
-  pub why : ((4194304 < length text) × (fault ≡ faults.Size)) ⊎ ((draft : Draft) × (reading 1 nothing (lines text) ≡ Ok draft))
+  pub why : ((4194304 < length text) × (fault ≡ faults.Size)) ⊎ IsFaultOfEnd text fault

@@ -1,321 +1,325 @@
 use crate::{GameFault, print_game, read_game};
-use pg_base::{Grid, Kind, Side};
+use pg_base::{Grid, Kind, Memory, Side};
 use pg_game::{Field, Game};
+use std::alloc::{AllocError, Global};
+use std::fmt::Write;
 use std::test::Fail;
 
-/// A text, and the number and the line of its fault.
-type Row = (&'static [u8], u8, u32);
+/// The first lines of a game with lines.
+const LINES: &str = "posgame 1\nkind maker-breaker\n";
 
-const LINES: &[u8] = b"posgame 1\nkind maker-breaker\n";
+/// The first lines of a switching game.
+const SWITCHING: &str = "posgame 1\nkind switching\n";
 
-const SWITCHING: &[u8] = b"posgame 1\nkind switching\n";
-
-/// Whole files: the first fault of each, by the least number in its line.
-const FILES: [Row; 34] = [
-    (b"posgame 1\nkind \xc3\xa4", 2, 2),
-    (b"# \x1f\nposgame 2", 2, 1),
-    (b"#\x7f", 2, 1),
-    (b"posgame 1\n\tkind hex", 2, 2),
-    (b"posgame 1\r\nkind hex", 2, 1),
-    (b"", 3, 0),
-    (b"\n\n", 3, 0),
-    (b"# only a comment\n   \n", 3, 0),
-    (b"posgame 2", 3, 1),
-    (b"posgame", 3, 1),
-    (b"posgame 1 1", 3, 1),
-    (b"# c\n\n  \nposgame   1  x", 3, 4),
-    (b" # posgame 1", 3, 1),
-    (b"kind maker-breaker", 3, 1),
-    (b"posgame 1\n # a", 4, 2),
-    (b"posgame 1\nkind hex", 4, 2),
-    (b"posgame 1\nkind hex maker-breaker", 4, 2),
-    (b"posgame 1\nbias 2", 4, 2),
-    (b"posgame 1\nturn z", 4, 2),
-    (b"posgame 1\nhex\nkind hex", 4, 2),
-    (b"posgame 1\nposgame 1", 4, 2),
-    (b"posgame 1\npoints 3", 5, 2),
-    (b"posgame 1\nturn x", 5, 2),
-    (b"posgame 1\nx", 5, 2),
-    (b"posgame 1\nedge 0 1", 5, 2),
-    (b"posgame 1\nkind", 6, 2),
-    (b"posgame 1\nkind maker-maker maker-maker", 6, 2),
-    (b"posgame 1\nkind maker-breaker\nkind maker-breaker", 5, 3),
-    (b"posgame 1\nkind maker-breaker\nline 0", 5, 3),
-    (b"posgame 1\nkind maker-breaker\nturn x", 5, 3),
-    (b"posgame 1\nkind maker-breaker", 12, 0),
-    (b"posgame 1\nkind maker-breaker\npoints 3\nline 0 1", 12, 0),
-    (
-        b"  posgame   1  \n\n# a\n kind  maker-breaker \npoints 257",
-        10,
-        5,
-    ),
-    (b"posgame 1\nkind hex\nposgame \xff", 4, 2),
+/// Whole files, behind the fault of each and its line: of the first faulty line the least number.
+const FILES: [&str; 34] = [
+    "G2 2=posgame 1\nkind ä",
+    "G2 1=# \x1f\nposgame 2",
+    "G2 1=#\x7f",
+    "G2 2=posgame 1\n\tkind hex",
+    "G2 1=posgame 1\r\nkind hex",
+    "G3 0=",
+    "G3 0=\n\n",
+    "G3 0=# only a comment\n   \n",
+    "G3 1=posgame 2",
+    "G3 1=posgame",
+    "G3 1=posgame 1 1",
+    "G3 4=# c\n\n  \nposgame   1  x",
+    "G3 1= # posgame 1",
+    "G3 1=kind maker-breaker",
+    "G4 2=posgame 1\n # a",
+    "G4 2=posgame 1\nkind hex",
+    "G4 2=posgame 1\nkind hex maker-breaker",
+    "G4 2=posgame 1\nbias 2",
+    "G4 2=posgame 1\nturn z",
+    "G4 2=posgame 1\nhex\nkind hex",
+    "G4 2=posgame 1\nposgame 1",
+    "G5 2=posgame 1\npoints 3",
+    "G5 2=posgame 1\nturn x",
+    "G5 2=posgame 1\nx",
+    "G5 2=posgame 1\nedge 0 1",
+    "G6 2=posgame 1\nkind",
+    "G6 2=posgame 1\nkind maker-maker maker-maker",
+    "G5 3=posgame 1\nkind maker-breaker\nkind maker-breaker",
+    "G5 3=posgame 1\nkind maker-breaker\nline 0",
+    "G5 3=posgame 1\nkind maker-breaker\nturn x",
+    "G12 0=posgame 1\nkind maker-breaker",
+    "G12 0=posgame 1\nkind maker-breaker\npoints 3\nline 0 1",
+    "G10 5=  posgame   1  \n\n# a\n kind  maker-breaker \npoints 257",
+    "G4 2=posgame 1\nkind hex\nposgame ÿ",
 ];
 
-/// Lines behind the header and a kind with lines; the first is line 3.
-const LINE_GAMES: [Row; 56] = [
-    (b"vertices 2", 5, 3),
-    (b"terminals 0 1", 5, 3),
-    (b"edge 0 1", 5, 3),
-    (b"x 0", 5, 3),
-    (b"shape 1", 5, 3),
-    (b"points 3\npoints 3", 5, 4),
-    (b"points 3\ngrid 3 1", 5, 4),
-    (b"grid 3 1\npoints 3", 5, 4),
-    (b"points 3\nkind maker-maker", 5, 4),
-    (b"points 3\nshape 11", 5, 4),
-    (b"points 3\nedge 0 1", 5, 4),
-    (b"points 3\nx 0\nline 1", 5, 5),
-    (b"points 3\nx 0\nx 1", 5, 5),
-    (b"points 3\ny 0\nx 1", 5, 5),
-    (b"points 3\nturn x\nturn y", 5, 5),
-    (b"points 3\nturn x\nx 0", 5, 5),
-    (b"points", 6, 3),
-    (b"points 1 2", 6, 3),
-    (b"points 09", 6, 3),
-    (b"points 00", 6, 3),
-    (b"points -1", 6, 3),
-    (b"points 1234567890", 6, 3),
-    (b"points 999999999", 10, 3),
-    (b"grid 3", 6, 3),
-    (b"grid 3 x", 6, 3),
-    (b"grid 3 3 3", 6, 3),
-    (b"points 3\nline 0 99 x", 6, 4),
-    (b"points 3\nx a", 6, 4),
-    (b"points 3\ny 0 0x", 6, 4),
-    (b"points 3\nturn", 6, 4),
-    (b"points 3\nturn x y", 6, 4),
-    (b"points 3\nturn z x", 4, 4),
-    (b"grid 3 3\nshape", 6, 4),
-    (b"grid 3 3\nshape 1 1", 6, 4),
-    (b"grid 3 3\nshape 101", 0, 4),
-    (b"grid 3 3\nx\nshape 1", 5, 5),
-    (b"points 3\nline 0 3", 7, 4),
-    (b"points 3\nline 0 0 9", 7, 4),
-    (b"points 3\nx 3", 7, 4),
-    (b"points 3\ny 0 0 3", 7, 4),
-    (b"grid 2 2\nline 4", 7, 4),
-    (b"points 3\nline 0 1 0", 8, 4),
-    (b"points 3\nx 1 1", 8, 4),
-    (b"points 3\ny 2 2", 8, 4),
-    (b"points 3\nx 1\ny 1", 8, 5),
-    (b"points 3\nline", 9, 4),
-    (b"points 3\nline 0\nline\nline 9", 9, 5),
-    (b"points 0", 10, 3),
-    (b"points 257", 10, 3),
-    (b"grid 0 1", 10, 3),
-    (b"grid 1 0", 10, 3),
-    (b"grid 257 1", 10, 3),
-    (b"grid 65536 65536", 10, 3),
-    (b"grid 999999999 999999999", 10, 3),
-    (b"points 256\nline 255", 12, 0),
-    (b"grid 16 16\nline 255\nx\ny", 12, 0),
+/// The same, without the first lines of a game with lines: what stands here begins with line 3.
+const LINE_GAMES: [&str; 56] = [
+    "G5 3=vertices 2",
+    "G5 3=terminals 0 1",
+    "G5 3=edge 0 1",
+    "G5 3=x 0",
+    "G5 3=shape 1",
+    "G5 4=points 3\npoints 3",
+    "G5 4=points 3\ngrid 3 1",
+    "G5 4=grid 3 1\npoints 3",
+    "G5 4=points 3\nkind maker-maker",
+    "G5 4=points 3\nshape 11",
+    "G5 4=points 3\nedge 0 1",
+    "G5 5=points 3\nx 0\nline 1",
+    "G5 5=points 3\nx 0\nx 1",
+    "G5 5=points 3\ny 0\nx 1",
+    "G5 5=points 3\nturn x\nturn y",
+    "G5 5=points 3\nturn x\nx 0",
+    "G6 3=points",
+    "G6 3=points 1 2",
+    "G6 3=points 09",
+    "G6 3=points 00",
+    "G6 3=points -1",
+    "G6 3=points 1234567890",
+    "G10 3=points 999999999",
+    "G6 3=grid 3",
+    "G6 3=grid 3 x",
+    "G6 3=grid 3 3 3",
+    "G6 4=points 3\nline 0 99 x",
+    "G6 4=points 3\nx a",
+    "G6 4=points 3\ny 0 0x",
+    "G6 4=points 3\nturn",
+    "G6 4=points 3\nturn x y",
+    "G4 4=points 3\nturn z x",
+    "G6 4=grid 3 3\nshape",
+    "G6 4=grid 3 3\nshape 1 1",
+    "G0 4=grid 3 3\nshape 101",
+    "G5 5=grid 3 3\nx\nshape 1",
+    "G7 4=points 3\nline 0 3",
+    "G7 4=points 3\nline 0 0 9",
+    "G7 4=points 3\nx 3",
+    "G7 4=points 3\ny 0 0 3",
+    "G7 4=grid 2 2\nline 4",
+    "G8 4=points 3\nline 0 1 0",
+    "G8 4=points 3\nx 1 1",
+    "G8 4=points 3\ny 2 2",
+    "G8 5=points 3\nx 1\ny 1",
+    "G9 4=points 3\nline",
+    "G9 5=points 3\nline 0\nline\nline 9",
+    "G10 3=points 0",
+    "G10 3=points 257",
+    "G10 3=grid 0 1",
+    "G10 3=grid 1 0",
+    "G10 3=grid 257 1",
+    "G10 3=grid 65536 65536",
+    "G10 3=grid 999999999 999999999",
+    "G12 0=points 256\nline 255",
+    "G12 0=grid 16 16\nline 255\nx\ny",
 ];
 
-/// Lines behind the header and the kind of the switching game; the first is line 3.
-const GRAPH_GAMES: [Row; 30] = [
-    (b"points 3", 5, 3),
-    (b"grid 1 1", 5, 3),
-    (b"line 0", 5, 3),
-    (b"terminals 0 1", 5, 3),
-    (b"vertices 2\nvertices 2", 5, 4),
-    (b"vertices 2\nedge 0 1", 5, 4),
-    (b"vertices 2\nx", 5, 4),
-    (b"vertices 2\nturn x", 5, 4),
-    (b"vertices 2\nterminals 0 1\nterminals 0 1", 5, 5),
-    (b"vertices 2\nterminals 0 1\nline 0", 5, 5),
-    (b"vertices 2\nterminals 0 1\nshape 1", 5, 5),
-    (b"vertices 2\nterminals 0 1\ny\nedge 0 1", 5, 6),
-    (b"vertices", 6, 3),
-    (b"vertices 2 2", 6, 3),
-    (b"vertices 02", 6, 3),
-    (b"vertices 2\nterminals 0", 6, 4),
-    (b"vertices 2\nterminals 0 1 2", 6, 4),
-    (b"vertices 2\nterminals 0 01", 6, 4),
-    (b"vertices 2\nterminals 0 1\nedge 0", 6, 5),
-    (b"vertices 2\nterminals 0 1\nedge 0 1 0", 6, 5),
-    (b"vertices 3\nterminals 3 3", 7, 4),
-    (b"vertices 3\nterminals 0 1\nedge 0 3", 7, 5),
-    (b"vertices 3\nterminals 0 1\nx 0", 7, 5),
-    (b"vertices 3\nterminals 0 1\nedge 0 1\nx 1", 7, 6),
-    (b"vertices 3\nterminals 0 1\nedge 0 1\nx 0\ny 0", 8, 7),
-    (b"vertices 1", 10, 3),
-    (b"vertices 501", 10, 3),
-    (b"vertices 2\nterminals 1 1", 11, 4),
-    (b"vertices 500\nterminals 499 0\nedge 499 499", 12, 0),
-    (b"vertices 2\nterminals 0 1", 12, 0),
+/// The same, without the first lines of a switching game.
+const GRAPH_GAMES: [&str; 30] = [
+    "G5 3=points 3",
+    "G5 3=grid 1 1",
+    "G5 3=line 0",
+    "G5 3=terminals 0 1",
+    "G5 4=vertices 2\nvertices 2",
+    "G5 4=vertices 2\nedge 0 1",
+    "G5 4=vertices 2\nx",
+    "G5 4=vertices 2\nturn x",
+    "G5 5=vertices 2\nterminals 0 1\nterminals 0 1",
+    "G5 5=vertices 2\nterminals 0 1\nline 0",
+    "G5 5=vertices 2\nterminals 0 1\nshape 1",
+    "G5 6=vertices 2\nterminals 0 1\ny\nedge 0 1",
+    "G6 3=vertices",
+    "G6 3=vertices 2 2",
+    "G6 3=vertices 02",
+    "G6 4=vertices 2\nterminals 0",
+    "G6 4=vertices 2\nterminals 0 1 2",
+    "G6 4=vertices 2\nterminals 0 01",
+    "G6 5=vertices 2\nterminals 0 1\nedge 0",
+    "G6 5=vertices 2\nterminals 0 1\nedge 0 1 0",
+    "G7 4=vertices 3\nterminals 3 3",
+    "G7 5=vertices 3\nterminals 0 1\nedge 0 3",
+    "G7 5=vertices 3\nterminals 0 1\nx 0",
+    "G7 6=vertices 3\nterminals 0 1\nedge 0 1\nx 1",
+    "G8 7=vertices 3\nterminals 0 1\nedge 0 1\nx 0\ny 0",
+    "G10 3=vertices 1",
+    "G10 3=vertices 501",
+    "G11 4=vertices 2\nterminals 1 1",
+    "G12 0=vertices 500\nterminals 499 0\nedge 499 499",
+    "G12 0=vertices 2\nterminals 0 1",
 ];
 
-/// The number and the line of the fault of these two texts together, 100 where there is none.
-fn fault(rt: &HostRuntime, head: &[u8], text: &[u8]) -> Result<(u8, u32), Fail> {
-    let mut whole = Vec::new(rt.alloc());
-    whole.extend_from_slice(head)?;
-    whole.extend_from_slice(text)?;
-    match read_game(rt.alloc(), &whole) {
-        Err(GameFault::Bad { number, line }) => Ok((number, line)),
-        Err(GameFault::Memory) => Ok((101, 0)),
-        Ok(_) => Ok((100, 0)),
+/// The fault of the text with its line, as in `G6 3`, or `a game`.
+fn answer(alloc: Global, text: &[u8]) -> Result<String, AllocError> {
+    match read_game(alloc, text) {
+        Err(GameFault::Bad { number, line }) => format!(in alloc; "G{number} {line}"),
+        Err(GameFault::Memory) => String::from_str(alloc, "no memory"),
+        Ok(_) => String::from_str(alloc, "a game"),
     }
 }
 
+/// Whether the text of the row, behind this head, has the row's fault. A row is the fault, then `=`, then the text.
+fn row_holds(alloc: Global, head: &str, row: &str) -> Result<bool, AllocError> {
+    let Some((fault, text)) = row.split_once('=') else {
+        return Ok(false);
+    };
+    let whole = format!(in alloc; "{head}{text}")?;
+    Ok(answer(alloc, whole.as_bytes())?.as_str() == fault)
+}
+
 #[test]
-fn the_first_fault_of_each_file(rt: HostRuntime) -> Result<(), Fail> {
-    for (text, number, line) in FILES {
-        assert_eq!(rt; fault(&rt, b"", text)?, (number, line));
-    }
-    for (text, number, line) in LINE_GAMES {
-        assert_eq!(rt; fault(&rt, LINES, text)?, (number, line));
-    }
-    for (text, number, line) in GRAPH_GAMES {
-        assert_eq!(rt; fault(&rt, SWITCHING, text)?, (number, line));
+fn faults_of_whole_files(rt: HostRuntime) -> Result<(), Fail> {
+    for row in FILES {
+        assert!(rt; row_holds(rt.alloc(), "", row)?, "{row}");
     }
     Ok(())
 }
 
-/// A comment of so many bytes.
-fn comment(rt: &HostRuntime, length: usize) -> Result<Vec<u8>, Fail> {
-    let mut text = Vec::new(rt.alloc());
-    for _ in 0..length {
-        text.push(b'#')?;
+#[test]
+fn faults_of_games_with_lines(rt: HostRuntime) -> Result<(), Fail> {
+    for row in LINE_GAMES {
+        assert!(rt; row_holds(rt.alloc(), LINES, row)?, "{row}");
     }
-    Ok(text)
+    Ok(())
+}
+
+#[test]
+fn faults_of_switching_games(rt: HostRuntime) -> Result<(), Fail> {
+    for row in GRAPH_GAMES {
+        assert!(rt; row_holds(rt.alloc(), SWITCHING, row)?, "{row}");
+    }
+    Ok(())
+}
+
+/// Whether the head and so many of these parts have this fault.
+fn repeats_give(
+    alloc: Global,
+    head: &str,
+    part: &str,
+    count: u32,
+    fault: &str,
+) -> Result<bool, AllocError> {
+    let mut text = String::from_str(alloc, head)?;
+    for _ in 0..count {
+        text.push_str(part)?;
+    }
+    Ok(answer(alloc, text.as_bytes())?.as_str() == fault)
 }
 
 /// A line of the points below a number.
-fn line_of(rt: &HostRuntime, points: u8) -> Result<Vec<u8>, Fail> {
-    let mut text = Vec::new(rt.alloc());
-    text.extend_from_slice(b"points 256\nline")?;
-    for n in 0..points {
-        write_number(&mut text, n)?;
+fn line_of(alloc: Global, points: u16) -> Result<String, AllocError> {
+    let mut text = String::from_str(alloc, "line")?;
+    for point in 0..points {
+        write!(text, " {point}")?;
     }
-    Ok(text)
-}
-
-/// So many edges.
-fn edges_of(rt: &HostRuntime, count: u32) -> Result<Vec<u8>, Fail> {
-    let mut text = Vec::new(rt.alloc());
-    text.extend_from_slice(b"vertices 2\nterminals 0 1\n")?;
-    for _ in 0..count {
-        text.extend_from_slice(b"edge 0 1\n")?;
-    }
+    text.push_str("\n")?;
     Ok(text)
 }
 
 #[test]
 fn files_at_the_greatest_size_and_one_above(rt: HostRuntime) -> Result<(), Fail> {
-    let text = comment(&rt, 4_194_304)?;
-    assert_eq!(rt; fault(&rt, b"", &text)?, (3, 0));
-    assert_eq!(rt; fault(&rt, b"#", &text)?, (1, 0));
+    assert!(rt; repeats_give(rt.alloc(), "", "#", 4_194_304, "G3 0")?);
+    assert!(rt; repeats_give(rt.alloc(), "", "#", 4_194_305, "G1 0")?);
     Ok(())
+}
+
+/// Whether so many lines of the points below a number, on 256 points, have this fault.
+fn lines_give(alloc: Global, points: u16, count: u32, fault: &str) -> Result<bool, AllocError> {
+    let head = format!(in alloc; "{LINES}points 256\n")?;
+    let line = line_of(alloc, points)?;
+    repeats_give(alloc, head.as_str(), line.as_str(), count, fault)
 }
 
 #[test]
 fn lines_at_the_greatest_length_and_one_above(rt: HostRuntime) -> Result<(), Fail> {
-    let text = line_of(&rt, 100)?;
-    assert_eq!(rt; fault(&rt, LINES, &text)?, (12, 0));
-    let text = line_of(&rt, 101)?;
-    assert_eq!(rt; fault(&rt, LINES, &text)?, (9, 4));
+    assert!(rt; lines_give(rt.alloc(), 100, 1, "G12 0")?);
+    assert!(rt; lines_give(rt.alloc(), 101, 1, "G9 4")?);
     Ok(())
-}
-
-#[test]
-fn edges_at_the_greatest_number_and_one_above(rt: HostRuntime) -> Result<(), Fail> {
-    let text = edges_of(&rt, 1000)?;
-    assert_eq!(rt; fault(&rt, SWITCHING, &text)?, (12, 0));
-    let text = edges_of(&rt, 1001)?;
-    assert_eq!(rt; fault(&rt, SWITCHING, &text)?, (10, 1005));
-    Ok(())
-}
-
-/// So many lines of the points below a number.
-fn lines_of(rt: &HostRuntime, count: u32, points: u8) -> Result<Vec<u8>, Fail> {
-    let mut text = Vec::new(rt.alloc());
-    text.extend_from_slice(b"points 256\n")?;
-    for _ in 0..count {
-        text.extend_from_slice(b"line")?;
-        for n in 0..points {
-            write_number(&mut text, n)?;
-        }
-        text.push(b'\n')?;
-    }
-    Ok(text)
 }
 
 #[test]
 fn lines_at_the_greatest_number_and_one_above(rt: HostRuntime) -> Result<(), Fail> {
-    let text = lines_of(&rt, 20_000, 1)?;
-    assert_eq!(rt; fault(&rt, LINES, &text)?, (12, 0));
-    let text = lines_of(&rt, 20_001, 1)?;
-    assert_eq!(rt; fault(&rt, LINES, &text)?, (10, 20_004));
+    assert!(rt; lines_give(rt.alloc(), 1, 20_000, "G12 0")?);
+    assert!(rt; lines_give(rt.alloc(), 1, 20_001, "G10 20004")?);
     Ok(())
 }
 
 #[test]
 fn points_of_lines_at_the_greatest_sum_and_above(rt: HostRuntime) -> Result<(), Fail> {
-    let text = lines_of(&rt, 4_000, 100)?;
-    assert_eq!(rt; fault(&rt, LINES, &text)?, (12, 0));
-    let text = lines_of(&rt, 4_001, 100)?;
-    assert_eq!(rt; fault(&rt, LINES, &text)?, (10, 4_004));
+    assert!(rt; lines_give(rt.alloc(), 100, 4_000, "G12 0")?);
+    assert!(rt; lines_give(rt.alloc(), 100, 4_001, "G10 4004")?);
     Ok(())
 }
 
-/// Adds a space and the number.
-fn write_number(text: &mut Vec<u8>, n: u8) -> Result<(), Fail> {
-    text.push(b' ')?;
-    if n >= 100 {
-        text.push(b'0' + n / 100)?;
-    }
-    if n >= 10 {
-        text.push(b'0' + n / 10 % 10)?;
-    }
-    text.push(b'0' + n % 10)?;
-    Ok(())
+/// Whether so many edges have this fault.
+fn edges_give(alloc: Global, count: u32, fault: &str) -> Result<bool, AllocError> {
+    let head = format!(in alloc; "{SWITCHING}vertices 2\nterminals 0 1\n")?;
+    repeats_give(alloc, head.as_str(), "edge 0 1\n", count, fault)
 }
 
 #[test]
-fn a_game_with_lines_read_and_printed(rt: HostRuntime) -> Result<(), Fail> {
-    let text =
-        b"# noughts\nposgame 1\nkind maker-maker\ngrid 3 2\n\nline  2 1 0\nline 5 4 3\ny 5 0\nturn y";
-    let game = read_game(rt.alloc(), text).ok().ok_or("a game")?;
-    assert_eq!(rt;
-        (game.kind, game.turn, game.bias),
-        (Kind::MakerMaker, Side::Y, 1)
-    );
-    assert_eq!(rt;
-        (game.x.len(), game.y.has(0), game.y.has(5), game.y.len()),
-        (0, true, true, 2)
-    );
+fn edges_at_the_greatest_number_and_one_above(rt: HostRuntime) -> Result<(), Fail> {
+    assert!(rt; edges_give(rt.alloc(), 1_000, "G12 0")?);
+    assert!(rt; edges_give(rt.alloc(), 1_001, "G10 1005")?);
+    Ok(())
+}
+
+/// A game of Maker-Maker, in words that aren't those of its printed text.
+const NOUGHTS: &str =
+    "# noughts\nposgame 1\nkind maker-maker\ngrid 3 2\n\nline  2 1 0\nline 5 4 3\ny 5 0\nturn y";
+
+/// A switching game; its marks aren't in order.
+const BRIDGES: &str =
+    "posgame 1\nkind switching\nvertices 3\nterminals 2 0\nedge 1 0\nedge 2 2\nedge 1 0\nx 2 0\nturn x\n";
+
+/// Whether the game is the one that `NOUGHTS` says.
+fn is_noughts(game: &Game) -> bool {
     let Field::Lines(field) = &game.field else {
-        return Err(Fail::new("lines"));
+        return false;
     };
-    assert_eq!(rt;
-        field.grid,
-        Some(Grid {
-            width: 3,
-            height: 2
-        })
-    );
-    assert_eq!(rt; (field.points, field.lines.as_slice().len()), (6, 2));
-    let printed = print_game(rt.alloc(), &game).ok().ok_or("memory")?;
-    let expected =
-        b"posgame 1\nkind maker-maker\ngrid 3 2\nline 0 1 2\nline 3 4 5\ny 0 5\nturn y\n";
-    assert_eq!(rt; printed.as_slice(), expected.as_slice());
-    Ok(())
+    let grid = Grid {
+        width: 3,
+        height: 2,
+    };
+    game.kind == Kind::MakerMaker
+        && game.turn == Side::Y
+        && game.bias == 1
+        && game.x.len() == 0
+        && game.y.len() == 2
+        && game.y.has(5)
+        && field.grid == Some(grid)
+        && field.points == 6
+        && field.lines.as_slice().len() == 2
+}
+
+/// Whether the game is the one that `BRIDGES` says.
+fn is_bridges(game: &Game) -> bool {
+    let Field::Graph(graph) = &game.field else {
+        return false;
+    };
+    graph.vertices == 3
+        && graph.s == 2
+        && graph.t == 0
+        && graph.ends.as_slice() == [(1, 0), (2, 2), (1, 0)].as_slice()
 }
 
 #[test]
-fn a_switching_game_read_and_printed(rt: HostRuntime) -> Result<(), Fail> {
-    let text =
-        b"posgame 1\nkind switching\nvertices 3\nterminals 2 0\nedge 1 0\nedge 2 2\nedge 1 0\nx 2 0\nturn x\n";
-    let game = read_game(rt.alloc(), text).ok().ok_or("a game")?;
-    let Field::Graph(graph) = &game.field else {
-        return Err(Fail::new("a graph"));
-    };
-    assert_eq!(rt; (graph.vertices, graph.s, graph.t), (3, 2, 0));
-    assert_eq!(rt; graph.ends.as_slice(), [(1, 0), (2, 2), (1, 0)].as_slice());
-    let printed = print_game(rt.alloc(), &game).ok().ok_or("memory")?;
-    let expected =
-        b"posgame 1\nkind switching\nvertices 3\nterminals 2 0\nedge 1 0\nedge 2 2\nedge 1 0\nx 0 2\nturn x\n";
-    assert_eq!(rt; printed.as_slice(), expected.as_slice());
+fn games_as_values(rt: HostRuntime) -> Result<(), Fail> {
+    let noughts = read_game(rt.alloc(), NOUGHTS.as_bytes());
+    assert!(rt; noughts.is_ok_and(|game| is_noughts(&game)));
+    let bridges = read_game(rt.alloc(), BRIDGES.as_bytes());
+    assert!(rt; bridges.is_ok_and(|game| is_bridges(&game)));
+    Ok(())
+}
+
+/// Whether the text is read as a game that is printed so.
+fn prints_as(alloc: Global, text: &str, printed: &str) -> Result<bool, Memory> {
+    match read_game(alloc, text.as_bytes()) {
+        Ok(game) => Ok(print_game(alloc, &game)?.as_slice() == printed.as_bytes()),
+        Err(_) => Ok(false),
+    }
+}
+
+#[test]
+fn games_read_and_printed(rt: HostRuntime) -> Result<(), Fail> {
+    let noughts = "posgame 1\nkind maker-maker\ngrid 3 2\nline 0 1 2\nline 3 4 5\ny 0 5\nturn y\n";
+    assert!(rt; prints_as(rt.alloc(), NOUGHTS, noughts)?);
+    let bridges =
+        "posgame 1\nkind switching\nvertices 3\nterminals 2 0\nedge 1 0\nedge 2 2\nedge 1 0\nx 0 2\nturn x\n";
+    assert!(rt; prints_as(rt.alloc(), BRIDGES, bridges)?);
     Ok(())
 }
