@@ -15,3 +15,4 @@ pub mod Lowest
 pub mod FreeCounts
 pub mod LastPoint
 pub mod Unfilled
+pub mod RowLines

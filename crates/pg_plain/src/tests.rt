@@ -2,7 +2,7 @@
 use crate::{
     Class, avoider_holds, class_of, greatest_weight, limit, potential_holds, total, value, weight,
 };
-use pg_base::{Kind, Line, Lines, PointSet, Score, Side};
+use pg_base::{Kind, PointSet, Score, Side};
 use pg_game::{Field, Game, Judge, LineField};
 use pg_graph::{Ends, Graph};
 use std::alloc::Global;
@@ -36,15 +36,6 @@ const DOMINOES: [&[u16]; 12] = [
     &[7, 8],
 ];
 
-/// The lines of these points.
-fn lines_of(alloc: Global, lines: &[&[u16]]) -> Result<Lines, Fail> {
-    let mut members = Vec::new(alloc);
-    for points in lines {
-        members.push(Line::new(alloc, points)?)?;
-    }
-    Ok(Lines::from_vec(members))
-}
-
 /// The set of these points, which are below 1,024.
 pub(crate) fn set_of(points: &[u16]) -> PointSet {
     let mut set = PointSet::empty();
@@ -65,23 +56,13 @@ pub(crate) fn game_of(
     bias: u8,
 ) -> Result<Game, Fail> {
     let none = PointSet::empty();
-    let lines = lines_of(alloc, lines)?;
-    let field = Field::Lines(LineField {
-        points,
-        grid: None,
-        lines,
-    });
+    let field = Field::Lines(LineField::from_rows(alloc, points, lines)?);
     Ok(Game::new(kind, field, none, none, Side::X, bias)?)
 }
 
 /// Noughts and crosses with marks.
 pub(crate) fn marked(alloc: Global, kind: Kind, x: &[u16], y: &[u16]) -> Result<Game, Fail> {
-    let lines = lines_of(alloc, &ROWS)?;
-    let field = Field::Lines(LineField {
-        points: 9,
-        grid: None,
-        lines,
-    });
+    let field = Field::Lines(LineField::from_rows(alloc, 9, &ROWS)?);
     Ok(Game::new(kind, field, set_of(x), set_of(y), Side::X, 1)?)
 }
 
