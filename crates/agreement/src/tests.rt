@@ -5,7 +5,7 @@ ghost use Rattle.pg_game.specs.Judge.{IsMadeForGame};
 
 use crate::lines::{is_forced, potential_holds};
 use crate::{EdgeTally, Tally, all_pairings, tally_claim, tally_sets};
-use pg_base::{Goal, Kind, Line, Lines, Pairs, PointSet, Side};
+use pg_base::{Goal, Kind, Pairs, PointSet, Side};
 use pg_game::{Field, Game, Judge, LineField, Position};
 use pg_graph::{Ends, Graph, Joiner};
 use std::alloc::Global;
@@ -35,15 +35,6 @@ const GRAPHS: [&[(u16, u16)]; 8] = [
     &[(0, 2), (2, 3), (3, 2), (3, 1), (0, 1)],
 ];
 
-/// The lines of these points.
-fn lines_of(alloc: Global, lines: &[&[u16]]) -> Result<Lines, Fail> {
-    let mut members = Vec::new(alloc);
-    for points in lines {
-        members.push(Line::new(alloc, points)?)?;
-    }
-    Ok(Lines::from_vec(members))
-}
-
 /// A game on lines without marks in which Y claims `bias` points a turn.
 fn game_of(
     alloc: Global,
@@ -53,11 +44,7 @@ fn game_of(
     bias: u8,
 ) -> Result<Game, Fail> {
     let none = PointSet::empty();
-    let field = Field::Lines(LineField {
-        points,
-        grid: None,
-        lines: lines_of(alloc, lines)?,
-    });
+    let field = Field::Lines(LineField::from_rows(alloc, points, lines)?);
     Ok(Game::new(kind, field, none, none, Side::X, bias)?)
 }
 

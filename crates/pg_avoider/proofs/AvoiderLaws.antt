@@ -1,5 +1,5 @@
 -- Avoider's potential, where it holds, forces a win of Avoider.
-use Rattle.std.proofs.Common.{◌≡◌, ◌≢◌, ℕ, zero, suc, ◌+◌, ◌-◌, ◌*◌, ◌<◌, ◌≤◌, Bool, true, false, ◌==◌, if◌then◌else◌, List, [], ◌∷◌, map, length, get_or, Some, unwrap_or, eqb-true, eq-eqb, refl, sym, ap, ap₂, ◌∙◌, subst, inl, inr, ◌⊎◌, arith}
+use Rattle.std.proofs.Common.{◌≡◌, ◌≢◌, ℕ, ◌+◌, ◌*◌, ◌<◌, ◌≤◌, Bool, true, false, ◌==◌, if◌then◌else◌, List, [], ◌∷◌, map, length, get_or, unwrap_or, eqb-true, eq-eqb, refl, sym, ap, ap₂, ◌∙◌, subst, inl, inr, ◌⊎◌, arith}
 use Rattle.std.proofs.lemmas.Bool.{cases_Bool, cases_lt, false≢true}
 use Rattle.std.specs.List.{Contains, find, list_any}
 use Rattle.std.specs.FinSet.{FinSet}
@@ -13,22 +13,24 @@ use Rattle.pg_base.specs.declared.side.Side.TheVariants.{X, Y}
 use Rattle.pg_base.specs.Side.{other}
 use Rattle.pg_game.specs.declared.game.Game.{Game}
 use Rattle.pg_game.specs.declared.position.Position.{Position}
-use Rattle.pg_game.specs.Position.{is_free, points_of}
+use Rattle.pg_game.specs.Position.{is_free}
 use Rattle.pg_game.specs.Game.{point_count, bias_of, free_points, has_filled, is_filled, is_empty, is_full, is_over, outcome, outcome_by, short_joins, after, lines_of, IsPosition}
 use Rattle.pg_game.specs.Potential.{total_weight, point_weight}
-use Rattle.pg_game.specs.Avoider.{x_takes_last, avoider_ends, avoider_total, avoider_weight, avoider_limit, avoider_risk, AvoiderHolds, least, avoider_answer}
+use Rattle.pg_game.specs.Avoider.{x_takes_last, avoider_ends, avoider_total, avoider_weight, avoider_limit, AvoiderHolds, least, avoider_answer}
 use Rattle.pg_game.specs.Strategy.{Keeps}
 use Rattle.pg_game.specs.Value.{reaches, Forces}
 use Rattle.pg_game.proofs.FreePoints.{length-free_points-after, first_free}
 use Rattle.pg_game.proofs.Moves.{points_of-mover, points_of-waiter, turn-stays, left-falls, turn-passes, left-passes, turn-after_x, free-was, AreDisjoint-after, IsPosition-after}
 use Rattle.pg_game.proofs.Strategy.{Forces-from_keeps, free_point}
-use Rattle.pg_potential.proofs.LineWeights.{total-grown, total-taken, weight-rises, weight-le-total, unfilled-below}
-use Rattle.pg_potential.proofs.Greatest.{free-member, member-free, member-within}
+use Rattle.pg_game.proofs.LineSums.{weight-le-total}
+use Rattle.pg_game.proofs.Unfilled.{unfilled-avoider}
+use Rattle.pg_potential.proofs.LineWeights.{total-grown, total-taken, weight-rises, unfilled-below}
+use Rattle.pg_game.proofs.Greatest.{free-member, member-free, member-within}
 use Rattle.pg_potential.proofs.PotentialLaws.{stand_once, find-some}
-use Rattle.pg_avoider.proofs.LastPoint.{last-within_turn, last-after_y, last-after_x, last-only}
+use Rattle.pg_game.proofs.LastPoint.{last-within_turn, last-after_y, last-after_x, last-only}
 use Rattle.pg_avoider.proofs.Least.{least-le, least-at, least-same}
-use Rattle.pg_potential.proofs.Lowest.{find_same}
-use Rattle.pg_potential.proofs.WeightBounds.{few_points-lines}
+use Rattle.pg_game.proofs.Lowest.{find_same}
+use Rattle.pg_game.proofs.WeightBounds.{few_points-lines}
 
 -- ---- what holding means
 
@@ -226,14 +228,10 @@ module _ (g : Game) where
     };
   }
 
-pub good-avoider : (g : Game) (p : Position) → g.kind ≡ AvoiderEnforcer → has_filled g p X ≡ false → reaches X Win (outcome g p) ≡ true
-unfolding outcome
-good-avoider g p kind none = ap₂ (λ (k : Kind) (x : Bool). reaches X Win (outcome_by k x (has_filled g p Y) (short_joins g p))) kind none
-
 -- Avoider wins, whoever is to move and however many points Enforcer claims a turn
 pub Forces-avoider : (g : Game) (p : Position) → g.kind ≡ AvoiderEnforcer → IsPosition g p → AvoiderHolds g p → Forces g p X Win
 Forces-avoider g p kind position holds =
-    Forces-from_keeps g X Win (keeps-safe g (λ q none. good-avoider g q kind none)) p (record { position = position; state = inl holds })
+    Forces-from_keeps g X Win (keeps-safe g (λ q none. unfilled-avoider g q kind none)) p (record { position = position; state = inl holds })
 
 -- ---- the answer
 

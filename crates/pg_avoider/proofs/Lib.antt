@@ -1,4 +1,2 @@
-pub mod Counts
-pub mod LastPoint
 pub mod Least
 pub mod AvoiderLaws

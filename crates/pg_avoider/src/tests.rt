@@ -3,7 +3,7 @@ ghost use Rattle.std.specs.Prelude.{◌≡◌, false, IsTrue};
 ghost use Rattle.pg_game.specs.Game.{IsPosition, is_full};
 
 use crate::{answer, holds};
-use pg_base::{Kind, Line, Lines, PointSet, Side};
+use pg_base::{Kind, PointSet, Side};
 use pg_game::{Field, Game, LineField, Position};
 use std::alloc::Global;
 use std::test::Fail;
@@ -19,22 +19,9 @@ fn set_of(points: &[u16]) -> PointSet {
     set
 }
 
-/// The lines of these points.
-fn lines_of(alloc: Global, lines: &[&[u16]]) -> Result<Lines, Fail> {
-    let mut members = Vec::new(alloc);
-    for points in lines {
-        members.push(Line::new(alloc, points)?)?;
-    }
-    Ok(Lines::from_vec(members))
-}
-
 /// A field of so many points with these lines.
 fn field_of(alloc: Global, points: u16, lines: &[&[u16]]) -> Result<Field, Fail> {
-    Ok(Field::Lines(LineField {
-        points,
-        grid: None,
-        lines: lines_of(alloc, lines)?,
-    }))
+    Ok(Field::Lines(LineField::from_rows(alloc, points, lines)?))
 }
 
 /// A game without marks in which Enforcer claims `bias` points a turn.

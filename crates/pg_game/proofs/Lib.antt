@@ -8,3 +8,11 @@ pub mod Limits
 pub mod TerminalLemmas
 pub mod Outcomes
 pub mod Walked
+pub mod WeightBounds
+pub mod LineSums
+pub mod Greatest
+pub mod Lowest
+pub mod FreeCounts
+pub mod LastPoint
+pub mod Unfilled
+pub mod RowLines

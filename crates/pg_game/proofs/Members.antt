@@ -1,5 +1,5 @@
 -- What holds of the members of a list.
-use Rattle.std.proofs.Common.{◌≡◌, ℕ, zero, suc, ◌<◌, Bool, true, false, List, [], ◌∷◌, length, get_or, refl, sym, ap, ◌∙◌, inl, inr, ◌⊎◌, arith, subst₂}
+use Rattle.std.proofs.Common.{◌≡◌, ℕ, zero, suc, ◌<◌, Bool, true, false, ◌&&◌, List, [], ◌∷◌, length, get_or, refl, sym, ap, ◌∙◌, inl, inr, ◌⊎◌, arith, subst₂}
 use Rattle.std.proofs.lemmas.List.{get_or_default}
 use Rattle.std.proofs.lemmas.List.Elements.{Contains-get_or}
 use Rattle.std.proofs.lemmas.Bool.{cases_Bool, cases_order, false≢true}
@@ -50,6 +50,16 @@ module _ {X : Type 0} where
 
   pub Contains-filter : (t : X → Bool) (xs : List X) (v : X) → Contains xs v → t v ≡ true → Contains (filter t xs) v
   Contains-filter t xs v c on = filter-at t xs v c.0 c.1 c.2 on
+
+  -- two tests one after the other
+  pub filter_both : (t f : X → Bool) (xs : List X) → filter t (filter f xs) ≡ filter (λ x. f x && t x) xs
+  filter_both t f [] = refl
+  filter_both t f (x ∷ xs) =
+      let tail = filter_both t f xs in
+      elim (cases_Bool (f x)) [
+        | inl on ↦ rw on (elim (cases_Bool (t x)) [ inl here ↦ rw here (ap (λ ys. x ∷ ys) tail) | inr out ↦ rw out tail ])
+        | inr off ↦ rw off tail
+      ]
 
   -- what holds of each member that passes
   pub All-from_members : (P : X → Type 0) (xs : List X) → ((x : X) → Contains xs x → P x) → All P xs

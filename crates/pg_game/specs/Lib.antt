@@ -16,3 +16,4 @@ pub mod Potential
 pub mod Settled
 pub mod Threat
 pub mod Trees
+pub mod Rows

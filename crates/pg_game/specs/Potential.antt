@@ -1,5 +1,5 @@
 -- The potential of Erdős and Selfridge (1973) in whole numbers, at any position, where Y claims q points a turn.
-use Rattle.std.specs.Prelude.{◌≡◌, ℕ, ◌+◌, ◌-◌, ◌*◌, ◌^◌, ◌<◌, max, Bool, true, false, List, [], ◌∷◌, length, map, ◌==◌, nat_lt, find, unwrap_or, if◌then◌else◌}
+use Rattle.std.specs.Prelude.{ℕ, ◌+◌, ◌-◌, ◌*◌, ◌^◌, ◌<◌, ◌≤◌, max, Bool, true, false, List, [], ◌∷◌, length, map, ◌==◌, nat_lt, find, unwrap_or, if◌then◌else◌}
 use Rattle.std.specs.List.{list_any, count_by, sum_by}
 use Rattle.std.specs.FinSet.{FinSet}
 use Rattle.std.specs.Ordering.{nat_cmp}
@@ -36,6 +36,11 @@ point_weight base g own p v = sum_by (λ line. if is_on v line then line_weight 
 -- the weight of a line without free points, which a total that is kept below it excludes
 unfoldable pub full_weight : ℕ → Game → ℕ
 full_weight base g = base ^ greatest_length (lines_of g)
+
+-- a base that isn't zero, for which no weight of a line is too great
+pub record IsBaseOf (base : ℕ) (g : Game) : Type 0 where
+  pub some : 1 ≤ base
+  pub few : full_weight base g ≤ 2 ^ 100
 
 -- the greatest of numbers, or 0 where there is none
 abbrev pub greatest : List ℕ → ℕ

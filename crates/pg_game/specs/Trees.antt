@@ -1,5 +1,5 @@
 -- Trees for Short and cuts for Cut in the switching game, with the edge e between the terminals (Lehman 1964 and its dual, by walks alone), and the answers by them.
-use Rattle.std.specs.Prelude.{◌≡◌, ◌⊎◌, ℕ, ◌<◌, Bool, true, false, not, ◌&&◌, List, Option, Some, None, find, if◌then◌else◌}
+use Rattle.std.specs.Prelude.{◌≡◌, ◌⊎◌, ℕ, ◌<◌, Bool, true, false, not, ◌&&◌, Option, Some, None, find, if◌then◌else◌}
 use Rattle.std.specs.List.{range_with_len}
 use Rattle.std.specs.FinSet.{FinSet, contains, remove}
 use Rattle.std.specs.Ordering.{nat_cmp}

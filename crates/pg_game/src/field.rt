@@ -1,6 +1,12 @@
 //! What a game is played on.
-use pg_base::{Grid, Lines};
+ghost use Rattle.std.specs.Prelude.{◌≡◌, None, IfOk};
+ghost use Rattle.std.specs.List.{AllZip, Any};
+ghost use Rattle.pg_base.specs.Line.{StandsTwice};
+ghost use Rattle.pg_game.specs.Rows.{IsLineOfRow};
+
+use pg_base::{Grid, Line, LineFault, Lines};
 use pg_graph::Graph;
+use std::alloc::Global;
 
 /// Points and lines of points.
 #[derive(Debug, Drop)]
@@ -20,4 +26,33 @@ pub enum Field {
     Lines(LineField),
     /// The edges of a multigraph, of the switching game.
     Graph(Graph),
+}
+
+impl LineField {
+    /// So many points, without a grid, and for each row, in order, the line of its points.
+    ///
+    /// The points of a row may come in any order. Whether the field is within the limits is for `Game::new` to say.
+    ///
+    /// # Errors
+    ///
+    /// `Repeated` exactly where a point stands twice in some row, and `Memory` where no memory is found.
+    pub fn from_rows(alloc: Global, points: u16, rows: &[&[u16]]) -> Result<LineField, LineFault>
+        ensures points { IfOk result (λ field. field.points ≡ points) }
+        ensures grid { IfOk result (λ field. field.grid ≡ None) }
+        ensures lines { IfOk result (λ field. AllZip (λ row line. IsLineOfRow row.now line) rows.now field.lines) }
+        ensures repeated { result ≡ Err LineFault.Repeated → Any (λ row. StandsTwice row.now) rows.now }
+    {
+        let mut lines = Vec::new(alloc);
+        for row in rows {
+            let line = Line::new(alloc, row)?;
+            let Ok(()) = lines.push(line) else {
+                return Err(LineFault::Memory);
+            };
+        }
+        Ok(LineField {
+            points,
+            grid: None,
+            lines: Lines::from_vec(lines),
+        })
+    }
 }

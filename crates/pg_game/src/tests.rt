@@ -1,6 +1,6 @@
 //! Rows worked by hand.
 use crate::{Field, Game, Illegal, Judge, LineField, Position, laws};
-use pg_base::{Grid, Kind, Line, Lines, PointSet, Score, Side};
+use pg_base::{Grid, Kind, LineFault, PointSet, Score, Side};
 use pg_graph::{Ends, Graph};
 use std::alloc::Global;
 use std::test::Fail;
@@ -16,24 +16,6 @@ fn set_of(points: &[u16]) -> PointSet {
     set
 }
 
-/// Points and lines.
-fn field_of(
-    alloc: Global,
-    points: u16,
-    grid: Option<Grid>,
-    lines: &[&[u16]],
-) -> Result<Field, Fail> {
-    let mut members = Vec::new(alloc);
-    for line in lines {
-        members.push(Line::new(alloc, line)?)?;
-    }
-    Ok(Field::Lines(LineField {
-        points,
-        grid,
-        lines: Lines::from_vec(members),
-    }))
-}
-
 /// A game on lines, without marks.
 fn game_of(
     alloc: Global,
@@ -42,7 +24,7 @@ fn game_of(
     lines: &[&[u16]],
     bias: u8,
 ) -> Result<Game, Fail> {
-    let field = field_of(alloc, points, None, lines)?;
+    let field = Field::Lines(LineField::from_rows(alloc, points, lines)?);
     let none = PointSet::empty();
     Ok(Game::new(kind, field, none, none, Side::X, bias)?)
 }
@@ -270,8 +252,8 @@ fn misfits(rt: HostRuntime) -> Result<(), Fail> {
         (Kind::AvoiderEnforcer, 40, &long[..1], 7, true),
         (Kind::Switching, 40, &long[..1], 1, false),
     ] {
-        let field = field_of(rt.alloc(), points, None, &[line])?;
-        let made = Game::new(kind, field, none, none, Side::Y, bias);
+        let field = LineField::from_rows(rt.alloc(), points, &[line])?;
+        let made = Game::new(kind, Field::Lines(field), none, none, Side::Y, bias);
         assert_eq!(rt; made.is_ok(), fits, "{points} points, bias {bias}");
     }
     Ok(())
@@ -288,11 +270,22 @@ fn misfits_of_grids_and_marks(rt: HostRuntime) -> Result<(), Fail> {
         (3, 9, four, four, false),
         (1, 3, none, four, false),
     ] {
-        let grid = Some(Grid { width, height: 3 });
-        let field = field_of(rt.alloc(), points, grid, &[&[0, 1]])?;
-        let made = Game::new(Kind::MakerMaker, field, x, y, Side::X, 1);
+        let mut field = LineField::from_rows(rt.alloc(), points, &[&[0, 1]])?;
+        field.grid = Some(Grid { width, height: 3 });
+        let made = Game::new(Kind::MakerMaker, Field::Lines(field), x, y, Side::X, 1);
         assert_eq!(rt; made.is_ok(), fits, "{width} columns, {points} points");
     }
+    Ok(())
+}
+
+#[test]
+fn rows_in_any_order(rt: HostRuntime) -> Result<(), Fail> {
+    let field = LineField::from_rows(rt.alloc(), 4, &[&[2, 0, 1], &[3]])?;
+    let lines = field.lines.as_slice();
+    assert_eq!(rt; lines.len(), 2);
+    assert_eq!(rt; lines[0].as_slice(), [0, 1, 2].as_slice());
+    let twice = LineField::from_rows(rt.alloc(), 4, &[&[3], &[1, 2, 1]]);
+    assert_eq!(rt; twice.err(), Some(LineFault::Repeated));
     Ok(())
 }
 

@@ -1,11 +1,12 @@
 -- Lists without the elements that fail a test, and counts of numbers.
-use Rattle.std.proofs.Common.{◌≡◌, ℕ, zero, suc, ◌+◌, ◌<◌, ◌≤◌, Bool, true, false, not, ◌&&◌, ◌||◌, List, [], ◌∷◌, length, Some, None, cond, eqb, refl, sym, ap, ◌∙◌, subst, inl, inr, arith, eq-eqb, ne_eqb}
+use Rattle.std.proofs.Common.{◌≡◌, ℕ, zero, suc, ◌+◌, ◌<◌, ◌≤◌, Bool, true, false, not, ◌&&◌, ◌||◌, List, [], ◌∷◌, length, Some, None, eqb, refl, sym, ap, ◌∙◌, subst, inl, inr, arith, eq-eqb, ne_eqb}
 use Rattle.std.proofs.lemmas.Bool.{cases_Bool, cases_eq, false≢true}
 use Rattle.std.proofs.lemmas.List.Elements.{All-head, All-tail, All-contains, All-filter, All-contains_itself, filter_passes}
 use Rattle.std.proofs.lemmas.List.FromFn.{length-range_with_len, get_or-range_with_len}
 use Rattle.std.proofs.lemmas.Option.{same_Some, none-some}
 use Rattle.std.specs.List.{filter, find, range_with_len, Contains, All, list_any}
 use Rattle.pg_game.proofs.Members.{Contains-head, Contains-tail}
+use Rattle.pg_game.proofs.Lowest.{find_same}
 
 module _ {X : Type 0} where
   -- a list of which all pass stays whole
@@ -25,16 +26,6 @@ module _ {X : Type 0} where
         | inr off ↦
             let out : f x ≡ false = elim (cases_Bool (f x)) [ inl here ↦ absurd (false≢true (sym off ∙ only x here)) | inr out ↦ out ] in
             rw off (rw out tail)
-      ]
-
-  -- two tests one after the other
-  pub filter_both : (t f : X → Bool) (xs : List X) → filter t (filter f xs) ≡ filter (λ x. f x && t x) xs
-  filter_both t f [] = refl
-  filter_both t f (x ∷ xs) =
-      let tail = filter_both t f xs in
-      elim (cases_Bool (f x)) [
-        | inl on ↦ rw on (elim (cases_Bool (t x)) [ inl here ↦ rw here (ap (λ ys. x ∷ ys) tail) | inr out ↦ rw out tail ])
-        | inr off ↦ rw off tail
       ]
 
   pub any_both : (t f : X → Bool) (xs : List X) → list_any t (filter f xs) ≡ list_any (λ x. f x && t x) xs
@@ -130,35 +121,5 @@ one_without t b a (suc n) on low high = elim (cases_eq a b) [
 
 -- ---- the first that passes
 
-module _ {X : Type 0} where
-  pub find_both : (t f : X → Bool) (xs : List X) → find t (filter f xs) ≡ find (λ x. f x && t x) xs
-  find_both t f [] = refl
-  find_both t f (x ∷ xs) =
-      let tail = find_both t f xs in
-      elim (cases_Bool (f x)) [
-        | inl on ↦ rw on (elim (cases_Bool (t x)) [ inl here ↦ rw here refl | inr out ↦ rw out tail ])
-        | inr off ↦ rw off tail
-      ]
-
-  pub find_agree : (t u : X → Bool) → ((x : X) → t x ≡ u x) → (xs : List X) → find t xs ≡ find u xs
-  find_agree t u agree [] = refl
-  find_agree t u agree (x ∷ xs) = λ i. cond (agree x i) (Some x) (find_agree t u agree xs i)
-
-first_from : (t : ℕ → Bool) (v a n : ℕ) → a ≤ v → v < a + n → t v ≡ true → ((w : ℕ) → a ≤ w → w < v → t w ≡ false) → find t (range_with_len a n) ≡ Some v
-first_from t v a zero low high on none = absurd (omega arith)
-first_from t v a (suc n) low high on none = elim (cases_eq a v) [
-  | inl e ↦ let here : t a ≡ true = ap t e ∙ on in rw here (ap Some e)
-  | inr ne ↦ rw (none a (omega arith) (omega arith)) (first_from t v (a + 1) n (omega arith) (omega arith) on (λ w above below. none w (omega arith) below))
-]
-
-none_from : (t : ℕ → Bool) (a n : ℕ) → ((w : ℕ) → a ≤ w → w < a + n → t w ≡ false) → find t (range_with_len a n) ≡ None
-none_from t a zero none = refl
-none_from t a (suc n) none = rw (none a (omega arith) (omega arith)) (none_from t (a + 1) n (λ w above below. none w (omega arith) (omega arith)))
-
--- the first number below n that passes both tests
-pub first_below : (t f : ℕ → Bool) (v n : ℕ) → v < n → (f v && t v) ≡ true → ((w : ℕ) → w < v → (f w && t w) ≡ false) → find t (filter f (range_with_len 0 n)) ≡ Some v
-first_below t f v n high on none =
-    find_both t f (range_with_len 0 n) ∙ first_from (λ w. f w && t w) v 0 n (omega arith) (omega arith) on (λ w above below. none w below)
-
-pub none_below : (t f : ℕ → Bool) (n : ℕ) → ((w : ℕ) → w < n → (f w && t w) ≡ false) → find t (filter f (range_with_len 0 n)) ≡ None
-none_below t f n none = find_both t f (range_with_len 0 n) ∙ none_from (λ w. f w && t w) 0 n (λ w above below. none w (omega arith))
+pub find_agree : {X : Type 0} (t u : X → Bool) → ((x : X) → t x ≡ u x) → (xs : List X) → find t xs ≡ find u xs
+find_agree t u agree xs = find_same t u xs (λ x c. agree x)

@@ -11,11 +11,11 @@ use Rattle.pg_game.specs.declared.position.Position.{Position}
 use Rattle.pg_game.specs.Position.{is_free}
 use Rattle.pg_game.specs.Game.{point_count, free_points, after}
 use Rattle.pg_game.specs.Pairs.{is_open, has_point, is_paired, is_loose, IsInGame, PairsHold, PairsLeaveNone, unpaired, unpaired_due}
-use Rattle.pg_game.proofs.Members.{Contains-head, list_any-none, list_any-one, member-from_any, Contains-filter, All-from_members, false-at}
+use Rattle.pg_game.proofs.Members.{filter_both, Contains-head, list_any-none, list_any-one, member-from_any, Contains-filter, All-from_members, false-at}
 use Rattle.pg_game.proofs.Moves.{free-stays, free-was}
 use Rattle.pg_game.proofs.FreePoints.{is_free-after}
 use Rattle.pg_pairing.specs.Rest.{rest}
-use Rattle.pg_pairing.proofs.Filters.{filter_all, filter_both, any_both, filter_member, filter_agree-range, in_range, below_range, one_equal, one_without, some_length}
+use Rattle.pg_pairing.proofs.Filters.{filter_all, any_both, filter_member, filter_agree-range, in_range, below_range, one_equal, one_without, some_length}
 use Rattle.pg_pairing.proofs.OpenPairs.{Joins, joins, has_joined, joined_turned, one_of_joined, joined_free, joined_apart, outside_pair, same_pair, open_stays, open-of}
 
 -- whether the point is free and in no pair

@@ -1,5 +1,5 @@
 -- Pairs that hold force the claim: a win for Breaker and for Avoider, and a draw at least for either side of Maker-Maker.
-use Rattle.std.proofs.Common.{◌≡◌, ◌≢◌, ℕ, ◌<◌, ◌≤◌, Bool, true, false, List, Option, Some, None, refl, sym, ap, ap₂, ◌∙◌, subst, inl, inr, ◌⊎◌, arith}
+use Rattle.std.proofs.Common.{◌≡◌, ◌≢◌, ℕ, ◌<◌, ◌≤◌, true, false, List, Option, Some, None, refl, sym, ap, ◌∙◌, subst, inl, inr, ◌⊎◌, arith}
 use Rattle.pg_base.specs.declared.goal.Goal.{Goal}
 use Rattle.pg_base.specs.declared.goal.Goal.TheVariants.{Win, Draw as AtLeastDraw}
 use Rattle.pg_base.specs.declared.kind.Kind.{Kind}
@@ -11,14 +11,14 @@ use Rattle.pg_base.specs.Side.{other}
 use Rattle.pg_game.specs.declared.game.Game.{Game}
 use Rattle.pg_game.specs.declared.position.Position.{Position}
 use Rattle.pg_game.specs.Position.{is_free, AreDisjoint, claims_in_turn}
-use Rattle.pg_game.specs.Fit.{greatest_bias}
-use Rattle.pg_game.specs.Game.{point_count, bias_of, has_filled, is_over, outcome, outcome_by, short_joins, after, IsPosition}
+use Rattle.pg_game.specs.Game.{point_count, bias_of, has_filled, is_over, outcome, after, IsPosition}
 use Rattle.pg_game.specs.Pairs.{PairsHold, breaker_of, pairs_answer}
 use Rattle.pg_game.specs.Strategy.{Keeps}
 use Rattle.pg_game.specs.Value.{reaches, Forces}
 use Rattle.pg_game.proofs.FreePoints.{is_full-one}
 use Rattle.pg_game.proofs.Moves.{side≢other, turn-replied, IsPosition-after}
 use Rattle.pg_game.proofs.Strategy.{Forces-from_keeps, free_point}
+use Rattle.pg_game.proofs.Unfilled.{unfilled-breaker, unfilled-draw, unfilled-avoider, maker_bias}
 use Rattle.pg_pairing.specs.Rest.{ArePairsOf, rest, RestHolds, MayClaim, HeldBefore}
 use Rattle.pg_pairing.proofs.OpenPairs.{RestHolds-from, ArePairsOf-from, breaker_of-same, breaker_of-avoider, unfilled-held, unfilled-replied}
 use Rattle.pg_pairing.proofs.AnswerLaws.{avoider_or_not, answer-free, RestHolds-enforcer, keeps_replied, keeps_unreplied}
@@ -115,34 +115,17 @@ module _ (g : Game) (side : Side) (claims : MayClaim g.kind side) (single : Clai
 maker_claims_one : (g : Game) → ClaimsOne g X
 maker_claims_one g p position turn = subst (λ (s : Side). p.left ≤ bias_of g s) turn position.few_left
 
-good-breaker : (g : Game) (p : Position) → g.kind ≡ MakerBreaker → has_filled g p X ≡ false → reaches Y Win (outcome g p) ≡ true
-unfolding outcome
-good-breaker g p kind none = ap₂ (λ (k : Kind) (x : Bool). reaches Y Win (outcome_by k x (has_filled g p Y) (short_joins g p))) kind none
-
 -- Breaker wins, whoever is to move and however many points it claims a turn
 pub Forces-pairs_breaker : (g : Game) (p : Position) (pairs : List Pair) → g.kind ≡ MakerBreaker → IsPosition g p → PairsHold g p Y pairs → Forces g p Y Win
 Forces-pairs_breaker g p pairs kind position h =
     let guard : breaker_of g.kind Y ≡ Y = ap (λ (k : Kind). breaker_of k Y) kind in
     Forces-paired g Y (λ e. absurd (breaker≢avoider (sym kind ∙ e))) (maker_claims_one g) Win
-    (λ q none. good-breaker g q kind (sym (ap (λ (s : Side). has_filled g q (other s)) guard) ∙ none)) p pairs position h
+    (λ q none. unfilled-breaker g q kind (sym (ap (λ (s : Side). has_filled g q (other s)) guard) ∙ none)) p pairs position h
   where
     breaker≢avoider : MakerBreaker ≢ AvoiderEnforcer
     breaker≢avoider e = cc
 
 -- ---- Maker-Maker
-
-drawn-x : (x joined : Bool) → reaches X AtLeastDraw (outcome_by MakerMaker x false joined) ≡ true
-drawn-x true joined = refl
-drawn-x false joined = refl
-
-drawn-y : (y joined : Bool) → reaches Y AtLeastDraw (outcome_by MakerMaker false y joined) ≡ true
-drawn-y true joined = refl
-drawn-y false joined = refl
-
-good-draw : (g : Game) (side : Side) (p : Position) → g.kind ≡ MakerMaker → has_filled g p (other side) ≡ false → reaches side AtLeastDraw (outcome g p) ≡ true
-unfolding outcome
-good-draw g X p kind none = ap₂ (λ (k : Kind) (y : Bool). reaches X AtLeastDraw (outcome_by k (has_filled g p X) y (short_joins g p))) kind none ∙ drawn-x (has_filled g p X) (short_joins g p)
-good-draw g Y p kind none = ap₂ (λ (k : Kind) (x : Bool). reaches Y AtLeastDraw (outcome_by k x (has_filled g p Y) (short_joins g p))) kind none ∙ drawn-y (has_filled g p Y) (short_joins g p)
 
 one_bias : (g : Game) (side : Side) → g.bias ≡ 1 → ClaimsOne g side
 one_bias g side one p position turn = few p.turn position.few_left
@@ -151,30 +134,21 @@ one_bias g side one p position turn = few p.turn position.few_left
     few X h = h
     few Y h = omega (arith, h, one)
 
-maker_bias : (g : Game) → g.kind ≡ MakerMaker → g.bias ≡ 1
-maker_bias g kind =
-    let few : g.bias ≤ 1 = subst (λ (k : Kind). g.bias ≤ greatest_bias k) kind g.fits.few_bias in
-    omega (arith, few, g.fits.some_bias)
-
 -- either side gets a draw at least, whoever is to move
 pub Forces-pairs_draw : (g : Game) (p : Position) (side : Side) (pairs : List Pair) → g.kind ≡ MakerMaker → IsPosition g p → PairsHold g p side pairs → Forces g p side AtLeastDraw
 Forces-pairs_draw g p side pairs kind position h =
     let guard : breaker_of g.kind side ≡ side = ap (λ (k : Kind). breaker_of k side) kind in
     Forces-paired g side (λ e. absurd (maker≢avoider (sym kind ∙ e))) (one_bias g (other side) (maker_bias g kind)) AtLeastDraw
-    (λ q none. good-draw g side q kind (sym (ap (λ (s : Side). has_filled g q (other s)) guard) ∙ none)) p pairs position h
+    (λ q none. unfilled-draw g side q kind (sym (ap (λ (s : Side). has_filled g q (other s)) guard) ∙ none)) p pairs position h
   where
     maker≢avoider : MakerMaker ≢ AvoiderEnforcer
     maker≢avoider e = cc
 
 -- ---- Avoider-Enforcer
 
-good-avoider : (g : Game) (p : Position) → g.kind ≡ AvoiderEnforcer → has_filled g p X ≡ false → reaches X Win (outcome g p) ≡ true
-unfolding outcome
-good-avoider g p kind none = ap₂ (λ (k : Kind) (x : Bool). reaches X Win (outcome_by k x (has_filled g p Y) (short_joins g p))) kind none
-
 -- Avoider wins, whoever is to move
 pub Forces-pairs_avoider : (g : Game) (p : Position) (pairs : List Pair) → g.kind ≡ AvoiderEnforcer → IsPosition g p → PairsHold g p X pairs → Forces g p X Win
 Forces-pairs_avoider g p pairs kind position h =
     let guard = breaker_of-avoider g.kind X kind in
     Forces-paired g X (λ e. refl) (one_bias g Y (h.avoider kind).single) Win
-    (λ q none. good-avoider g q kind (sym (ap (λ (s : Side). has_filled g q (other s)) guard) ∙ none)) p pairs position h
+    (λ q none. unfilled-avoider g q kind (sym (ap (λ (s : Side). has_filled g q (other s)) guard) ∙ none)) p pairs position h

@@ -1,6 +1,6 @@
 -- The steps of the tests of pairs.
-use Rattle.std.proofs.Common.{All, Any, eqb-true, ◌≡◌, ◌≢◌, ℕ, zero, suc, ◌+◌, ◌<◌, Bool, true, false, cond, not, ◌&&◌, ◌||◌, List, [], ◌∷◌, ◌++◌, length, get_or, take, eqb, nat_lt, refl, sym, ap, ◌∙◌, subst, inl, inr, arith, eq-eqb, ne_eqb, ltb-true, lt-ltb, IsTrue, if◌then◌else◌, ◌≤◌, length-take-le, get_or-take, take_all}
-use Rattle.std.proofs.lemmas.Bool.{cond-true, cond-false, cases_Bool, cases_eq, and_parts, and_from, or_parts, or_from, not-true, not_from_false, false≢true}
+use Rattle.std.proofs.Common.{All, Any, eqb-true, ◌≡◌, ◌≢◌, ℕ, ◌+◌, ◌<◌, Bool, true, false, cond, not, ◌&&◌, ◌||◌, List, [], ◌∷◌, ◌++◌, length, get_or, take, eqb, nat_lt, refl, sym, ap, ◌∙◌, subst, inl, inr, arith, eq-eqb, ne_eqb, ltb-true, lt-ltb, IsTrue, if◌then◌else◌, ◌≤◌, length-take-le, get_or-take, take_all}
+use Rattle.std.proofs.lemmas.Bool.{cases_eq, and_parts, and_from, or_parts, or_from, not-true, not_from_false, false≢true}
 use Rattle.std.specs.FinSet.{FinSet, contains, insert}
 use Rattle.std.specs.Ordering.{nat_cmp}
 use Rattle.pg_game.specs.declared.position.Position.{Position}
@@ -17,7 +17,7 @@ use Rattle.pg_game.proofs.Limits.{point_count-le}
 use Rattle.std.proofs.lemmas.List.Elements.{All-weaker}
 use Rattle.pg_game.proofs.Members.{false-at, list_any-none, list_any-one, member-from_any}
 use Rattle.pg_base.specs.declared.side.Side.{Side}
-use Rattle.std.specs.List.{filter, range_with_len, list_any, Contains}
+use Rattle.std.specs.List.{filter, list_any, Contains}
 use Rattle.std.proofs.lemmas.List.{take_more, get_or_default}
 use Rattle.std.proofs.lemmas.List.Folds.{list_any_more}
 use Rattle.std.proofs.lemmas.List.Elements.{All-nil, All-push, All-get_or, Contains-get_or}
@@ -151,58 +151,6 @@ pub AreOpenPairs-of : (g : Game) (p : Position) (side : Side) (pairs : List Pair
 AreOpenPairs-of g p side pairs h = record { range = h.range; free = h.free; different = h.different; disjoint = h.disjoint }
 
 -- ---- the count of the points left out
-
--- how many of n numbers from a on pass both tests
-pub passing : (ℕ → Bool) → (ℕ → Bool) → ℕ → ℕ → ℕ
-passing t f a n = length (filter t (filter f (range_with_len a n)))
-
-pub passing-more : (t f : ℕ → Bool) (a n v : ℕ) → a + n ≡ v → f v ≡ true → t v ≡ true → passing t f a (suc n) ≡ passing t f a n + 1
-unfolding passing
-passing-more t f a zero v at on pass =
-    let here : f a ≡ true = ap f (omega arith) ∙ on in
-    let keeps : t a ≡ true = ap t (omega arith) ∙ pass in
-    rw here (rw keeps refl)
-passing-more t f a (suc n) v at on pass =
-    let rest = passing-more t f (a + 1) n v (omega arith) on pass in
-    elim (cases_Bool (f a)) [
-      | inl here ↦ rw here (elim (cases_Bool (t a)) [ inl keeps ↦ rw keeps (omega (arith, rest)) | inr drops ↦ rw drops rest ])
-      | inr off ↦ rw off rest
-    ]
-
-pub passing-same : (t f : ℕ → Bool) (a n v : ℕ) → a + n ≡ v → (f v && t v) ≡ false → passing t f a (suc n) ≡ passing t f a n
-unfolding passing
-passing-same t f a zero v at off =
-    let here : (f a && t a) ≡ false = ap (λ q. f q && t q) (omega arith) ∙ off in
-    elim (cases_Bool (f a)) [
-      | inl on ↦ let drops : t a ≡ false = sym (ap (λ b. b && t a) on) ∙ here in rw on (rw drops refl)
-      | inr out ↦ rw out refl
-    ]
-passing-same t f a (suc n) v at off =
-    let rest = passing-same t f (a + 1) n v (omega arith) off in
-    elim (cases_Bool (f a)) [
-      | inl here ↦ rw here (elim (cases_Bool (t a)) [ inl keeps ↦ rw keeps (ap suc rest) | inr drops ↦ rw drops rest ])
-      | inr out ↦ rw out rest
-    ]
-
-pub passing-none : (t f : ℕ → Bool) (a : ℕ) → passing t f a 0 ≡ 0
-unfolding passing
-passing-none t f a = refl
-
--- the count as far as the numbers below v, one number further
-pub passing-next : (t f : ℕ → Bool) (v n m : ℕ) → n ≡ passing t f 0 v → m ≡ (if f v && t v then n + 1 else n) → m ≡ passing t f 0 (v + 1)
-passing-next t f v n m is next =
-    let further : suc v ≡ v + 1 = omega arith in
-    next ∙ elim (cases_Bool (f v && t v)) [
-      | inl on ↦
-          let both = and_parts (f v) (t v) on in
-          cond-true (f v && t v) (n + 1) n on ∙ ap (λ k. k + 1) is ∙ sym (passing-more t f 0 v v (omega arith) both.0 both.1) ∙ ap (passing t f 0) further
-      | inr off ↦ cond-false (f v && t v) (n + 1) n off ∙ is ∙ sym (passing-same t f 0 v v (omega arith) off) ∙ ap (passing t f 0) further
-    ]
-
--- the count over all points of the game
-pub passing-all : (g : Game) (p : Position) (t : ℕ → Bool) (n : ℕ) → n ≡ point_count g → passing t (is_free p) 0 n ≡ length (filter t (free_points g p))
-unfolding passing free_points
-passing-all g p t n e = ap (λ m. length (filter t (filter (is_free p) (range_with_len 0 m)))) e
 
 -- two sets that agree leave the same points out
 pub unpaired-is : (g : Game) (p : Position) (pairs : List Pair) (paired : FinSet nat_cmp) → ((q : ℕ) → contains paired q ≡ is_paired pairs q)

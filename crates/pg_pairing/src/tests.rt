@@ -6,7 +6,7 @@ ghost use Rattle.pg_game.specs.Pairs.{pairs_answer};
 use crate::condition::paired_points;
 use crate::reply::lowest_free;
 use crate::{answer, holds};
-use pg_base::{Kind, Line, Lines, Pair, PointSet, Side};
+use pg_base::{Kind, Pair, PointSet, Side};
 use pg_game::{Field, Game, Illegal, LineField, Position};
 use std::alloc::Global;
 use std::test::Fail;
@@ -50,15 +50,6 @@ fn set_of(points: &[u16]) -> PointSet {
     set
 }
 
-/// The lines of these points.
-fn lines_of(alloc: Global, lines: &[&[u16]]) -> Result<Lines, Fail> {
-    let mut members = Vec::new(alloc);
-    for points in lines {
-        members.push(Line::new(alloc, points)?)?;
-    }
-    Ok(Lines::from_vec(members))
-}
-
 /// A game of so many points with these lines and Y's marks, in which X is to move and each side claims one point a turn.
 fn game_of(
     alloc: Global,
@@ -67,11 +58,7 @@ fn game_of(
     lines: &[&[u16]],
     y: &[u16],
 ) -> Result<Game, Fail> {
-    let field = Field::Lines(LineField {
-        points,
-        grid: None,
-        lines: lines_of(alloc, lines)?,
-    });
+    let field = Field::Lines(LineField::from_rows(alloc, points, lines)?);
     Ok(Game::new(kind, field, PointSet::empty(), set_of(y), Side::X, 1)?)
 }
 

@@ -1,5 +1,5 @@
 -- The two conditions by their parts, and that the parts fit 128 bits.
-use Rattle.std.proofs.Common.{◌≡◌, ℕ, ◌+◌, ◌*◌, ◌^◌, ◌≤◌, nat_lt, ap₂, ◌∙◌, sym, arith}
+use Rattle.std.proofs.Common.{◌≡◌, ℕ, ◌+◌, ◌*◌, ◌^◌, ◌≤◌, nat_lt, ap₂, arith}
 use Rattle.pg_base.specs.declared.side.Side.{Side}
 use Rattle.pg_game.specs.declared.game.Game.{Game}
 use Rattle.pg_game.specs.declared.position.Position.{Position}
@@ -7,9 +7,9 @@ use Rattle.pg_game.specs.Position.{points_of}
 use Rattle.pg_game.specs.Game.{free_points}
 use Rattle.pg_game.specs.Potential.{total, weight, limit, greatest_weight, times_counted, potential_holds}
 use Rattle.pg_game.specs.Avoider.{avoider_risk, avoider_limit, avoider_holds}
-use Rattle.pg_plain.proofs.LeafBounds.{bias-few, total-few}
-use Rattle.pg_plain.proofs.LeafGreatest.{greatest-le}
-use Rattle.pg_plain.proofs.LeafWeights.{weight-le-total}
+use Rattle.pg_game.proofs.WeightBounds.{bias-few, total-few}
+use Rattle.pg_game.proofs.Greatest.{greatest-le}
+use Rattle.pg_game.proofs.LineSums.{weight-le-total}
 
 pub total-le : (g : Game) (p : Position) (side : Side) → total g p side ≤ 2 ^ 115
 total-le g p side = total-few (1 + g.bias) g (points_of p side) p (omega arith) (bias-few g)

@@ -1,12 +1,6 @@
 pub mod BestPlay
 pub mod ClassLaws
-pub mod LeafBounds
-pub mod LeafWeights
-pub mod LeafGreatest
 pub mod LeafLaws
-pub mod LeafCounts
-pub mod LastPoint
 pub mod Reached
 pub mod EdgeConditions
 pub mod NearLines
-pub mod LeftPoints

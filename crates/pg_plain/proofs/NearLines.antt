@@ -14,7 +14,7 @@ use Rattle.pg_game.specs.Position.{is_free, points_of}
 use Rattle.pg_game.specs.Potential.{is_on}
 use Rattle.pg_game.specs.Threat.{is_near, threatens, Forcing, LeadsToLine}
 use Rattle.pg_game.proofs.Members.{member-from_any}
-use Rattle.pg_plain.proofs.LeafBounds.{small_points}
+use Rattle.pg_game.proofs.WeightBounds.{small_points}
 
 -- a point of a line of small points is small
 pub on-small : (line : List ℕ) (u : ℕ) → All (λ v. v < 256) line → is_on u line ≡ true → u < 256

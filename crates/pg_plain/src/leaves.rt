@@ -4,8 +4,7 @@ ghost use Rattle.std.specs.List.{All, count_by};
 ghost use Rattle.pg_game.specs.Avoider.{x_takes_last, avoider_ends, avoider_risk, avoider_holds};
 ghost use Rattle.pg_game.specs.Game.{free_points, lines_of, is_touched};
 ghost use Rattle.pg_game.specs.Position.{is_free};
-ghost use Rattle.pg_game.specs.Potential.{greatest_length, is_on, line_weight, total_weight, point_weight, full_weight, total, weight, limit, greatest_weight, is_turn_of, times_counted, potential_holds};
-ghost use Rattle.pg_plain.specs.Leaves.{IsBaseOf};
+ghost use Rattle.pg_game.specs.Potential.{greatest_length, is_on, line_weight, total_weight, point_weight, full_weight, total, weight, limit, greatest_weight, is_turn_of, times_counted, potential_holds, IsBaseOf};
 
 use pg_base::{Line, PointSet, Side};
 use pg_game::{Field, Game, Position};

@@ -19,6 +19,4 @@ pub use pairs::pairs_hold;
 pub use threats::is_threat_line;
 
 #[cfg(test)]
-mod condition_tests;
-#[cfg(test)]
 mod tests;

@@ -1,8 +1,12 @@
-//! Values and classes of games, worked by hand or by a program that shares nothing with this one.
+//! Rows worked by hand, or by a program that shares nothing with this one.
+//!
+//! A game is told as `KIND COUNT TURN BIAS:LINES:X:Y`, with commas between lines. A graph is told by the number of its
+//! vertices and by its edges; its terminals are 0 and 1. A row is a game, what is tried on it, and last what is due.
 use crate::{
-    Class, avoider_holds, class_of, greatest_weight, limit, potential_holds, total, value, weight,
+    Class, avoider_holds, class_of, cuts_hold, greatest_weight, is_threat_line, limit, pairs_hold,
+    potential_holds, total, trees_hold, value, weight,
 };
-use pg_base::{Kind, Line, Lines, PointSet, Score, Side};
+use pg_base::{Kind, Pair, PointSet, Score, Side};
 use pg_game::{Field, Game, Judge, LineField};
 use pg_graph::{Ends, Graph};
 use std::alloc::Global;
@@ -20,325 +24,329 @@ const ROWS: [&[u16]; 8] = [
     &[2, 4, 6],
 ];
 
-/// Two cells that share a side, of nine.
-const DOMINOES: [&[u16]; 12] = [
-    &[0, 1],
-    &[0, 3],
-    &[1, 2],
-    &[1, 4],
-    &[2, 5],
-    &[3, 4],
-    &[3, 6],
-    &[4, 5],
-    &[4, 7],
-    &[5, 8],
-    &[6, 7],
-    &[7, 8],
-];
-
-/// The lines of these points.
-fn lines_of(alloc: Global, lines: &[&[u16]]) -> Result<Lines, Fail> {
-    let mut members = Vec::new(alloc);
-    for points in lines {
-        members.push(Line::new(alloc, points)?)?;
-    }
-    Ok(Lines::from_vec(members))
+/// The part of a row that has this number, from 0, and no text where it has fewer.
+fn part(row: &str, number: usize) -> &str {
+    row.split(':').nth(number).unwrap_or("")
 }
 
-/// The set of these points, which are below 1,024.
-pub(crate) fn set_of(points: &[u16]) -> PointSet {
-    let mut set = PointSet::empty();
-    for &v in points {
-        if v < 1024 {
-            set.put(v);
+/// The word of a text that has this number, from 0, and no word where it has fewer.
+fn word(text: &str, number: usize) -> &str {
+    text.split_whitespace().nth(number).unwrap_or("")
+}
+
+/// The numbers of a text.
+fn numbers(alloc: Global, text: &str) -> Result<Vec<u16>, Fail> {
+    let mut list = Vec::new(alloc);
+    for word in text.split_whitespace() {
+        list.push(word.parse::<u16>()?)?;
+    }
+    Ok(list)
+}
+
+/// The set of the numbers of a text that are below 1,024.
+fn set(alloc: Global, text: &str) -> Result<PointSet, Fail> {
+    let mut points = PointSet::empty();
+    for v in &numbers(alloc, text)? {
+        if *v < 1024 {
+            points.put(*v);
         }
     }
-    set
+    Ok(points)
 }
 
-/// A game on lines, with X to move.
-pub(crate) fn game_of(
-    alloc: Global,
-    kind: Kind,
-    points: u16,
-    lines: &[&[u16]],
-    bias: u8,
-) -> Result<Game, Fail> {
-    let none = PointSet::empty();
-    let lines = lines_of(alloc, lines)?;
-    let field = Field::Lines(LineField {
-        points,
-        grid: None,
-        lines,
-    });
-    Ok(Game::new(kind, field, none, none, Side::X, bias)?)
+/// The pairs of a text: a point stands at each even place and its partner after it.
+fn pairs(alloc: Global, text: &str) -> Result<Vec<Pair>, Fail> {
+    let points = numbers(alloc, text)?;
+    let mut pairs = Vec::new(alloc);
+    for i in 0..points.len() / 2 {
+        let (a, b) = (points[2 * i], points[2 * i + 1]);
+        pairs.push(Pair { a, b })?;
+    }
+    Ok(pairs)
 }
 
-/// Noughts and crosses with marks.
-pub(crate) fn marked(alloc: Global, kind: Kind, x: &[u16], y: &[u16]) -> Result<Game, Fail> {
-    let lines = lines_of(alloc, &ROWS)?;
-    let field = Field::Lines(LineField {
-        points: 9,
-        grid: None,
-        lines,
-    });
-    Ok(Game::new(kind, field, set_of(x), set_of(y), Side::X, 1)?)
+/// The lines of a text, which is `three` for those of noughts and crosses.
+fn on_lines(alloc: Global, count: u16, text: &str) -> Result<Field, Fail> {
+    if text == "three" {
+        return Ok(Field::Lines(LineField::from_rows(alloc, count, &ROWS)?));
+    }
+    let mut lists = Vec::new(alloc);
+    for line in text.split(',') {
+        if !line.is_empty() {
+            lists.push(numbers(alloc, line)?)?;
+        }
+    }
+    let mut rows = Vec::new(alloc);
+    for list in &lists {
+        rows.push(list.as_slice())?;
+    }
+    Ok(Field::Lines(LineField::from_rows(alloc, count, rows.as_slice())?))
 }
 
-/// The value of the game at its marks with this side to move.
-fn value_with(alloc: Global, g: &Game, turn: Side) -> Result<Score, Fail> {
-    let mut judge = Judge::new(alloc, g)?;
-    let p = g.with_turn(turn);
-    Ok(value(&mut judge, g, &p))
-}
-
-/// A graph with the terminals 0 and 1.
-pub(crate) fn graph_of(alloc: Global, vertices: u16, ends: &[(u16, u16)]) -> Result<Field, Fail> {
+/// The graph with the edges of a text.
+fn on_graph(alloc: Global, vertices: u16, text: &str) -> Result<Field, Fail> {
+    let mut ends = Vec::new(alloc);
+    for edge in text.split(',') {
+        if let [u, v] = numbers(alloc, edge)?.as_slice() {
+            ends.push((*u, *v))?;
+        }
+    }
+    let (s, t, ends) = (0, 1, Ends::from_vec(ends));
     Ok(Field::Graph(Graph {
         vertices,
-        s: 0,
-        t: 1,
-        ends: Ends::from_vec(ends.to_vec(alloc)?),
+        s,
+        t,
+        ends,
     }))
 }
 
-/// The class of the switching game on a graph with the terminals 0 and 1.
-fn class_on(alloc: Global, vertices: u16, ends: &[(u16, u16)]) -> Result<Option<Class>, Fail> {
-    let none = PointSet::empty();
-    let g = Game::new(
-        Kind::Switching,
-        graph_of(alloc, vertices, ends)?,
-        none,
-        none,
-        Side::X,
-        1,
-    )?;
+/// The kind, and Maker-Maker where the word is unknown.
+fn kind(word: &str) -> Kind {
+    match word {
+        "maker-breaker" => Kind::MakerBreaker,
+        "avoider-enforcer" => Kind::AvoiderEnforcer,
+        "switching" => Kind::Switching,
+        _ => Kind::MakerMaker,
+    }
+}
+
+/// The side, which is Y unless the word is `x`.
+fn side(word: &str) -> Side {
+    if word == "x" { Side::X } else { Side::Y }
+}
+
+/// The game of a row.
+fn game(alloc: Global, row: &str) -> Result<Game, Fail> {
+    let head = part(row, 0);
+    let kind = kind(word(head, 0));
+    let count = word(head, 1).parse::<u16>()?;
+    let field = match kind {
+        Kind::Switching => on_graph(alloc, count, part(row, 1))?,
+        _ => on_lines(alloc, count, part(row, 1))?,
+    };
+    let (x, y) = (set(alloc, part(row, 2))?, set(alloc, part(row, 3))?);
+    let bias = word(head, 3).parse::<u8>()?;
+    Ok(Game::new(kind, field, x, y, side(word(head, 2)), bias)?)
+}
+
+/// The word for whether something holds.
+fn yes_or_no(holds: bool) -> &'static str {
+    if holds { "yes" } else { "no" }
+}
+
+/// The word for the value of a row's game.
+fn value_of(alloc: Global, row: &str) -> Result<&'static str, Fail> {
+    let g = game(alloc, row)?;
     let mut judge = Judge::new(alloc, &g)?;
-    Ok(class_of(&mut judge, &g))
+    Ok(match value(&mut judge, &g, &g.start()) {
+        Score::XWins => "x",
+        Score::Draw => "draw",
+        Score::YWins => "y",
+    })
 }
 
-/// The values of noughts and crosses after X's first move to the centre, a corner and an edge.
-fn first_moves(alloc: Global, kind: Kind) -> Result<(Score, Score, Score), Fail> {
-    let centre = marked(alloc, kind, &[4], &[])?;
-    let corner = marked(alloc, kind, &[0], &[])?;
-    let edge = marked(alloc, kind, &[1], &[])?;
-    Ok((
-        value_with(alloc, &centre, Side::Y)?,
-        value_with(alloc, &corner, Side::Y)?,
-        value_with(alloc, &edge, Side::Y)?,
-    ))
-}
+/// The values of noughts and crosses after X's first move to the centre, a corner and an edge, and with more marks.
+const THREE: [&str; 14] = [
+    "maker-breaker 9 y 1:three:4::x",
+    "maker-breaker 9 y 1:three:0::x",
+    "maker-breaker 9 y 1:three:1::y",
+    "maker-maker 9 y 1:three:4::draw",
+    "maker-maker 9 y 1:three:0::draw",
+    "maker-maker 9 y 1:three:1::draw",
+    "avoider-enforcer 9 y 1:three:4::y",
+    "avoider-enforcer 9 y 1:three:0::y",
+    "avoider-enforcer 9 y 1:three:1::y",
+    "maker-breaker 9 x 1:three::4:y",
+    "maker-maker 9 x 1:three:4:1:x",
+    "maker-maker 9 x 1:three:4:0:draw",
+    "maker-breaker 9 y 1:three:0 1 2::x",
+    "maker-maker 9 y 1:three:0 1 2:3 4 5:x",
+];
+
+/// The values of small games: among them the sides of nine dominoes, a triangle, two halves, stars and angles.
+const SMALL: [&str; 13] = [
+    "maker-breaker 6 x 1:0 1,2 3,4 5:::y",
+    "maker-breaker 9 x 1:0 1,0 3,1 2,1 4,2 5,3 4,3 6,4 5,4 7,5 8,6 7,7 8:::x",
+    "avoider-enforcer 3 x 1:0 1,0 2,1 2:::y",
+    "avoider-enforcer 3 y 1:0 1,0 2,1 2:::x",
+    "avoider-enforcer 6 x 1:0 1 2,3 4 5:::x",
+    "maker-breaker 1 x 1::::y",
+    "maker-maker 1 x 1::::draw",
+    "maker-breaker 4 x 2:0 1,0 2,0 3:::x",
+    "maker-breaker 4 y 2:0 1,0 2,0 3:::y",
+    "maker-breaker 4 x 2:0 1,0 2:::y",
+    "avoider-enforcer 4 x 2:0 1,2 3:::y",
+    "avoider-enforcer 5 x 2:0 1,2 3:::x",
+    "switching 2 y 1:0 1,0 1:::x",
+];
 
 #[test]
-fn noughts_and_crosses_for_maker(rt: HostRuntime) -> Result<(), Fail> {
-    let values = first_moves(rt.alloc(), Kind::MakerBreaker)?;
-    assert_eq!(rt; values, (Score::XWins, Score::XWins, Score::YWins));
+fn values(rt: HostRuntime) -> Result<(), Fail> {
+    for row in THREE {
+        assert_eq!(rt; value_of(rt.alloc(), row)?, part(row, 4), "{row}");
+    }
+    for row in SMALL {
+        assert_eq!(rt; value_of(rt.alloc(), row)?, part(row, 4), "{row}");
+    }
     Ok(())
 }
 
-#[test]
-fn noughts_and_crosses_as_a_race(rt: HostRuntime) -> Result<(), Fail> {
-    let values = first_moves(rt.alloc(), Kind::MakerMaker)?;
-    assert_eq!(rt; values, (Score::Draw, Score::Draw, Score::Draw));
-    Ok(())
-}
-
-#[test]
-fn noughts_and_crosses_for_avoider(rt: HostRuntime) -> Result<(), Fail> {
-    let values = first_moves(rt.alloc(), Kind::AvoiderEnforcer)?;
-    assert_eq!(rt; values, (Score::YWins, Score::YWins, Score::YWins));
-    Ok(())
-}
-
-#[test]
-fn noughts_and_crosses_with_marks(rt: HostRuntime) -> Result<(), Fail> {
-    let centre = marked(rt.alloc(), Kind::MakerBreaker, &[], &[4])?;
-    assert_eq!(rt; value_with(rt.alloc(), &centre, Side::X)?, Score::YWins);
-    let edge = marked(rt.alloc(), Kind::MakerMaker, &[4], &[1])?;
-    assert_eq!(rt; value_with(rt.alloc(), &edge, Side::X)?, Score::XWins);
-    let corner = marked(rt.alloc(), Kind::MakerMaker, &[4], &[0])?;
-    assert_eq!(rt; value_with(rt.alloc(), &corner, Side::X)?, Score::Draw);
-    let filled = marked(rt.alloc(), Kind::MakerBreaker, &[0, 1, 2], &[])?;
-    assert_eq!(rt; value_with(rt.alloc(), &filled, Side::Y)?, Score::XWins);
-    let both = marked(rt.alloc(), Kind::MakerMaker, &[0, 1, 2], &[3, 4, 5])?;
-    assert_eq!(rt; value_with(rt.alloc(), &both, Side::Y)?, Score::XWins);
-    Ok(())
-}
-
-#[test]
-fn pairs_of_points(rt: HostRuntime) -> Result<(), Fail> {
-    let g = game_of(
-        rt.alloc(),
-        Kind::MakerBreaker,
-        6,
-        &[&[0, 1], &[2, 3], &[4, 5]],
-        1,
-    )?;
-    assert_eq!(rt; value_with(rt.alloc(), &g, Side::X)?, Score::YWins);
-    Ok(())
-}
-
-#[test]
-fn dominoes(rt: HostRuntime) -> Result<(), Fail> {
-    let g = game_of(rt.alloc(), Kind::MakerBreaker, 9, &DOMINOES, 1)?;
-    assert_eq!(rt; value_with(rt.alloc(), &g, Side::X)?, Score::XWins);
-    Ok(())
-}
-
-#[test]
-fn sides_of_a_triangle(rt: HostRuntime) -> Result<(), Fail> {
-    let g = game_of(
-        rt.alloc(),
-        Kind::AvoiderEnforcer,
-        3,
-        &[&[0, 1], &[0, 2], &[1, 2]],
-        1,
-    )?;
-    assert_eq!(rt; value_with(rt.alloc(), &g, Side::X)?, Score::YWins);
-    assert_eq!(rt; value_with(rt.alloc(), &g, Side::Y)?, Score::XWins);
-    Ok(())
-}
-
-#[test]
-fn two_halves(rt: HostRuntime) -> Result<(), Fail> {
-    let g = game_of(
-        rt.alloc(),
-        Kind::AvoiderEnforcer,
-        6,
-        &[&[0, 1, 2], &[3, 4, 5]],
-        1,
-    )?;
-    assert_eq!(rt; value_with(rt.alloc(), &g, Side::X)?, Score::XWins);
-    Ok(())
-}
-
-#[test]
-fn without_lines(rt: HostRuntime) -> Result<(), Fail> {
-    let breaker = game_of(rt.alloc(), Kind::MakerBreaker, 1, &[], 1)?;
-    assert_eq!(rt; value_with(rt.alloc(), &breaker, Side::X)?, Score::YWins);
-    let race = game_of(rt.alloc(), Kind::MakerMaker, 1, &[], 1)?;
-    assert_eq!(rt; value_with(rt.alloc(), &race, Side::X)?, Score::Draw);
-    Ok(())
-}
-
-#[test]
-fn breaker_claims_two_points(rt: HostRuntime) -> Result<(), Fail> {
-    let star = game_of(
-        rt.alloc(),
-        Kind::MakerBreaker,
-        4,
-        &[&[0, 1], &[0, 2], &[0, 3]],
-        2,
-    )?;
-    assert_eq!(rt; value_with(rt.alloc(), &star, Side::X)?, Score::XWins);
-    assert_eq!(rt; value_with(rt.alloc(), &star, Side::Y)?, Score::YWins);
-    let angle = game_of(rt.alloc(), Kind::MakerBreaker, 4, &[&[0, 1], &[0, 2]], 2)?;
-    assert_eq!(rt; value_with(rt.alloc(), &angle, Side::X)?, Score::YWins);
-    Ok(())
-}
-
-#[test]
-fn enforcer_claims_two_points(rt: HostRuntime) -> Result<(), Fail> {
-    let four = game_of(rt.alloc(), Kind::AvoiderEnforcer, 4, &[&[0, 1], &[2, 3]], 2)?;
-    assert_eq!(rt; value_with(rt.alloc(), &four, Side::X)?, Score::YWins);
-    let five = game_of(rt.alloc(), Kind::AvoiderEnforcer, 5, &[&[0, 1], &[2, 3]], 2)?;
-    assert_eq!(rt; value_with(rt.alloc(), &five, Side::X)?, Score::XWins);
-    Ok(())
+/// The word for the class of a row's game.
+fn class_word(alloc: Global, row: &str) -> Result<&'static str, Fail> {
+    let g = game(alloc, row)?;
+    let mut judge = Judge::new(alloc, &g)?;
+    Ok(match class_of(&mut judge, &g) {
+        Some(Class::Short) => "short",
+        Some(Class::Cut) => "cut",
+        Some(Class::First) => "first",
+        None => "none",
+    })
 }
 
 #[test]
 fn classes(rt: HostRuntime) -> Result<(), Fail> {
-    assert_eq!(rt; class_on(rt.alloc(), 2, &[(0, 1)])?, Some(Class::First));
-    assert_eq!(rt;
-        class_on(rt.alloc(), 2, &[(0, 1), (0, 1)])?,
-        Some(Class::Short)
-    );
-    assert_eq!(rt;
-        class_on(rt.alloc(), 3, &[(0, 2), (2, 1)])?,
-        Some(Class::Cut)
-    );
-    assert_eq!(rt; class_on(rt.alloc(), 2, &[])?, Some(Class::Cut));
-    let bridge = [(0, 2), (0, 3), (2, 3), (2, 1), (3, 1)];
-    assert_eq!(rt; class_on(rt.alloc(), 4, &bridge)?, Some(Class::First));
+    for row in [
+        "switching 2 x 1:0 1:::first",
+        "switching 2 x 1:0 1,0 1:::short",
+        "switching 3 x 1:0 2,2 1:::cut",
+        "switching 2 x 1::::cut",
+        "switching 4 x 1:0 2,0 3,2 3,2 1,3 1:::first",
+    ] {
+        assert_eq!(rt; class_word(rt.alloc(), row)?, part(row, 4), "{row}");
+    }
     Ok(())
 }
 
-/// The total for Y, the greatest weight, the limit and whether the potential holds, with this side to move.
-fn potential(g: &Game, turn: Side) -> (u128, u128, u128, bool) {
-    let p = g.with_turn(turn);
-    (
-        total(g, &p, Side::Y),
-        greatest_weight(g, &p, Side::Y),
-        limit(g),
-        potential_holds(g, &p, Side::Y),
+/// Y's total, greatest weight and limit, the weight of point 1, and whether Y's potential holds.
+fn potential(alloc: Global, row: &str) -> Result<String, Fail> {
+    let g = game(alloc, row)?;
+    let p = g.start();
+    let (total, greatest) = (total(&g, &p, Side::Y), greatest_weight(&g, &p, Side::Y));
+    let (limit, one) = (limit(&g), weight(&g, &p, Side::Y, 1));
+    let holds = yes_or_no(potential_holds(&g, &p, Side::Y));
+    Ok(format!(in alloc; "{total} {greatest} {limit} {one} {holds}")?)
+}
+
+#[test]
+fn potentials(rt: HostRuntime) -> Result<(), Fail> {
+    for row in [
+        "maker-breaker 16 x 1:0 1 2 3,4 5 6 7,8 9 10 11,12 13 14 15,0 4 8 12,1 5 9 13,2 6 10 14,3 7 11 15,0 5 10 15,3 6 9 12:::10 3 16 2 yes",
+        "maker-breaker 25 x 1:0 1 2 3 4,5 6 7 8 9,10 11 12 13 14,15 16 17 18 19,20 21 22 23 24,0 5 10 15 20,1 6 11 16 21,2 7 12 17 22,3 8 13 18 23,4 9 14 19 24,0 6 12 18 24,4 8 12 16 20:::12 4 32 2 yes",
+        "maker-maker 9 y 1:three:4::12 4 8 3 no",
+        "maker-maker 9 y 1:three:0::11 5 8 3 no",
+        "maker-maker 9 y 1:three:1::10 5 8 4 no",
+        "maker-breaker 3 x 1:0 1,0 2:::2 2 4 1 no",
+        "maker-breaker 3 y 1:0 1,0 2:::2 2 4 1 yes",
+    ] {
+        assert_eq!(rt; potential(rt.alloc(), row)?.as_str(), part(row, 4), "{row}");
+    }
+    Ok(())
+}
+
+#[test]
+fn avoiders_potential(rt: HostRuntime) -> Result<(), Fail> {
+    for row in [
+        "avoider-enforcer 3 x 1:0 1,0 2,1 2:::no",
+        "avoider-enforcer 3 y 1:0 1,0 2,1 2:::yes",
+    ] {
+        let g = game(rt.alloc(), row)?;
+        assert_eq!(rt;
+            yes_or_no(avoider_holds(&g, &g.start())),
+            part(row, 4),
+            "{row}"
+        );
+    }
+    Ok(())
+}
+
+/// Whether a row's pairs hold for the side that isn't to move.
+fn by_pairs(alloc: Global, row: &str) -> Result<&'static str, Fail> {
+    let g = game(alloc, row)?;
+    let pairs = pairs(alloc, part(row, 4))?;
+    Ok(yes_or_no(pairs_hold(&g, &g.start(), g.turn.other(), pairs.as_slice())))
+}
+
+#[test]
+fn pairs_of_points(rt: HostRuntime) -> Result<(), Fail> {
+    for row in [
+        "maker-breaker 9 x 1:three::4:0 1 2 5 8 7 6 3:yes",
+        "maker-breaker 9 x 1:three::4:0 1 2 5 8 7:no",
+        "maker-breaker 9 x 1:three::4:0 1 2 5 8 7 0 3:no",
+        "maker-breaker 9 x 1:three::4:0 1 2 5 8 7 6 3 4 9:no",
+        "maker-breaker 2 x 1:0 1:::1 0:yes",
+        "maker-breaker 2 x 1:0 1:::0 0:no",
+        "maker-breaker 2 x 1:0 1:::0 1 2 65535:no",
+        "avoider-enforcer 4 y 1:0 1,2 3:::0 1 2 3:yes",
+        "avoider-enforcer 5 y 1:0 1,2 3:::0 1 2 3:no",
+        "avoider-enforcer 4 y 2:0 1,2 3:::0 1 2 3:no",
+    ] {
+        assert_eq!(rt; by_pairs(rt.alloc(), row)?, part(row, 5), "{row}");
+    }
+    Ok(())
+}
+
+/// Which of trees and cuts a row's two sets are.
+fn by_sets(alloc: Global, row: &str) -> Result<&'static str, Fail> {
+    let g = game(alloc, row)?;
+    let p = g.start();
+    let (one, other) = (set(alloc, part(row, 4))?, set(alloc, part(row, 5))?);
+    Ok(
+        match (
+            trees_hold(&g, &p, &one, &other),
+            cuts_hold(&g, &p, &one, &other),
+        ) {
+            (true, true) => "both",
+            (true, false) => "trees",
+            (false, true) => "cuts",
+            (false, false) => "none",
+        },
     )
 }
 
 #[test]
-fn potential_of_four_by_four(rt: HostRuntime) -> Result<(), Fail> {
-    let lines: [&[u16]; 10] = [
-        &[0, 1, 2, 3],
-        &[4, 5, 6, 7],
-        &[8, 9, 10, 11],
-        &[12, 13, 14, 15],
-        &[0, 4, 8, 12],
-        &[1, 5, 9, 13],
-        &[2, 6, 10, 14],
-        &[3, 7, 11, 15],
-        &[0, 5, 10, 15],
-        &[3, 6, 9, 12],
-    ];
-    let g = game_of(rt.alloc(), Kind::MakerBreaker, 16, &lines, 1)?;
-    assert_eq!(rt; potential(&g, Side::X), (10, 3, 16, true));
+fn trees_and_cuts(rt: HostRuntime) -> Result<(), Fail> {
+    for row in [
+        "switching 4 x 1:0 2,0 3,2 3,2 1,3 1:::5 0 4:1 2 3:trees",
+        "switching 4 y 1:0 2,0 3,2 3,2 1,3 1:::5 0 4:1 2 3:cuts",
+        "switching 4 x 1:0 2,0 3,2 3,2 1,3 1:::1 2 3:5 0 4:none",
+        "switching 4 x 1:0 2,0 3,2 3,2 1,3 1:::5 0 4 1:1 2 3:none",
+        "switching 4 x 1:0 2,0 3,2 3,2 1,3 1:::5 0 4 1023:1 2 3:none",
+        "switching 3 x 1:0 2,2 1:::2 0:1:none",
+        "switching 3 x 1:0 2,2 1:::0:1:cuts",
+        "switching 3 x 1:0 2,2 1:::::none",
+        "switching 2 y 1:0 1,1 0:::0:1:trees",
+        "maker-breaker 1 x 1::::::none",
+    ] {
+        assert_eq!(rt; by_sets(rt.alloc(), row)?, part(row, 6), "{row}");
+    }
     Ok(())
 }
 
-#[test]
-fn potential_of_five_by_five(rt: HostRuntime) -> Result<(), Fail> {
-    let lines: [&[u16]; 12] = [
-        &[0, 1, 2, 3, 4],
-        &[5, 6, 7, 8, 9],
-        &[10, 11, 12, 13, 14],
-        &[15, 16, 17, 18, 19],
-        &[20, 21, 22, 23, 24],
-        &[0, 5, 10, 15, 20],
-        &[1, 6, 11, 16, 21],
-        &[2, 7, 12, 17, 22],
-        &[3, 8, 13, 18, 23],
-        &[4, 9, 14, 19, 24],
-        &[0, 6, 12, 18, 24],
-        &[4, 8, 12, 16, 20],
-    ];
-    let g = game_of(rt.alloc(), Kind::MakerBreaker, 25, &lines, 1)?;
-    assert_eq!(rt; potential(&g, Side::X), (12, 4, 32, true));
-    Ok(())
+/// Whether a row's points are a threat line of X.
+fn by_threats(alloc: Global, row: &str) -> Result<&'static str, Fail> {
+    let g = game(alloc, row)?;
+    let points = numbers(alloc, part(row, 4))?;
+    Ok(yes_or_no(is_threat_line(&g, &g.start(), Side::X, points.as_slice())))
 }
 
 #[test]
-fn potential_after_first_moves(rt: HostRuntime) -> Result<(), Fail> {
-    let centre = marked(rt.alloc(), Kind::MakerMaker, &[4], &[])?;
-    assert_eq!(rt; total(&centre, &centre.with_turn(Side::Y), Side::Y), 12);
-    let corner = marked(rt.alloc(), Kind::MakerMaker, &[0], &[])?;
-    assert_eq!(rt; total(&corner, &corner.with_turn(Side::Y), Side::Y), 11);
-    let edge = marked(rt.alloc(), Kind::MakerMaker, &[1], &[])?;
-    assert_eq!(rt; total(&edge, &edge.with_turn(Side::Y), Side::Y), 10);
-    assert_eq!(rt; limit(&edge), 8);
-    Ok(())
-}
-
-#[test]
-fn potential_of_an_angle(rt: HostRuntime) -> Result<(), Fail> {
-    let g = game_of(rt.alloc(), Kind::MakerBreaker, 3, &[&[0, 1], &[0, 2]], 1)?;
-    assert_eq!(rt; potential(&g, Side::X), (2, 2, 4, false));
-    assert_eq!(rt; weight(&g, &g.start(), Side::Y, 1), 1);
-    Ok(())
-}
-
-#[test]
-fn avoider_on_a_triangle(rt: HostRuntime) -> Result<(), Fail> {
-    let lines: [&[u16]; 3] = [&[0, 1], &[0, 2], &[1, 2]];
-    let g = game_of(rt.alloc(), Kind::AvoiderEnforcer, 3, &lines, 1)?;
-    assert!(rt; !avoider_holds(&g, &g.with_turn(Side::X)));
-    assert!(rt; avoider_holds(&g, &g.with_turn(Side::Y)));
+fn threat_lines(rt: HostRuntime) -> Result<(), Fail> {
+    for row in [
+        "maker-breaker 9 x 1:three:4:1:0 8 3 5 6:yes",
+        "maker-breaker 9 x 1:three:4:1:0 8 3 5:no",
+        "maker-breaker 9 x 1:three:4:1:0 8 3 2 6:no",
+        "maker-breaker 9 x 1:three:4:1::no",
+        "maker-maker 9 x 1:three:4:1:0 8 3 5 6:yes",
+        "maker-maker 9 x 1:three:4:0:2 6 5 3 8:no",
+        "maker-breaker 9 x 1:three:4:0:2 6 5 3 8:yes",
+        "maker-breaker 3 x 1:0 1,0 2:::0 1 2:yes",
+        "maker-breaker 3 x 1:0 1,0 2:::0:no",
+        "maker-breaker 3 x 1:0 1,0 2:::0 2 2:no",
+        "maker-breaker 3 x 1:0 1,0 2:::1024 1 2:no",
+        "maker-breaker 3 y 1:0 1,0 2:::0 1 2:no",
+        "switching 2 x 1:0 1,1 0:::0:no",
+    ] {
+        assert_eq!(rt; by_threats(rt.alloc(), row)?, part(row, 5), "{row}");
+    }
     Ok(())
 }

@@ -1,5 +1,5 @@
 -- The greatest weight of a free point.
-use Rattle.std.proofs.Common.{◌≡◌, ◌≢◌, ℕ, ◌+◌, ◌*◌, ◌<◌, ◌≤◌, List, map, get_or, unwrap_or, ◌==◌, ap, ap₂, false, ◌∙◌, sym, arith}
+use Rattle.std.proofs.Common.{◌≡◌, ◌≢◌, ℕ, ◌+◌, ◌<◌, ◌≤◌, List, map, get_or, unwrap_or, ◌==◌, ap, ap₂, false, ◌∙◌, arith}
 use Rattle.pg_base.specs.declared.kind.Kind.TheVariants.{Switching}
 use Rattle.pg_base.specs.declared.side.Side.{Side}
 use Rattle.pg_game.specs.declared.game.Game.{Game}
@@ -8,12 +8,12 @@ use Rattle.pg_game.specs.Position.{points_of}
 use Rattle.std.specs.List.{Contains, find}
 use Rattle.pg_game.specs.Game.{free_points, is_full}
 use Rattle.pg_game.proofs.FreePoints.{first_free}
-use Rattle.pg_potential.proofs.Lowest.{find_same}
+use Rattle.pg_game.proofs.Lowest.{find_same}
 use Rattle.pg_potential.proofs.PotentialLaws.{answer-heaviest}
 use Rattle.pg_game.specs.Potential.{total, weight, greatest, greatest_weight, potential_answer}
-use Rattle.pg_potential.proofs.Greatest.{greatest-le, greatest-same, member-within}
-use Rattle.pg_potential.proofs.LineWeights.{weight-le-total}
-use Rattle.pg_potential.proofs.WeightBounds.{few_points-lines}
+use Rattle.pg_game.proofs.Greatest.{greatest-le, greatest-same, member-within}
+use Rattle.pg_game.proofs.LineSums.{weight-le-total}
+use Rattle.pg_game.proofs.WeightBounds.{few_points-lines}
 
 pub greatest_weight-is : (g : Game) (p : Position) (side : Side) (points : List ℕ) (most : ℕ) → g.kind ≢ Switching → ((v : ℕ) → v < 256 → get_or points v 0 ≡ weight g p side v)
     → most ≡ greatest (map (λ v. get_or points v 0) (free_points g p)) → most ≡ greatest_weight g p side

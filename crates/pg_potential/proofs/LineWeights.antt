@@ -1,9 +1,9 @@
 -- How the weights of lines change with a move.
-use Rattle.std.proofs.Common.{◌≡◌, ◌≢◌, ℕ, zero, suc, ◌+◌, ◌-◌, ◌*◌, ◌^◌, ◌<◌, ◌≤◌, max, Bool, true, false, cond, not, ◌&&◌, ◌||◌, ◌==◌, List, [], ◌∷◌, length, eqb, refl, sym, ap, ap₂, ◌∙◌, subst, inl, inr, ◌⊎◌, eq-eqb, ne_eqb, eqb-true, arith, pow-suc, if◌then◌else◌}
+use Rattle.std.proofs.Common.{◌≡◌, ℕ, suc, ◌+◌, ◌-◌, ◌*◌, ◌^◌, ◌<◌, ◌≤◌, Bool, true, false, cond, not, ◌&&◌, ◌||◌, ◌==◌, List, [], ◌∷◌, length, eqb, refl, sym, ap, ap₂, ◌∙◌, subst, inl, inr, eq-eqb, ne_eqb, arith, pow-suc, if◌then◌else◌}
 use Rattle.std.proofs.lemmas.Bool.{cases_Bool, cases_eq, false≢true}
 use Rattle.std.proofs.lemmas.List.Sums.{sum_by-cons, count_by-le-length, get_or-le-sum_by}
 use Rattle.std.proofs.Math.Nat.{mul-add, add-mul, mul_comm}
-use Rattle.std.specs.List.{list_any, list_all, count_by, sum_by, Contains}
+use Rattle.std.specs.List.{list_any, count_by, sum_by, Contains}
 use Rattle.std.specs.FinSet.{FinSet, contains, insert}
 use Rattle.std.specs.Ordering.{nat_cmp}
 use Rattle.pg_base.specs.declared.side.Side.{Side}
@@ -17,6 +17,7 @@ use Rattle.pg_game.specs.Potential.{greatest_length, is_on, line_weight, total_w
 use Rattle.pg_game.proofs.Members.{true-at, false-at, list_any-none, member-from_any, Contains-head, Contains-tail}
 use Rattle.pg_game.proofs.FreePoints.{is_free-after}
 use Rattle.pg_game.proofs.Moves.{free-of, apart}
+use Rattle.pg_game.proofs.LineSums.{sum-le, length-le-greatest}
 
 -- ---- sums
 
@@ -26,13 +27,6 @@ sum-add f h k (x ∷ xs) each =
     let here = each x (Contains-head x xs) in
     let rest = sum-add f h k xs (λ y c. each y (Contains-tail x y xs c)) in
     omega (arith, here, rest, sum_by-cons f x xs, sum_by-cons h x xs, sum_by-cons k x xs)
-
-pub sum-le : {X : Type 0} (f h : X → ℕ) (xs : List X) → ((x : X) → Contains xs x → f x ≤ h x) → sum_by f xs ≤ sum_by h xs
-sum-le f h [] each = omega arith
-sum-le f h (x ∷ xs) each =
-    let here = each x (Contains-head x xs) in
-    let rest = sum-le f h xs (λ y c. each y (Contains-tail x y xs c)) in
-    omega (arith, here, rest, sum_by-cons f x xs, sum_by-cons h x xs)
 
 sum-times : {X : Type 0} (q : ℕ) (f : X → ℕ) (xs : List X) → sum_by (λ x. q * f x) xs ≡ q * sum_by f xs
 sum-times q f [] = omega arith
@@ -44,11 +38,6 @@ sum-times q f (x ∷ xs) =
 
 pub member-le-sum : {X : Type 0} (f : X → ℕ) (xs : List X) (x : X) → Contains xs x → f x ≤ sum_by f xs
 member-le-sum f xs x c = subst (λ y. f y ≤ sum_by f xs) c.2 (get_or-le-sum_by f xs c.0 x c.1)
-
-pub length-le-greatest : (lines : List (List ℕ)) (line : List ℕ) → Contains lines line → length line ≤ greatest_length lines
-length-le-greatest [] line c = absurd (omega (arith, c.1))
-length-le-greatest (l ∷ ls) line (zero, lt, is) = let same : length l ≡ length line = ap length is in omega arith
-length-le-greatest (l ∷ ls) line (suc k, lt, is) = let rest = length-le-greatest ls line (k, omega arith, is) in omega arith
 
 -- ---- the free points of a line
 
@@ -184,12 +173,6 @@ module _ (g : Game) (once : (line : List ℕ) → Contains (lines_of g) line →
   weight-falls base own p v u free = sum-le _ _ (lines_of g) (λ line c.
       let same = weight-taken g own p v free (greatest_length (lines_of g)) line (length-le-greatest (lines_of g) line c) (once line c) base in
       elim (cases_Bool (is_on u line)) [ inl on ↦ rw on (omega (arith, same)) | inr off ↦ rw off (omega arith) ])
-
--- a point weighs no more than all lines
-pub weight-le-total : (base : ℕ) (g : Game) (own : FinSet nat_cmp) (p : Position) (v : ℕ) → point_weight base g own p v ≤ total_weight base g own p
-unfolding total_weight point_weight
-weight-le-total base g own p v = sum-le _ _ (lines_of g) (λ line c.
-    elim (cases_Bool (is_on v line)) [ inl on ↦ rw on (omega arith) | inr off ↦ rw off (omega arith) ])
 
 -- a line that the other side has filled weighs as much as the limit
 pub unfilled-below : (base : ℕ) (g : Game) (side : Side) (p : Position) → AreDisjoint p → total_weight base g (points_of p side) p < full_weight base g → has_filled g p (other side) ≡ false

@@ -1,5 +1,5 @@
 -- A potential that holds forces the claim: a win for Breaker, and a draw at least for either side of Maker-Maker.
-use Rattle.std.proofs.Common.{◌≡◌, ◌≢◌, ℕ, zero, suc, ◌+◌, ◌-◌, ◌*◌, ◌<◌, ◌≤◌, Bool, true, false, ◌==◌, if◌then◌else◌, List, [], ◌∷◌, map, Some, unwrap_or, eqb, eqb-true, eq-eqb, refl, sym, ap, ap₂, ◌∙◌, subst, inl, inr, ◌⊎◌, arith}
+use Rattle.std.proofs.Common.{◌≡◌, ◌≢◌, ℕ, zero, suc, ◌+◌, ◌-◌, ◌*◌, ◌<◌, ◌≤◌, Bool, true, false, ◌==◌, if◌then◌else◌, List, [], ◌∷◌, map, Some, unwrap_or, eqb-true, eq-eqb, refl, sym, ap, ◌∙◌, subst, inl, inr, arith}
 use Rattle.std.proofs.lemmas.Bool.{cases_Bool, cases_lt, false≢true}
 use Rattle.std.proofs.Math.Nat.{mul-le-mul_left, add-mul}
 use Rattle.std.specs.List.{Contains, find}
@@ -7,7 +7,6 @@ use Rattle.std.specs.FinSet.{FinSet}
 use Rattle.std.specs.Ordering.{nat_cmp}
 use Rattle.pg_base.specs.declared.goal.Goal.{Goal}
 use Rattle.pg_base.specs.declared.goal.Goal.TheVariants.{Win, Draw as AtLeastDraw}
-use Rattle.pg_base.specs.declared.kind.Kind.{Kind}
 use Rattle.pg_base.specs.declared.kind.Kind.TheVariants.{MakerBreaker, MakerMaker}
 use Rattle.pg_base.specs.declared.side.Side.{Side}
 use Rattle.pg_base.specs.declared.side.Side.TheVariants.{X, Y}
@@ -15,18 +14,18 @@ use Rattle.pg_base.specs.Side.{other}
 use Rattle.pg_base.proofs.LineLemmas.{count-ascending}
 use Rattle.pg_game.specs.declared.game.Game.{Game}
 use Rattle.pg_game.specs.declared.position.Position.{Position}
-use Rattle.pg_game.specs.Position.{is_free, points_of, claims_in_turn}
-use Rattle.pg_game.specs.Fit.{greatest_bias}
-use Rattle.pg_game.specs.Game.{point_count, bias_of, free_points, has_filled, is_over, outcome, outcome_by, short_joins, after, lines_of, IsPosition}
+use Rattle.pg_game.specs.Position.{is_free, points_of}
+use Rattle.pg_game.specs.Game.{point_count, bias_of, free_points, has_filled, outcome, after, lines_of, IsPosition}
 use Rattle.pg_game.specs.Potential.{total, weight, limit, greatest, greatest_weight, is_turn_of, times_counted, PotentialHolds, total_weight, point_weight, potential_answer}
 use Rattle.pg_game.specs.Strategy.{Keeps}
 use Rattle.pg_game.specs.Value.{reaches, Forces}
 use Rattle.pg_game.proofs.Members.{Contains-head, Contains-tail}
 use Rattle.pg_game.proofs.Moves.{points_of-mover, points_of-waiter, turn-stays, left-falls, turn-passes, left-passes, turn-replied, free-was, other_other, IsPosition-after}
 use Rattle.pg_game.proofs.Strategy.{Forces-from_keeps, free_point}
+use Rattle.pg_game.proofs.Unfilled.{unfilled-breaker, unfilled-draw, maker_bias, claims_one}
 use Rattle.pg_potential.proofs.LineWeights.{StandOnce, total-grown, total-taken, weight-falls, unfilled-below}
-use Rattle.pg_potential.proofs.Greatest.{free-member, member-free, member-within, greatest-le, greatest-ge, greatest-at}
-use Rattle.pg_potential.proofs.WeightBounds.{line-fit}
+use Rattle.pg_game.proofs.Greatest.{free-member, member-free, member-within, greatest-le, greatest-ge, greatest-at}
+use Rattle.pg_game.proofs.WeightBounds.{line-fit}
 
 -- the lines of a game ascend, so that each point stands once in them
 pub stand_once : (g : Game) (line : List ℕ) → Contains (lines_of g) line → StandOnce line
@@ -185,43 +184,17 @@ module _ (g : Game) (side : Side) (one : bias_of g (other side) ≡ 1) (whole : 
 
 -- ---- Maker-Breaker
 
-good-breaker : (g : Game) (p : Position) → g.kind ≡ MakerBreaker → has_filled g p X ≡ false → reaches Y Win (outcome g p) ≡ true
-unfolding outcome
-good-breaker g p kind none = ap₂ (λ (k : Kind) (x : Bool). reaches Y Win (outcome_by k x (has_filled g p Y) (short_joins g p))) kind none
-
 -- Breaker wins, whoever is to move and however many points it claims a turn
 pub Forces-potential_breaker : (g : Game) (p : Position) → g.kind ≡ MakerBreaker → IsPosition g p → PotentialHolds g p Y → Forces g p Y Win
-Forces-potential_breaker g p kind position holds = Forces-potential g Y refl refl Win (λ q none. good-breaker g q kind none) p position holds
+Forces-potential_breaker g p kind position holds = Forces-potential g Y refl refl Win (λ q none. unfilled-breaker g q kind none) p position holds
 
 -- ---- Maker-Maker
-
-drawn-x : (x joined : Bool) → reaches X AtLeastDraw (outcome_by MakerMaker x false joined) ≡ true
-drawn-x true joined = refl
-drawn-x false joined = refl
-
-drawn-y : (y joined : Bool) → reaches Y AtLeastDraw (outcome_by MakerMaker false y joined) ≡ true
-drawn-y true joined = refl
-drawn-y false joined = refl
-
-good-draw : (g : Game) (side : Side) (p : Position) → g.kind ≡ MakerMaker → has_filled g p (other side) ≡ false → reaches side AtLeastDraw (outcome g p) ≡ true
-unfolding outcome
-good-draw g X p kind none = ap₂ (λ (k : Kind) (y : Bool). reaches X AtLeastDraw (outcome_by k (has_filled g p X) y (short_joins g p))) kind none ∙ drawn-x (has_filled g p X) (short_joins g p)
-good-draw g Y p kind none = ap₂ (λ (k : Kind) (x : Bool). reaches Y AtLeastDraw (outcome_by k x (has_filled g p Y) (short_joins g p))) kind none ∙ drawn-y (has_filled g p Y) (short_joins g p)
-
-maker_bias : (g : Game) → g.kind ≡ MakerMaker → g.bias ≡ 1
-maker_bias g kind =
-    let few : g.bias ≤ 1 = subst (λ (k : Kind). g.bias ≤ greatest_bias k) kind g.fits.few_bias in
-    omega (arith, few, g.fits.some_bias)
-
-claims_one : (g : Game) (side : Side) → g.bias ≡ 1 → bias_of g side ≡ 1
-claims_one g X one = refl
-claims_one g Y one = one
 
 -- either side gets a draw at least, whoever is to move
 pub Forces-potential_draw : (g : Game) (p : Position) (side : Side) → g.kind ≡ MakerMaker → IsPosition g p → PotentialHolds g p side → Forces g p side AtLeastDraw
 Forces-potential_draw g p side kind position holds =
     let single = maker_bias g kind in
-    Forces-potential g side (claims_one g (other side) single) (claims_one g side single ∙ sym single) AtLeastDraw (λ q none. good-draw g side q kind none) p position holds
+    Forces-potential g side (claims_one g (other side) single) (claims_one g side single ∙ sym single) AtLeastDraw (λ q none. unfilled-draw g side q kind none) p position holds
 
 -- ---- what keeps it
 

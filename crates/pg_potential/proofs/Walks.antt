@@ -1,22 +1,19 @@
 -- The steps of the walk over the lines.
-use Rattle.std.proofs.Common.{◌≡◌, ◌≢◌, ℕ, zero, suc, ◌+◌, ◌-◌, ◌*◌, ◌^◌, ◌<◌, ◌≤◌, max, Bool, true, false, ◌||◌, ◌==◌, if◌then◌else◌, List, [], ◌∷◌, length, get_or, take, drop, set, eqb, eq-eqb, ne_eqb, eqb-true, refl, sym, ap, ◌∙◌, subst, inl, inr, ◌⊎◌, arith, get_or-take, length-take-le, take_all}
-use Rattle.std.proofs.lemmas.Bool.{cases_Bool, cases_eq, false≢true}
+use Rattle.std.proofs.Common.{◌≡◌, ℕ, ◌+◌, ◌^◌, ◌<◌, ◌≤◌, max, Bool, true, false, ◌||◌, ◌==◌, if◌then◌else◌, List, length, get_or, take, drop, set, eq-eqb, ne_eqb, refl, sym, ap, ◌∙◌, inl, inr, arith, get_or-take, length-take-le}
+use Rattle.std.proofs.lemmas.Bool.{cases_eq}
 use Rattle.std.proofs.lemmas.List.{at_drop_more, get_or_default, get_or-set_same, get_or-set_other}
 use Rattle.std.proofs.lemmas.List.Folds.{list_any_more}
 use Rattle.std.proofs.lemmas.List.Kept.{AllPairs-from_increasing}
-use Rattle.std.proofs.lemmas.List.Sums.{sum_by_more_le}
-use Rattle.std.specs.List.{count_by, sum_by, list_any, Contains}
+use Rattle.std.specs.List.{sum_by}
 use Rattle.std.specs.List.Sorted.{IsStrictlyIncreasing}
 use Rattle.std.specs.FinSet.{FinSet}
 use Rattle.std.specs.Ordering.{nat_cmp}
 use Rattle.pg_game.specs.declared.position.Position.{Position}
-use Rattle.pg_game.specs.Position.{is_free}
 use Rattle.pg_game.specs.declared.game.Game.{Game}
-use Rattle.pg_game.specs.Game.{is_touched, lines_of}
-use Rattle.pg_game.specs.Potential.{greatest_length, is_on, line_weight, total_weight, point_weight, full_weight}
-use Rattle.pg_potential.specs.Weights.{AreWeights, IsBaseOf}
-use Rattle.pg_potential.proofs.LineWeights.{sum-le}
-use Rattle.pg_potential.proofs.WeightBounds.{total-few}
+use Rattle.pg_game.specs.Game.{lines_of}
+use Rattle.pg_game.specs.Potential.{greatest_length, is_on, line_weight}
+use Rattle.pg_potential.specs.Weights.{AreWeights}
+use Rattle.pg_game.proofs.LineSums.{weight_on, total-all, point-all}
 use Rattle.pg_game.proofs.Members.{list_any-none}
 
 -- ---- the greatest length
@@ -27,16 +24,6 @@ longest-more lines i longest line lt is before =
     let here = at_drop_more greatest_length lines i line lt in
     let same : length line ≡ length (get_or lines i line) = ap length is in
     omega (arith, here, same, before)
-
--- ---- the weight of a line
-
-pub line_weight-touched : (base k : ℕ) (own : FinSet nat_cmp) (p : Position) (line : List ℕ) → is_touched own line ≡ true → line_weight base k own p line ≡ 0
-unfolding line_weight
-line_weight-touched base k own p line touched = rw touched refl
-
-pub line_weight-clear : (base k : ℕ) (own : FinSet nat_cmp) (p : Position) (line : List ℕ) → is_touched own line ≡ false → line_weight base k own p line ≡ base ^ (k - count_by (is_free p) line)
-unfolding line_weight
-line_weight-clear base k own p line clear = rw clear refl
 
 -- ---- the weights of the points of a line
 
@@ -82,36 +69,12 @@ add-more old now line i u w count ascending lt is few added v small =
 
 -- ---- all lines
 
-pub full_weight-is : (base : ℕ) (g : Game) (k : ℕ) → k ≡ greatest_length (lines_of g) → base ^ k ≡ full_weight base g
-unfolding full_weight
-full_weight-is base g k is = ap (λ n. base ^ n) is
-
--- the sum so far with one line more
-pub total-fits : (base : ℕ) (g : Game) (own : FinSet nat_cmp) (p : Position) (lines : List (List ℕ)) (k i : ℕ) (line : List ℕ) → IsBaseOf base g → lines ≡ lines_of g → k ≡ greatest_length (lines_of g)
-    → i < length lines → line ≡ get_or lines i line → sum_by (line_weight base k own p) (take i lines) + line_weight base k own p line ≤ 2 ^ 115
-unfolding total_weight
-total-fits base g own p lines k i line ok same longest lt is =
-    let more = sum_by_more_le (line_weight base k own p) lines i line lt in
-    let here : line_weight base k own p line ≡ line_weight base k own p (get_or lines i line) = ap (line_weight base k own p) is in
-    let all : sum_by (line_weight base k own p) lines ≡ total_weight base g own p = ap (sum_by (line_weight base k own p)) same ∙ ap (λ n. sum_by (line_weight base n own p) (lines_of g)) longest in
-    omega (arith, more, here, all, total-few base g own p ok.some ok.few)
-
--- the points through which some of the lines go weigh no more than all of those
-pub points-le : (base k : ℕ) (own : FinSet nat_cmp) (p : Position) (v : ℕ) (lines : List (List ℕ))
-    → sum_by (λ line. if is_on v line then line_weight base k own p line else 0) lines ≤ sum_by (line_weight base k own p) lines
-points-le base k own p v lines = sum-le _ _ lines (λ line c.
-    elim (cases_Bool (is_on v line)) [ inl on ↦ rw on (omega arith) | inr off ↦ rw off (omega arith) ])
-
 pub weights-all : (base : ℕ) (g : Game) (own : FinSet nat_cmp) (p : Position) (lines : List (List ℕ)) (k i total : ℕ) (points : List ℕ) → lines ≡ lines_of g → k ≡ greatest_length (lines_of g)
     → length lines ≤ i → total ≡ sum_by (line_weight base k own p) (take i lines) → length points ≡ 256
-    → ((v : ℕ) → v < 256 → get_or points v 0 ≡ sum_by (λ line. if is_on v line then line_weight base k own p line else 0) (take i lines))
+    → ((v : ℕ) → v < 256 → get_or points v 0 ≡ sum_by (weight_on base k own p v) (take i lines))
     → AreWeights base g own p (record { total = total; points = points })
-unfolding total_weight point_weight
-weights-all base g own p lines k i total points same longest end is_total count each =
-    let whole : take i lines ≡ lines_of g = take_all i lines end ∙ same in
-    record {
-      total = is_total ∙ ap (sum_by (line_weight base k own p)) whole ∙ ap (λ n. sum_by (line_weight base n own p) (lines_of g)) longest;
-      count = count;
-      points = λ v small. each v small ∙ ap (sum_by (λ line. if is_on v line then line_weight base k own p line else 0)) whole
-          ∙ ap (λ n. sum_by (λ line. if is_on v line then line_weight base n own p line else 0) (lines_of g)) longest;
-    }
+weights-all base g own p lines k i total points same longest end is_total count each = record {
+  total = total-all base g own p lines k i total same longest end is_total;
+  count = count;
+  points = λ v small. point-all base g own p v lines k i (get_or points v 0) same longest end (each v small);
+}

@@ -1,10 +1,10 @@
 -- The weights of all points, found by one walk over the lines.
-use Rattle.std.specs.Prelude.{◌≡◌, ℕ, ◌^◌, ◌<◌, ◌≤◌, length, get_or}
+use Rattle.std.specs.Prelude.{◌≡◌, ℕ, ◌<◌, length, get_or}
 use Rattle.std.specs.FinSet.{FinSet}
 use Rattle.std.specs.Ordering.{nat_cmp}
 use Rattle.pg_game.specs.declared.game.Game.{Game}
 use Rattle.pg_game.specs.declared.position.Position.{Position}
-use Rattle.pg_game.specs.Potential.{total_weight, point_weight, full_weight}
+use Rattle.pg_game.specs.Potential.{total_weight, point_weight}
 use Rattle.pg_potential.specs.declared.weights.Weights.{Weights}
 
 -- the total of the weights of lines, and for each point the sum of those through it
@@ -12,8 +12,3 @@ pub record AreWeights (base : ℕ) (g : Game) (own : FinSet nat_cmp) (p : Positi
   pub total : w.total ≡ total_weight base g own p
   pub count : length w.points ≡ 256
   pub points : (v : ℕ) → v < 256 → get_or w.points v 0 ≡ point_weight base g own p v
-
--- a base that isn't zero, for which no weight of a line is too great
-pub record IsBaseOf (base : ℕ) (g : Game) : Type 0 where
-  pub some : 1 ≤ base
-  pub few : full_weight base g ≤ 2 ^ 100

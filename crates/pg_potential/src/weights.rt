@@ -5,8 +5,8 @@ ghost use Rattle.std.specs.List.Sorted.{IsStrictlyIncreasing};
 ghost use Rattle.pg_game.specs.Position.{is_free};
 ghost use Rattle.pg_game.specs.Fit.{IsLineOf};
 ghost use Rattle.pg_game.specs.Game.{lines_of, point_count, is_touched};
-ghost use Rattle.pg_game.specs.Potential.{greatest_length, is_on, line_weight, full_weight};
-ghost use Rattle.pg_potential.specs.Weights.{AreWeights, IsBaseOf};
+ghost use Rattle.pg_game.specs.Potential.{greatest_length, is_on, line_weight, full_weight, IsBaseOf};
+ghost use Rattle.pg_potential.specs.Weights.{AreWeights};
 
 use pg_base::{Line, PointSet};
 use pg_game::{Field, Game, Position};

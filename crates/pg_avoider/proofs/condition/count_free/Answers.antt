@@ -1,6 +1,6 @@
-use Rattle.std.proofs.Common.{◌≡◌, ◌+◌, ℕ, Bool, sym, ap, ◌∙◌, arith, if◌then◌else◌}
+use Rattle.std.proofs.Common.{◌≡◌, sym, ◌∙◌, arith}
 use Rattle.pg_game.specs.Position.{is_free}
-use Rattle.pg_avoider.proofs.Counts.{passed-none, passed-next, passed-all}
+use Rattle.pg_game.proofs.FreeCounts.{passed-none, passed-more, passed-same, passed-all}
 use Rattle.pg_avoider.proofs.condition.count_free.Goals.{then-is_free, else-is_free}
 use Rattle.pg_avoider.proofs.condition.count_free.Goals as goal
 
@@ -9,15 +9,15 @@ loop-v-init c = record { counted = sym (passed-none (is_free c.args.p.now)); few
 
 pub loop-v-preserved : goal.loop-v-preserved
 loop-v-preserved c =
-    let next = passed-next (is_free c.args.p.now) c.loop-v.v in
-    let one : Bool → ℕ = λ b. if b then 1 else 0 in
     elim c.if-is_free.branch [
-      | then-is_free w ↦
-          let more = ap one (sym c.is_free.ensures ∙ w.if-is_free.true) in
-          record { counted = omega (arith, next, more, w.free-is, c.loop-v.invariant.counted); few = omega (arith, w.free-is, c.loop-v.invariant.few) }
-      | else-is_free w ↦
-          let more = ap one (sym c.is_free.ensures ∙ w.if-is_free.false) in
-          record { counted = omega (arith, next, more, w.free-is, c.loop-v.invariant.counted); few = omega (arith, w.free-is, c.loop-v.invariant.few) }
+      | then-is_free w ↦ record {
+        counted = passed-more (is_free c.args.p.now) c.loop-v.v c.loop-v.free c.if-is_free.free c.loop-v.invariant.counted (sym c.is_free.ensures ∙ w.if-is_free.true) w.free-is;
+        few = omega (arith, c.loop-v.invariant.few, w.free-is);
+      }
+      | else-is_free w ↦ record {
+        counted = passed-same (is_free c.args.p.now) c.loop-v.v c.loop-v.free c.if-is_free.free c.loop-v.invariant.counted (sym c.is_free.ensures ∙ w.if-is_free.false) w.free-is;
+        few = omega (arith, c.loop-v.invariant.few, w.free-is);
+      }
     ]
 
 pub returns : goal.returns

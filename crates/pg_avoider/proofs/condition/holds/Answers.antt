@@ -1,5 +1,5 @@
 use Rattle.std.proofs.Common.{arith}
-use Rattle.pg_potential.proofs.WeightBounds.{IsBaseOf-two, two-few, total-few}
+use Rattle.pg_game.proofs.WeightBounds.{IsBaseOf-two, two-few, total-few}
 use Rattle.pg_avoider.proofs.condition.holds.Goals as goal
 
 pub weigh-total-requires : goal.weigh-total-requires

@@ -1,9 +1,9 @@
 use Rattle.std.proofs.Common.{◌≡◌, ◌<◌, ℕ, true, sym, subst}
 use Rattle.pg_base.specs.declared.score.Score.TheVariants.{XWins}
 use Rattle.pg_game.specs.Position.{is_free}
-use Rattle.pg_game.specs.Game.{point_count, after, is_over, outcome}
-use Rattle.pg_game.specs.Avoider.{AvoiderHolds, avoider_answer}
-use Rattle.pg_potential.proofs.WeightBounds.{IsBaseOf-two}
+use Rattle.pg_game.specs.Game.{point_count, after, outcome}
+use Rattle.pg_game.specs.Avoider.{AvoiderHolds}
+use Rattle.pg_game.proofs.WeightBounds.{IsBaseOf-two}
 use Rattle.pg_avoider.proofs.AvoiderLaws.{answer-is, answer-free, answer-wins, answer-keeps}
 use Rattle.pg_avoider.proofs.reply.answer.Goals as goal
 

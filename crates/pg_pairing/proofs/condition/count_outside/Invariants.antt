@@ -1,11 +1,11 @@
-use Rattle.std.proofs.Common.{◌≡◌, ◌≤◌, not}
+use Rattle.std.proofs.Common.{◌≡◌, ◌≤◌, ◌&&◌, not}
 use Rattle.std.specs.FinSet.{contains}
 use Rattle.pg_game.specs.Position.{is_free}
-use Rattle.pg_pairing.proofs.PairLoops.{passing}
+use Rattle.pg_game.proofs.FreeCounts.{passed}
 use Rattle.pg_pairing.proofs.condition.count_outside.Given as goal
 
 abbrev pub invariant-loop-v : goal.invariant-loop-v
 invariant-loop-v l = record {
-  counted : l.outside ≡ passing (λ v. not (contains l.points v)) (is_free l.p) 0 l.v;
+  counted : l.outside ≡ passed (λ v. is_free l.p v && not (contains l.points v)) l.v;
   few : l.outside ≤ l.v;
 }

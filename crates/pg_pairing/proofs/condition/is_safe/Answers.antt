@@ -1,5 +1,4 @@
-use Rattle.std.proofs.Common.{◌≡◌, Any, sym, ◌∙◌}
-use Rattle.pg_game.specs.Pairs.{HoldsPair}
+use Rattle.std.proofs.Common.{sym, ◌∙◌}
 use Rattle.pg_pairing.proofs.PairLoops.{holds-iff}
 use Rattle.pg_pairing.proofs.condition.is_safe.Goals as goal
 

@@ -1,4 +1,4 @@
-use Rattle.std.proofs.Common.{◌≡◌, ◌<◌, ℕ, List, length, get_or, ap, sym, subst, ◌∙◌, arith}
+use Rattle.std.proofs.Common.{◌<◌, ℕ, List, length, get_or, ap, subst, ◌∙◌}
 use Rattle.std.specs.FinSet.{contains, insert, contains-empty}
 use Rattle.std.specs.Ordering.{nat_cmp}
 use Rattle.pg_pairing.proofs.PairLoops.{on_line-more}

@@ -1,10 +1,8 @@
-use Rattle.std.proofs.Common.{◌≡◌, ◌<◌, ℕ, true, Option, subst, sym, arith}
-use Rattle.std.proofs.lemmas.List.Elements.{All-weaker}
+use Rattle.std.proofs.Common.{◌≡◌, ◌<◌, ℕ, true, Option, subst, sym}
 use Rattle.pg_game.specs.Game.{after}
-use Rattle.pg_game.specs.Pairs.{IsInGame, pairs_answer}
+use Rattle.pg_game.specs.Pairs.{pairs_answer}
 use Rattle.pg_game.specs.Position.{is_free}
 use Rattle.pg_game.specs.Game.{point_count}
-use Rattle.pg_game.proofs.Limits.{point_count-le}
 use Rattle.pg_pairing.specs.Rest.{RestHolds}
 use Rattle.pg_pairing.proofs.PairLoops.{pairs-few}
 use Rattle.pg_pairing.proofs.AnswerLaws.{answer-free, keeps_replied, keeps_unreplied, keeps_in_turn}

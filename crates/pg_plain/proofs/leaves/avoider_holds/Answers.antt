@@ -1,4 +1,4 @@
-use Rattle.pg_plain.proofs.LeafBounds.{IsBaseOf-two}
+use Rattle.pg_game.proofs.WeightBounds.{IsBaseOf-two}
 use Rattle.pg_plain.proofs.LeafLaws.{avoider_holds-is}
 use Rattle.pg_plain.proofs.leaves.avoider_holds.Goals as goal
 

@@ -1,5 +1,5 @@
 use Rattle.std.proofs.Common.{arith}
-use Rattle.pg_plain.proofs.LeafBounds.{IsBaseOf-two, two-few, total-few}
+use Rattle.pg_game.proofs.WeightBounds.{IsBaseOf-two, two-few, total-few}
 use Rattle.pg_plain.proofs.leaves.avoider_risk.Goals as goal
 
 pub total_weight-total-requires : goal.total_weight-total-requires

@@ -1,4 +1,4 @@
-use Rattle.pg_plain.proofs.LeafBounds.{IsBaseOf-bias}
+use Rattle.pg_game.proofs.WeightBounds.{IsBaseOf-bias}
 use Rattle.pg_plain.proofs.leaves.breaker_base.Goals as goal
 
 pub returns-clause-fits : goal.returns-clause-fits

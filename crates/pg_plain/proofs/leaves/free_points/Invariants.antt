@@ -1,6 +1,6 @@
 use Rattle.std.proofs.Common.{◌≡◌, ◌≤◌}
 use Rattle.pg_game.specs.Position.{is_free}
-use Rattle.pg_plain.proofs.LeafCounts.{passed}
+use Rattle.pg_game.proofs.FreeCounts.{passed}
 use Rattle.pg_plain.proofs.leaves.free_points.Given as goal
 
 abbrev pub invariant-loop-v : goal.invariant-loop-v

@@ -1,8 +1,8 @@
 use Rattle.std.proofs.Common.{◌≡◌, ap, ◌∙◌, arith}
 use Rattle.pg_game.specs.Game.{lines_of}
 use Rattle.pg_game.specs.Potential.{greatest_length}
-use Rattle.pg_plain.proofs.LeafWeights.{full_weight-is}
-use Rattle.pg_plain.proofs.LeafBounds.{greatest_length-few}
+use Rattle.pg_game.proofs.LineSums.{full_weight-is}
+use Rattle.pg_game.proofs.WeightBounds.{greatest_length-few}
 use Rattle.pg_plain.proofs.leaves.full_weight.Goals as goal
 
 pub overflow_cast-greatest_length : goal.overflow_cast-greatest_length

@@ -1,6 +1,6 @@
-use Rattle.std.proofs.Common.{◌+◌, ◌-◌, ◌^◌, ap, sym, ◌∙◌, arith}
+use Rattle.std.proofs.Common.{◌-◌, ◌^◌, ap, sym, ◌∙◌, arith}
 use Rattle.std.proofs.Math.Nat.{pow-le-pow_right}
-use Rattle.pg_plain.proofs.LeafWeights.{line_weight-touched, line_weight-clear}
+use Rattle.pg_game.proofs.LineSums.{line_weight-touched, line_weight-clear}
 use Rattle.pg_plain.proofs.leaves.line_weight.Goals as goal
 
 pub pow-requires : goal.pow-requires

@@ -1,6 +1,6 @@
 use Rattle.std.proofs.Common.{◌≡◌, take}
 use Rattle.std.specs.List.{sum_by}
-use Rattle.pg_plain.proofs.LeafWeights.{weight_on}
+use Rattle.pg_game.proofs.LineSums.{weight_on}
 use Rattle.pg_plain.proofs.leaves.point_weight.Given as goal
 
 abbrev pub invariant-loop-line : goal.invariant-loop-line

@@ -1,4 +1,4 @@
-use Rattle.std.proofs.Common.{◌≡◌, ◌≤◌, ◌^◌, ◌∙◌, arith}
+use Rattle.std.proofs.Common.{◌≤◌, ◌^◌, ◌∙◌, arith}
 use Rattle.std.proofs.lemmas.Nat.{mul-le}
 use Rattle.pg_plain.proofs.LeafLaws.{total-le, greatest_weight-le, potential_holds-is}
 use Rattle.pg_plain.proofs.leaves.potential_holds.Goals as goal

@@ -1,7 +1,7 @@
-use Rattle.std.proofs.Common.{◌≡◌, ap, sym, ◌∙◌, arith}
+use Rattle.std.proofs.Common.{ap, sym, ◌∙◌, arith}
 use Rattle.pg_game.specs.Potential.{greatest_length}
-use Rattle.pg_plain.proofs.LeafBounds.{greatest_length-few}
-use Rattle.pg_plain.proofs.LeafWeights.{length-le-greatest, full_weight-is, total-fits, total-all}
+use Rattle.pg_game.proofs.WeightBounds.{greatest_length-few}
+use Rattle.pg_game.proofs.LineSums.{length-le-greatest, full_weight-is, total-fits, total-all}
 use Rattle.pg_plain.proofs.leaves.total_weight.Goals as goal
 
 pub line_weight-total-requires-clause-few : goal.line_weight-total-requires-clause-few

@@ -1,7 +1,7 @@
-use Rattle.std.proofs.Common.{sym, ap, ◌∙◌, arith}
+use Rattle.std.proofs.Common.{sym, ap, ◌∙◌}
 use Rattle.pg_base.specs.declared.side.Side.{Side}
 use Rattle.pg_game.specs.Avoider.{x_takes_last}
-use Rattle.pg_plain.proofs.LastPoint.{takes-x, takes-x_none, takes-y, takes-y_none}
+use Rattle.pg_game.proofs.LastPoint.{takes-x, takes-x_none, takes-y, takes-y_none}
 use Rattle.pg_plain.proofs.leaves.x_takes_last.Goals as goal
 
 pub returns-then-free-gt0 : goal.returns-then-free-gt0

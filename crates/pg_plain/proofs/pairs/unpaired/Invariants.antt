@@ -1,6 +1,6 @@
 use Rattle.std.proofs.Common.{◌≡◌, ◌≤◌}
 use Rattle.pg_plain.specs.PairParts.{is_unpaired}
-use Rattle.pg_plain.proofs.LeafCounts.{passed}
+use Rattle.pg_game.proofs.FreeCounts.{passed}
 use Rattle.pg_plain.proofs.pairs.unpaired.Given as goal
 
 abbrev pub invariant-loop-v : goal.invariant-loop-v

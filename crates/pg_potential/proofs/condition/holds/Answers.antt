@@ -1,6 +1,6 @@
-use Rattle.std.proofs.Common.{◌≡◌, ◌<◌, ◌≤◌, ◌+◌, ◌*◌, ◌^◌, ℕ, IsTrue, nat_lt, ltb-true, lt-ltb, ap, ap₂, sym, subst, subst₂, ◌∙◌, arith}
+use Rattle.std.proofs.Common.{◌≡◌, ◌<◌, ◌≤◌, ◌+◌, ◌*◌, ◌^◌, ℕ, IsTrue, nat_lt, ltb-true, lt-ltb, ap₂, sym, subst, subst₂, ◌∙◌, arith}
 use Rattle.std.proofs.lemmas.Nat.{mul-le}
-use Rattle.pg_game.specs.Potential.{total, limit, greatest_weight, times_counted, PotentialHolds}
+use Rattle.pg_game.specs.Potential.{total, greatest_weight, times_counted, PotentialHolds}
 use Rattle.pg_base.specs.declared.goal.Goal.TheVariants.{Win}
 use Rattle.pg_base.specs.declared.side.Side.{Side}
 use Rattle.pg_game.specs.Value.{Forces}

@@ -1,4 +1,4 @@
-use Rattle.pg_potential.proofs.WeightBounds.{IsBaseOf-bias}
+use Rattle.pg_game.proofs.WeightBounds.{IsBaseOf-bias}
 use Rattle.pg_potential.proofs.condition.limit.Goals as goal
 
 pub full_weight-requires : goal.full_weight-requires

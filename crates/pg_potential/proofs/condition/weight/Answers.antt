@@ -1,6 +1,6 @@
-use Rattle.std.proofs.Common.{◌<◌, ℕ, ap, subst, sym, ◌∙◌, arith, get_or}
+use Rattle.std.proofs.Common.{◌<◌, ap, ◌∙◌, arith}
 use Rattle.pg_game.specs.Potential.{weight}
-use Rattle.pg_potential.proofs.WeightBounds.{few_points-lines}
+use Rattle.pg_game.proofs.WeightBounds.{few_points-lines}
 use Rattle.pg_potential.proofs.condition.weight.Goals as goal
 
 pub bounds-weights_for-from : goal.bounds-weights_for-from

@@ -1,5 +1,5 @@
 use Rattle.std.proofs.Common.{arith}
-use Rattle.pg_potential.proofs.WeightBounds.{IsBaseOf-bias, total-few}
+use Rattle.pg_game.proofs.WeightBounds.{IsBaseOf-bias, total-few}
 use Rattle.pg_potential.proofs.condition.weights_for.Goals as goal
 
 pub weigh-requires : goal.weigh-requires

@@ -3,8 +3,8 @@ use Rattle.pg_base.specs.declared.side.Side.{Side}
 use Rattle.pg_base.specs.declared.side.Side.TheVariants.{Y}
 use Rattle.pg_game.specs.Position.{is_free}
 use Rattle.pg_game.specs.Game.{point_count, after}
-use Rattle.pg_game.specs.Potential.{weight, greatest_weight, PotentialHolds, potential_answer}
-use Rattle.pg_potential.proofs.Greatest.{member-free, member-within}
+use Rattle.pg_game.specs.Potential.{PotentialHolds, potential_answer}
+use Rattle.pg_game.proofs.Greatest.{member-free, member-within}
 use Rattle.pg_potential.proofs.GreatestWeight.{answer-is, answer-good}
 use Rattle.pg_potential.proofs.PotentialLaws.{kept-answer_breaker, kept-answer_draw}
 use Rattle.pg_potential.proofs.reply.answer.Goals as goal

@@ -1,6 +1,6 @@
-use Rattle.std.proofs.Common.{◌==◌, ◌≡◌, get_or, unwrap_or, sym, ap, ◌∙◌, arith}
-use Rattle.pg_potential.proofs.Lowest.{lowest-found, lowest-none}
-use Rattle.pg_potential.proofs.WeightBounds.{few_points-lines}
+use Rattle.std.proofs.Common.{◌==◌, get_or, unwrap_or, sym, ap, ◌∙◌, arith}
+use Rattle.pg_game.proofs.Lowest.{lowest-found, lowest-none}
+use Rattle.pg_game.proofs.WeightBounds.{few_points-lines}
 use Rattle.pg_potential.proofs.reply.lowest_with.Goals as goal
 
 pub has_weight-requires-clause-small : goal.has_weight-requires-clause-small

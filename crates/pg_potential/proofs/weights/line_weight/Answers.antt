@@ -1,6 +1,6 @@
-use Rattle.std.proofs.Common.{◌+◌, ◌-◌, ◌^◌, ap, sym, ◌∙◌, arith}
+use Rattle.std.proofs.Common.{◌-◌, ◌^◌, ap, sym, ◌∙◌, arith}
 use Rattle.std.proofs.Math.Nat.{pow-le-pow_right}
-use Rattle.pg_potential.proofs.Walks.{line_weight-touched, line_weight-clear}
+use Rattle.pg_game.proofs.LineSums.{line_weight-touched, line_weight-clear}
 use Rattle.pg_potential.proofs.weights.line_weight.Goals as goal
 
 pub pow-requires : goal.pow-requires

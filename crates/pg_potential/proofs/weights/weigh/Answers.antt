@@ -1,12 +1,9 @@
-use Rattle.std.proofs.Common.{◌≡◌, ◌<◌, ℕ, List, length, get_or, refl, ap, sym, subst, ◌∙◌, arith}
+use Rattle.std.proofs.Common.{refl, ap, sym, ◌∙◌, arith}
 use Rattle.std.proofs.lemmas.List.{get_or-replicate}
-use Rattle.std.specs.List.{Contains}
-use Rattle.pg_game.specs.Game.{lines_of}
 use Rattle.pg_game.specs.Potential.{greatest_length}
-use Rattle.pg_potential.proofs.LineWeights.{length-le-greatest}
-use Rattle.pg_potential.proofs.Walks.{full_weight-is, total-fits, points-le, weights-all}
-use Rattle.pg_potential.proofs.WeightBounds.{greatest_length-few}
-use Rattle.std.specs.List.{sum_by}
+use Rattle.pg_game.proofs.LineSums.{length-le-greatest, full_weight-is, total-fits, points-le}
+use Rattle.pg_potential.proofs.Walks.{weights-all}
+use Rattle.pg_game.proofs.WeightBounds.{greatest_length-few}
 use Rattle.std.proofs.Common.{take}
 use Rattle.pg_potential.proofs.weights.weigh.Goals as goal
 

@@ -1,5 +1,5 @@
--- The steps of the sums over the lines.
-use Rattle.std.proofs.Common.{◌≡◌, ℕ, zero, suc, ◌+◌, ◌-◌, ◌^◌, ◌<◌, ◌≤◌, max, Bool, true, false, if◌then◌else◌, List, [], ◌∷◌, length, get_or, take, refl, sym, ap, ◌∙◌, inl, inr, arith, take_all}
+-- The weights of lines, and their sums with one line more.
+use Rattle.std.proofs.Common.{◌≡◌, ℕ, zero, suc, ◌+◌, ◌-◌, ◌^◌, ◌<◌, ◌≤◌, true, false, if◌then◌else◌, List, [], ◌∷◌, length, get_or, take, refl, ap, ◌∙◌, inl, inr, arith, take_all}
 use Rattle.std.proofs.lemmas.Bool.{cases_Bool}
 use Rattle.std.proofs.lemmas.List.Sums.{sum_by-cons, sum_by_more_le}
 use Rattle.std.specs.List.{count_by, sum_by, Contains}
@@ -9,10 +9,9 @@ use Rattle.pg_game.specs.declared.game.Game.{Game}
 use Rattle.pg_game.specs.declared.position.Position.{Position}
 use Rattle.pg_game.specs.Position.{is_free}
 use Rattle.pg_game.specs.Game.{is_touched, lines_of}
-use Rattle.pg_game.specs.Potential.{greatest_length, is_on, line_weight, total_weight, point_weight, full_weight}
+use Rattle.pg_game.specs.Potential.{greatest_length, is_on, line_weight, total_weight, point_weight, full_weight, IsBaseOf}
 use Rattle.pg_game.proofs.Members.{Contains-head, Contains-tail}
-use Rattle.pg_plain.specs.Leaves.{IsBaseOf}
-use Rattle.pg_plain.proofs.LeafBounds.{total-few}
+use Rattle.pg_game.proofs.WeightBounds.{total-few}
 
 -- ---- the weight of a line
 
@@ -34,6 +33,13 @@ unfolding full_weight
 full_weight-is base g k is = ap (λ n. base ^ n) is
 
 -- ---- all lines
+
+pub sum-le : {X : Type 0} (f h : X → ℕ) (xs : List X) → ((x : X) → Contains xs x → f x ≤ h x) → sum_by f xs ≤ sum_by h xs
+sum-le f h [] each = omega arith
+sum-le f h (x ∷ xs) each =
+    let here = each x (Contains-head x xs) in
+    let rest = sum-le f h xs (λ y c. each y (Contains-tail x y xs c)) in
+    omega (arith, here, rest, sum_by-cons f x xs, sum_by-cons h x xs)
 
 -- the sum so far with one line more
 pub total-fits : (base : ℕ) (g : Game) (own : FinSet nat_cmp) (p : Position) (lines : List (List ℕ)) (k i : ℕ) (line : List ℕ) → IsBaseOf base g → lines ≡ lines_of g → k ≡ greatest_length (lines_of g)
@@ -57,19 +63,6 @@ total-all base g own p lines k i total same longest end is =
 -- the weight of a line through the point, else 0
 abbrev pub weight_on : ℕ → ℕ → FinSet nat_cmp → Position → ℕ → List ℕ → ℕ
 weight_on base k own p v line = if is_on v line then line_weight base k own p line else 0
-
-pub weight_on-on : (base k : ℕ) (own : FinSet nat_cmp) (p : Position) (v : ℕ) (line : List ℕ) → is_on v line ≡ true → weight_on base k own p v line ≡ line_weight base k own p line
-weight_on-on base k own p v line on = rw on refl
-
-pub weight_on-off : (base k : ℕ) (own : FinSet nat_cmp) (p : Position) (v : ℕ) (line : List ℕ) → is_on v line ≡ false → weight_on base k own p v line ≡ 0
-weight_on-off base k own p v line off = rw off refl
-
-sum-le : {X : Type 0} (f h : X → ℕ) (xs : List X) → ((x : X) → Contains xs x → f x ≤ h x) → sum_by f xs ≤ sum_by h xs
-sum-le f h [] each = omega arith
-sum-le f h (x ∷ xs) each =
-    let here = each x (Contains-head x xs) in
-    let rest = sum-le f h xs (λ y c. each y (Contains-tail x y xs c)) in
-    omega (arith, here, rest, sum_by-cons f x xs, sum_by-cons h x xs)
 
 -- some lines through a point weigh no more than those lines and the others
 pub points-le : (base k : ℕ) (own : FinSet nat_cmp) (p : Position) (v : ℕ) (lines : List (List ℕ)) → sum_by (weight_on base k own p v) lines ≤ sum_by (line_weight base k own p) lines

@@ -1,10 +1,10 @@
 -- Weights fit 128 bits.
-use Rattle.std.proofs.Common.{◌≡◌, ◌≢◌, ℕ, zero, suc, ◌+◌, ◌-◌, ◌*◌, ◌^◌, ◌<◌, ◌≤◌, max, Bool, true, false, ◌==◌, if◌then◌else◌, List, [], ◌∷◌, length, refl, sym, ap, ◌∙◌, subst, inl, inr, ◌⊎◌, arith, eqb-true, All, get_or}
+use Rattle.std.proofs.Common.{◌≡◌, ◌≢◌, ℕ, ◌+◌, ◌^◌, ◌<◌, ◌≤◌, Bool, ◌==◌, if◌then◌else◌, List, [], ◌∷◌, length, refl, sym, subst, inl, inr, arith, eqb-true, All, get_or}
 use Rattle.std.proofs.lemmas.Bool.{cases_Bool}
 use Rattle.std.proofs.Math.Nat.{pow-le-pow_left, pow-le-pow_right}
 use Rattle.std.proofs.lemmas.List.Sums.{sum_by-le}
-use Rattle.std.proofs.lemmas.List.Elements.{All-weaker, All-get_or}
-use Rattle.std.specs.List.{sum_by, Contains}
+use Rattle.std.proofs.lemmas.List.Elements.{All-weaker}
+use Rattle.std.specs.List.{Contains}
 use Rattle.std.specs.FinSet.{FinSet}
 use Rattle.std.specs.Ordering.{nat_cmp}
 use Rattle.pg_base.specs.declared.kind.Kind.{Kind}
@@ -15,10 +15,9 @@ use Rattle.pg_game.specs.declared.field.Field.{Field}
 use Rattle.pg_game.specs.declared.field.Field.TheVariants.{Lines, Graph as OnGraph}
 use Rattle.pg_game.specs.Field.{field_points, field_lines}
 use Rattle.pg_game.proofs.Outcomes.{switching-on_graph}
-use Rattle.pg_potential.specs.Weights.{IsBaseOf}
 use Rattle.pg_game.specs.Fit.{IsLineOf, FieldFits, longest, greatest_bias}
 use Rattle.pg_game.specs.Game.{lines_of, point_count, is_touched}
-use Rattle.pg_game.specs.Potential.{greatest_length, line_weight, total_weight, full_weight}
+use Rattle.pg_game.specs.Potential.{greatest_length, line_weight, total_weight, full_weight, IsBaseOf}
 use Rattle.pg_game.proofs.Limits.{lines-fit}
 use Rattle.pg_game.proofs.Members.{Contains-head, Contains-tail}
 
