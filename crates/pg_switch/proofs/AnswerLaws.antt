@@ -1,9 +1,9 @@
 -- The answers by trees and by cuts are free edges, and the sets hold after them.
-use Rattle.std.proofs.Common.{◌≡◌, ◌≢◌, ℕ, ◌<◌, ◌≤◌, suc, Bool, true, false, ◌⊎◌, Option, Some, None, inl, inr, refl, sym, ap, ◌∙◌, subst, subst₂, arith}
+use Rattle.std.proofs.Common.{◌≡◌, ◌≢◌, ℕ, ◌<◌, ◌≤◌, suc, Bool, true, false, Option, Some, None, inl, inr, sym, ap, ◌∙◌, subst, subst₂, arith}
 use Rattle.std.proofs.lemmas.Bool.{cases_Bool, cases_eq, both_ways, false_from_ne_true}
 use Rattle.std.specs.FinSet.{FinSet, contains, remove}
 use Rattle.std.specs.Ordering.{nat_cmp}
-use Rattle.pg_base.specs.Sets.{plus, minus, either, outside, IsWithin, IsBelow}
+use Rattle.pg_base.specs.Sets.{plus, minus, either, outside}
 use Rattle.pg_base.specs.declared.side.Side.{Side}
 use Rattle.pg_base.specs.declared.side.Side.TheVariants.{X, Y}
 use Rattle.pg_base.specs.Side.{other}
@@ -19,17 +19,16 @@ use Rattle.pg_graph.proofs.Trees.{IsTrees-other, IsTrees-claimed}
 use Rattle.pg_graph.proofs.TreeAnswers.{IsTrees-crossed, IsTrees-uncrossed}
 use Rattle.pg_graph.proofs.Cuts.{IsCuts-other, IsCuts-claimed, IsCuts-dropped, IsCuts-answered, find_parting}
 use Rattle.pg_game.specs.declared.field.Field.{Field}
-use Rattle.pg_game.specs.declared.field.Field.TheVariants.{Lines, Graph as OnGraph}
+use Rattle.pg_game.specs.declared.field.Field.TheVariants.{Graph as OnGraph}
 use Rattle.pg_game.specs.declared.game.Game.{Game}
 use Rattle.pg_game.specs.declared.position.Position.{Position}
 use Rattle.pg_game.specs.Field.{field_points}
 use Rattle.pg_game.specs.Fit.{AreBelow}
 use Rattle.pg_game.specs.Game.{point_count, is_over, after, IsPosition}
-use Rattle.pg_game.specs.Position.{is_free}
-use Rattle.pg_game.specs.Trees.{IsFreeEdge, AreFreeEdges, AreFreeWithE, AreTrees, AreCuts, TreesHold, TreesHoldOn, CutsHold, CutsHoldOn, with_set, without_set, or_edge, lowest_free_edge, lowest_crossing, lowest_parting, answered_edge, short_edge, cut_edge}
-use Rattle.pg_game.proofs.Moves.{side≢other, free-stays, free-of}
+use Rattle.pg_game.specs.Trees.{IsFreeEdge, AreFreeEdges, AreFreeWithE, AreTrees, AreCuts, TreesHold, TreesHoldOn, CutsHold, CutsHoldOn, with_set, without_set, or_edge, lowest_free_edge, answered_edge, short_edge, cut_edge}
+use Rattle.pg_game.proofs.Moves.{side≢other, free-stays}
 use Rattle.pg_game.proofs.Strategy.{free_point}
-use Rattle.pg_switch.specs.Replies.{short_reply, cut_reply, HeldBefore, HeldUntil}
+use Rattle.pg_switch.specs.Replies.{short_reply, cut_reply, HeldUntil}
 use Rattle.pg_switch.proofs.EdgeSets.{left_edges, left_edges-below, with_set-edges, x-after_x, x-after_y, y-after_x, left-after_x, left-after_y, IsTrees-from, AreTrees-from, IsCuts-from, AreCuts-from, without-agree, minus-agree}
 use Rattle.pg_switch.proofs.Finding.{crossing-cases, parting-cases, parting-apart, joins-agree, lowest_free-free}
 

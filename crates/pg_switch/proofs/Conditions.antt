@@ -1,21 +1,18 @@
 -- The tests of trees and cuts say what the definitions say.
-use Rattle.std.proofs.Common.{◌≡◌, ℕ, ◌<◌, ◌≤◌, suc, Bool, true, false, not, ◌&&◌, ◌⊎◌, inl, inr, refl, sym, ap, ◌∙◌, subst, arith}
+use Rattle.std.proofs.Common.{◌≡◌, ℕ, Bool, true, false, inl, inr, sym, ap, ◌∙◌, subst, arith}
 use Rattle.std.specs.Prelude.{◌↔◌, IsTrue}
 use Rattle.std.proofs.lemmas.Bool.{both_ways}
 use Rattle.std.specs.FinSet.{FinSet, contains, insert, union, difference}
 use Rattle.std.specs.Ordering.{nat_cmp}
-use Rattle.pg_base.specs.Sets.{outside, below}
-use Rattle.pg_base.specs.declared.side.Side.{Side}
-use Rattle.pg_base.specs.declared.side.Side.TheVariants.{X, Y}
+use Rattle.pg_base.specs.Sets.{outside}
 use Rattle.pg_base.proofs.PointSetLaws.{contains-union_either, contains-difference_outside, insert-cases, insert-old, insert-self}
 use Rattle.pg_base.proofs.SetLemmas.{outside_parts}
 use Rattle.pg_graph.specs.declared.graph.Graph.{Graph}
 use Rattle.pg_graph.specs.Graph.{edge_count, IsBridge}
 use Rattle.pg_graph.specs.Joiner.{AreEdges}
 use Rattle.pg_game.specs.declared.position.Position.{Position}
-use Rattle.pg_game.specs.Fit.{AreBelow}
-use Rattle.pg_game.specs.Trees.{IsFreeEdge, AreFreeWithE, AreFreeEdges, AreApart, JoinsEndsOf, with_set, without_set, AreTrees, AreCuts}
-use Rattle.pg_switch.specs.Parts.{AreFreePair, JoinsOther, BridgesOther}
+use Rattle.pg_game.specs.Trees.{JoinsEndsOf, with_set, without_set}
+use Rattle.pg_switch.specs.Parts.{JoinsOther, BridgesOther}
 use Rattle.pg_switch.proofs.EdgeSets.{left_edges, left_edges-below, bridge-same, without-agree}
 
 -- ---- sets

@@ -1,12 +1,11 @@
 -- What the plans' answers keep.
-use Rattle.std.proofs.Common.{◌≡◌, ◌≢◌, ℕ, ◌<◌, ◌≤◌, suc, Bool, true, false, Option, Some, None, inl, inr, refl, sym, ap, ◌∙◌, subst, subst₂, arith}
+use Rattle.std.proofs.Common.{◌≡◌, ℕ, ◌<◌, true, false, Option, sym, ap, ◌∙◌, subst, subst₂, arith}
 use Rattle.std.specs.FinSet.{FinSet, contains, remove}
 use Rattle.std.specs.Ordering.{nat_cmp}
 use Rattle.pg_base.specs.declared.side.Side.TheVariants.{X, Y}
 use Rattle.pg_graph.specs.declared.graph.Graph.{Graph}
-use Rattle.pg_graph.specs.Graph.{edge_count}
 use Rattle.pg_game.specs.declared.field.Field.{Field}
-use Rattle.pg_game.specs.declared.field.Field.TheVariants.{Lines, Graph as OnGraph}
+use Rattle.pg_game.specs.declared.field.Field.TheVariants.{Graph as OnGraph}
 use Rattle.pg_game.specs.declared.game.Game.{Game}
 use Rattle.pg_game.specs.declared.position.Position.{Position}
 use Rattle.pg_game.specs.Field.{field_points}

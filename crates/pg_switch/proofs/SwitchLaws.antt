@@ -1,9 +1,9 @@
 -- Trees that hold force Short's win, and cuts that hold force Cut's.
-use Rattle.std.proofs.Common.{◌≡◌, ◌≢◌, ℕ, ◌<◌, ◌≤◌, suc, Bool, true, false, not, ◌||◌, ◌⊎◌, inl, inr, refl, sym, ap, ◌∙◌, subst, subst₂, arith}
-use Rattle.std.proofs.lemmas.Bool.{cases_Bool, both_ways, false_from_ne_true, not_from_false, not-true}
+use Rattle.std.proofs.Common.{◌≡◌, ℕ, ◌<◌, ◌≤◌, suc, Bool, true, false, not, ◌||◌, ◌⊎◌, inl, inr, refl, sym, ap, ◌∙◌, subst, subst₂, arith}
+use Rattle.std.proofs.lemmas.Bool.{cases_Bool, both_ways, false_from_ne_true, not_from_false}
 use Rattle.std.specs.FinSet.{FinSet, contains}
 use Rattle.std.specs.Ordering.{nat_cmp}
-use Rattle.pg_base.specs.Sets.{plus, minus, either, below, IsWithin, IsBelow}
+use Rattle.pg_base.specs.Sets.{minus, below, IsWithin, IsBelow}
 use Rattle.pg_base.specs.declared.goal.Goal.TheVariants.{Win}
 use Rattle.pg_base.specs.declared.kind.Kind.{Kind}
 use Rattle.pg_base.specs.declared.kind.Kind.TheVariants.{Switching}
@@ -14,7 +14,6 @@ use Rattle.pg_base.proofs.BelowLemmas.{below_parts, below_from}
 use Rattle.pg_base.proofs.SetLemmas.{minus_parts}
 use Rattle.pg_graph.specs.declared.graph.Graph.{Graph}
 use Rattle.pg_graph.specs.Graph.{edge_count, spans_in}
-use Rattle.pg_graph.specs.Walks.{first_end, second_end}
 use Rattle.pg_graph.proofs.GraphLemmas.{IsSpan-graph, spans_e-sound, spans_e-complete}
 use Rattle.pg_graph.proofs.TreeAnswers.{TreesStand, TreesOwed, TreesOwed-stand, TreesOwed-taken, TreesStand-answer, TreesOwed-joins}
 use Rattle.pg_graph.proofs.CutAnswers.{CutsStand, CutsOwed, CutsOwed-stand, CutsOwed-taken, CutsStand-answer, CutsOwed-parts}
@@ -86,13 +85,14 @@ module _ (g : Game) (h : Graph) (on : g.field ≡ OnGraph h) where
     pub position : IsPosition g p
     pub state : ((p.turn ≡ side) × Owed p) ⊎ ((p.turn ≡ other side) × Stand p)
 
-  record Answers (side : Side) (Stand Owed : Position → Type 0) : Type 0 where
+  -- what meets every reply: sets that stand count as owed, either ends well, an answer makes them stand, and a reply leaves them owed
+  record CanAnswer (side : Side) (Stand Owed : Position → Type 0) : Type 0 where
     pub owed : (p : Position) → Stand p → Owed p
     pub ends : (p : Position) → IsPosition g p → Owed p → is_over g p ≡ true → reaches side Win (outcome g p) ≡ true
     pub own : (p : Position) → Owed p → p.turn ≡ side → (z : ℕ) → free_edges h p z ≡ true → (v : ℕ) × (free_edges h p v ≡ true) × Stand (after g p v)
     pub theirs : (p : Position) → Stand p → p.turn ≡ other side → (v : ℕ) → Owed (after g p v)
 
-  module _ (side : Side) (Stand Owed : Position → Type 0) (answers : Answers side Stand Owed) where
+  module _ (side : Side) (Stand Owed : Position → Type 0) (answers : CanAnswer side Stand Owed) where
     owed_now : (p : Position) → IsReady side Stand Owed p → Owed p
     owed_now p i = elim i.state [ inl s ↦ s.1 | inr s ↦ answers.owed p s.1 ]
 
@@ -163,7 +163,7 @@ module _ (g : Game) (h : Graph) (on : g.field ≡ OnGraph h) where
           by_join false true joinable over = absurd (both_ways _ refl over)
           by_join false false joinable over = absurd (both_ways _ refl joinable)
 
-  short_answers : Answers X ShortStands ShortOwed
+  short_answers : CanAnswer X ShortStands ShortOwed
   short_answers = record {
     owed = λ p s. TreesOwed-stand (spans_in h) (IsSpan-graph h) (edge_count h) (contains p.x) (free_edges h p) s;
     ends = short_ends;
@@ -206,7 +206,7 @@ module _ (g : Game) (h : Graph) (on : g.field ≡ OnGraph h) where
       won kind x y j e parted =
           subst (λ (k : Kind). reaches Y Win (outcome_by k x y j) ≡ true) (sym e) (subst (λ (b : Bool). reaches Y Win (outcome_by Switching x y b) ≡ true) (sym parted) refl)
 
-  cut_answers : Answers Y CutStands CutOwed
+  cut_answers : CanAnswer Y CutStands CutOwed
   cut_answers = record {
     owed = λ p s. CutsOwed-stand (spans_in h) (IsSpan-graph h) (edge_count h) (left_edges h p) (free_edges h p) s;
     ends = λ p position owed over. cut_ends p position owed;
