@@ -1,5 +1,5 @@
 -- What an own move keeps, body by body.
-use Rattle.std.proofs.Common.{◌≡◌, ◌≢◌, ◌∙◌, ℕ, ◌<◌, Bool, true, false, ◌&&◌, List, Option, Some, None, if◌then◌else◌, refl, sym, ap, subst, inl, inr, ◌⊎◌, eqb-true}
+use Rattle.std.proofs.Common.{◌≡◌, ◌≢◌, ◌∙◌, ℕ, ◌<◌, Bool, true, false, ◌&&◌, List, Option, Some, None, if◌then◌else◌, refl, sym, ap, subst, subst₂, inl, inr, ◌⊎◌, eqb-true}
 use Rattle.std.proofs.lemmas.Bool.{cases_Bool, false≢true}
 use Rattle.std.specs.FinSet.{FinSet, insert}
 use Rattle.std.specs.Ordering.{nat_cmp}
@@ -37,8 +37,8 @@ use Rattle.pg_cert.specs.declared.cert.Claim.{Claim}
 use Rattle.pg_cert.specs.declared.node.Body.{Body}
 use Rattle.pg_cert.specs.declared.node.Body.TheVariants.{Move, Pairs, Potential, Trees, Cuts}
 use Rattle.pg_cert.specs.OwnMove.{Standing, own_move, arrives, stays, potential_point, trees_point, cuts_point, stays_with_trees, stays_with_cuts}
-use Rattle.pg_cert.specs.Valid.{shows_defence, shows_trees, shows_cuts, pairs_fit, PotentialFits, with_e_named}
-use Rattle.pg_player.specs.InPlay.{PotentialWaiting, InPlay, KeepsUp}
+use Rattle.pg_cert.specs.Valid.{is_allowed, shows_defence, shows_trees, shows_cuts, pairs_fit, PotentialFits, with_e_named}
+use Rattle.pg_player.specs.InPlay.{PotentialWaiting, Waiting, InPlay, KeepsUp}
 use Rattle.pg_player.proofs.Plays.{IsPosition-reached, reached-after, single, not-again}
 use Rattle.pg_player.proofs.Arriving.{arrived}
 
@@ -259,6 +259,18 @@ cuts_kind AvoiderEnforcer side ok = absurd (false≢true ok)
 cuts_kind Switching X ok = absurd (false≢true ok)
 cuts_kind Switching Y ok = (refl, refl)
 
+-- an own move by a plan, after which the other side is to move
+planned : (g : Game) (c : Claim) (p : Position) (body next : Body) (last : Option ℕ) (v : ℕ) (side : Side) → g.kind ≡ Switching → c.side ≡ side → IsPosition g p → p.turn ≡ c.side
+    → is_allowed g.kind g.bias c.side c.goal next ≡ true → own_move g c.nodes c.side p (record { body = body; last = last }) ≡ Some (record { point = v; next = Some (record { body = next; last = last }) })
+    → v < point_count g → is_free p v ≡ true → Forces g (after g p v) side Win → Waiting g c (after g p v) next → KeepsUp g c p (record { body = body; last = last }) v (record { body = next; last = last })
+planned g c p body next last v side kind is position mine allowed own within free wins waits = record {
+  own = own;
+  within = within;
+  free = free;
+  forced = any_goal-is g (after g p v) c.side side c.goal is wins;
+  stands = record { allowed = allowed; ready = λ on again. absurd (not-again g p c.side v (single g Switching kind refl) position mine again); waiting = λ on theirs. waits };
+}
+
 trees_answered : (field : Field) (p : Position) (first second : FinSet nat_cmp) (last : Option ℕ) (a : Answered) → IsTreesAnswer field p first second last a
     → stays_with_trees (trees_point field p false first second last) last ≡ stays a.edge (Trees false a.first a.second) last
 trees_answered (Lines f) p first second last a rule = absurd rule
@@ -276,17 +288,8 @@ unfolding own_move
 keeps-trees g c p first second last v f s h going mine rule within free holds =
     let position = IsPosition-reached g p h.reached in
     let is = trees_kind g.kind c.side h.stands.allowed in
-    record {
-      own = trees_answered g.field p first second last (record { edge = v; first = f; second = s }) rule;
-      within = within;
-      free = free;
-      forced = any_goal-is g (after g p v) c.side X c.goal is.1 (Forces-trees g (after g p v) f s (IsPosition-after g p v position within free) holds);
-      stands = record {
-        allowed = h.stands.allowed;
-        ready = λ on again. absurd (not-again g p c.side v (single g Switching is.0 refl) position mine again);
-        waiting = λ on theirs. holds;
-      };
-    }
+    planned g c p (Trees false first second) (Trees false f s) last v X is.0 is.1 position mine h.stands.allowed (trees_answered g.field p first second last (record { edge = v; first = f; second = s }) rule) within free
+    (Forces-trees g (after g p v) f s (IsPosition-after g p v position within free) holds) holds
 
 pub keeps-cuts : (g : Game) (c : Claim) (p : Position) (first second : FinSet nat_cmp) (last : Option ℕ) (v : ℕ) (f s : FinSet nat_cmp) → InPlay g c p (record { body = Cuts false first second; last = last })
     → is_over g p ≡ false → p.turn ≡ c.side → IsCutsAnswer g.field p first second last (record { edge = v; first = f; second = s }) → v < point_count g → is_free p v ≡ true → CutsHold g (after g p v) f s
@@ -295,17 +298,8 @@ unfolding own_move
 keeps-cuts g c p first second last v f s h going mine rule within free holds =
     let position = IsPosition-reached g p h.reached in
     let is = cuts_kind g.kind c.side h.stands.allowed in
-    record {
-      own = cuts_answered g.field p first second last (record { edge = v; first = f; second = s }) rule;
-      within = within;
-      free = free;
-      forced = any_goal-is g (after g p v) c.side Y c.goal is.1 (Forces-cuts g (after g p v) f s (IsPosition-after g p v position within free) holds);
-      stands = record {
-        allowed = h.stands.allowed;
-        ready = λ on again. absurd (not-again g p c.side v (single g Switching is.0 refl) position mine again);
-        waiting = λ on theirs. holds;
-      };
-    }
+    planned g c p (Cuts false first second) (Cuts false f s) last v Y is.0 is.1 position mine h.stands.allowed (cuts_answered g.field p first second last (record { edge = v; first = f; second = s }) rule) within free
+    (Forces-cuts g (after g p v) f s (IsPosition-after g p v position within free) holds) holds
 
 -- ---- a plan with e put into its first set stands for the node's body
 
@@ -337,32 +331,35 @@ module _ (g : Game) (c : Claim) (p : Position) (with_e : Bool) (first second : F
 -- ---- a node's whole body
 
 module _ (g : Game) (c : Claim) (p : Position) (body : Body) (with_e : Bool) (first second : FinSet nat_cmp) (last : Option ℕ) (f s : FinSet nat_cmp) (is_f : f ≡ with_e_named g with_e first) (is_s : s ≡ second) where
-  -- trees and cuts held until the last reply
+  -- what held of the sets that are named held of the plan's
+  held : (Holds : Position → FinSet nat_cmp → FinSet nat_cmp → Type 0) → HeldUntil g p (λ q. Holds q (with_e_named g with_e first) second) last → HeldUntil g p (λ q. Holds q f s) last
+  held Holds h = subst₂ (λ (t u : FinSet nat_cmp). HeldUntil g p (λ q. Holds q t u) last) (sym is_f) (sym is_s) h
+
   pub trees-held : body ≡ Trees with_e first second → InPlay g c p (record { body = body; last = last }) → is_over g p ≡ false → p.turn ≡ c.side → HeldUntil g p (λ q. TreesHold g q f s) last
   trees-held is h going mine =
       let here = subst (λ (b : Body). InPlay g c p (record { body = b; last = last })) is h in
-      let held = here.stands.ready going mine in
-      subst (λ (t : FinSet nat_cmp). HeldUntil g p (λ q. TreesHold g q f t) last) (sym is_s) (subst (λ (t : FinSet nat_cmp). HeldUntil g p (λ q. TreesHold g q t second) last) (sym is_f) held)
+      held (λ q t u. TreesHold g q t u) (here.stands.ready going mine)
 
   pub cuts-held : body ≡ Cuts with_e first second → InPlay g c p (record { body = body; last = last }) → is_over g p ≡ false → p.turn ≡ c.side → HeldUntil g p (λ q. CutsHold g q f s) last
   cuts-held is h going mine =
       let here = subst (λ (b : Body). InPlay g c p (record { body = b; last = last })) is h in
-      let held = here.stands.ready going mine in
-      subst (λ (t : FinSet nat_cmp). HeldUntil g p (λ q. CutsHold g q f t) last) (sym is_s) (subst (λ (t : FinSet nat_cmp). HeldUntil g p (λ q. CutsHold g q t second) last) (sym is_f) held)
+      held (λ q t u. CutsHold g q t u) (here.stands.ready going mine)
 
   -- what keeps up by the plan keeps up by the body
+  whole : (By : Bool → FinSet nat_cmp → FinSet nat_cmp → Body) (v : ℕ) (next : Standing) → body ≡ By with_e first second → InPlay g c p (record { body = body; last = last })
+      → (InPlay g c p (record { body = By with_e first second; last = last }) → InPlay g c p (record { body = By false (with_e_named g with_e first) second; last = last }))
+      → (KeepsUp g c p (record { body = By false (with_e_named g with_e first) second; last = last }) v next → KeepsUp g c p (record { body = By with_e first second; last = last }) v next)
+      → (InPlay g c p (record { body = By false f s; last = last }) → KeepsUp g c p (record { body = By false f s; last = last }) v next) → KeepsUp g c p (record { body = body; last = last }) v next
+  whole By v next is h to_plan to_body keeps =
+      let named = to_plan (subst (λ (b : Body). InPlay g c p (record { body = b; last = last })) is h) in
+      let kept = keeps (subst₂ (λ (t u : FinSet nat_cmp). InPlay g c p (record { body = By false t u; last = last })) (sym is_f) (sym is_s) named) in
+      subst (λ (b : Body). KeepsUp g c p (record { body = b; last = last }) v next) (sym is)
+      (to_body (subst₂ (λ (t u : FinSet nat_cmp). KeepsUp g c p (record { body = By false t u; last = last }) v next) is_f is_s kept))
+
   pub trees-whole : (v : ℕ) (next : Standing) → body ≡ Trees with_e first second → InPlay g c p (record { body = body; last = last })
       → (InPlay g c p (record { body = Trees false f s; last = last }) → KeepsUp g c p (record { body = Trees false f s; last = last }) v next) → KeepsUp g c p (record { body = body; last = last }) v next
-  trees-whole v next is h keeps =
-      let here = InPlay-trees g c p with_e first second last (subst (λ (b : Body). InPlay g c p (record { body = b; last = last })) is h) in
-      let there = subst (λ (t : FinSet nat_cmp). InPlay g c p (record { body = Trees false f t; last = last })) (sym is_s) (subst (λ (t : FinSet nat_cmp). InPlay g c p (record { body = Trees false t second; last = last })) (sym is_f) here) in
-      let k = subst (λ (t : FinSet nat_cmp). KeepsUp g c p (record { body = Trees false t second; last = last }) v next) is_f (subst (λ (t : FinSet nat_cmp). KeepsUp g c p (record { body = Trees false f t; last = last }) v next) is_s (keeps there)) in
-      subst (λ (b : Body). KeepsUp g c p (record { body = b; last = last }) v next) (sym is) (KeepsUp-trees g c p with_e first second last v next k)
+  trees-whole v next is h keeps = whole Trees v next is h (InPlay-trees g c p with_e first second last) (KeepsUp-trees g c p with_e first second last v next) keeps
 
   pub cuts-whole : (v : ℕ) (next : Standing) → body ≡ Cuts with_e first second → InPlay g c p (record { body = body; last = last })
       → (InPlay g c p (record { body = Cuts false f s; last = last }) → KeepsUp g c p (record { body = Cuts false f s; last = last }) v next) → KeepsUp g c p (record { body = body; last = last }) v next
-  cuts-whole v next is h keeps =
-      let here = InPlay-cuts g c p with_e first second last (subst (λ (b : Body). InPlay g c p (record { body = b; last = last })) is h) in
-      let there = subst (λ (t : FinSet nat_cmp). InPlay g c p (record { body = Cuts false f t; last = last })) (sym is_s) (subst (λ (t : FinSet nat_cmp). InPlay g c p (record { body = Cuts false t second; last = last })) (sym is_f) here) in
-      let k = subst (λ (t : FinSet nat_cmp). KeepsUp g c p (record { body = Cuts false t second; last = last }) v next) is_f (subst (λ (t : FinSet nat_cmp). KeepsUp g c p (record { body = Cuts false f t; last = last }) v next) is_s (keeps there)) in
-      subst (λ (b : Body). KeepsUp g c p (record { body = b; last = last }) v next) (sym is) (KeepsUp-cuts g c p with_e first second last v next k)
+  cuts-whole v next is h keeps = whole Cuts v next is h (InPlay-cuts g c p with_e first second last) (KeepsUp-cuts g c p with_e first second last v next) keeps

@@ -96,6 +96,7 @@ impl<'a> Player<'a> {
         ensures position { IfOk result (λ player. player.position ≡ start c.entry.game.now) }
         ensures standing { IfOk result (λ player. arrives player.claim.nodes (length player.claim.nodes - 1) ≡ Some player.standing) }
         ensures none { result ≡ Err OpenFault.NoClaim → chosen_claim c.entry.game.now c.entry.cert.now side ≡ None }
+        ensures missing { chosen_claim c.entry.game.now c.entry.cert.now side ≡ None → result ≡ Err OpenFault.NoClaim }
     {
         let game = c.game;
         let Some(claim) = chosen_claim(game, c.cert, side) else {

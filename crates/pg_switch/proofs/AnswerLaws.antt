@@ -1,9 +1,9 @@
 -- The answers by trees and by cuts are free edges, and the sets hold after them.
-use Rattle.std.proofs.Common.{◌≡◌, ◌≢◌, ℕ, ◌<◌, ◌≤◌, suc, Bool, true, false, ◌⊎◌, Option, Some, None, inl, inr, refl, sym, ap, ◌∙◌, subst, arith}
+use Rattle.std.proofs.Common.{◌≡◌, ◌≢◌, ℕ, ◌<◌, ◌≤◌, suc, Bool, true, false, Option, Some, None, inl, inr, sym, ap, ◌∙◌, subst, subst₂, arith}
 use Rattle.std.proofs.lemmas.Bool.{cases_Bool, cases_eq, both_ways, false_from_ne_true}
 use Rattle.std.specs.FinSet.{FinSet, contains, remove}
 use Rattle.std.specs.Ordering.{nat_cmp}
-use Rattle.pg_base.specs.Sets.{plus, minus, either, outside, IsWithin, IsBelow}
+use Rattle.pg_base.specs.Sets.{plus, minus, either, outside}
 use Rattle.pg_base.specs.declared.side.Side.{Side}
 use Rattle.pg_base.specs.declared.side.Side.TheVariants.{X, Y}
 use Rattle.pg_base.specs.Side.{other}
@@ -19,17 +19,16 @@ use Rattle.pg_graph.proofs.Trees.{IsTrees-other, IsTrees-claimed}
 use Rattle.pg_graph.proofs.TreeAnswers.{IsTrees-crossed, IsTrees-uncrossed}
 use Rattle.pg_graph.proofs.Cuts.{IsCuts-other, IsCuts-claimed, IsCuts-dropped, IsCuts-answered, find_parting}
 use Rattle.pg_game.specs.declared.field.Field.{Field}
-use Rattle.pg_game.specs.declared.field.Field.TheVariants.{Lines, Graph as OnGraph}
+use Rattle.pg_game.specs.declared.field.Field.TheVariants.{Graph as OnGraph}
 use Rattle.pg_game.specs.declared.game.Game.{Game}
 use Rattle.pg_game.specs.declared.position.Position.{Position}
 use Rattle.pg_game.specs.Field.{field_points}
 use Rattle.pg_game.specs.Fit.{AreBelow}
 use Rattle.pg_game.specs.Game.{point_count, is_over, after, IsPosition}
-use Rattle.pg_game.specs.Position.{is_free}
-use Rattle.pg_game.specs.Trees.{IsFreeEdge, AreTrees, AreCuts, TreesHold, TreesHoldOn, CutsHold, CutsHoldOn, with_set, without_set, or_edge, lowest_free_edge, lowest_crossing, lowest_parting, answered_edge, short_edge, cut_edge}
-use Rattle.pg_game.proofs.Moves.{free-stays, free-of}
+use Rattle.pg_game.specs.Trees.{IsFreeEdge, AreFreeEdges, AreFreeWithE, AreTrees, AreCuts, TreesHold, TreesHoldOn, CutsHold, CutsHoldOn, with_set, without_set, or_edge, lowest_free_edge, answered_edge, short_edge, cut_edge}
+use Rattle.pg_game.proofs.Moves.{side≢other, free-stays}
 use Rattle.pg_game.proofs.Strategy.{free_point}
-use Rattle.pg_switch.specs.Replies.{short_reply, cut_reply, HeldBefore, HeldUntil}
+use Rattle.pg_switch.specs.Replies.{short_reply, cut_reply, HeldUntil}
 use Rattle.pg_switch.proofs.EdgeSets.{left_edges, left_edges-below, with_set-edges, x-after_x, x-after_y, y-after_x, left-after_x, left-after_y, IsTrees-from, AreTrees-from, IsCuts-from, AreCuts-from, without-agree, minus-agree}
 use Rattle.pg_switch.proofs.Finding.{crossing-cases, parting-cases, parting-apart, joins-agree, lowest_free-free}
 
@@ -44,14 +43,51 @@ absent a x y out = false_from_ne_true _ (λ k. both_ways _ out (minus_parts a x 
 remove-both : (s : FinSet nat_cmp) (x y : ℕ) → contains (remove (remove s x) y) ≡ minus (minus (contains s) x) y
 remove-both s x y = contains-remove_minus (remove s x) y ∙ ap (λ (a : ℕ → Bool). minus a y) (contains-remove_minus s x)
 
+-- ---- what is left of two sets when x was lost
+
+pub record AreLeft (h : Graph) (p : Position) (a1 a2 : FinSet nat_cmp) (x : ℕ) : Type 0 where
+  pub first : (f : ℕ) → contains a1 f ≡ true → f ≢ x → IsFreeEdge h p f
+  pub second : (f : ℕ) → contains a2 f ≡ true → f ≢ x → IsFreeEdge h p f
+  pub bound : x ≤ edge_count h
+
+left-other : (h : Graph) (p : Position) (a1 a2 : FinSet nat_cmp) (x : ℕ) → AreLeft h p a1 a2 x → AreLeft h p a2 a1 x
+left-other h p a1 a2 x l = record { first = l.second; second = l.first; bound = l.bound }
+
+left-edges : (h : Graph) (p : Position) (a1 a2 : FinSet nat_cmp) (x : ℕ) → AreLeft h p a1 a2 x → AreEdges h (contains a1)
+left-edges h p a1 a2 x l f k = elim (cases_eq f x) [ inl e ↦ let low = l.bound in omega arith | inr ne ↦ let low = (l.first f k ne).0 in omega arith ]
+
+-- no reply came, and e is answered
+left-now : (h : Graph) (p : Position) (side : Side) (a1 a2 : FinSet nat_cmp) → AreFreeWithE h p side a1 → AreFreeEdges h p a2 → AreLeft h p a1 a2 (edge_count h)
+left-now h p side a1 a2 free1 free2 = record { first = λ f k ne. elim (free1 f k) [ inl i ↦ i | inr e ↦ absurd (ne e.0) ]; second = λ f k ne. free2 f k; bound = omega arith }
+
+-- the other side has just taken x
+left-after : (g : Game) (h : Graph) (q : Position) (side : Side) (a1 a2 : FinSet nat_cmp) (x : ℕ) → q.turn ≡ other side → x < edge_count h → AreFreeWithE h q side a1 → AreFreeEdges h q a2 → AreLeft h (after g q x) a1 a2 x
+left-after g h q side a1 a2 x yours low free1 free2 = record {
+  first = λ f k ne. elim (free1 f k) [ inl i ↦ (i.0, free-stays g q x f (λ e. ne (sym e)) i.1) | inr e ↦ absurd (side≢other side (sym e.1 ∙ yours)) ];
+  second = λ f k ne. let i = free2 f k in (i.0, free-stays g q x f (λ e. ne (sym e)) i.1);
+  bound = omega arith;
+}
+
+-- what is left of a set is free after the claim
+left_free : (g : Game) (h : Graph) (p : Position) (a : FinSet nat_cmp) (x y : ℕ) → ((f : ℕ) → contains a f ≡ true → f ≢ x → IsFreeEdge h p f) → (f : ℕ) → contains (remove (remove a x) y) f ≡ true → IsFreeEdge h (after g p y) f
+left_free g h p a x y free f k =
+    let q = minus_parts (minus (contains a) x) y f (subst (λ (s : ℕ → Bool). s f ≡ true) (remove-both a x y) k) in
+    let r = minus_parts (contains a) x f q.0 in
+    let i = free f r.0 (λ e. r.1 (sym e)) in
+    (i.0, free-stays g p y f q.1 i.1)
+
+-- the first set is left without e
+pub left-without_e : (g : Game) (h : Graph) (p : Position) (a1 a2 f : FinSet nat_cmp) (x y : ℕ) → g.field ≡ OnGraph h → AreLeft h p a1 a2 x → f ≡ remove (remove a1 x) y → contains f (point_count g) ≡ false
+left-without_e g h p a1 a2 f x y on left is_f =
+    let points : point_count g ≡ edge_count h = ap field_points on in
+    false_from_ne_true _ (λ k. let low = (left_free g h p a1 x y left.first (point_count g) (subst (λ (q : FinSet nat_cmp). contains q (point_count g) ≡ true) is_f k)).0 in absurd (omega (arith, low, points)))
+
 -- ---- Short
 
--- trees that stand but for x, which was lost
+-- trees that stand but for x
 pub record TreesDue (h : Graph) (p : Position) (a1 a2 : FinSet nat_cmp) (x : ℕ) : Type 0 where
   pub trees : IsTrees (spans_in h) (edge_count h) (contains p.x) (contains a1) (contains a2)
-  pub first_free : (f : ℕ) → contains a1 f ≡ true → f ≢ x → IsFreeEdge h p f
-  pub second_free : (f : ℕ) → contains a2 f ≡ true → f ≢ x → IsFreeEdge h p f
-  pub bound : x ≤ edge_count h
+  pub left : AreLeft h p a1 a2 x
 
 -- the edge is free, and the sets stand again once it is claimed
 pub record IsShortEdge (h : Graph) (p : Position) (a1 a2 : FinSet nat_cmp) (x y : ℕ) : Type 0 where
@@ -59,20 +95,17 @@ pub record IsShortEdge (h : Graph) (p : Position) (a1 a2 : FinSet nat_cmp) (x y 
   pub trees : IsTrees (spans_in h) (edge_count h) (plus (contains p.x) y) (minus (minus (contains a1) x) y) (minus (minus (contains a2) x) y)
 
 due-other : (h : Graph) (p : Position) (a1 a2 : FinSet nat_cmp) (x : ℕ) → TreesDue h p a1 a2 x → TreesDue h p a2 a1 x
-due-other h p a1 a2 x d = record { trees = IsTrees-other (spans_in h) (edge_count h) (contains p.x) (contains a1) (contains a2) d.trees; first_free = d.second_free; second_free = d.first_free; bound = d.bound }
+due-other h p a1 a2 x d = record { trees = IsTrees-other (spans_in h) (edge_count h) (contains p.x) (contains a1) (contains a2) d.trees; left = left-other h p a1 a2 x d.left }
 
 edge-other : (h : Graph) (p : Position) (a1 a2 : FinSet nat_cmp) (x y : ℕ) → IsShortEdge h p a2 a1 x y → IsShortEdge h p a1 a2 x y
 edge-other h p a1 a2 x y s = record { free = s.free; trees = IsTrees-other (spans_in h) (edge_count h) (plus (contains p.x) y) (minus (minus (contains a2) x) y) (minus (minus (contains a1) x) y) s.trees }
-
-due-edges : (h : Graph) (p : Position) (a1 a2 : FinSet nat_cmp) (x : ℕ) → TreesDue h p a1 a2 x → AreEdges h (contains a1)
-due-edges h p a1 a2 x d f k = elim (cases_eq f x) [ inl e ↦ let low = d.bound in omega arith | inr ne ↦ let low = (d.first_free f k ne).0 in omega arith ]
 
 -- x was in the first set
 short-first : (h : Graph) (p : Position) (a1 a2 : FinSet nat_cmp) (x z : ℕ) → AreBelow p.x (edge_count h) → TreesDue h p a1 a2 x → contains a1 x ≡ true → IsFreeEdge h p z → IsShortEdge h p a1 a2 x (short_reply h p a1 a2 x)
 short-first h p a1 a2 x z small d ax fz =
     let m = edge_count h in
     let s = contains p.x in
-    let edges1 = due-edges h p a1 a2 x d in
+    let edges1 = left-edges h p a1 a2 x d.left in
     let not2 : contains a2 x ≡ false = d.trees.apart x ax in
     let set = with_set p (remove a1 x) in
     let is_set : set ≡ either s (minus (contains a1) x) = ap (λ (a : ℕ → Bool). either s a) (contains-remove_minus a1 x) in
@@ -83,19 +116,18 @@ short-first h p a1 a2 x z small d ax fz =
           let y = found.0 in
           let y_is : short_reply h p a1 a2 x ≡ y = ap (λ (r : Option ℕ). or_edge r (lowest_free_edge h p)) found.4 in
           let crosses = subst (λ (a : ℕ → Bool). Crosses h a (first_end_of h x) y) is_set found.3 in
-          let y_free = d.second_free y found.2 (λ e. both_ways _ not2 (subst (λ (w : ℕ). contains a2 w ≡ true) e found.2)) in
+          let y_free = d.left.second y found.2 (λ e. both_ways _ not2 (subst (λ (w : ℕ). contains a2 w ≡ true) e found.2)) in
           let not1 : contains a1 y ≡ false = false_from_ne_true _ (λ k. both_ways _ (d.trees.apart y k) found.2) in
           let kept = IsTrees-crossed h s (contains a1) (contains a2) (first_end_of h x) x y d.trees ax found.2 crosses in
           subst (λ (w : ℕ). IsShortEdge h p a1 a2 x w) (sym y_is) (record {
             free = y_free;
-            trees = subst (λ (a : ℕ → Bool). IsTrees (spans_in h) m (plus s y) a (minus (minus (contains a2) x) y)) (sym (minus_absent (minus (contains a1) x) y (absent (contains a1) x y not1)))
-                (subst (λ (b : ℕ → Bool). IsTrees (spans_in h) m (plus s y) (minus (contains a1) x) (minus b y)) (sym whole2) kept);
+            trees = subst₂ (λ (a b : ℕ → Bool). IsTrees (spans_in h) m (plus s y) a (minus b y)) (sym (minus_absent (minus (contains a1) x) y (absent (contains a1) x y not1))) (sym whole2) kept;
           })
       | inr none ↦
           let y = lowest_free_edge h p in
           let y_is : short_reply h p a1 a2 x ≡ y = ap (λ (r : Option ℕ). or_edge r (lowest_free_edge h p)) none.1 in
           let uncrossed = IsTrees-uncrossed h s (contains a1) (contains a2) x d.trees ax (λ v k. let low = small v k in omega arith) edges1
-          (λ v k c. none.0 v (d.second_free v k (λ e. both_ways _ not2 (subst (λ (w : ℕ). contains a2 w ≡ true) e k))).0 k (subst (λ (a : ℕ → Bool). Crosses h a (first_end_of h x) v) (sym is_set) c)) in
+          (λ v k c. none.0 v (d.left.second v k (λ e. both_ways _ not2 (subst (λ (w : ℕ). contains a2 w ≡ true) e k))).0 k (subst (λ (a : ℕ → Bool). Crosses h a (first_end_of h x) v) (sym is_set) c)) in
           subst (λ (w : ℕ). IsShortEdge h p a1 a2 x w) (sym y_is) (record {
             free = lowest_free-free h p z fz;
             trees = subst (λ (b : ℕ → Bool). IsTrees (spans_in h) m (plus s y) (minus (minus (contains a1) x) y) (minus b y)) (sym whole2)
@@ -110,9 +142,8 @@ short-neither h p a1 a2 x z d not1 not2 fz =
     let y = lowest_free_edge h p in
     record {
       free = lowest_free-free h p z fz;
-      trees = subst (λ (a : ℕ → Bool). IsTrees (spans_in h) m (plus s y) (minus a y) (minus (minus (contains a2) x) y)) (sym (minus_absent (contains a1) x not1))
-          (subst (λ (b : ℕ → Bool). IsTrees (spans_in h) m (plus s y) (minus (contains a1) y) (minus b y)) (sym (minus_absent (contains a2) x not2))
-          (IsTrees-claimed (spans_in h) (IsSpan-graph h) m s (contains a1) (contains a2) y d.trees));
+      trees = subst₂ (λ (a b : ℕ → Bool). IsTrees (spans_in h) m (plus s y) (minus a y) (minus b y)) (sym (minus_absent (contains a1) x not1)) (sym (minus_absent (contains a2) x not2))
+          (IsTrees-claimed (spans_in h) (IsSpan-graph h) m s (contains a1) (contains a2) y d.trees);
     }
 
 pub short-kept : (h : Graph) (p : Position) (a1 a2 : FinSet nat_cmp) (x z : ℕ) → AreBelow p.x (edge_count h) → TreesDue h p a1 a2 x → IsFreeEdge h p z → IsShortEdge h p a1 a2 x (short_edge h p a1 a2 x)
@@ -124,26 +155,11 @@ short-kept h p a1 a2 x z small d fz = elim (cases_Bool (contains a1 x)) [
   ]
 ]
 
--- what is left of a set is free after the claim
-pub left_free : (g : Game) (h : Graph) (p : Position) (a : FinSet nat_cmp) (x y : ℕ) → ((f : ℕ) → contains a f ≡ true → f ≢ x → IsFreeEdge h p f) → (f : ℕ) → contains (remove (remove a x) y) f ≡ true → IsFreeEdge h (after g p y) f
-left_free g h p a x y free f k =
-    let q = minus_parts (minus (contains a) x) y f (subst (λ (s : ℕ → Bool). s f ≡ true) (remove-both a x y) k) in
-    let r = minus_parts (contains a) x f q.0 in
-    let i = free f r.0 (λ e. r.1 (sym e)) in
-    (i.0, free-stays g p y f q.1 i.1)
-
 pub short-holds : (g : Game) (h : Graph) (p : Position) (a1 a2 : FinSet nat_cmp) (x y : ℕ) → p.turn ≡ X → TreesDue h p a1 a2 x → IsShortEdge h p a1 a2 x y → AreTrees h (after g p y) (remove (remove a1 x) y) (remove (remove a2 x) y)
 short-holds g h p a1 a2 x y mine d s =
-    AreTrees-from h (after g p y) (remove (remove a1 x) y) (remove (remove a2 x) y) (λ f k. inl (left_free g h p a1 x y d.first_free f k)) (left_free g h p a2 x y d.second_free)
+    AreTrees-from h (after g p y) (remove (remove a1 x) y) (remove (remove a2 x) y) (λ f k. inl (left_free g h p a1 x y d.left.first f k)) (left_free g h p a2 x y d.left.second)
     (subst (λ (q : ℕ → Bool). IsTrees (spans_in h) (edge_count h) q (contains (remove (remove a1 x) y)) (contains (remove (remove a2 x) y))) (sym (x-after_x g p y mine))
-    (subst (λ (q : ℕ → Bool). IsTrees (spans_in h) (edge_count h) (plus (contains p.x) y) q (contains (remove (remove a2 x) y))) (sym (remove-both a1 x y))
-    (subst (λ (q : ℕ → Bool). IsTrees (spans_in h) (edge_count h) (plus (contains p.x) y) (minus (minus (contains a1) x) y) q) (sym (remove-both a2 x y)) s.trees)))
-
-X≢Y : (s : Side) → s ≡ X → s ≡ Y → ⊥
-X≢Y s x y = different (sym x ∙ y)
-  where
-    different : X ≢ Y
-    different e = cc
+    (subst₂ (λ (a b : ℕ → Bool). IsTrees (spans_in h) (edge_count h) (plus (contains p.x) y) a b) (sym (remove-both a1 x y)) (sym (remove-both a2 x y)) s.trees))
 
 -- Y has just taken x
 due-after : (g : Game) (h : Graph) (q : Position) (a1 a2 : FinSet nat_cmp) (x : ℕ) → q.turn ≡ Y → x < edge_count h → AreBelow (after g q x).x (edge_count h) → AreTrees h q a1 a2 → TreesDue h (after g q x) a1 a2 x
@@ -152,9 +168,7 @@ due-after g h q a1 a2 x yours low small t =
     let before : AreBelow q.x (edge_count h) = λ v k. small v (ap (λ (s : ℕ → Bool). s v) same ∙ k) in
     record {
       trees = subst (λ (s : ℕ → Bool). IsTrees (spans_in h) (edge_count h) s (contains a1) (contains a2)) (sym same) (IsTrees-from h q a1 a2 before t);
-      first_free = λ f k ne. elim (t.first_free f k) [ inl i ↦ (i.0, free-stays g q x f (λ e. ne (sym e)) i.1) | inr e ↦ absurd (X≢Y q.turn e.1 yours) ];
-      second_free = λ f k ne. let i = t.second_free f k in (i.0, free-stays g q x f (λ e. ne (sym e)) i.1);
-      bound = omega arith;
+      left = left-after g h q X a1 a2 x yours low t.first_free t.second_free;
     }
 
 pub trees-due : (g : Game) (h : Graph) (p : Position) (a1 a2 : FinSet nat_cmp) (last : Option ℕ) → g.field ≡ OnGraph h → IsPosition g p → p.turn ≡ X → HeldUntil g p (λ q. TreesHold g q a1 a2) last → TreesDue h p a1 a2 (answered_edge h last)
@@ -162,9 +176,7 @@ trees-due g h p a1 a2 None on position mine held =
     let t : AreTrees h p a1 a2 = subst (λ (f : Field). TreesHoldOn f p a1 a2) on held in
     record {
       trees = IsTrees-from h p a1 a2 (λ v k. subst (λ (n : ℕ). v < n) (ap field_points on) (position.x_range v k)) t;
-      first_free = λ f k ne. elim (t.first_free f k) [ inl i ↦ i | inr e ↦ absurd (ne e.0) ];
-      second_free = λ f k ne. t.second_free f k;
-      bound = omega arith;
+      left = left-now h p X a1 a2 t.first_free t.second_free;
     }
 trees-due g h p a1 a2 (Some x) on position mine held =
     let b = held.before in
@@ -178,16 +190,14 @@ trees-due g h p a1 a2 (Some x) on position mine held =
 
 pub record CutsDue (h : Graph) (p : Position) (d1 d2 : FinSet nat_cmp) (x : ℕ) : Type 0 where
   pub cuts : IsCuts (spans_in h) (edge_count h) (left_edges h p) (contains d1) (contains d2)
-  pub first_free : (f : ℕ) → contains d1 f ≡ true → f ≢ x → IsFreeEdge h p f
-  pub second_free : (f : ℕ) → contains d2 f ≡ true → f ≢ x → IsFreeEdge h p f
-  pub bound : x ≤ edge_count h
+  pub left : AreLeft h p d1 d2 x
 
 pub record IsCutEdge (h : Graph) (p : Position) (d1 d2 : FinSet nat_cmp) (x y : ℕ) : Type 0 where
   pub free : IsFreeEdge h p y
   pub cuts : IsCuts (spans_in h) (edge_count h) (minus (left_edges h p) y) (minus (minus (contains d1) x) y) (minus (minus (contains d2) x) y)
 
 cuts_due-other : (h : Graph) (p : Position) (d1 d2 : FinSet nat_cmp) (x : ℕ) → CutsDue h p d1 d2 x → CutsDue h p d2 d1 x
-cuts_due-other h p d1 d2 x d = record { cuts = IsCuts-other (spans_in h) (edge_count h) (left_edges h p) (contains d1) (contains d2) d.cuts; first_free = d.second_free; second_free = d.first_free; bound = d.bound }
+cuts_due-other h p d1 d2 x d = record { cuts = IsCuts-other (spans_in h) (edge_count h) (left_edges h p) (contains d1) (contains d2) d.cuts; left = left-other h p d1 d2 x d.left }
 
 cut_edge-other : (h : Graph) (p : Position) (d1 d2 : FinSet nat_cmp) (x y : ℕ) → IsCutEdge h p d2 d1 x y → IsCutEdge h p d1 d2 x y
 cut_edge-other h p d1 d2 x y s = record { free = s.free; cuts = IsCuts-other (spans_in h) (edge_count h) (minus (left_edges h p) y) (minus (minus (contains d2) x) y) (minus (minus (contains d1) x) y) s.cuts }
@@ -213,7 +223,7 @@ cut-first h p d1 d2 x z d dx fz =
     let v = second_end_of h x in
     let not2 : contains d2 x ≡ false = d.cuts.apart x dx in
     let whole2 = minus_absent (contains d2) x not2 in
-    let free2 : (y : ℕ) → contains d2 y ≡ true → IsFreeEdge h p y = λ y k. d.second_free y k (λ e. both_ways _ not2 (subst (λ (w : ℕ). contains d2 w ≡ true) e k)) in
+    let free2 : (y : ℕ) → contains d2 y ≡ true → IsFreeEdge h p y = λ y k. d.left.second y k (λ e. both_ways _ not2 (subst (λ (w : ℕ). contains d2 w ≡ true) e k)) in
     elim (cases_Bool (joins_in h wide u v)) [
       | inl on ↦
           let s = sym (test-spans h p d1 x) ∙ on in
@@ -226,8 +236,7 @@ cut-first h p d1 d2 x z d dx fz =
                 let kept = IsCuts-answered (spans_in h) (IsSpan-graph h) m r (contains d1) (contains d2) x y d.cuts dx found.2 (not_e h p y y_free) (sym (test-spans_minus h p d1 x y) ∙ found.3) in
                 subst (λ (w : ℕ). IsCutEdge h p d1 d2 x w) (sym y_is) (record {
                   free = y_free;
-                  cuts = subst (λ (a : ℕ → Bool). IsCuts (spans_in h) m (minus r y) a (minus (minus (contains d2) x) y)) (sym (minus_absent (minus (contains d1) x) y (absent (contains d1) x y not1)))
-                      (subst (λ (b : ℕ → Bool). IsCuts (spans_in h) m (minus r y) (minus (contains d1) x) (minus b y)) (sym whole2) kept);
+                  cuts = subst₂ (λ (a b : ℕ → Bool). IsCuts (spans_in h) m (minus r y) a (minus b y)) (sym (minus_absent (minus (contains d1) x) y (absent (contains d1) x y not1))) (sym whole2) kept;
                 })
             | inr none ↦
                 let y = find_parting (spans_in h) (IsSpan-graph h) m r (contains d1) (contains d2) x (suc m) (left_edges-below h p) d.cuts dx s in
@@ -253,9 +262,8 @@ cut-neither h p d1 d2 x z d not1 not2 fz =
     let y_free = lowest_free-free h p z fz in
     record {
       free = y_free;
-      cuts = subst (λ (a : ℕ → Bool). IsCuts (spans_in h) m (minus r y) (minus a y) (minus (minus (contains d2) x) y)) (sym (minus_absent (contains d1) x not1))
-          (subst (λ (b : ℕ → Bool). IsCuts (spans_in h) m (minus r y) (minus (contains d1) y) (minus b y)) (sym (minus_absent (contains d2) x not2))
-          (IsCuts-claimed (spans_in h) (IsSpan-graph h) m r (contains d1) (contains d2) y d.cuts (not_e h p y y_free)));
+      cuts = subst₂ (λ (a b : ℕ → Bool). IsCuts (spans_in h) m (minus r y) (minus a y) (minus b y)) (sym (minus_absent (contains d1) x not1)) (sym (minus_absent (contains d2) x not2))
+          (IsCuts-claimed (spans_in h) (IsSpan-graph h) m r (contains d1) (contains d2) y d.cuts (not_e h p y y_free));
     }
 
 pub cut-kept : (h : Graph) (p : Position) (d1 d2 : FinSet nat_cmp) (x z : ℕ) → CutsDue h p d1 d2 x → IsFreeEdge h p z → IsCutEdge h p d1 d2 x (cut_edge h p d1 d2 x)
@@ -269,18 +277,15 @@ cut-kept h p d1 d2 x z d fz = elim (cases_Bool (contains d1 x)) [
 
 pub cut-holds : (g : Game) (h : Graph) (p : Position) (d1 d2 : FinSet nat_cmp) (x y : ℕ) → p.turn ≡ Y → CutsDue h p d1 d2 x → IsCutEdge h p d1 d2 x y → AreCuts h (after g p y) (remove (remove d1 x) y) (remove (remove d2 x) y)
 cut-holds g h p d1 d2 x y mine d s =
-    AreCuts-from h (after g p y) (remove (remove d1 x) y) (remove (remove d2 x) y) (λ f k. inl (left_free g h p d1 x y d.first_free f k)) (left_free g h p d2 x y d.second_free)
+    AreCuts-from h (after g p y) (remove (remove d1 x) y) (remove (remove d2 x) y) (λ f k. inl (left_free g h p d1 x y d.left.first f k)) (left_free g h p d2 x y d.left.second)
     (subst (λ (q : ℕ → Bool). IsCuts (spans_in h) (edge_count h) q (contains (remove (remove d1 x) y)) (contains (remove (remove d2 x) y))) (sym (left-after_y g h p y mine))
-    (subst (λ (q : ℕ → Bool). IsCuts (spans_in h) (edge_count h) (minus (left_edges h p) y) q (contains (remove (remove d2 x) y))) (sym (remove-both d1 x y))
-    (subst (λ (q : ℕ → Bool). IsCuts (spans_in h) (edge_count h) (minus (left_edges h p) y) (minus (minus (contains d1) x) y) q) (sym (remove-both d2 x y)) s.cuts)))
+    (subst₂ (λ (a b : ℕ → Bool). IsCuts (spans_in h) (edge_count h) (minus (left_edges h p) y) a b) (sym (remove-both d1 x y)) (sym (remove-both d2 x y)) s.cuts))
 
 -- X has just taken x, which stays in what is left
 cuts_due-after : (g : Game) (h : Graph) (q : Position) (d1 d2 : FinSet nat_cmp) (x : ℕ) → q.turn ≡ X → x < edge_count h → AreBelow q.y (edge_count h) → AreCuts h q d1 d2 → CutsDue h (after g q x) d1 d2 x
 cuts_due-after g h q d1 d2 x yours low small t = record {
   cuts = subst (λ (r : ℕ → Bool). IsCuts (spans_in h) (edge_count h) r (contains d1) (contains d2)) (sym (left-after_x g h q x yours)) (IsCuts-from h q d1 d2 small t);
-  first_free = λ f k ne. elim (t.first_free f k) [ inl i ↦ (i.0, free-stays g q x f (λ e. ne (sym e)) i.1) | inr e ↦ absurd (X≢Y q.turn yours e.1) ];
-  second_free = λ f k ne. let i = t.second_free f k in (i.0, free-stays g q x f (λ e. ne (sym e)) i.1);
-  bound = omega arith;
+  left = left-after g h q Y d1 d2 x yours low t.first_free t.second_free;
 }
 
 pub cuts-due : (g : Game) (h : Graph) (p : Position) (d1 d2 : FinSet nat_cmp) (last : Option ℕ) → g.field ≡ OnGraph h → IsPosition g p → p.turn ≡ Y → HeldUntil g p (λ q. CutsHold g q d1 d2) last → CutsDue h p d1 d2 (answered_edge h last)
@@ -288,9 +293,7 @@ cuts-due g h p d1 d2 None on position mine held =
     let t : AreCuts h p d1 d2 = subst (λ (f : Field). CutsHoldOn f p d1 d2) on held in
     record {
       cuts = IsCuts-from h p d1 d2 (λ v k. subst (λ (n : ℕ). v < n) (ap field_points on) (position.y_range v k)) t;
-      first_free = λ f k ne. elim (t.first_free f k) [ inl i ↦ i | inr e ↦ absurd (ne e.0) ];
-      second_free = λ f k ne. t.second_free f k;
-      bound = omega arith;
+      left = left-now h p Y d1 d2 t.first_free t.second_free;
     }
 cuts-due g h p d1 d2 (Some x) on position mine held =
     let b = held.before in

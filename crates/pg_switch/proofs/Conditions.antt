@@ -1,21 +1,18 @@
 -- The tests of trees and cuts say what the definitions say.
-use Rattle.std.proofs.Common.{◌≡◌, ℕ, ◌<◌, ◌≤◌, suc, Bool, true, false, not, ◌&&◌, ◌⊎◌, inl, inr, refl, sym, ap, ◌∙◌, subst, arith}
+use Rattle.std.proofs.Common.{◌≡◌, ℕ, Bool, true, false, inl, inr, sym, ap, ◌∙◌, subst, arith}
 use Rattle.std.specs.Prelude.{◌↔◌, IsTrue}
 use Rattle.std.proofs.lemmas.Bool.{both_ways}
 use Rattle.std.specs.FinSet.{FinSet, contains, insert, union, difference}
 use Rattle.std.specs.Ordering.{nat_cmp}
-use Rattle.pg_base.specs.Sets.{outside, below}
-use Rattle.pg_base.specs.declared.side.Side.{Side}
-use Rattle.pg_base.specs.declared.side.Side.TheVariants.{X, Y}
+use Rattle.pg_base.specs.Sets.{outside}
 use Rattle.pg_base.proofs.PointSetLaws.{contains-union_either, contains-difference_outside, insert-cases, insert-old, insert-self}
 use Rattle.pg_base.proofs.SetLemmas.{outside_parts}
 use Rattle.pg_graph.specs.declared.graph.Graph.{Graph}
 use Rattle.pg_graph.specs.Graph.{edge_count, IsBridge}
 use Rattle.pg_graph.specs.Joiner.{AreEdges}
 use Rattle.pg_game.specs.declared.position.Position.{Position}
-use Rattle.pg_game.specs.Fit.{AreBelow}
-use Rattle.pg_game.specs.Trees.{IsFreeEdge, AreFreeWithE, AreFreeEdges, AreApart, JoinsEndsOf, with_set, without_set, AreTrees, AreCuts}
-use Rattle.pg_switch.specs.Parts.{AreFreePair, JoinsOther, BridgesOther}
+use Rattle.pg_game.specs.Trees.{JoinsEndsOf, with_set, without_set}
+use Rattle.pg_switch.specs.Parts.{JoinsOther, BridgesOther}
 use Rattle.pg_switch.proofs.EdgeSets.{left_edges, left_edges-below, bridge-same, without-agree}
 
 -- ---- sets
@@ -40,26 +37,6 @@ joins_other-iff h p one other u w r is_union is_insert each =
             | inr old ↦ all.members f old
           ])),
     )
-
-pub trees-iff : (h : Graph) (p : Position) (a1 a2 : FinSet nat_cmp) → AreFreePair h p X a1 a2 → JoinsOther h p a1 a2 → JoinsOther h p a2 a1 → AreTrees h p a1 a2
-trees-iff h p a1 a2 free one two = record {
-  first_free = free.first_free;
-  second_free = free.second_free;
-  apart = free.apart;
-  first = one.members;
-  first_joins = one.terminals;
-  second = two.members;
-  second_joins = two.terminals;
-}
-
-pub trees-free : (h : Graph) (p : Position) (a1 a2 : FinSet nat_cmp) → AreTrees h p a1 a2 → AreFreePair h p X a1 a2
-trees-free h p a1 a2 t = record { first_free = t.first_free; second_free = t.second_free; apart = t.apart }
-
-pub trees-first : (h : Graph) (p : Position) (a1 a2 : FinSet nat_cmp) → AreTrees h p a1 a2 → JoinsOther h p a1 a2
-trees-first h p a1 a2 t = record { members = t.first; terminals = t.first_joins }
-
-pub trees-second : (h : Graph) (p : Position) (a1 a2 : FinSet nat_cmp) → AreTrees h p a1 a2 → JoinsOther h p a2 a1
-trees-second h p a1 a2 t = record { members = t.second; terminals = t.second_joins }
 
 -- ---- cuts
 
@@ -100,27 +77,3 @@ bridges_out-iff h p one other left w r is is_insert e_out each =
             | inr old ↦ all.members f old
           ])),
     )
-
-pub cuts-iff : (h : Graph) (p : Position) (d1 d2 : FinSet nat_cmp) → AreFreePair h p Y d1 d2 → BridgesOther h p d1 d2 → BridgesOther h p d2 d1 → AreCuts h p d1 d2
-cuts-iff h p d1 d2 free one two = record {
-  first_free = free.first_free;
-  second_free = free.second_free;
-  apart = free.apart;
-  first = one.members;
-  first_parts = one.terminals;
-  second = two.members;
-  second_parts = two.terminals (no_e_in (contains d2 (edge_count h)) refl);
-}
-  where
-    no_e_in : (b : Bool) → contains d2 (edge_count h) ≡ b → contains d2 (edge_count h) ≡ false
-    no_e_in true is = let low = (free.second_free (edge_count h) is).0 in absurd (omega arith)
-    no_e_in false is = is
-
-pub cuts-free : (h : Graph) (p : Position) (d1 d2 : FinSet nat_cmp) → AreCuts h p d1 d2 → AreFreePair h p Y d1 d2
-cuts-free h p d1 d2 t = record { first_free = t.first_free; second_free = t.second_free; apart = t.apart }
-
-pub cuts-first : (h : Graph) (p : Position) (d1 d2 : FinSet nat_cmp) → AreCuts h p d1 d2 → BridgesOther h p d1 d2
-cuts-first h p d1 d2 t = record { members = t.first; terminals = t.first_parts }
-
-pub cuts-second : (h : Graph) (p : Position) (d1 d2 : FinSet nat_cmp) → AreCuts h p d1 d2 → BridgesOther h p d2 d1
-cuts-second h p d1 d2 t = record { members = t.second; terminals = λ out. t.second_parts }

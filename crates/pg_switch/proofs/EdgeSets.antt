@@ -1,17 +1,16 @@
 -- Edges that are free or left at a position, and sets of them that are trees or cuts.
-use Rattle.std.proofs.Common.{◌≡◌, ◌≢◌, ℕ, ◌<◌, ◌≤◌, suc, Bool, true, false, not, ◌&&◌, ◌⊎◌, inl, inr, refl, sym, ap, ◌∙◌, subst, arith}
-use Rattle.std.proofs.lemmas.Bool.{cases_Bool, cases_eq, both_ways, false_from_ne_true, not-true, not_from_false, false≢true}
+use Rattle.std.proofs.Common.{◌≡◌, ℕ, ◌<◌, ◌≤◌, suc, Bool, true, false, not, ◌&&◌, inl, inr, refl, sym, ap, ◌∙◌, subst, arith}
+use Rattle.std.proofs.lemmas.Bool.{both_ways, false_from_ne_true, not-true, not_from_false}
 use Rattle.std.specs.FinSet.{FinSet, contains, insert}
 use Rattle.std.specs.Ordering.{nat_cmp}
-use Rattle.pg_base.specs.Sets.{plus, minus, either, outside, below, IsWithin, IsBelow}
+use Rattle.pg_base.specs.Sets.{plus, minus, outside, below, IsWithin, IsBelow}
 use Rattle.pg_base.specs.declared.side.Side.{Side}
 use Rattle.pg_base.specs.declared.side.Side.TheVariants.{X, Y}
-use Rattle.pg_base.specs.Side.{other}
 use Rattle.pg_base.proofs.BelowLemmas.{below_parts, below_from, same_sets}
 use Rattle.pg_base.proofs.PointSetLaws.{contains-insert_plus, insert-cases, insert-old, insert-self}
-use Rattle.pg_base.proofs.SetLemmas.{minus_parts, minus_from, either_cases, outside_parts, outside_from}
+use Rattle.pg_base.proofs.SetLemmas.{minus_parts, minus_from, either_cases}
 use Rattle.pg_graph.specs.declared.graph.Graph.{Graph}
-use Rattle.pg_graph.specs.Graph.{edge_count, first_end_of, second_end_of, spans_in, IsBridge, IsJoinedIn}
+use Rattle.pg_graph.specs.Graph.{edge_count, first_end_of, second_end_of, spans_in, IsBridge}
 use Rattle.pg_graph.specs.Joiner.{AreEdges}
 use Rattle.pg_graph.specs.Span.{IsTrees, IsCuts}
 use Rattle.pg_graph.specs.Walks.{edge_spans}
@@ -22,7 +21,7 @@ use Rattle.pg_game.specs.declared.position.Position.{Position}
 use Rattle.pg_game.specs.Fit.{AreBelow}
 use Rattle.pg_game.specs.Game.{after}
 use Rattle.pg_game.specs.Position.{is_free}
-use Rattle.pg_game.specs.Trees.{IsFreeEdge, AreFreeEdges, AreFreeWithE, AreApart, with_set, without_set, AreTrees, AreCuts}
+use Rattle.pg_game.specs.Trees.{IsFreeEdge, AreFreeEdges, AreFreeWithE, with_set, without_set, AreTrees, AreCuts}
 use Rattle.pg_game.proofs.Moves.{free-stays, free-was, free-of, points_of-mover, points_of-waiter}
 
 -- the free edges

@@ -1,7 +1,7 @@
 -- The replies that the code finds are those of the definitions.
-use Rattle.std.proofs.Common.{◌≡◌, ℕ, ◌<◌, suc, Bool, true, Option, Some, None, refl, sym, ap, ap₂, ◌∙◌, subst, inl, inr, arith}
+use Rattle.std.proofs.Common.{◌≡◌, ℕ, Bool, true, Option, Some, None, refl, sym, ap, ap₂, ◌∙◌, subst}
 use Rattle.std.specs.Prelude.{IfSome, IfNone}
-use Rattle.std.specs.FinSet.{FinSet, contains, remove, union, difference}
+use Rattle.std.specs.FinSet.{FinSet, contains, remove, union}
 use Rattle.std.specs.Ordering.{nat_cmp}
 use Rattle.pg_base.specs.Sets.{outside}
 use Rattle.pg_base.proofs.PointSetLaws.{contains-union_either, remove-old}
@@ -10,8 +10,7 @@ use Rattle.pg_graph.specs.Graph.{edge_count, first_end_of, second_end_of}
 use Rattle.pg_graph.specs.Joiner.{AreEdges, Crosses, Parts, IsLowest}
 use Rattle.pg_game.specs.declared.position.Position.{Position}
 use Rattle.pg_game.specs.Fit.{AreBelow}
-use Rattle.pg_game.specs.Trees.{or_edge, lowest_crossing, lowest_parting, lowest_free_edge, with_set, without_set}
-use Rattle.pg_switch.specs.Replies.{short_reply, cut_reply}
+use Rattle.pg_game.specs.Trees.{or_edge, lowest_crossing, lowest_parting, with_set, without_set}
 use Rattle.pg_switch.proofs.EdgeSets.{left_edges, with_set-edges, without-agree}
 use Rattle.pg_switch.proofs.Finding.{crossing-found, parting-found}
 

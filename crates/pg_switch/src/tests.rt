@@ -78,11 +78,12 @@ fn hold(
     })
 }
 
-/// Short's first move by the sets, where they are trees and X is to move in a game that isn't over.
-fn short_start(
+/// The side's first move by the sets, where they hold and the side is to move in a game that isn't over.
+fn first_move(
     alloc: Global,
     g: &Game,
     p: &Position,
+    side: Side,
     one: &[u16],
     other: &[u16],
 ) -> Result<Option<u16>, Fail>
@@ -97,43 +98,23 @@ fn short_start(
         return Ok(None);
     };
     let mut judge = Judge::new(alloc, g)?;
-    if p.turn != Side::X
-        || judge.over(g, p).is_some()
-        || !trees_hold(g, &mut j, p, &first, &second)
-    {
+    if p.turn != side || judge.over(g, p).is_some() {
         return Ok(None);
     }
-    let mut plan = ShortPlan::start(first, second);
-    Ok(Some(plan.answer(g, &mut j, p, None)))
-}
-
-/// Cut's first move by the sets, where they are cuts and Y is to move in a game that isn't over.
-fn cut_start(
-    alloc: Global,
-    g: &Game,
-    p: &Position,
-    one: &[u16],
-    other: &[u16],
-) -> Result<Option<u16>, Fail>
-    requires { IsPosition g.now p.now }
-{
-    let (first, second) = (set_of(one), set_of(other));
-    let limit = g.points() + 1;
-    if g.kind != Kind::Switching || !first.is_below(limit) || !second.is_below(limit) {
-        return Ok(None);
+    match side {
+        Side::X => {
+            if !trees_hold(g, &mut j, p, &first, &second) {
+                return Ok(None);
+            }
+            Ok(Some(ShortPlan::start(first, second).answer(g, &mut j, p, None)))
+        }
+        Side::Y => {
+            if !cuts_hold(g, &mut j, p, &first, &second) {
+                return Ok(None);
+            }
+            Ok(Some(CutPlan::start(first, second).answer(g, &mut j, p, None)))
+        }
     }
-    let Some(mut j) = joiner_for(alloc, g)? else {
-        return Ok(None);
-    };
-    let mut judge = Judge::new(alloc, g)?;
-    if p.turn != Side::Y
-        || judge.over(g, p).is_some()
-        || !cuts_hold(g, &mut j, p, &first, &second)
-    {
-        return Ok(None);
-    }
-    let mut plan = CutPlan::start(first, second);
-    Ok(Some(plan.answer(g, &mut j, p, None)))
 }
 
 #[test]
@@ -170,22 +151,12 @@ fn two_edges_in_a_row_are_for_cut(rt: HostRuntime) -> Result<(), Fail> {
 #[test]
 fn the_first_move_answers_e(rt: HostRuntime) -> Result<(), Fail> {
     let g = game_of(rt.alloc(), 4, &BRIDGED)?;
-    let (x, y) = (turn_of(&g, Side::X), turn_of(&g, Side::Y));
-    assert_eq!(rt;
-        short_start(rt.alloc(), &g, &x, &[5, 0, 4], &[1, 2, 3])?,
-        Some(1)
-    );
-    assert_eq!(rt;
-        short_start(rt.alloc(), &g, &y, &[5, 0, 4], &[1, 2, 3])?,
-        None
-    );
-    assert_eq!(rt;
-        cut_start(rt.alloc(), &g, &y, &[5, 0, 4], &[1, 2, 3])?,
-        Some(1)
-    );
-    assert_eq!(rt;
-        cut_start(rt.alloc(), &g, &x, &[5, 0, 4], &[1, 2, 3])?,
-        None
-    );
+    for side in [Side::X, Side::Y] {
+        let p = turn_of(&g, side);
+        let own = first_move(rt.alloc(), &g, &p, side, &[5, 0, 4], &[1, 2, 3])?;
+        assert_eq!(rt; own, Some(1));
+        let none = first_move(rt.alloc(), &g, &p, side.other(), &[5, 0, 4], &[1, 2, 3])?;
+        assert_eq!(rt; none, None);
+    }
     Ok(())
 }

@@ -1,7 +1,6 @@
-use Rattle.std.proofs.Common.{◌≡◌, ℕ, ap, sym, ◌∙◌, subst}
-use Rattle.std.specs.FinSet.{FinSet, remove}
-use Rattle.std.specs.Ordering.{nat_cmp}
-use Rattle.pg_game.specs.Trees.{lowest_parting, lowest_free_edge, without_set}
+use Rattle.std.proofs.Common.{ℕ, ap, ◌∙◌}
+use Rattle.std.specs.FinSet.{remove}
+use Rattle.pg_game.specs.Trees.{lowest_free_edge}
 use Rattle.pg_switch.proofs.Conditions.{left-without, left_set-edges}
 use Rattle.pg_switch.proofs.Replying.{remove_edges, cut-found, reply-some, reply-none}
 use Rattle.pg_switch.proofs.reply.cut_reply.Goals as goal

@@ -1,4 +1,4 @@
-use Rattle.std.proofs.Common.{◌≡◌, ℕ, ◌<◌, sym, ◌∙◌, subst, arith}
+use Rattle.std.proofs.Common.{◌<◌, sym, ◌∙◌, arith}
 use Rattle.pg_graph.specs.Graph.{edge_count}
 use Rattle.pg_switch.proofs.Finding.{lowest_free-first, lowest_free-none}
 use Rattle.pg_switch.proofs.reply.lowest_free.Goals as goal

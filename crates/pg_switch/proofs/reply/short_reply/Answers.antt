@@ -1,8 +1,6 @@
-use Rattle.std.proofs.Common.{◌≡◌, ℕ, ap, sym, ◌∙◌, subst}
-use Rattle.std.specs.FinSet.{FinSet, remove}
-use Rattle.std.specs.Ordering.{nat_cmp}
-use Rattle.pg_graph.specs.Graph.{first_end_of}
-use Rattle.pg_game.specs.Trees.{lowest_crossing, lowest_free_edge, with_set}
+use Rattle.std.proofs.Common.{ℕ, ap, ◌∙◌}
+use Rattle.std.specs.FinSet.{remove}
+use Rattle.pg_game.specs.Trees.{lowest_free_edge}
 use Rattle.pg_switch.proofs.Replying.{remove_edges, joined-edges, short-found, reply-some, reply-none}
 use Rattle.pg_switch.proofs.reply.short_reply.Goals as goal
 

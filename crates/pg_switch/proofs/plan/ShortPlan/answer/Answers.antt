@@ -20,9 +20,10 @@ returns-clause-free c = (short-claim c.args.g.now c.in-Graph.graph c.args.p.now 
 
 pub returns-clause-holds : goal.returns-clause-holds
 returns-clause-holds c =
-    short-after c.args.g.now c.in-Graph.graph c.args.p.now c.args.self.now.first c.args.self.now.second c.take_both.new.set c.take_both-in-Graph.new.set c.args.last c.answered_edge-x.result c.short_edge-edge.result c.in-Graph.is c.requires.position c.requires.going c.requires.turn c.requires.held
-    c.answered_edge-x.ensures c.short_edge-edge.ensures.edge c.take_both.ensures c.take_both-in-Graph.ensures
+    short-after c.args.g.now c.in-Graph.graph c.args.p.now c.args.self.now.first c.args.self.now.second c.args.last c.answered_edge-x.result c.short_edge-edge.result c.in-Graph.is c.requires.position c.requires.going c.requires.turn c.requires.held c.answered_edge-x.ensures c.short_edge-edge.ensures.edge
+    c.take_both.new.set c.take_both-in-Graph.new.set c.take_both.ensures c.take_both-in-Graph.ensures
 
 pub returns-clause-without_e : goal.returns-clause-without_e
 returns-clause-without_e c =
-    short-without c.args.g.now c.in-Graph.graph c.args.p.now c.args.self.now.first c.args.self.now.second c.take_both.new.set c.args.last c.answered_edge-x.result c.short_edge-edge.result c.in-Graph.is c.requires.position c.requires.turn c.requires.held c.answered_edge-x.ensures c.take_both.ensures
+    short-without c.args.g.now c.in-Graph.graph c.args.p.now c.args.self.now.first c.args.self.now.second c.args.last c.answered_edge-x.result c.short_edge-edge.result c.in-Graph.is c.requires.position c.requires.going c.requires.turn c.requires.held c.answered_edge-x.ensures c.short_edge-edge.ensures.edge
+    c.take_both.new.set c.take_both.ensures
