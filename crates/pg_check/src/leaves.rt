@@ -7,7 +7,7 @@ ghost use Rattle.pg_game.specs.Game.{IsPosition};
 ghost use Rattle.pg_game.specs.Judge.{IsMadeForGame, room_of};
 ghost use Rattle.pg_cert.specs.Valid.{HasPairs, PotentialFits, HasPotential, HasTrees, HasCuts, HasThreat, is_built, is_allowed};
 
-use crate::edge_sets::{named_cuts_hold, named_trees_hold};
+use crate::edge_sets::{cuts_hold, trees_hold};
 use pg_base::{Goal, Kind, Side};
 use pg_cert::Body;
 use pg_game::{Game, Position};
@@ -68,20 +68,15 @@ pub(crate) fn has_trees(joiner: &mut Option<Joiner>, g: &Game, p: &Position, bod
     ensures trees { IsTrue result ↔ HasTrees g.now p.now body.now }
     ensures kept { joiner.new ≡ joiner.old }
 {
-    match body {
-        Body::Trees {
-            with_e,
-            first,
-            second,
-        } => named_trees_hold(joiner, g, p, *with_e, first, second),
-        Body::Over
-        | Body::Move { .. }
-        | Body::All(_)
-        | Body::Pairs(_)
-        | Body::Potential
-        | Body::Cuts { .. }
-        | Body::Threat(_) => true,
-    }
+    let Body::Trees {
+        with_e,
+        first,
+        second,
+    } = body
+    else {
+        return true;
+    };
+    trees_hold(joiner, g, p, *with_e, first, second)
 }
 
 /// Whether the sets of edges are cuts.
@@ -92,20 +87,15 @@ pub(crate) fn has_cuts(joiner: &mut Option<Joiner>, g: &Game, p: &Position, body
     ensures cuts { IsTrue result ↔ HasCuts g.now p.now body.now }
     ensures kept { joiner.new ≡ joiner.old }
 {
-    match body {
-        Body::Cuts {
-            with_e,
-            first,
-            second,
-        } => named_cuts_hold(joiner, g, p, *with_e, first, second),
-        Body::Over
-        | Body::Move { .. }
-        | Body::All(_)
-        | Body::Pairs(_)
-        | Body::Potential
-        | Body::Trees { .. }
-        | Body::Threat(_) => true,
-    }
+    let Body::Cuts {
+        with_e,
+        first,
+        second,
+    } = body
+    else {
+        return true;
+    };
+    cuts_hold(joiner, g, p, *with_e, first, second)
 }
 
 /// Whether the points are a threat line.

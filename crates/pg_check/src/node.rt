@@ -73,7 +73,6 @@ fn is_root(g: &Game, claim: &Claim, k: usize, node: &Node) -> bool
 }
 
 /// Whether the node owes nothing under the fault's name.
-#[allow(clippy::too_many_arguments)]
 fn passes(
     tester: &mut Tester,
     g: &Game,
