@@ -18,16 +18,10 @@ pub(crate) fn has_pairs(g: &Game, side: Side, p: &Position, body: &Body) -> bool
     requires { IsPosition g.now p.now }
     ensures { IsTrue result ↔ HasPairs g.now side p.now body.now }
 {
-    match body {
-        Body::Pairs(pairs) => pg_pairing::holds(g, p, side, pairs.as_slice()),
-        Body::Over
-        | Body::Move { .. }
-        | Body::All(_)
-        | Body::Potential
-        | Body::Trees { .. }
-        | Body::Cuts { .. }
-        | Body::Threat(_) => true,
-    }
+    let Body::Pairs(pairs) = body else {
+        return true;
+    };
+    pg_pairing::holds(g, p, side, pairs.as_slice())
 }
 
 /// Whether Breaker's potential, or Avoider's by the kind, is low enough.
@@ -48,16 +42,10 @@ pub(crate) fn has_potential(g: &Game, side: Side, p: &Position, body: &Body) -> 
     requires position { IsPosition g.now p.now }
     ensures { IsTrue result ↔ HasPotential g.now side p.now body.now }
 {
-    match body {
-        Body::Potential => potential_fits(g, side, p),
-        Body::Over
-        | Body::Move { .. }
-        | Body::All(_)
-        | Body::Pairs(_)
-        | Body::Trees { .. }
-        | Body::Cuts { .. }
-        | Body::Threat(_) => true,
-    }
+    let Body::Potential = body else {
+        return true;
+    };
+    potential_fits(g, side, p)
 }
 
 /// Whether the sets of edges are trees.
@@ -104,14 +92,8 @@ pub(crate) fn has_threat(g: &Game, side: Side, p: &Position, body: &Body) -> boo
     requires allowed { (bias : ℕ) × (s : Side) × (goal : Goal) × (is_allowed g.now.kind bias s goal body.now ≡ true) }
     ensures { IsTrue result ↔ HasThreat g.now side p.now body.now }
 {
-    match body {
-        Body::Threat(_) => unreachable!(),
-        Body::Over
-        | Body::Move { .. }
-        | Body::All(_)
-        | Body::Pairs(_)
-        | Body::Potential
-        | Body::Trees { .. }
-        | Body::Cuts { .. } => true,
-    }
+    let Body::Threat(_) = body else {
+        return true;
+    };
+    unreachable!()
 }

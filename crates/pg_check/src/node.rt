@@ -66,7 +66,8 @@ fn is_root(g: &Game, claim: &Claim, k: usize, node: &Node) -> bool
     requires { k < length claim.now.nodes }
     ensures { IsTrue result ↔ IsRoot g.now claim.now k node.now }
 {
-    if claim.nodes.as_slice().len() - k != 1 {
+    let count = claim.nodes.as_slice().len();
+    if k + 1 != count {
         return true;
     }
     node.position() == g.with_turn(claim.turn)
