@@ -53,11 +53,7 @@ fn ends_right(
     match body {
         Body::Over => is_won(judge, g, side, goal, p),
         Body::Move { .. } | Body::All(_) => judge.over(g, p).is_none(),
-        Body::Pairs(_)
-        | Body::Potential
-        | Body::Trees { .. }
-        | Body::Cuts { .. }
-        | Body::Threat(_) => true,
+        _ => true,
     }
 }
 
