@@ -3,3 +3,4 @@ mod ReplyLemmas
 mod NamedEdges
 pub mod ClaimLemmas
 pub mod ForcedNodes
+mod FirstFaults

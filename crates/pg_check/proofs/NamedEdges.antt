@@ -1,5 +1,5 @@
 -- The first set of edges with e.
-use Rattle.std.proofs.Common.{◌≡◌, ℕ, suc, ◌<◌, Bool, true, false, sym, subst, arith}
+use Rattle.std.proofs.Common.{◌≡◌, ℕ, suc, Bool, true, false, sym, subst, arith}
 use Rattle.std.specs.FinSet.{FinSet}
 use Rattle.std.specs.Ordering.{nat_cmp}
 use Rattle.pg_base.specs.Points.{AreBelow}

@@ -67,6 +67,13 @@ pub fn check<'a>(alloc: Global, g: &'a Game, c: &'a Cert) -> Result<Checked<'a>,
     }
 }
 
+/// A valid certificate has no first fault, and any other has one at most: so nothing but want of memory is left open in
+/// what `check` answers.
+pub fn faults_are_told()
+    ensures none { (g : Game) → (c : Cert) → IsValid g c → (claim : ℕ) → (node : ℕ) → (why : ℕ) → IsFirstFault g c claim node why → ⊥ }
+    ensures one { (g : Game) → (c : Cert) → (i : ℕ) → (k : ℕ) → (w : ℕ) → (claim : ℕ) → (node : ℕ) → (why : ℕ) → IsFirstFault g c i k w → IsFirstFault g c claim node why → (i ≡ claim) × (k ≡ node) × (w ≡ why) }
+{}
+
 /// Every claim of a valid certificate is forced: its side forces its goal from the game's marks with the claim's turn.
 pub fn valid_claims_are_forced()
     ensures { (g : Game) → (c : Cert) → IsWithinLimits c → IsValid g c → (i : ℕ) → (claim : Claim) → slice_get c.claims i ≡ Some claim → Forces g (with_turn g claim.turn) claim.side claim.goal }

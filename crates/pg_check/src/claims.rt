@@ -31,14 +31,11 @@ fn first_in_claim(tester: &mut Tester, g: &Game, claim: &Claim) -> Option<Faulty
     ensures kept { tester.new ≡ tester.old }
 {
     for (k, node) in claim.nodes.as_slice().iter().enumerate() {
-        match first_fault(tester, g, claim, k, node) {
-            Some(fault) => {
-                return Some(Faulty {
-                    node: k as u32,
-                    fault,
-                });
-            }
-            None => {}
+        if let Some(fault) = first_fault(tester, g, claim, k, node) {
+            return Some(Faulty {
+                node: k as u32,
+                fault,
+            });
         }
     }
     None
@@ -53,9 +50,8 @@ pub(crate) fn first_among(tester: &mut Tester, g: &Game, claims: &[Claim]) -> Op
     ensures first { IfSome result (λ found. IsFirstAmong g.now claims.now found.0 found.1.node found.1.fault) }
 {
     for (i, claim) in claims.iter().enumerate() {
-        match first_in_claim(tester, g, claim) {
-            Some(faulty) => return Some((i as u32, faulty)),
-            None => {}
+        if let Some(faulty) = first_in_claim(tester, g, claim) {
+            return Some((i as u32, faulty));
         }
     }
     None

@@ -1,8 +1,7 @@
 //! The two sets of edges that a node names, against the criteria of trees and of cuts.
-ghost use Rattle.std.specs.Prelude.{◌≡◌, ◌<◌, ◌≤◌, ◌↔◌, IsTrue, suc};
-ghost use Rattle.pg_base.specs.Points.{AreBelow};
+ghost use Rattle.std.specs.Prelude.{◌≡◌, ◌↔◌, IsTrue};
 ghost use Rattle.pg_base.specs.declared.kind.Kind.TheVariants.{Switching};
-ghost use Rattle.pg_game.specs.Game.{point_count, IsPosition};
+ghost use Rattle.pg_game.specs.Game.{IsPosition};
 ghost use Rattle.pg_game.specs.Judge.{IsMadeForGame, room_of};
 ghost use Rattle.pg_game.specs.Trees.{TreesHold, CutsHold};
 ghost use Rattle.pg_cert.specs.Valid.{with_e_named, AreEdgeSets};
@@ -29,52 +28,8 @@ fn are_edge_sets(g: &Game, first: &PointSet, second: &PointSet) -> bool
     first.is_below(g.points()) && second.is_below(g.points())
 }
 
-/// Whether the sets are trees for X.
-fn trees_hold(
-    joiner: &mut Option<Joiner>,
-    g: &Game,
-    p: &Position,
-    first: &PointSet,
-    second: &PointSet,
-) -> bool
-    requires switching { g.now.kind ≡ Switching }
-    requires made { IsMadeForGame (room_of joiner.old) g.now }
-    requires position { IsPosition g.now p.now }
-    requires first { AreBelow first.now (suc (point_count g.now)) }
-    requires second { AreBelow second.now (suc (point_count g.now)) }
-    ensures trees { IsTrue result ↔ TreesHold g.now p.now first.now second.now }
-    ensures kept { joiner.new ≡ joiner.old }
-{
-    match joiner {
-        Some(joiner) => pg_switch::trees_hold(g, joiner, p, first, second),
-        None => unreachable!(),
-    }
-}
-
-/// Whether the sets are cuts for Y.
-fn cuts_hold(
-    joiner: &mut Option<Joiner>,
-    g: &Game,
-    p: &Position,
-    first: &PointSet,
-    second: &PointSet,
-) -> bool
-    requires switching { g.now.kind ≡ Switching }
-    requires made { IsMadeForGame (room_of joiner.old) g.now }
-    requires position { IsPosition g.now p.now }
-    requires first { AreBelow first.now (suc (point_count g.now)) }
-    requires second { AreBelow second.now (suc (point_count g.now)) }
-    ensures cuts { IsTrue result ↔ CutsHold g.now p.now first.now second.now }
-    ensures kept { joiner.new ≡ joiner.old }
-{
-    match joiner {
-        Some(joiner) => pg_switch::cuts_hold(g, joiner, p, first, second),
-        None => unreachable!(),
-    }
-}
-
 /// Whether both sets are of the game's edges, and are trees for X, the first with e where that is named.
-pub(crate) fn named_trees_hold(
+pub(crate) fn trees_hold(
     joiner: &mut Option<Joiner>,
     g: &Game,
     p: &Position,
@@ -88,14 +43,15 @@ pub(crate) fn named_trees_hold(
     ensures trees { IsTrue result ↔ (AreEdgeSets g.now first.now second.now × TreesHold g.now p.now (with_e_named g.now with_e first.now) second.now) }
     ensures kept { joiner.new ≡ joiner.old }
 {
+    let Some(joiner) = joiner else { unreachable!() };
     if !are_edge_sets(g, first, second) {
         return false;
     }
-    trees_hold(joiner, g, p, &with_e_named(g, with_e, first), second)
+    pg_switch::trees_hold(g, joiner, p, &with_e_named(g, with_e, first), second)
 }
 
 /// Whether both sets are of the game's edges, and are cuts for Y, the first with e where that is named.
-pub(crate) fn named_cuts_hold(
+pub(crate) fn cuts_hold(
     joiner: &mut Option<Joiner>,
     g: &Game,
     p: &Position,
@@ -109,8 +65,9 @@ pub(crate) fn named_cuts_hold(
     ensures cuts { IsTrue result ↔ (AreEdgeSets g.now first.now second.now × CutsHold g.now p.now (with_e_named g.now with_e first.now) second.now) }
     ensures kept { joiner.new ≡ joiner.old }
 {
+    let Some(joiner) = joiner else { unreachable!() };
     if !are_edge_sets(g, first, second) {
         return false;
     }
-    cuts_hold(joiner, g, p, &with_e_named(g, with_e, first), second)
+    pg_switch::cuts_hold(g, joiner, p, &with_e_named(g, with_e, first), second)
 }

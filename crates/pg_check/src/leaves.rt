@@ -7,7 +7,7 @@ ghost use Rattle.pg_game.specs.Game.{IsPosition};
 ghost use Rattle.pg_game.specs.Judge.{IsMadeForGame, room_of};
 ghost use Rattle.pg_cert.specs.Valid.{HasPairs, PotentialFits, HasPotential, HasTrees, HasCuts, HasThreat, is_built, is_allowed};
 
-use crate::edge_sets::{named_cuts_hold, named_trees_hold};
+use crate::edge_sets::{cuts_hold, trees_hold};
 use pg_base::{Goal, Kind, Side};
 use pg_cert::Body;
 use pg_game::{Game, Position};
@@ -18,16 +18,10 @@ pub(crate) fn has_pairs(g: &Game, side: Side, p: &Position, body: &Body) -> bool
     requires { IsPosition g.now p.now }
     ensures { IsTrue result ↔ HasPairs g.now side p.now body.now }
 {
-    match body {
-        Body::Pairs(pairs) => pg_pairing::holds(g, p, side, pairs.as_slice()),
-        Body::Over
-        | Body::Move { .. }
-        | Body::All(_)
-        | Body::Potential
-        | Body::Trees { .. }
-        | Body::Cuts { .. }
-        | Body::Threat(_) => true,
-    }
+    let Body::Pairs(pairs) = body else {
+        return true;
+    };
+    pg_pairing::holds(g, p, side, pairs.as_slice())
 }
 
 /// Whether Breaker's potential, or Avoider's by the kind, is low enough.
@@ -48,16 +42,10 @@ pub(crate) fn has_potential(g: &Game, side: Side, p: &Position, body: &Body) -> 
     requires position { IsPosition g.now p.now }
     ensures { IsTrue result ↔ HasPotential g.now side p.now body.now }
 {
-    match body {
-        Body::Potential => potential_fits(g, side, p),
-        Body::Over
-        | Body::Move { .. }
-        | Body::All(_)
-        | Body::Pairs(_)
-        | Body::Trees { .. }
-        | Body::Cuts { .. }
-        | Body::Threat(_) => true,
-    }
+    let Body::Potential = body else {
+        return true;
+    };
+    potential_fits(g, side, p)
 }
 
 /// Whether the sets of edges are trees.
@@ -68,20 +56,15 @@ pub(crate) fn has_trees(joiner: &mut Option<Joiner>, g: &Game, p: &Position, bod
     ensures trees { IsTrue result ↔ HasTrees g.now p.now body.now }
     ensures kept { joiner.new ≡ joiner.old }
 {
-    match body {
-        Body::Trees {
-            with_e,
-            first,
-            second,
-        } => named_trees_hold(joiner, g, p, *with_e, first, second),
-        Body::Over
-        | Body::Move { .. }
-        | Body::All(_)
-        | Body::Pairs(_)
-        | Body::Potential
-        | Body::Cuts { .. }
-        | Body::Threat(_) => true,
-    }
+    let Body::Trees {
+        with_e,
+        first,
+        second,
+    } = body
+    else {
+        return true;
+    };
+    trees_hold(joiner, g, p, *with_e, first, second)
 }
 
 /// Whether the sets of edges are cuts.
@@ -92,20 +75,15 @@ pub(crate) fn has_cuts(joiner: &mut Option<Joiner>, g: &Game, p: &Position, body
     ensures cuts { IsTrue result ↔ HasCuts g.now p.now body.now }
     ensures kept { joiner.new ≡ joiner.old }
 {
-    match body {
-        Body::Cuts {
-            with_e,
-            first,
-            second,
-        } => named_cuts_hold(joiner, g, p, *with_e, first, second),
-        Body::Over
-        | Body::Move { .. }
-        | Body::All(_)
-        | Body::Pairs(_)
-        | Body::Potential
-        | Body::Trees { .. }
-        | Body::Threat(_) => true,
-    }
+    let Body::Cuts {
+        with_e,
+        first,
+        second,
+    } = body
+    else {
+        return true;
+    };
+    cuts_hold(joiner, g, p, *with_e, first, second)
 }
 
 /// Whether the points are a threat line.
@@ -114,14 +92,8 @@ pub(crate) fn has_threat(g: &Game, side: Side, p: &Position, body: &Body) -> boo
     requires allowed { (bias : ℕ) × (s : Side) × (goal : Goal) × (is_allowed g.now.kind bias s goal body.now ≡ true) }
     ensures { IsTrue result ↔ HasThreat g.now side p.now body.now }
 {
-    match body {
-        Body::Threat(_) => unreachable!(),
-        Body::Over
-        | Body::Move { .. }
-        | Body::All(_)
-        | Body::Pairs(_)
-        | Body::Potential
-        | Body::Trees { .. }
-        | Body::Cuts { .. } => true,
-    }
+    let Body::Threat(_) = body else {
+        return true;
+    };
+    unreachable!()
 }

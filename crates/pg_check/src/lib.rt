@@ -10,4 +10,4 @@ mod moves;
 mod node;
 mod tester;
 
-pub use checked::{CheckFault, Checked, check, valid_claims_are_forced};
+pub use checked::{CheckFault, Checked, check, faults_are_told, valid_claims_are_forced};

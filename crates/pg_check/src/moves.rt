@@ -23,12 +23,7 @@ pub(crate) fn names_earlier(k: usize, body: &Body) -> bool
     match body {
         Body::Move { child, .. } => (*child as usize) < k,
         Body::All(replies) => are_earlier(k, replies.as_slice()),
-        Body::Over
-        | Body::Pairs(_)
-        | Body::Potential
-        | Body::Trees { .. }
-        | Body::Cuts { .. }
-        | Body::Threat(_) => true,
+        _ => true,
     }
 }
 
@@ -69,12 +64,7 @@ pub(crate) fn follow_moves(g: &Game, nodes: &[Node], p: &Position, body: &Body) 
     match body {
         Body::Move { point, child } => follows_move(g, nodes, p, *point, *child),
         Body::All(replies) => all_follow(g, nodes, p, replies.as_slice()),
-        Body::Over
-        | Body::Pairs(_)
-        | Body::Potential
-        | Body::Trees { .. }
-        | Body::Cuts { .. }
-        | Body::Threat(_) => true,
+        _ => true,
     }
 }
 
@@ -85,8 +75,7 @@ pub(crate) fn has_turn(side: Side, p: &Position, body: &Body) -> bool
     match body {
         Body::Move { .. } | Body::Threat(_) => p.turn == side,
         Body::All(_) => p.turn == side.other(),
-        Body::Over | Body::Pairs(_) | Body::Potential | Body::Trees { .. } | Body::Cuts { .. } =>
-            true,
+        _ => true,
     }
 }
 
@@ -94,10 +83,7 @@ pub(crate) fn has_turn(side: Side, p: &Position, body: &Body) -> bool
 fn is_free_point(g: &Game, p: &Position, v: u16) -> bool
     ensures { IsTrue result ↔ ((v < point_count g.now) × (is_free p.now v ≡ true)) }
 {
-    if v >= g.points() {
-        return false;
-    }
-    p.is_free(v)
+    v < g.points() && p.is_free(v)
 }
 
 /// Whether the replies are exactly the free points.
@@ -126,11 +112,6 @@ pub(crate) fn takes_free(g: &Game, p: &Position, body: &Body) -> bool
     match body {
         Body::Move { point, .. } => is_free_point(g, p, *point),
         Body::All(replies) => are_free_points(g, p, replies.as_slice()),
-        Body::Over
-        | Body::Pairs(_)
-        | Body::Potential
-        | Body::Trees { .. }
-        | Body::Cuts { .. }
-        | Body::Threat(_) => true,
+        _ => true,
     }
 }

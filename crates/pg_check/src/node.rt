@@ -53,11 +53,7 @@ fn ends_right(
     match body {
         Body::Over => is_won(judge, g, side, goal, p),
         Body::Move { .. } | Body::All(_) => judge.over(g, p).is_none(),
-        Body::Pairs(_)
-        | Body::Potential
-        | Body::Trees { .. }
-        | Body::Cuts { .. }
-        | Body::Threat(_) => true,
+        _ => true,
     }
 }
 
@@ -66,14 +62,14 @@ fn is_root(g: &Game, claim: &Claim, k: usize, node: &Node) -> bool
     requires { k < length claim.now.nodes }
     ensures { IsTrue result ↔ IsRoot g.now claim.now k node.now }
 {
-    if claim.nodes.as_slice().len() - k != 1 {
+    let count = claim.nodes.as_slice().len();
+    if k + 1 != count {
         return true;
     }
     node.position() == g.with_turn(claim.turn)
 }
 
 /// Whether the node owes nothing under the fault's name.
-#[allow(clippy::too_many_arguments)]
 fn passes(
     tester: &mut Tester,
     g: &Game,

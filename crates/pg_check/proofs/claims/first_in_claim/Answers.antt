@@ -16,7 +16,7 @@ loop-k-preserved c = record {
   kept = c.first_fault.ensures.kept ∙ c.loop-k.invariant.kept;
   before = one_more (IsSound c.args.g.now c.args.claim.now) c.args.claim.now.nodes c.loop-k.k c.node-item.result
       (stands_at c.args.claim.now.nodes c.as_slice-node-items.result.now c.loop-k.k c.node-item.result c.as_slice-node-items.ensures c.loop-k-test.true c.node-item.is)
-      c.in-None.ensures.sound c.loop-k.invariant.before;
+      c.in_default.ensures.sound c.loop-k.invariant.before;
 }
 
 pub returns-clause-valid : goal.returns-clause-valid

@@ -1,5 +1,5 @@
 use Rattle.pg_check.proofs.NamedEdges.{with_e-below}
-use Rattle.pg_check.proofs.edge_sets.named_cuts_hold.Goals as goal
+use Rattle.pg_check.proofs.edge_sets.cuts_hold.Goals as goal
 
 pub cuts_hold-requires-clause-first : goal.cuts_hold-requires-clause-first
 cuts_hold-requires-clause-first c =

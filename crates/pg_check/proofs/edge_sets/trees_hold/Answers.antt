@@ -1,5 +1,5 @@
 use Rattle.pg_check.proofs.NamedEdges.{with_e-below}
-use Rattle.pg_check.proofs.edge_sets.named_trees_hold.Goals as goal
+use Rattle.pg_check.proofs.edge_sets.trees_hold.Goals as goal
 
 pub trees_hold-requires-clause-first : goal.trees_hold-requires-clause-first
 trees_hold-requires-clause-first c =
