@@ -1,5 +1,5 @@
 -- By which numbers of faults it shows how work on files and a console ends, and what was said by then.
-use Rattle.std.specs.Prelude.{◌≡◌, ◌⊎◌, ℕ, List, ◌++◌, map, Result, Ok, Err, Option}
+use Rattle.std.specs.Prelude.{◌≡◌, ◌⊎◌, ℕ, List, ◌++◌, map, Result, Ok, Err, Option, ⊤}
 use Rattle.pg_io.specs.declared.stop.Stop.{Stop}
 use Rattle.pg_io.specs.declared.stop.Stop.TheVariants.{Read, Write, Memory}
 use Rattle.pg_io.specs.Causes.{Rose}
@@ -16,6 +16,16 @@ IsCut texts log after = (front : List Bytes) × (rest : List Bytes) × (texts �
 abbrev pub Speaks : {T : Type 0} → List Bytes → Option (List Entry) → Option (List Entry) → Result T Stop → Type 0
 Speaks texts log after (Ok _) = Grows log after (map Said texts)
 Speaks texts log after (Err _) = IsCut texts log after
+
+-- where work ended for want of memory, or because a read failed, nothing was said
+abbrev pub StopsQuiet : Option (List Entry) → Option (List Entry) → Stop → Type 0
+StopsQuiet log after Read = after ≡ log
+StopsQuiet log after Write = ⊤
+StopsQuiet log after Memory = after ≡ log
+
+abbrev pub IsQuiet : {T : Type 0} → Option (List Entry) → Option (List Entry) → Result T Stop → Type 0
+IsQuiet log after (Ok _) = ⊤
+IsQuiet log after (Err stop) = StopsQuiet log after stop
 
 -- the numbers of faults of files and a console
 pub record Faults : Type 0 where

@@ -1,5 +1,5 @@
 -- What a run says and stores, and how it ends.
-use Rattle.std.specs.Prelude.{◌≡◌, ◌≢◌, ◌⊎◌, ℕ, ◌==◌, ◌||◌, List, [], ◌∷◌, ◌++◌, map, Option, Some, None, Result, Ok, Err, if◌then◌else◌, IfSome, IsTrue}
+use Rattle.std.specs.Prelude.{◌≡◌, ◌≢◌, ◌⊎◌, ℕ, ◌==◌, ◌||◌, List, [], ◌∷◌, ◌++◌, map, Option, Some, None, Result, Ok, Err, if◌then◌else◌, IfSome, IsTrue, ⊤}
 use Rattle.std.specs.Str.{bytes_eq}
 use Rattle.pg_io.specs.declared.entry.Entry.{Entry}
 use Rattle.pg_io.specs.declared.entry.Entry.TheVariants.{Said}
@@ -94,6 +94,12 @@ abbrev pub Allows : Holding → Option Command → Search → Done → End → T
 Allows held None work done end = Follows (answer (no_meaning ∷ []) 2) done end
 Allows held (Some (Check g c)) work done end = FollowsOne (ChecksTo (held g) (held c)) done end
 Allows held (Some (Play g c side)) work done end = Plays side (both_held (held g) (held c)) done.entries end × (done.stored ≡ [])
+
+-- the log is as it was, unless the command plays
+abbrev pub SaysNothing : Option Command → Option (List Entry) → Option (List Entry) → Type 0
+SaysNothing None log after = after ≡ log
+SaysNothing (Some (Check g c)) log after = after ≡ log
+SaysNothing (Some (Play g c side)) log after = ⊤
 
 -- a name that the command reads, in the order of its work, isn't held
 abbrev pub Lacks : Holding → Option Command → Type 0

@@ -1,9 +1,9 @@
 //! Checking a certificate for a game.
-ghost use Rattle.std.specs.Prelude.{◌≡◌, ◌∷◌, [], map, IfOk, OnErr, Some};
+ghost use Rattle.std.specs.Prelude.{◌≡◌, ◌≢◌, ◌∷◌, [], map, Err, IfOk, OnErr, Some};
 ghost use Rattle.pg_io.specs.Stop.{Causes};
 ghost use Rattle.pg_cert.specs.Limits.{IsWithinLimits};
 ghost use Rattle.pg_cli.specs.Answer.{Answers, AreLacking, Judges, answer_of, refusal_status};
-ghost use Rattle.pg_cli.specs.Causes.{BothCauses, Speaks, faults};
+ghost use Rattle.pg_cli.specs.Causes.{BothCauses, IsQuiet, Speaks, faults};
 ghost use Rattle.pg_cli.specs.Run.{Finished, Ran, end_of, ending, told};
 ghost use Rattle.pg_cli.specs.Texts.{accepted_text};
 ghost use Rattle.pg_cli.specs.Words.{Check};
@@ -20,23 +20,26 @@ use pg_io::{Console, Files, Stop};
 use std::alloc::Global;
 
 /// Says that a claim is accepted.
-fn accept<C: Console>(alloc: Global, console: &mut C, claim: &Claim) -> Result<(), Stop>
+fn accept<C: Console>(console: &mut C, claim: &Claim) -> Result<(), Stop>
     ensures said { Speaks (accepted_text claim.now ∷ []) (C.log console.old) (C.log console.new) result }
     ensures causes { Causes ⊥ (C.read_faults console.old) (C.read_faults console.new) (C.write_faults console.old) (C.write_faults console.new) result }
     ensures left { C.left console.new ≡ C.left console.old }
+    ensures memory { result ≢ Err Stop.Memory }
+    ensures read { result ≢ Err Stop.Read }
 {
-    let text = accepted_text(alloc, claim)?;
-    say(console, text.as_bytes())
+    say(console, accepted_text(claim).as_bytes())
 }
 
 /// Says that each claim is accepted.
-fn accept_all<C: Console>(alloc: Global, console: &mut C, claims: &[Claim]) -> Result<(), Stop>
+fn accept_all<C: Console>(console: &mut C, claims: &[Claim]) -> Result<(), Stop>
     ensures said { Speaks (map accepted_text claims.now) (C.log console.old) (C.log console.new) result }
     ensures causes { Causes ⊥ (C.read_faults console.old) (C.read_faults console.new) (C.write_faults console.old) (C.write_faults console.new) result }
     ensures left { C.left console.new ≡ C.left console.old }
+    ensures memory { result ≢ Err Stop.Memory }
+    ensures read { result ≢ Err Stop.Read }
 {
     for claim in claims {
-        accept(alloc, console, claim)?;
+        accept(console, claim)?;
     }
     Ok(())
 }
@@ -65,11 +68,12 @@ fn judge<C: Console>(
     ensures said { Answers (λ a. Judges game.now certificate.now a) (C.log console.old) (C.log console.new) result }
     ensures causes { Causes ⊥ (C.read_faults console.old) (C.read_faults console.new) (C.write_faults console.old) (C.write_faults console.new) result }
     ensures left { C.left console.new ≡ C.left console.old }
+    ensures quiet { IsQuiet (C.log console.old) (C.log console.new) result }
     ensures status { IfOk result (λ status. ending status ≡ Finished status) }
 {
     match pg_check::check(alloc, game, certificate) {
         Ok(_) => {
-            accept_all(alloc, console, certificate.claims.as_slice())?;
+            accept_all(console, certificate.claims.as_slice())?;
             Ok(0)
         }
         Err(CheckFault::Reject { claim, node, why }) => refuse(
@@ -90,6 +94,7 @@ pub fn check<F: Files, C: Console>(
     console: &mut C,
 ) -> Result<u8, Stop>
     ensures status { IfOk result (λ status. ending status ≡ Finished status) }
+    ensures quiet { IsQuiet (C.log console.old) (C.log console.new) result }
     ensures ran { (work : Search) → Ran (Some (Check game.now certificate.now)) (told (F.held files.old) (C.log console.old) (C.left console.old)) (told (F.held files.new) (C.log console.new) (C.left console.new)) work (end_of result) }
     ensures causes { BothCauses (AreLacking (F.held files.old) game.now certificate.now)
         (faults (F.read_faults files.old) (F.write_faults files.old) (C.read_faults console.old) (C.write_faults console.old))

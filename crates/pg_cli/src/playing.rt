@@ -1,5 +1,5 @@
 //! Playing a side of a game by a certificate.
-ghost use Rattle.std.specs.Prelude.{◌≡◌, Ok, Some, IfOk};
+ghost use Rattle.std.specs.Prelude.{◌≡◌, ◌≢◌, Ok, Err, Some, IfOk};
 ghost use Rattle.pg_io.specs.Console.{Says};
 ghost use Rattle.pg_io.specs.Stop.{Causes};
 ghost use Rattle.pg_cert.specs.Limits.{IsWithinLimits};
@@ -31,6 +31,7 @@ fn say_claim<C: Console>(console: &mut C, side: Side, goal: Goal) -> Result<(), 
     ensures said { Says (C.log console.old) (C.log console.new) (claim_text side goal) result }
     ensures causes { Causes ⊥ (C.read_faults console.old) (C.read_faults console.new) (C.write_faults console.old) (C.write_faults console.new) result }
     ensures left { C.left console.new ≡ C.left console.old }
+    ensures memory { result ≢ Err Stop.Memory }
 {
     say(console, claim_text(side, goal).as_bytes())
 }
@@ -40,6 +41,7 @@ fn say_no_claim<C: Console>(console: &mut C, side: Side) -> Result<(), Stop>
     ensures said { Says (C.log console.old) (C.log console.new) (no_claim_text side) result }
     ensures causes { Causes ⊥ (C.read_faults console.old) (C.read_faults console.new) (C.write_faults console.old) (C.write_faults console.new) result }
     ensures left { C.left console.new ≡ C.left console.old }
+    ensures memory { result ≢ Err Stop.Memory }
 {
     say(console, no_claim_text(side).as_bytes())
 }
@@ -56,6 +58,7 @@ fn play_checked<C: Console>(
     ensures played { PlaysOut side (Ok (entry checked.entry.game.now, checked.entry.cert.now)) (C.log console.old) (C.log console.new) (C.left console.old) (end_of result) }
     ensures causes { Causes ⊥ (C.read_faults console.old) (C.read_faults console.new) (C.write_faults console.old) (C.write_faults console.new) result }
     ensures status { IfOk result (λ status. ending status ≡ Finished status) }
+    ensures starved { result ≡ Err Stop.Memory → C.log console.new ≡ C.log console.old }
 {
     match Player::open(alloc, checked, side) {
         Ok(mut player) => {
@@ -83,6 +86,7 @@ fn play_by<C: Console>(
     ensures played { PlaysOut side (Ok (entry game.now, certificate.now)) (C.log console.old) (C.log console.new) (C.left console.old) (end_of result) }
     ensures causes { Causes ⊥ (C.read_faults console.old) (C.read_faults console.new) (C.write_faults console.old) (C.write_faults console.new) result }
     ensures status { IfOk result (λ status. ending status ≡ Finished status) }
+    ensures starved { result ≡ Err Stop.Memory → C.log console.new ≡ C.log console.old }
 {
     match pg_check::check(alloc, game, certificate) {
         Ok(checked) => play_checked(alloc, console, checked, side),
@@ -105,6 +109,7 @@ pub fn play<F: Files, C: Console>(
     console: &mut C,
 ) -> Result<u8, Stop>
     ensures status { IfOk result (λ status. ending status ≡ Finished status) }
+    ensures starved { result ≡ Err Stop.Memory → C.log console.new ≡ C.log console.old }
     ensures ran { (work : Search) → Ran (Some (Play game.now certificate.now side)) (told (F.held files.old) (C.log console.old) (C.left console.old)) (told (F.held files.new) (C.log console.new) (C.left console.new)) work (end_of result) }
     ensures causes { BothCauses (AreLacking (F.held files.old) game.now certificate.now)
         (faults (F.read_faults files.old) (F.write_faults files.old) (C.read_faults console.old) (C.write_faults console.old))

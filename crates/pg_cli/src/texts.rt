@@ -28,13 +28,19 @@ pub fn rejected_text(alloc: Global, claim: u32, node: u32, why: u8) -> Result<St
 }
 
 /// The text that accepts a claim.
-pub fn accepted_text(alloc: Global, claim: &Claim) -> Result<String, AllocError>
-    ensures { IfOk result (λ text. string_bytes text ≡ accepted_text claim.now) }
+pub fn accepted_text(claim: &Claim) -> &'static str
+    ensures { result.now ≡ accepted_text claim.now }
 {
-    let turn = claim.turn.word();
-    let side = claim.side.word();
-    let goal = claim.goal.word();
-    format!(in alloc; "accepted {turn} {side} {goal}\n")
+    match (claim.turn, claim.side, claim.goal) {
+        (Side::X, Side::X, Goal::Win) => "accepted x x win\n",
+        (Side::X, Side::X, Goal::Draw) => "accepted x x draw\n",
+        (Side::X, Side::Y, Goal::Win) => "accepted x y win\n",
+        (Side::X, Side::Y, Goal::Draw) => "accepted x y draw\n",
+        (Side::Y, Side::X, Goal::Win) => "accepted y x win\n",
+        (Side::Y, Side::X, Goal::Draw) => "accepted y x draw\n",
+        (Side::Y, Side::Y, Goal::Win) => "accepted y y win\n",
+        (Side::Y, Side::Y, Goal::Draw) => "accepted y y draw\n",
+    }
 }
 
 /// The text where the certificate has no claim of a side with the game's turn.

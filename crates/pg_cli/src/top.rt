@@ -1,8 +1,8 @@
 //! The top call.
-ghost use Rattle.std.specs.Prelude.{◌≡◌, ◌⊎◌, map, string_bytes, IfOk, [], None};
+ghost use Rattle.std.specs.Prelude.{◌≡◌, ◌⊎◌, map, string_bytes, IfOk, [], None, Err};
 ghost use Rattle.pg_cli.specs.Accepted.{AnnouncesForced};
 ghost use Rattle.pg_cli.specs.Causes.{BothCauses, faults};
-ghost use Rattle.pg_cli.specs.Run.{Finished, end_of, IsLacking, HasCause, Ran, told, ending};
+ghost use Rattle.pg_cli.specs.Run.{Finished, end_of, IsLacking, HasCause, Ran, SaysNothing, told, ending};
 ghost use Rattle.pg_cli.specs.Words.{meaning_of};
 ghost use Rattle.pg_cli.specs.Work.{Search};
 
@@ -24,6 +24,8 @@ fn carry_out<F: Files, C: Console>(
 ) -> Result<u8, Stop>
     ensures status { IfOk result (λ status. ending status ≡ Finished status) }
     ensures words { meaning_of (map string_bytes words.now) ≡ None → IfOk result (λ status. status ≡ 2) }
+    ensures starved { result ≡ Err Stop.Memory → C.log console.new ≡ C.log console.old }
+    ensures unread { result ≡ Err Stop.Read → SaysNothing (meaning_of (map string_bytes words.now)) (C.log console.old) (C.log console.new) }
     ensures ran { (work : Search) → Ran (meaning_of (map string_bytes words.now)) (told (F.held files.old) (C.log console.old) (C.left console.old)) (told (F.held files.new) (C.log console.new) (C.left console.new)) work (end_of result) }
     ensures causes { BothCauses (IsLacking (F.held files.old) (map string_bytes words.now))
         (faults (F.read_faults files.old) (F.write_faults files.old) (C.read_faults console.old) (C.write_faults console.old))
@@ -65,8 +67,8 @@ fn carry_out<F: Files, C: Console>(
 /// | 8 | the input has ended before the game that is played |
 /// | 9 | the hundredth reply was refused |
 ///
-/// The first failing call on files or console ends the run. At 5, 6 and 7 the first texts of another answer may have
-/// been said before.
+/// The first failing call on files or console ends the run. At 7 nothing was said before, nor at 5 but in play; at 6 the
+/// first texts of another answer may have been.
 ///
 /// Where the files tell what they hold, `ran` says what is said at each status: in play, that the log is a dialogue of
 /// the side to its end, and that at 0 the outcome reaches the goal of the claim. `forced` says that every claim that is
@@ -79,8 +81,11 @@ pub fn run<F: Files, C: Console>(
     work: &mut Work,
 ) -> u8
     requires { work.old.positions ≡ [] }
+    ensures work { work.new ≡ work.old }
     ensures ran { Ran (meaning_of (map string_bytes words.now)) (told (F.held files.old) (C.log console.old) (C.left console.old)) (told (F.held files.new) (C.log console.new) (C.left console.new)) work.new (ending result) }
     ensures forced { result ≡ 0 → AnnouncesForced (F.held files.old) (meaning_of (map string_bytes words.now)) (C.log console.old) (C.log console.new) }
+    ensures starved { result ≡ 7 → C.log console.new ≡ C.log console.old }
+    ensures unread { result ≡ 5 → SaysNothing (meaning_of (map string_bytes words.now)) (C.log console.old) (C.log console.new) }
     ensures words { meaning_of (map string_bytes words.now) ≡ None → (result ≡ 2) ⊎ ((result ≡ 5) ⊎ ((result ≡ 6) ⊎ (result ≡ 7))) }
     ensures causes { HasCause (IsLacking (F.held files.old) (map string_bytes words.now))
         (faults (F.read_faults files.old) (F.write_faults files.old) (C.read_faults console.old) (C.write_faults console.old))

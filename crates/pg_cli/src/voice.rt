@@ -11,6 +11,7 @@ pub fn say<C: Console>(console: &mut C, text: &[u8]) -> Result<(), Stop>
     ensures causes { Causes ⊥ (C.read_faults console.old) (C.read_faults console.new) (C.write_faults console.old) (C.write_faults console.new) result }
     ensures left { C.left console.new ≡ C.left console.old }
     ensures memory { result ≢ Err Stop.Memory }
+    ensures read { result ≢ Err Stop.Read }
 {
     match console.say(text) {
         Ok(()) => Ok(()),

@@ -17,26 +17,6 @@ fn pairs() -> &'static str {
     "posgame-cert 1\nclaim x y win\nnodes 1\n|4|x|pairs 0-1 2-5 8-7 6-3\n"
 }
 
-/// The same claim twice, with either side to move.
-fn two_claims() -> &'static str {
-    "posgame-cert 1\nclaim x y win\nnodes 1\n|4|x|pairs 0-1 2-5 8-7 6-3\nclaim y y win\nnodes 1\n|4|y|pairs 0-1 2-5 8-7 6-3\n"
-}
-
-/// The line 0 3 6 holds no pair.
-fn a_pair_missing() -> &'static str {
-    "posgame-cert 1\nclaim x y win\nnodes 1\n|4|x|pairs 0-1 2-5 8-7\n"
-}
-
-/// Two pairs share the point 0.
-fn pairs_overlap() -> &'static str {
-    "posgame-cert 1\nclaim x y win\nnodes 1\n|4|x|pairs 0-1 2-5 8-7 0-3\n"
-}
-
-/// The file ends where a node is due.
-fn a_node_missing() -> &'static str {
-    "posgame-cert 1\nclaim x y win\nnodes 1\n"
-}
-
 /// A file of this name.
 fn file(alloc: Global, name: &str, bytes: &str) -> Result<(Text, Text), AllocError> {
     let name = Text::from_vec(name.as_bytes().to_vec(alloc)?);
@@ -109,157 +89,46 @@ fn answers(
     Ok(answer == status && said(alloc, &console)?.as_slice() == texts.as_bytes())
 }
 
-/// Whether a run gives this status and says this, where the files fail at the call with this number and the console
-/// at that say, and no call is made after the first that fails.
-fn stops(
-    alloc: Global,
-    certificate: &str,
-    call: u64,
-    say: u64,
-    status: u8,
-    texts: &str,
-) -> Result<bool, AllocError> {
-    let mut failing = vec![in alloc; call]?;
-    failing.push(call.saturating_add(1))?;
-    let mut files = files(alloc, game(), certificate, failing)?;
-    let mut failing = vec![in alloc; say]?;
-    failing.push(say.saturating_add(1))?;
-    let mut console = console(alloc, failing);
-    let answer = status_of(alloc, "check G C", &mut files, &mut console)?;
-    let told = said(alloc, &console)?;
-    let quiet = files.open("G") == Err(Failed) && console.say(b"more") == Err(Failed);
-    Ok(answer == status && told.as_slice() == texts.as_bytes() && quiet)
-}
-
-#[test]
-fn noughts_and_crosses_with_breaker_in_the_centre(rt: HostRuntime) -> Result<(), Fail> {
-    let alloc = rt.alloc();
-    assert!(rt; answers(alloc, "check G C", game(), pairs(), 0, "accepted x y win\n")?);
-    assert!(rt;
-        answers(
-            alloc,
-            "check G C",
-            game(),
-            two_claims(),
-            0,
-            "accepted x y win\naccepted y y win\n"
-        )?
-    );
-    assert!(rt;
-        answers(
-            alloc,
-            "check G C",
-            game(),
-            a_pair_missing(),
-            4,
-            "rejected J6 claim 0 node 0\n"
-        )?
-    );
-    assert!(rt;
-        answers(
-            alloc,
-            "check G C",
-            game(),
-            pairs_overlap(),
-            4,
-            "rejected J6 claim 0 node 0\n"
-        )?
-    );
-    Ok(())
-}
-
-#[test]
-fn files_with_faults(rt: HostRuntime) -> Result<(), Fail> {
-    let alloc = rt.alloc();
-    assert!(rt;
-        answers(
-            alloc,
-            "check G C",
-            game(),
-            a_node_missing(),
-            4,
-            "certificate C5 line 4\n"
-        )?
-    );
-    assert!(rt;
-        answers(
-            alloc,
-            "check G C",
-            "posgame 2\n",
-            a_node_missing(),
-            3,
-            "game G3 line 1\n"
-        )?
-    );
-    assert!(rt;
-        answers(
-            alloc,
-            "check G H",
-            "posgame 2\n",
-            pairs(),
-            3,
-            "game G3 line 1\n"
-        )?
-    );
-    Ok(())
-}
-
-#[test]
-fn words_without_meaning(rt: HostRuntime) -> Result<(), Fail> {
-    let alloc = rt.alloc();
-    for words in [
-        "",
-        "check G",
-        "check G C G",
-        "play G C",
-        "check -G C",
-        "check G --",
-        "--help",
-    ] {
-        assert!(rt;
-            answers(alloc, words, game(), pairs(), 2, "words: no meaning\n")?,
-            "{words}"
-        );
-    }
-    Ok(())
-}
-
-#[test]
-fn names_that_are_not_held(rt: HostRuntime) -> Result<(), Fail> {
-    let alloc = rt.alloc();
-    for words in ["check H C", "check G H", "check - C"] {
-        assert!(rt; answers(alloc, words, game(), pairs(), 5, "")?, "{words}");
-    }
-    Ok(())
-}
-
-/// Each file is opened, read to its end by one call, and asked for more by another.
-#[test]
-fn each_call_fails_in_turn(rt: HostRuntime) -> Result<(), Fail> {
-    let alloc = rt.alloc();
-    for call in 0..6u64 {
-        assert!(rt; stops(alloc, pairs(), call, 0, 5, "")?, "call {call}");
-    }
-    assert!(rt; stops(alloc, two_claims(), 6, 0, 6, "")?);
-    assert!(rt; stops(alloc, two_claims(), 6, 1, 6, "accepted x y win\n")?);
-    assert!(rt; stops(alloc, a_pair_missing(), 6, 0, 6, "")?);
-    assert!(rt; stops(alloc, a_node_missing(), 6, 0, 6, "")?);
-    Ok(())
-}
-
-/// Three points and two lines through one of them, with Maker to move.
-fn two_lines() -> &'static str {
-    "posgame 1\nkind maker-breaker\npoints 3\nline 0 1\nline 0 2\nturn x\n"
-}
-
-/// These lines, which are separated by `;`, each with its line feed.
+/// These lines, which are separated by `;`, each with its line feed; none where the text is empty.
 fn lines(alloc: Global, row: &str) -> Result<String, AllocError> {
     let mut text = String::new(alloc);
-    for line in row.split(';') {
-        text.push_str(line)?;
-        text.push_str("\n")?;
+    if !row.is_empty() {
+        for line in row.split(';') {
+            text.push_str(line)?;
+            text.push_str("\n")?;
+        }
     }
     Ok(text)
+}
+
+/// The status that comes with these texts of a check, or with a log of play that says no move.
+fn status_with(texts: &str) -> u8 {
+    if texts.starts_with("accepted") {
+        0
+    } else if texts.starts_with("words") {
+        2
+    } else if texts.starts_with("game") {
+        3
+    } else if texts.is_empty() {
+        5
+    } else {
+        4
+    }
+}
+
+/// Whether a run on a game and the four pairs says what it must: a row is the words, `=`, and the lines of the answer.
+fn words_hold(alloc: Global, game: &str, row: &str) -> Result<bool, AllocError> {
+    let Some((words, texts)) = row.split_once('=') else {
+        return Ok(false);
+    };
+    answers(
+        alloc,
+        words,
+        game,
+        pairs(),
+        status_with(texts),
+        lines(alloc, texts)?.as_str(),
+    )
 }
 
 /// Whether the check of a certificate says what it must: a row is the lines of the certificate behind its first line,
@@ -270,13 +139,12 @@ fn row_holds(alloc: Global, game: &str, row: &str) -> Result<bool, AllocError> {
     };
     let mut whole = String::from_str(alloc, "posgame-cert 1\n")?;
     whole.push_str(lines(alloc, certificate)?.as_str())?;
-    let status = if texts.starts_with("accepted") { 0 } else { 4 };
     answers(
         alloc,
         "check G C",
         game,
         whole.as_str(),
-        status,
+        status_with(texts),
         lines(alloc, texts)?.as_str(),
     )
 }
@@ -289,6 +157,110 @@ fn game_row_holds(alloc: Global, row: &str) -> Result<bool, AllocError> {
     let mut whole = String::from_str(alloc, "posgame 1\n")?;
     whole.push_str(lines(alloc, game)?.as_str())?;
     row_holds(alloc, whole.as_str(), rest)
+}
+
+/// This call and the one behind it.
+fn two_calls(alloc: Global, call: u64) -> Result<Vec<u64>, AllocError> {
+    let mut calls = vec![in alloc; call]?;
+    calls.push(call.saturating_add(1))?;
+    Ok(calls)
+}
+
+/// Whether a check of the four pairs ends with status 5 and says nothing, where the files fail at the call with this
+/// number, and calls nothing after it.
+fn stops_reading(alloc: Global, words: &str, call: u64) -> Result<bool, AllocError> {
+    let mut files = files(alloc, game(), pairs(), two_calls(alloc, call)?)?;
+    let mut console = console(alloc, Vec::new(alloc));
+    let answer = status_of(alloc, words, &mut files, &mut console)?;
+    let is_quiet = files.open("G") == Err(Failed) && console.entries().is_empty();
+    Ok(answer == 5 && is_quiet)
+}
+
+/// Whether a check ends with status 6 where the console fails behind the texts of this row, and calls nothing after it. A
+/// row is the lines of the certificate behind its first line, then `=`, then the texts.
+fn stops_saying(alloc: Global, row: &str) -> Result<bool, AllocError> {
+    let Some((certificate, texts)) = row.split_once('=') else {
+        return Ok(false);
+    };
+    let mut whole = String::from_str(alloc, "posgame-cert 1\n")?;
+    whole.push_str(lines(alloc, certificate)?.as_str())?;
+    let call = u64::from(!texts.is_empty());
+    let mut files = files(alloc, game(), whole.as_str(), Vec::new(alloc))?;
+    let mut console = console(alloc, two_calls(alloc, call)?);
+    let answer = status_of(alloc, "check G C", &mut files, &mut console)?;
+    let is_told = said(alloc, &console)?.as_slice() == lines(alloc, texts)?.as_bytes();
+    Ok(answer == 6 && is_told && console.say(b"more") == Err(Failed))
+}
+
+#[test]
+fn noughts_and_crosses_with_breaker_in_the_centre(rt: HostRuntime) -> Result<(), Fail> {
+    for row in [
+        "claim x y win;nodes 1;|4|x|pairs 0-1 2-5 8-7 6-3=accepted x y win",
+        "claim x y win;nodes 1;|4|x|pairs 0-1 2-5 8-7 6-3;claim y y win;nodes 1;|4|y|pairs 0-1 2-5 8-7 6-3=accepted x y win;accepted y y win",
+        "claim x y win;nodes 1;|4|x|pairs 0-1 2-5 8-7=rejected J6 claim 0 node 0",
+        "claim x y win;nodes 1;|4|x|pairs 0-1 2-5 8-7 0-3=rejected J6 claim 0 node 0",
+        "claim x y win;nodes 1=certificate C5 line 4",
+    ] {
+        assert!(rt; row_holds(rt.alloc(), game(), row)?, "{row}");
+    }
+    Ok(())
+}
+
+#[test]
+fn a_game_with_a_fault(rt: HostRuntime) -> Result<(), Fail> {
+    for row in ["check G C=game G3 line 1", "check G H=game G3 line 1"] {
+        assert!(rt; words_hold(rt.alloc(), "posgame 2\n", row)?, "{row}");
+    }
+    Ok(())
+}
+
+#[test]
+fn words_without_meaning_and_names_that_are_not_held(rt: HostRuntime) -> Result<(), Fail> {
+    for row in [
+        "=words: no meaning",
+        "check G=words: no meaning",
+        "check G C G=words: no meaning",
+        "play G C=words: no meaning",
+        "check -G C=words: no meaning",
+        "check G --=words: no meaning",
+        "--help=words: no meaning",
+        "check H C=",
+        "check G H=",
+        "check - C=",
+    ] {
+        assert!(rt; words_hold(rt.alloc(), game(), row)?, "{row}");
+    }
+    Ok(())
+}
+
+/// Each file is opened, read to its end by one call, and asked for more by another.
+#[test]
+fn each_call_on_the_files_fails_in_turn(rt: HostRuntime) -> Result<(), Fail> {
+    for call in 0..6u64 {
+        assert!(rt;
+            stops_reading(rt.alloc(), "check G C", call)?,
+            "call {call}"
+        );
+    }
+    Ok(())
+}
+
+#[test]
+fn each_call_on_the_console_fails_in_turn(rt: HostRuntime) -> Result<(), Fail> {
+    for row in [
+        "claim x y win;nodes 1;|4|x|pairs 0-1 2-5 8-7 6-3;claim y y win;nodes 1;|4|y|pairs 0-1 2-5 8-7 6-3=",
+        "claim x y win;nodes 1;|4|x|pairs 0-1 2-5 8-7 6-3;claim y y win;nodes 1;|4|y|pairs 0-1 2-5 8-7 6-3=accepted x y win",
+        "claim x y win;nodes 1;|4|x|pairs 0-1 2-5 8-7=",
+        "claim x y win;nodes 1=",
+    ] {
+        assert!(rt; stops_saying(rt.alloc(), row)?, "{row}");
+    }
+    Ok(())
+}
+
+/// Three points and two lines through one of them, with Maker to move.
+fn two_lines() -> &'static str {
+    "posgame 1\nkind maker-breaker\npoints 3\nline 0 1\nline 0 2\nturn x\n"
 }
 
 #[test]
@@ -354,30 +326,12 @@ fn later_nodes_and_claims(rt: HostRuntime) -> Result<(), Fail> {
 
 #[test]
 fn other_kinds(rt: HostRuntime) -> Result<(), Fail> {
-    let alloc = rt.alloc();
-    let graph = "posgame 1\nkind switching\nvertices 2\nterminals 0 1\nedge 0 1\nturn x\n";
-    assert!(rt;
-        row_holds(
-            alloc,
-            graph,
-            "claim x x win;nodes 2;0||y|over;||x|move 0 0=accepted x x win"
-        )?
-    );
-    assert!(rt;
-        row_holds(
-            alloc,
-            graph,
-            "claim x y win;nodes 1;||x|cuts e / 0=rejected J9 claim 0 node 0"
-        )?
-    );
-    let avoider = "posgame 1\nkind avoider-enforcer\npoints 2\nline 0 1\nturn y\n";
-    assert!(rt;
-        row_holds(
-            alloc,
-            avoider,
-            "claim y x win;nodes 1;||y|pairs 0-1=accepted y x win"
-        )?
-    );
+    for row in [
+        "kind switching;vertices 2;terminals 0 1;edge 0 1;turn x=claim x x win;nodes 2;0||y|over;||x|move 0 0=accepted x x win",
+        "kind avoider-enforcer;points 2;line 0 1;turn y=claim y x win;nodes 1;||y|pairs 0-1=accepted y x win",
+    ] {
+        assert!(rt; game_row_holds(rt.alloc(), row)?, "{row}");
+    }
     Ok(())
 }
 

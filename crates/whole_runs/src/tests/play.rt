@@ -1,22 +1,9 @@
 //! Whole runs that play.
-use super::{a_node_missing, a_pair_missing, files, game, lines, pairs, split, two_lines};
-use pg_base::Side;
+use super::{files, game, lines, pairs, split, status_with, stops_reading, two_calls, two_lines};
 use pg_cli::{Work, run};
-use pg_io::{Console, Entry, Failed, Files, MemConsole, Text};
+use pg_io::{Console, Entry, Failed, MemConsole, Text};
 use std::alloc::{AllocError, Global};
 use std::test::Fail;
-
-/// These lines, which are separated by `;`, each with its line feed; none where the text is empty.
-fn fed(alloc: Global, lines: &str) -> Result<Text, AllocError> {
-    let mut bytes = Vec::new(alloc);
-    if !lines.is_empty() {
-        for line in lines.split(';') {
-            bytes.extend_from_slice(line.as_bytes())?;
-            bytes.push(b'\n')?;
-        }
-    }
-    Ok(Text::from_vec(bytes))
-}
 
 /// The log as one text: what was said as it is, and on a line each what was heard behind `<`, what was skipped behind
 /// `<<`, and `<end`.
@@ -36,293 +23,54 @@ fn told(alloc: Global, console: &MemConsole) -> Result<Vec<u8>, AllocError> {
     Ok(bytes)
 }
 
-/// Whether a run on these words gives this status and this log. A row is the lines of the input, `=`, and the lines of
-/// the log.
+/// A console with these lines as its input, which are separated by `;`.
+fn console(alloc: Global, input: &str, failing: Vec<u64>) -> Result<MemConsole, AllocError> {
+    let input = lines(alloc, input)?;
+    let input = Text::from_vec(input.as_bytes().to_vec(alloc)?);
+    Ok(MemConsole::new(alloc, input, failing))
+}
+
+/// The status that comes with this log.
+fn status_of(log: &str) -> u8 {
+    if !log.starts_with("claim") {
+        status_with(log)
+    } else if log.ends_with("<end") {
+        8
+    } else if log.ends_with("refused: not a number") {
+        9
+    } else {
+        0
+    }
+}
+
+/// Whether a run on these words gives the log that it must, and its status. A row is the lines of the input, `=`, and
+/// the lines of the log.
 fn plays(
     alloc: Global,
     words: &str,
     game: &str,
     certificate: &str,
-    status: u8,
     row: &str,
 ) -> Result<bool, AllocError> {
     let Some((input, log)) = row.split_once('=') else {
         return Ok(false);
     };
     let mut files = files(alloc, game, certificate, Vec::new(alloc))?;
-    let mut console = MemConsole::new(alloc, fed(alloc, input)?, Vec::new(alloc));
+    let mut console = console(alloc, input, Vec::new(alloc))?;
     let words = split(alloc, words)?;
     let mut work = Work::new(alloc);
     let answer = run(alloc, &words, &mut files, &mut console, &mut work);
-    Ok(answer == status && told(alloc, &console)?.as_slice() == fed(alloc, log)?.as_slice())
+    let is_told = told(alloc, &console)?.as_slice() == lines(alloc, log)?.as_bytes();
+    Ok(answer == status_of(log) && is_told)
 }
 
-#[test]
-fn breaker_answers_by_pairs(rt: HostRuntime) -> Result<(), Fail> {
-    for row in [
-        "9;4; x;0;2;8;3=claim y win;<9;refused: no such point;<4;refused: taken;< x;refused: not a number;<0;move 1;<2;move 5;<8;move 7;<3;move 6;result breaker",
-        "0;2;8;3=claim y win;<0;move 1;<2;move 5;<8;move 7;<3;move 6;result breaker",
-        " 0\t;\t2 ;8\r;3;4=claim y win;< 0\t;move 1;<\t2 ;move 5;<8\r;move 7;<3;move 6;result breaker",
-    ] {
-        assert!(rt;
-            plays(rt.alloc(), "play G C --side y", game(), pairs(), 0, row)?,
-            "{row}"
-        );
-    }
-    Ok(())
+/// The same on noughts and crosses with the four pairs, where Breaker is played.
+fn breaker_plays(alloc: Global, row: &str) -> Result<bool, AllocError> {
+    plays(alloc, "play G C --side y", game(), pairs(), row)
 }
 
-#[test]
-fn the_input_ends(rt: HostRuntime) -> Result<(), Fail> {
-    for row in [
-        "=claim y win;<end",
-        "0=claim y win;<0;move 1;<end",
-        "0;00=claim y win;<0;move 1;<00;refused: not a number;<end",
-    ] {
-        assert!(rt;
-            plays(rt.alloc(), "play G C --side y", game(), pairs(), 8, row)?,
-            "{row}"
-        );
-    }
-    Ok(())
-}
-
-/// The hundredth refusal ends the play, whatever follows.
-#[test]
-fn a_hundred_refusals(rt: HostRuntime) -> Result<(), Fail> {
-    let alloc = rt.alloc();
-    let mut row = String::new(alloc);
-    for _ in 0..99 {
-        row.push_str("x;")?;
-    }
-    row.push_str("x;0=claim y win")?;
-    for _ in 0..100 {
-        row.push_str(";<x;refused: not a number")?;
-    }
-    assert!(rt; plays(alloc, "play G C --side y", game(), pairs(), 9, row.as_str())?);
-    Ok(())
-}
-
-/// A line of 63 bytes is heard. Of a longer one 64 bytes are skipped, and what follows is a further line.
-#[test]
-fn long_lines(rt: HostRuntime) -> Result<(), Fail> {
-    for row in [
-        "                                                              0=claim y win;<                                                              0;move 1;<end",
-        "                                                               0=claim y win;<<                                                               0;refused: not a number;<;refused: not a number;<end",
-        "                                                                0=claim y win;<<                                                                ;refused: not a number;<0;move 1;<end",
-    ] {
-        assert!(rt;
-            plays(rt.alloc(), "play G C --side y", game(), pairs(), 8, row)?,
-            "{row}"
-        );
-    }
-    Ok(())
-}
-
-/// Maker wins by a move, then by an answer to each reply.
-fn moves() -> &'static str {
-    "posgame-cert 1\nclaim x x win\nnodes 6\n0 2|1|y|over\n0 1|2|y|over\n0|1|x|move 2 0\n0|2|x|move 1 1\n0||y|all 1:2 2:3\n||x|move 0 4\n"
-}
-
-#[test]
-fn maker_moves_first(rt: HostRuntime) -> Result<(), Fail> {
-    for row in [
-        "1=claim x win;move 0;<1;move 2;result maker",
-        "0;3;2;7=claim x win;move 0;<0;refused: taken;<3;refused: no such point;<2;move 1;result maker",
-    ] {
-        assert!(rt;
-            plays(
-                rt.alloc(),
-                "play G C --side x",
-                two_lines(),
-                moves(),
-                0,
-                row
-            )?,
-            "{row}"
-        );
-    }
-    Ok(())
-}
-
-#[test]
-fn a_game_that_is_over(rt: HostRuntime) -> Result<(), Fail> {
-    let alloc = rt.alloc();
-    let game = "posgame 1\nkind maker-breaker\npoints 1\nturn x\n";
-    let over = "posgame-cert 1\nclaim x y win\nnodes 1\n||x|over\n";
-    let row = "0=claim y win;result breaker";
-    assert!(rt; plays(alloc, "play G C --side y", game, over, 0, row)?);
-    Ok(())
-}
-
-#[test]
-fn no_play(rt: HostRuntime) -> Result<(), Fail> {
-    let alloc = rt.alloc();
-    let side = "play G C --side y";
-    assert!(rt;
-        plays(
-            alloc,
-            "play G C --side x",
-            game(),
-            pairs(),
-            2,
-            "0=words: no claim for side x"
-        )?
-    );
-    assert!(rt;
-        plays(
-            alloc,
-            side,
-            game(),
-            a_pair_missing(),
-            4,
-            "0=rejected J6 claim 0 node 0"
-        )?
-    );
-    assert!(rt;
-        plays(
-            alloc,
-            side,
-            game(),
-            a_node_missing(),
-            4,
-            "0=certificate C5 line 4"
-        )?
-    );
-    assert!(rt; plays(alloc, side, "posgame 2\n", pairs(), 3, "0=game G3 line 1")?);
-    assert!(rt; plays(alloc, "play G H --side y", game(), pairs(), 5, "0=")?);
-    Ok(())
-}
-
-#[test]
-fn words_of_play_without_meaning(rt: HostRuntime) -> Result<(), Fail> {
-    for words in [
-        "play G C",
-        "play G C --side",
-        "play G C --side z",
-        "play G C --side x --side x",
-        "play --side x G C",
-        "play -G C --side x",
-        "check G C --side x",
-    ] {
-        assert!(rt;
-            plays(rt.alloc(), words, game(), pairs(), 2, "0=words: no meaning")?,
-            "{words}"
-        );
-    }
-    Ok(())
-}
-
-/// Whether the play of two replies ends with this status and this log, where the console fails at the call with this
-/// number, and calls nothing after it.
-fn cut_at(alloc: Global, call: u64, status: u8, log: &str) -> Result<bool, AllocError> {
-    let mut failing = vec![in alloc; call]?;
-    failing.push(call.saturating_add(1))?;
-    let mut files = files(alloc, game(), pairs(), Vec::new(alloc))?;
-    let mut console = MemConsole::new(alloc, fed(alloc, "9;0;2")?, failing);
-    let words = split(alloc, "play G C --side y")?;
-    let mut work = Work::new(alloc);
-    let answer = run(alloc, &words, &mut files, &mut console, &mut work);
-    let said = told(alloc, &console)?;
-    let quiet = console.say(b"more") == Err(Failed);
-    Ok(answer == status && said.as_slice() == fed(alloc, log)?.as_slice() && quiet)
-}
-
-#[test]
-fn each_call_on_the_console_fails_in_turn(rt: HostRuntime) -> Result<(), Fail> {
-    let alloc = rt.alloc();
-    assert!(rt; cut_at(alloc, 0, 6, "")?);
-    assert!(rt; cut_at(alloc, 1, 5, "claim y win")?);
-    assert!(rt; cut_at(alloc, 2, 6, "claim y win;<9")?);
-    assert!(rt; cut_at(alloc, 3, 5, "claim y win;<9;refused: no such point")?);
-    assert!(rt; cut_at(alloc, 4, 6, "claim y win;<9;refused: no such point;<0")?);
-    assert!(rt;
-        cut_at(
-            alloc,
-            5,
-            5,
-            "claim y win;<9;refused: no such point;<0;move 1"
-        )?
-    );
-    Ok(())
-}
-
-#[test]
-fn each_call_on_the_files_fails_in_turn(rt: HostRuntime) -> Result<(), Fail> {
-    let alloc = rt.alloc();
-    for call in 0..6u64 {
-        let mut failing = vec![in alloc; call]?;
-        failing.push(call.saturating_add(1))?;
-        let mut files = files(alloc, game(), pairs(), failing)?;
-        let mut console = MemConsole::new(alloc, fed(alloc, "0")?, Vec::new(alloc));
-        let words = split(alloc, "play G C --side y")?;
-        let mut work = Work::new(alloc);
-        let answer = run(alloc, &words, &mut files, &mut console, &mut work);
-        let quiet = files.open("G") == Err(Failed) && console.entries().is_empty();
-        assert!(rt; answer == 5 && quiet, "call {call}");
-    }
-    Ok(())
-}
-
-/// Two paths of two edges between the terminals, and an edge between their middles, with this side to move.
-fn bridged(turn: Side) -> &'static str {
-    match turn {
-        Side::X =>
-            "posgame 1\nkind switching\nvertices 4\nterminals 0 1\nedge 0 2\nedge 0 3\nedge 2 3\nedge 2 1\nedge 3 1\nturn x\n",
-        Side::Y =>
-            "posgame 1\nkind switching\nvertices 4\nterminals 0 1\nedge 0 2\nedge 0 3\nedge 2 3\nedge 2 1\nedge 3 1\nturn y\n",
-    }
-}
-
-/// Whoever moves first wins the game on that graph.
-fn trees_and_cuts() -> &'static str {
-    "posgame-cert 1\nclaim x x win\nnodes 1\n||x|trees e 0 4 / 1 2 3\nclaim y y win\nnodes 1\n||y|cuts e 0 4 / 1 2 3\n"
-}
-
-#[test]
-fn short_plays_by_trees(rt: HostRuntime) -> Result<(), Fail> {
-    for row in [
-        "4;0=claim x win;move 1;<4;move 3;<0;move 2;result short",
-        "1;4;0=claim x win;move 1;<1;refused: taken;<4;move 3;<0;move 2;result short",
-    ] {
-        assert!(rt;
-            plays(
-                rt.alloc(),
-                "play G C --side x",
-                bridged(Side::X),
-                trees_and_cuts(),
-                0,
-                row
-            )?,
-            "{row}"
-        );
-    }
-    Ok(())
-}
-
-#[test]
-fn cut_plays_by_cuts(rt: HostRuntime) -> Result<(), Fail> {
-    for row in [
-        "0;4=claim y win;move 1;<0;move 3;<4;move 2;result cut",
-        "5;0;4=claim y win;move 1;<5;refused: no such point;<0;move 3;<4;move 2;result cut",
-    ] {
-        assert!(rt;
-            plays(
-                rt.alloc(),
-                "play G C --side y",
-                bridged(Side::Y),
-                trees_and_cuts(),
-                0,
-                row
-            )?,
-            "{row}"
-        );
-    }
-    Ok(())
-}
-
-/// Whether a play to the end says what it must. A row is the lines of the game and of the certificate, each behind its
-/// first line, then the words, the lines of the input and those of the log, with `=` between them.
+/// The same where the lines of the game and of the certificate, each behind its first line, and then the words stand
+/// before the row, with `=` behind each.
 fn row_plays(alloc: Global, row: &str) -> Result<bool, AllocError> {
     let Some((game, rest)) = row.split_once('=') else {
         return Ok(false);
@@ -342,14 +90,68 @@ fn row_plays(alloc: Global, row: &str) -> Result<bool, AllocError> {
         words,
         whole_game.as_str(),
         whole_certificate.as_str(),
-        0,
         rest,
     )
 }
 
 #[test]
-fn outcomes_of_each_kind(rt: HostRuntime) -> Result<(), Fail> {
+fn breaker_answers_by_pairs(rt: HostRuntime) -> Result<(), Fail> {
     for row in [
+        "9;4; x;0;2;8;3=claim y win;<9;refused: no such point;<4;refused: taken;< x;refused: not a number;<0;move 1;<2;move 5;<8;move 7;<3;move 6;result breaker",
+        "0;2;8;3=claim y win;<0;move 1;<2;move 5;<8;move 7;<3;move 6;result breaker",
+        " 0\t;\t2 ;8\r;3;4=claim y win;< 0\t;move 1;<\t2 ;move 5;<8\r;move 7;<3;move 6;result breaker",
+        "=claim y win;<end",
+        "0=claim y win;<0;move 1;<end",
+        "0;00=claim y win;<0;move 1;<00;refused: not a number;<end",
+    ] {
+        assert!(rt; breaker_plays(rt.alloc(), row)?, "{row}");
+    }
+    Ok(())
+}
+
+/// A line of 63 bytes is heard. Of a longer one 64 bytes are skipped, and what follows is a further line.
+#[test]
+fn long_lines(rt: HostRuntime) -> Result<(), Fail> {
+    for row in [
+        "                                                              0=claim y win;<                                                              0;move 1;<end",
+        "                                                               0=claim y win;<<                                                               0;refused: not a number;<;refused: not a number;<end",
+        "                                                                0=claim y win;<<                                                                ;refused: not a number;<0;move 1;<end",
+    ] {
+        assert!(rt; breaker_plays(rt.alloc(), row)?, "{row}");
+    }
+    Ok(())
+}
+
+/// A hundred lines `x` and a move, and the log that ends with the hundredth refusal.
+fn a_hundred_refusals(alloc: Global) -> Result<String, AllocError> {
+    let mut row = String::new(alloc);
+    for _ in 0..100 {
+        row.push_str("x;")?;
+    }
+    row.push_str("0=claim y win")?;
+    for _ in 0..100 {
+        row.push_str(";<x;refused: not a number")?;
+    }
+    Ok(row)
+}
+
+#[test]
+fn the_hundredth_refusal_ends_the_play(rt: HostRuntime) -> Result<(), Fail> {
+    let row = a_hundred_refusals(rt.alloc())?;
+    assert!(rt; breaker_plays(rt.alloc(), row.as_str())?);
+    Ok(())
+}
+
+#[test]
+fn games_to_their_end(rt: HostRuntime) -> Result<(), Fail> {
+    for row in [
+        "kind switching;vertices 4;terminals 0 1;edge 0 2;edge 0 3;edge 2 3;edge 2 1;edge 3 1;turn x=claim x x win;nodes 1;||x|trees e 0 4 / 1 2 3;claim y y win;nodes 1;||y|cuts e 0 4 / 1 2 3=play G C --side x=4;0=claim x win;move 1;<4;move 3;<0;move 2;result short",
+        "kind switching;vertices 4;terminals 0 1;edge 0 2;edge 0 3;edge 2 3;edge 2 1;edge 3 1;turn x=claim x x win;nodes 1;||x|trees e 0 4 / 1 2 3;claim y y win;nodes 1;||y|cuts e 0 4 / 1 2 3=play G C --side x=1;4;0=claim x win;move 1;<1;refused: taken;<4;move 3;<0;move 2;result short",
+        "kind switching;vertices 4;terminals 0 1;edge 0 2;edge 0 3;edge 2 3;edge 2 1;edge 3 1;turn y=claim x x win;nodes 1;||x|trees e 0 4 / 1 2 3;claim y y win;nodes 1;||y|cuts e 0 4 / 1 2 3=play G C --side y=0;4=claim y win;move 1;<0;move 3;<4;move 2;result cut",
+        "kind switching;vertices 4;terminals 0 1;edge 0 2;edge 0 3;edge 2 3;edge 2 1;edge 3 1;turn y=claim x x win;nodes 1;||x|trees e 0 4 / 1 2 3;claim y y win;nodes 1;||y|cuts e 0 4 / 1 2 3=play G C --side y=5;0;4=claim y win;move 1;<5;refused: no such point;<0;move 3;<4;move 2;result cut",
+        "kind maker-breaker;points 3;line 0 1;line 0 2;turn x=claim x x win;nodes 6;0 2|1|y|over;0 1|2|y|over;0|1|x|move 2 0;0|2|x|move 1 1;0||y|all 1:2 2:3;||x|move 0 4=play G C --side x=1=claim x win;move 0;<1;move 2;result maker",
+        "kind maker-breaker;points 3;line 0 1;line 0 2;turn x=claim x x win;nodes 6;0 2|1|y|over;0 1|2|y|over;0|1|x|move 2 0;0|2|x|move 1 1;0||y|all 1:2 2:3;||x|move 0 4=play G C --side x=0;3;2;7=claim x win;move 0;<0;refused: taken;<3;refused: no such point;<2;move 1;result maker",
+        "kind maker-breaker;points 1;turn x=claim x y win;nodes 1;||x|over=play G C --side y=0=claim y win;result breaker",
         "kind avoider-enforcer;points 4;line 0 1;line 2 3;turn y=claim y x win;nodes 1;||y|pairs 0-1 2-3=play G C --side x=0;2=claim x win;<0;move 1;<2;result avoider",
         "kind avoider-enforcer;points 1;line 0;turn x=claim x y win;nodes 2;0||y|over;||x|all 0:0=play G C --side y=0=claim y win;<0;result enforcer",
         "kind maker-maker;points 1;turn x=claim x y draw;nodes 1;||x|potential=play G C --side y=0=claim y draw;<0;result draw",
@@ -358,6 +160,98 @@ fn outcomes_of_each_kind(rt: HostRuntime) -> Result<(), Fail> {
         "kind maker-breaker;points 12;line 10 11;turn y=claim y y win;nodes 1;||y|potential=play G C --side y==claim y win;move 10;result breaker",
     ] {
         assert!(rt; row_plays(rt.alloc(), row)?, "{row}");
+    }
+    Ok(())
+}
+
+#[test]
+fn no_play(rt: HostRuntime) -> Result<(), Fail> {
+    for row in [
+        "kind maker-breaker;points 2;line 0 1;turn x=claim x y win;nodes 1;||x|pairs 0-1=play G C --side x=0=words: no claim for side x",
+        "kind maker-breaker;points 2;line 0 1;turn x=claim y y win;nodes 1;||y|pairs 0-1=play G C --side y=0=words: no claim for side y",
+        "kind maker-breaker;points 2;line 0 1;turn x=claim x y win;nodes 1;||x|pairs=play G C --side y=0=rejected J6 claim 0 node 0",
+        "kind maker-breaker;points 2;line 0 1;turn x=claim x y win;nodes 1=play G C --side y=0=certificate C5 line 4",
+        "kind maker-breaker=claim x y win;nodes 1=play G C --side y=0=game G12 line 0",
+        "kind maker-breaker;points 2;line 0 1;turn x=claim x y win;nodes 1;||x|pairs 0-1=play G H --side y=0=",
+    ] {
+        assert!(rt; row_plays(rt.alloc(), row)?, "{row}");
+    }
+    Ok(())
+}
+
+/// Whether words say what they must. A row is the words, and then the lines of the input and of the log, with `=` between
+/// them.
+fn words_play(alloc: Global, row: &str) -> Result<bool, AllocError> {
+    let Some((words, rest)) = row.split_once('=') else {
+        return Ok(false);
+    };
+    plays(alloc, words, game(), pairs(), rest)
+}
+
+#[test]
+fn words_of_play_without_meaning(rt: HostRuntime) -> Result<(), Fail> {
+    for row in [
+        "play G C=0=words: no meaning",
+        "play G C --side=0=words: no meaning",
+        "play G C --side z=0=words: no meaning",
+        "play G C --side x --side x=0=words: no meaning",
+        "play --side x G C=0=words: no meaning",
+        "play -G C --side x=0=words: no meaning",
+        "check G C --side x=0=words: no meaning",
+    ] {
+        assert!(rt; words_play(rt.alloc(), row)?, "{row}");
+    }
+    Ok(())
+}
+
+/// The log of a play of two replies, each entry a line.
+const PLAY: &str = "claim y win;<9;refused: no such point;<0;move 1;<2;move 5;<end";
+
+/// As many of these lines, which are separated by `;`, from the first on, each with its line feed.
+fn first_lines(alloc: Global, row: &str, count: u64) -> Result<String, AllocError> {
+    let mut text = String::new(alloc);
+    let mut left = count;
+    for line in row.split(';') {
+        if left == 0 {
+            return Ok(text);
+        }
+        left -= 1;
+        text.push_str(line)?;
+        text.push_str("\n")?;
+    }
+    Ok(text)
+}
+
+/// Whether that play ends where the console fails at the call with this number, with the status of that call and with the
+/// entries before it, and calls nothing after it.
+fn is_cut_at(alloc: Global, call: u64, status: u8) -> Result<bool, AllocError> {
+    let mut files = files(alloc, game(), pairs(), Vec::new(alloc))?;
+    let mut console = console(alloc, "9;0;2", two_calls(alloc, call)?)?;
+    let words = split(alloc, "play G C --side y")?;
+    let mut work = Work::new(alloc);
+    let answer = run(alloc, &words, &mut files, &mut console, &mut work);
+    let is_told = told(alloc, &console)?.as_slice() == first_lines(alloc, PLAY, call)?.as_bytes();
+    Ok(answer == status && is_told && console.say(b"more") == Err(Failed))
+}
+
+#[test]
+fn each_call_of_play_on_the_console_fails_in_turn(rt: HostRuntime) -> Result<(), Fail> {
+    for call in [0, 2, 4, 6] {
+        assert!(rt; is_cut_at(rt.alloc(), call, 6)?, "call {call}");
+    }
+    for call in [1, 3, 5, 7] {
+        assert!(rt; is_cut_at(rt.alloc(), call, 5)?, "call {call}");
+    }
+    Ok(())
+}
+
+#[test]
+fn each_call_of_play_on_the_files_fails_in_turn(rt: HostRuntime) -> Result<(), Fail> {
+    for call in 0..6u64 {
+        assert!(rt;
+            stops_reading(rt.alloc(), "play G C --side y", call)?,
+            "call {call}"
+        );
     }
     Ok(())
 }
