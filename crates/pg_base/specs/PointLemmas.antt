@@ -16,7 +16,8 @@ use Rattle.pg_base.specs.WordLemmas.{same_points}
 unfoldable pub equal : FinSet nat_cmp → FinSet nat_cmp → Bool
 equal s t = is_subset s t && is_subset t s
 
-same_bit : (a b : Bool) → (a ≡ true → b ≡ true) → (b ≡ true → a ≡ true) → a ≡ b
+-- tests that follow from one another are equal
+pub same_bit : (a b : Bool) → (a ≡ true → b ≡ true) → (b ≡ true → a ≡ true) → a ≡ b
 same_bit a b f g = elim (cases_Bool a) [
   | inl on ↦ on ∙ sym (f on)
   | inr off ↦ off ∙ sym (false_from_ne_true b (λ on. false≢true (sym off ∙ g on)))

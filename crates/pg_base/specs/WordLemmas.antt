@@ -51,9 +51,6 @@ word_below-lt f (suc k) =
     let below = word_below-lt f k in
     rw (pow-suc 2 k) (elim (cases_Bool (f k)) [ inl on ↦ rw on (omega arith) | inr off ↦ rw off (omega arith) ])
 
-bit_of : Bool → ℕ
-bit_of b = cond b 1 0
-
 bit_at-bit : (b : Bool) → bit_at (cond b 1 0) 0 ≡ cond b 1 0
 bit_at-bit true = refl
 bit_at-bit false = refl

@@ -48,8 +48,3 @@ pub record IsCuts (spans : (ℕ → Bool) → ℕ → Bool) (e : ℕ) (r d1 d2 :
   pub first_in : IsWithin d1 r
   pub second_in : IsWithin d2 r
   pub joins_in : r e ≡ true
-
--- elements, and what each set of them spans
-pub record Matroid : Type 0 where
-  pub elements : ℕ → Bool
-  pub spans : (ℕ → Bool) → ℕ → Bool

@@ -1,18 +1,14 @@
 -- The number that digits write.
 use Rattle.std.proofs.Common.{◌≡◌, ℕ, zero, suc, ◌+◌, ◌-◌, ◌*◌, ◌^◌, ◌<◌, ◌≤◌, lit≤, ◌&&◌, Bool, true, false, List, [], ◌∷◌, ◌++◌, length, take, drop, get_or, map, arith, rules, refl, sym, ap, ◌∙◌}
-use Rattle.std.specs.Prelude.{Option, Some, None, option_map}
 use Rattle.std.specs.Char.{is_ascii_digit, digit_value}
 use Rattle.std.specs.List.{list_all}
 use Rattle.std.specs.Str.Parse.{digits_value, AllDigits}
 use Rattle.std.proofs.lemmas.Grind.{common_steps}
+use Rattle.std.proofs.lemmas.Bool.{and_parts}
 use Rattle.std.proofs.lemmas.Bool.Decides.{nat_tests}
 use Rattle.std.proofs.lemmas.Int.Digits.{digits_value_more, digits_value-lt}
 use Rattle.std.proofs.lemmas.Str.Parse.{digits_value-take-le, digit_at}
 use Rattle.std.proofs.Math.Nat.{pow-le-pow_right}
-
--- the numbers found before, and those that are still read
-abbrev pub after_numbers : List ℕ → Option (List ℕ) → Option (List ℕ)
-after_numbers front found = option_map (λ ns. front ++ ns) found
 
 pub digit : (c : ℕ) → is_ascii_digit c ≡ true → (48 ≤ c) × (c < 58)
 digit c e = grind (arith, nat_tests)
@@ -20,14 +16,10 @@ digit c e = grind (arith, nat_tests)
 pub digit_value_is : (c : ℕ) → 48 ≤ c → c < 58 → digit_value c ≡ c - 48
 digit_value_is c low high = grind (arith, nat_tests)
 
-pub both_true : (a b : Bool) → (a && b) ≡ true → (a ≡ true) × (b ≡ true)
-both_true true b e = (refl, e)
-both_true false b e = absurd cc
-
 pub digits_from : (ds : List ℕ) → list_all is_ascii_digit ds ≡ true → AllDigits 10 ds
 digits_from [] e = tt
 digits_from (c ∷ cs) e =
-    let both = both_true (is_ascii_digit c) (list_all is_ascii_digit cs) e in
+    let both = and_parts (is_ascii_digit c) (list_all is_ascii_digit cs) e in
     let here = digit c both.0 in
     (rw (digit_value_is c here.0 here.1) (omega arith), digits_from cs both.1)
 
