@@ -1,21 +1,20 @@
 -- A printed certificate is read again as the same certificate.
-use Rattle.std.proofs.Common.{◌≡◌, ℕ, zero, suc, ◌+◌, ◌-◌, ◌^◌, ◌<◌, ◌≤◌, lit<, lit≤, Bool, true, false, cond, ◌&&◌, ◌||◌, inl, inr, List, [], ◌∷◌, ◌++◌, length, map, arith, refl, sym, ap, subst, ◌∙◌, append_assoc, Option, Some, None, Result, Ok, Err}
-use Rattle.std.specs.Prelude.{◌==◌, nat_lt, nat_le, nat_eq, not, codes, fold, sum_by}
+use Rattle.std.proofs.Common.{◌≡◌, ℕ, suc, ◌+◌, ◌-◌, ◌^◌, ◌<◌, ◌≤◌, lit<, false, List, [], ◌∷◌, ◌++◌, length, arith, refl, sym, ap, subst, ◌∙◌, append_assoc, Option, Some, None, Ok}
+use Rattle.std.specs.Prelude.{◌==◌, nat_lt, nat_le, codes, fold}
 use Rattle.std.specs.Fmt.{decimal}
-use Rattle.std.specs.List.{flat_map, list_any, All, AllByRecursion}
+use Rattle.std.specs.List.{flat_map, AllByRecursion}
 use Rattle.std.proofs.lemmas.Bool.Decides.{nat_tests}
-use Rattle.std.proofs.lemmas.List.{append-nil, length-append}
+use Rattle.std.proofs.lemmas.List.{append-nil}
 use Rattle.std.proofs.lemmas.List.Sums.{sum_by-cons}
 use Rattle.std.proofs.lemmas.List.Elements.{All-from_recursion, recursion_from_All}
 use Rattle.pg_base.specs.declared.side.Side.{Side}
 use Rattle.pg_base.specs.declared.side.Side.TheVariants as sides
 use Rattle.pg_base.specs.declared.goal.Goal.{Goal}
 use Rattle.pg_base.specs.declared.goal.Goal.TheVariants as goals
-use Rattle.pg_text.specs.Text.{Bytes, Lacks, two_parts, four_parts, number, spaced}
+use Rattle.pg_text.specs.Text.{Bytes, Lacks, two_parts, four_parts, spaced}
 use Rattle.pg_cert_files.specs.Form.{has_bar}
-use Rattle.pg_cert_files.specs.NodeLine.{node_line}
-use Rattle.pg_cert_files.specs.Lines.{cut, lines, head_of, count_of, count_of_two}
-use Rattle.pg_cert_files.specs.CertFile.{Step, start, claim_step, claimed, numbered, counted, count_step, behind, node_step, step, Seen, nothing, listed, taken, after, seen, at_number, end_fault, outcome, fault_of, parts_of, Gathered, last_claim, closed, with_part, none_gathered, gathered, unless_faulty, certificate}
+use Rattle.pg_cert_files.specs.Lines.{cut, head_of, count_of, count_of_two}
+use Rattle.pg_cert_files.specs.CertFile.{start, behind, step, Seen, listed, taken, seen, end_fault, outcome, fault_of, parts_of, Gathered, closed, with_part, none_gathered, gathered, unless_faulty, certificate}
 use Rattle.pg_cert.specs.Limits.{IsNode, IsClaim, IsWithinLimits, node_count}
 use Rattle.pg_base.specs.Side.{side_word}
 use Rattle.pg_base.specs.Goal.{goal_word}
@@ -25,7 +24,6 @@ use Rattle.pg_cert_files.specs.declared.fault.Fault.{Fault}
 use Rattle.pg_cert_files.specs.declared.part.Head.{Head}
 use Rattle.pg_cert_files.specs.declared.part.Part.{Part}
 use Rattle.pg_cert_files.specs.declared.part.Part.TheVariants as parts
-use Rattle.pg_cert_files.specs.declared.progress.Due.{Due}
 use Rattle.pg_cert_files.specs.declared.progress.Due.TheVariants as due
 use Rattle.pg_cert_files.specs.declared.progress.Progress.{Progress}
 use Rattle.pg_cert.specs.declared.node.Node.{Node}
@@ -37,7 +35,7 @@ use Rattle.pg_cert_files.proofs.Stands.{after_none, at_feed}
 use Rattle.pg_cert_files.proofs.WholeFile.{gathered_more, gathered_none, fits_file, cert_of}
 use Rattle.pg_cert_files.proofs.CertLimits.{behind_more}
 use Rattle.pg_text.proofs.Decimals.{number_decimal}
-use Rattle.pg_cert_files.proofs.Words.{IsWord, IsQuiet, decimal_is_word, lacks_space, spaced_quiet}
+use Rattle.pg_cert_files.proofs.Words.{IsWord, decimal_is_word, lacks_space, spaced_quiet}
 use Rattle.pg_cert_files.proofs.NodeBack.{side_is_word, node_line_text, node_back, node_lacks_feed, quiet_lacks_feed}
 
 -- a text of whole lines without a fault, and what they have said

@@ -1,18 +1,18 @@
 -- A certificate that is read is within the limits.
-use Rattle.std.proofs.Common.{◌≡◌, ℕ, zero, suc, ◌+◌, ◌-◌, ◌<◌, ◌≤◌, lit≤, Bool, true, false, cond, ◌&&◌, ◌||◌, inl, inr, List, [], ◌∷◌, ◌++◌, length, arith, refl, sym, ap, subst, ◌∙◌, Option, Some, None, Result, Ok, Err}
-use Rattle.std.specs.Prelude.{◌==◌, nat_lt, nat_le, not, fold, sum_by, codes, IfNone}
-use Rattle.std.specs.List.{All, AllByRecursion}
+use Rattle.std.proofs.Common.{◌≡◌, ℕ, zero, suc, ◌+◌, ◌-◌, ◌<◌, ◌≤◌, false, cond, ◌||◌, inl, inr, List, [], ◌∷◌, ◌++◌, length, arith, refl, sym, ap, subst, ◌∙◌, Option, Some, None, Result, Ok, Err}
+use Rattle.std.specs.Prelude.{◌==◌, nat_lt, nat_le, fold, codes, IfNone}
+use Rattle.std.specs.List.{AllByRecursion}
 use Rattle.std.specs.Str.{bytes_eq}
-use Rattle.std.proofs.lemmas.Bool.{ltb-true, ltb-false, or_parts}
+use Rattle.std.proofs.lemmas.Bool.{ltb-false, or_parts}
 use Rattle.std.proofs.lemmas.Bool.Decides.{nat_tests}
-use Rattle.std.proofs.lemmas.List.{length-append, append-nil}
+use Rattle.std.proofs.lemmas.List.{length-append}
 use Rattle.std.proofs.lemmas.List.Elements.{All-from_recursion}
 use Rattle.std.proofs.lemmas.List.Sums.{sum_by_push}
 use Rattle.pg_text.specs.Text.{Bytes, number}
 use Rattle.pg_cert_files.specs.Form.{has_bar}
 use Rattle.pg_cert_files.specs.NodeLine.{node_line}
 use Rattle.pg_cert_files.specs.Lines.{lines, head_of, count_of}
-use Rattle.pg_cert_files.specs.CertFile.{Step, start, header_step, claimed, claim_step, numbered, counted, count_step, behind, node_step, step_due, step, Seen, nothing, listed, taken, goes_on, after, seen, end_fault, or_at_end, outcome, fault_of, parts_of, Gathered, last_claim, closed, with_part, none_gathered, gathered, unless_faulty, certificate, at_number}
+use Rattle.pg_cert_files.specs.CertFile.{Step, header_step, claimed, claim_step, numbered, counted, behind, node_step, step_due, step, Seen, nothing, listed, taken, goes_on, after, seen, end_fault, or_at_end, fault_of, parts_of, Gathered, last_claim, closed, with_part, none_gathered, gathered, unless_faulty, certificate, at_number}
 use Rattle.pg_cert.specs.Limits.{IsNode, IsClaim, IsWithinLimits, node_count}
 use Rattle.pg_cert_files.specs.declared.fault.Fault.{Fault}
 use Rattle.pg_cert_files.specs.declared.fault.Fault.TheVariants as faults

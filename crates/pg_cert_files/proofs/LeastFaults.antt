@@ -1,20 +1,18 @@
 -- The fault of a line is the first of its table that applies.
-use Rattle.std.proofs.Common.{◌≡◌, ℕ, ◌+◌, Bool, true, false, cond, ◌||◌, ◌⊎◌, inl, inr, List, [], ◌∷◌, map, refl, sym, ap, ◌∙◌, Option, Some, None, Result, Ok, Err}
+use Rattle.std.proofs.Common.{◌≡◌, ℕ, ◌+◌, Bool, true, false, ◌||◌, inl, inr, List, [], ◌∷◌, map, refl, sym, ap, ◌∙◌, Option, Some, None, Result, Ok, Err}
 use Rattle.std.specs.Prelude.{◌==◌, nat_lt, nat_le, not, codes, is_none, is_err}
 use Rattle.std.specs.FinSet.{from_list}
 use Rattle.std.specs.Str.{bytes_eq}
 use Rattle.std.proofs.lemmas.Bool.{cases_Bool}
-use Rattle.pg_base.specs.declared.pair.Pair.{Pair}
-use Rattle.pg_text.specs.Text.{Bytes, parts, pair_of, two_parts, number}
+use Rattle.pg_text.specs.Text.{Bytes, pair_of, two_parts, number}
 use Rattle.pg_cert.specs.Limits.{ascend_from}
 use Rattle.pg_cert.specs.declared.node.Body.{Body}
 use Rattle.pg_cert.specs.declared.node.Body.TheVariants as bodies
 use Rattle.pg_cert.specs.declared.node.Node.{Node}
-use Rattle.pg_cert.specs.declared.reply.Reply.{Reply}
 use Rattle.pg_cert_files.specs.Form.{has_bar, Shape, shape_of}
 use Rattle.pg_cert_files.specs.NodeLine.{below, point_of, child_of, onto, each_of, both_of, if_ascending, ascending_of, field_words, reply_of, points_pair, move_of, word_reply, word_pair, replies_of, begins_with_e, after_e, before_slash, after_slash, edges_with, edges_of, body_of, meets, node_with, node_of, formed, node_line}
 use Rattle.pg_cert_files.specs.Lines.{head_of, count_of}
-use Rattle.pg_cert_files.specs.CertFile.{Step, header_step, claimed, claim_step, numbered, counted, count_step, behind, node_step, step_due, step}
+use Rattle.pg_cert_files.specs.CertFile.{header_step, claimed, claim_step, numbered, counted, behind, step_due, step}
 use Rattle.pg_cert_files.specs.FirstFault.{counted_number, is_no_count, is_too_many, has_wrong_number, line_faults, first_of}
 use Rattle.pg_cert_files.specs.Views.{and_then}
 use Rattle.pg_cert_files.specs.declared.fault.Fault.{Fault}
@@ -26,7 +24,6 @@ use Rattle.pg_cert_files.specs.declared.part.Part.TheVariants as parts
 use Rattle.pg_cert_files.specs.declared.progress.Due.{Due}
 use Rattle.pg_cert_files.specs.declared.progress.Due.TheVariants as due
 use Rattle.pg_cert_files.specs.declared.progress.Progress.{Progress}
-use Rattle.pg_cert_files.specs.declared.values.Edges.{Edges}
 use Rattle.pg_cert_files.proofs.NodeLimits.{chosen}
 
 -- ---- a line of the right form can only have wrong numbers

@@ -1,12 +1,11 @@
 -- A printed node line is read again as the same node.
-use Rattle.std.proofs.Common.{◌≡◌, ℕ, zero, suc, ◌+◌, ◌%◌, ◌^◌, ◌<◌, ◌≤◌, lit<, lit≤, Bool, true, false, cond, ◌&&◌, ◌||◌, ◌⊎◌, inl, inr, List, [], ◌∷◌, ◌++◌, length, map, arith, refl, sym, ap, subst, ◌∙◌, append_assoc, Option, Some, None, Result, Ok, Err, eqb, ltb}
-use Rattle.std.specs.Prelude.{◌==◌, nat_lt, nat_le, nat_eq, not, codes, is_some}
-use Rattle.std.specs.FinSet.{FinSet, contains, insert, empty, from_list, from_list_push, nat_cmp-IsAntisymmetric, contains-empty}
+use Rattle.std.proofs.Common.{◌≡◌, ℕ, zero, suc, ◌+◌, ◌%◌, ◌<◌, ◌≤◌, lit<, Bool, true, false, cond, ◌&&◌, ◌||◌, inl, inr, List, [], ◌∷◌, ◌++◌, length, map, arith, refl, sym, ap, ◌∙◌, Option, Some, Result, Ok, eqb, ltb}
+use Rattle.std.specs.Prelude.{◌==◌, nat_le, codes, is_some}
+use Rattle.std.specs.FinSet.{FinSet, contains, from_list, from_list_push, nat_cmp-IsAntisymmetric, contains-empty}
 use Rattle.std.specs.Fmt.{decimal}
-use Rattle.std.specs.List.{list_all, list_any, All, AllByRecursion}
+use Rattle.std.specs.List.{list_any, AllByRecursion}
 use Rattle.std.specs.Ordering.{nat_cmp}
 use Rattle.std.specs.Cmp.{nat_cmp_total}
-use Rattle.std.specs.Str.{bytes_eq}
 use Rattle.std.proofs.lemmas.Bool.{cases_Bool, cases_eq, le-ltb, lt-ltb, and_parts, and_right, or_right, false≢true}
 use Rattle.std.proofs.lemmas.Bool.Decides.{nat_tests}
 use Rattle.std.proofs.lemmas.List.{append-nil, length-map, length-append}
@@ -16,15 +15,14 @@ use Rattle.pg_base.specs.declared.side.Side.{Side}
 use Rattle.pg_base.specs.declared.side.Side.TheVariants as sides
 use Rattle.pg_base.specs.declared.pair.Pair.{Pair}
 use Rattle.pg_base.specs.WordLemmas.{in_insert, same_points}
-use Rattle.pg_text.specs.Text.{Bytes, Lacks, parts, pair_of, two_parts, four_parts, number, spaced, behind_spaces}
-use Rattle.pg_cert_files.specs.Form.{has_bar, form_of, are_none, are_odd, each_has_one, is_slash, has_one_slash, fits, Shape, with_form, with_body, with_fields, shape_of}
-use Rattle.pg_cert_files.specs.NodeLine.{point_of, child_of, onto, each_of, both_of, if_ascending, ascending_of, field_words, reply_of, points_pair, move_of, word_reply, word_pair, replies_of, is_e, begins_with_e, after_e, before_slash, after_slash, edges_with, edges_of, body_of, meets, node_with, node_of, formed, node_line}
+use Rattle.pg_text.specs.Text.{Bytes, Lacks, parts, two_parts, four_parts, spaced, behind_spaces}
+use Rattle.pg_cert_files.specs.Form.{form_of, are_odd, each_has_one, is_slash, has_one_slash, fits, Shape, with_fields, shape_of}
+use Rattle.pg_cert_files.specs.NodeLine.{ascending_of, field_words, reply_of, points_pair, word_reply, word_pair, is_e, begins_with_e, after_e, before_slash, after_slash, edges_with, edges_of, body_of, meets, node_of, node_line}
 use Rattle.pg_cert.specs.Limits.{ArePoints, IsReply, IsPair, IsBody, IsNode, ascend_from}
 use Rattle.pg_base.specs.Side.{side_word, side_of}
-use Rattle.pg_cert.specs.Print.{one_where, points_below, set_words, reply_word, pair_word, e_words, edge_words, body_name, body_words, body_text, node_text}
+use Rattle.pg_cert.specs.Print.{one_where, points_below, set_words, reply_word, pair_word, edge_words, body_name, body_words, body_text}
 use Rattle.pg_cert_files.specs.Views.{and_then}
 use Rattle.pg_cert_files.specs.declared.fault.Fault.{Fault}
-use Rattle.pg_cert_files.specs.declared.fault.Fault.TheVariants as faults
 use Rattle.pg_cert_files.specs.declared.form.Form.{Form}
 use Rattle.pg_cert_files.specs.declared.form.Form.TheVariants as forms
 use Rattle.pg_cert.specs.declared.node.Body.{Body}
@@ -34,7 +32,7 @@ use Rattle.pg_cert.specs.declared.reply.Reply.{Reply}
 use Rattle.pg_cert_files.specs.declared.values.Edges.{Edges}
 use Rattle.pg_text.proofs.Cuts.{just_two, four_three}
 use Rattle.pg_cert_files.proofs.NodeLimits.{odd_len, set_from}
-use Rattle.pg_text.proofs.Decimals.{IsDigit, all_append, all_of, all_map, decimal_digits, decimal_not, two_decimals}
+use Rattle.pg_text.proofs.Decimals.{all_append, all_of, all_map, decimal_not, two_decimals}
 use Rattle.pg_cert_files.proofs.Words.{IsPlain, IsQuiet, IsWord, decimal_is_word, lacks_bar, word_quiet, spaced_quiet, words_spaced, point_decimal, child_decimal, each_back, points_back}
 
 -- ---- sets

@@ -1,10 +1,10 @@
 -- A node that is read is within the limits.
-use Rattle.std.proofs.Common.{◌≡◌, ℕ, zero, suc, ◌+◌, ◌%◌, ◌<◌, ◌≤◌, lit<, lit≤, Bool, true, false, cond, ◌&&◌, ◌||◌, ◌⊎◌, inl, inr, List, [], ◌∷◌, ◌++◌, length, map, arith, refl, sym, ap, subst, ◌∙◌, Option, Some, None, Result, Ok, Err}
-use Rattle.std.specs.Prelude.{◌==◌, nat_lt, nat_le, nat_eq, not}
+use Rattle.std.proofs.Common.{◌≡◌, ℕ, suc, ◌%◌, ◌<◌, Bool, true, false, cond, ◌⊎◌, inl, inr, List, [], ◌∷◌, length, map, arith, refl, sym, ap, subst, ◌∙◌, Option, Some, None, Result, Ok, Err}
+use Rattle.std.specs.Prelude.{nat_lt, nat_eq, not}
 use Rattle.std.specs.FinSet.{FinSet, contains, from_list, contains-from_list_nat}
 use Rattle.std.specs.List.{list_any, All, AllByRecursion}
 use Rattle.std.specs.Ordering.{nat_cmp}
-use Rattle.std.proofs.lemmas.Bool.{cases_Bool, ltb-true, ltb-false, or_cases, or_parts, false≢true}
+use Rattle.std.proofs.lemmas.Bool.{cases_Bool, ltb-true, or_cases, or_parts, false≢true}
 use Rattle.std.proofs.lemmas.Bool.Decides.{nat_tests}
 use Rattle.std.proofs.lemmas.List.Elements.{All-from_recursion}
 use Rattle.pg_base.specs.declared.side.Side.{Side}
@@ -12,7 +12,7 @@ use Rattle.pg_base.specs.declared.pair.Pair.{Pair}
 use Rattle.pg_text.specs.Text.{Bytes, Four, parts, pair_of, two_parts, four_parts, number}
 use Rattle.pg_base.specs.Side.{side_of}
 use Rattle.pg_cert_files.specs.Form.{form_of, are_odd, fits, Shape, with_form, with_body, with_fields, shape_of, has_bar}
-use Rattle.pg_cert_files.specs.NodeLine.{below, point_of, child_of, onto, each_of, both_of, if_ascending, ascending_of, field_words, reply_of, points_pair, move_of, word_reply, word_pair, replies_of, begins_with_e, after_e, before_slash, after_slash, edges_with, edges_of, body_of, meets, node_with, node_of, formed, node_line}
+use Rattle.pg_cert_files.specs.NodeLine.{below, point_of, child_of, onto, each_of, both_of, if_ascending, ascending_of, field_words, reply_of, points_pair, move_of, word_reply, word_pair, replies_of, begins_with_e, after_e, before_slash, after_slash, edges_of, body_of, meets, node_with, node_of, formed, node_line}
 use Rattle.pg_cert.specs.Limits.{ArePoints, IsReply, IsPair, IsBody, IsNode, ascend_from}
 use Rattle.pg_cert_files.specs.Views.{and_then}
 use Rattle.pg_cert_files.specs.declared.fault.Fault.{Fault}

@@ -1,5 +1,5 @@
 -- How many words there are.
-use Rattle.std.proofs.Common.{ℕ, ◌<◌, ◌≡◌, List, [], ◌∷◌, length, arith, refl}
+use Rattle.std.proofs.Common.{◌<◌, ◌≡◌, List, [], ◌∷◌, length, arith, refl}
 use Rattle.std.specs.Prelude.{Bool, true, false, not}
 use Rattle.pg_text.specs.Text.{Bytes, parts}
 use Rattle.pg_text.proofs.Cuts.{some_part}

@@ -1,5 +1,5 @@
 -- The set of a list that grows at its end.
-use Rattle.std.proofs.Common.{◌≡◌, ℕ, ◌+◌, ◌<◌, List, [], ◌∷◌, ◌++◌, length, take, get_or, refl, sym, ap, ◌∙◌}
+use Rattle.std.proofs.Common.{◌≡◌, ℕ, ◌+◌, ◌<◌, List, length, take, get_or, sym, ap, ◌∙◌}
 use Rattle.std.specs.FinSet.{FinSet, insert, from_list, from_list_push, nat_cmp-IsAntisymmetric}
 use Rattle.std.proofs.lemmas.List.{take_more}
 use Rattle.std.specs.Ordering.{nat_cmp}

@@ -1,12 +1,12 @@
 -- What a reader stands for after a step.
-use Rattle.std.proofs.Common.{◌≡◌, ℕ, ◌+◌, ◌-◌, ◌<◌, take, length, arith, Bool, true, false, List, [], ◌∷◌, ◌++◌, refl, sym, ap, subst, ◌∙◌, append_assoc, Option, Some, None, Result, Ok, Err}
+use Rattle.std.proofs.Common.{◌≡◌, ℕ, ◌+◌, ◌-◌, ◌<◌, take, length, arith, true, false, List, [], ◌∷◌, ◌++◌, refl, sym, ap, subst, ◌∙◌, append_assoc, Option, Some, None, Ok, Err}
 use Rattle.std.specs.Prelude.{IfNone, is_some}
 use Rattle.std.specs.Global.{Vec}
 use Rattle.std.proofs.lemmas.List.{append-nil, length-append}
 use Rattle.std.proofs.Math.Seq.{take-append_seam}
 use Rattle.pg_text.specs.Text.{Bytes, Lacks}
 use Rattle.pg_cert_files.specs.Lines.{Cut, cut, unless_empty, lines}
-use Rattle.pg_cert_files.specs.CertFile.{Seen, nothing, step, taken, goes_on, after, seen, listed, outcome, at_number, end_fault, fault_of, parts_of}
+use Rattle.pg_cert_files.specs.CertFile.{Seen, nothing, step, taken, after, seen, listed, outcome, at_number, end_fault, fault_of, parts_of}
 use Rattle.pg_cert_files.specs.Reader.{StandsFor, told, IsBad}
 use Rattle.pg_cert_files.specs.Views.{number_of}
 use Rattle.pg_cert_files.specs.declared.fault.Fault.{Fault}

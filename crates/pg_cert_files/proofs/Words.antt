@@ -1,18 +1,13 @@
 -- Words that are joined are cut again into the same words, and printed points are read again.
-use Rattle.std.proofs.Common.{◌≡◌, ℕ, zero, suc, ◌+◌, ◌^◌, ◌<◌, ◌≤◌, lit<, Bool, true, false, cond, ◌&&◌, ◌||◌, ◌⊎◌, inl, inr, List, [], ◌∷◌, ◌++◌, length, map, get_or, arith, refl, sym, ap, ◌∙◌}
-use Rattle.std.specs.Prelude.{◌==◌, nat_lt, nat_eq, not, Option, Some, None, Result, Ok, Err}
-use Rattle.std.specs.Char.{is_ascii_digit}
+use Rattle.std.proofs.Common.{◌≡◌, ℕ, ◌^◌, ◌<◌, ◌≤◌, Bool, true, false, List, [], ◌∷◌, map, arith, refl, ap, ◌∙◌}
+use Rattle.std.specs.Prelude.{◌==◌, nat_lt, Result, Ok}
 use Rattle.std.specs.Fmt.{decimal}
-use Rattle.std.specs.List.{list_all, slice_split, flat_map, All, AllByRecursion}
-use Rattle.std.specs.Str.{bytes_eq}
-use Rattle.std.specs.Str.Parse.{digits_value, AllDigits}
+use Rattle.std.specs.List.{slice_split, AllByRecursion}
 use Rattle.std.proofs.lemmas.Bool.Decides.{nat_tests}
-use Rattle.std.proofs.lemmas.Fmt.{decimal_is_IsNumeral, length-decimal-le, first_decimal, decimal_digit}
 use Rattle.std.proofs.lemmas.List.{append-nil}
 use Rattle.std.proofs.lemmas.List.Elements.{All-from_recursion}
 use Rattle.std.proofs.lemmas.List.Splits.{slice_split_at, slice_split_none}
-use Rattle.std.proofs.lemmas.Str.Parse.{digit_from_value}
-use Rattle.pg_text.specs.Text.{Bytes, Lacks, parts, two_parts, is_numeral, number, spaced, behind_spaces}
+use Rattle.pg_text.specs.Text.{Bytes, Lacks, parts, spaced, behind_spaces}
 use Rattle.pg_cert_files.specs.NodeLine.{point_of, child_of, each_of}
 use Rattle.pg_cert_files.specs.declared.fault.Fault.{Fault}
 use Rattle.pg_text.proofs.Decimals.{IsDigit, all_append, all_of, decimal_digits, number_decimal}

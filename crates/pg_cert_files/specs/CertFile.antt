@@ -1,5 +1,5 @@
 -- Certificate files: which line is due, what each line adds, and the first fault.
-use Rattle.std.specs.Prelude.{ℕ, ◌+◌, ◌-◌, Bool, true, false, ◌&&◌, ◌||◌, not, nat_lt, nat_le, ◌==◌, if◌then◌else◌, List, [], ◌∷◌, ◌++◌, length, Option, Some, None, Result, Ok, Err, codes, fold}
+use Rattle.std.specs.Prelude.{ℕ, ◌+◌, ◌-◌, ◌||◌, nat_lt, nat_le, ◌==◌, if◌then◌else◌, List, [], ◌∷◌, ◌++◌, length, Option, Some, None, Result, Ok, Err, codes, fold}
 use Rattle.std.specs.Str.{bytes_eq}
 use Rattle.pg_text.specs.Text.{Bytes, number}
 use Rattle.pg_cert_files.specs.Form.{has_bar}

@@ -1,5 +1,5 @@
 -- What functions return, without where it lies in memory.
-use Rattle.std.specs.Prelude.{◌≡◌, ℕ, Option, Some, None, Result, Ok, Err, IsErrAnd}
+use Rattle.std.specs.Prelude.{◌≡◌, ℕ, Result, Ok, Err, IsErrAnd}
 use Rattle.pg_cert_files.specs.declared.fault.Fault.{Fault}
 use Rattle.pg_cert_files.specs.declared.fault.Fault.TheVariants as faults
 use Rattle.pg_cert_files.specs.declared.fault.ReadError.{ReadError}

@@ -1,20 +1,19 @@
 -- The first fault of a file, and the least of its line.
-use Rattle.std.proofs.Common.{◌≡◌, ℕ, ◌+◌, ◌<◌, Bool, true, false, cond, not, ◌||◌, ◌⊎◌, inl, inr, List, [], ◌∷◌, ◌++◌, length, Result, Ok, Err, Option, Some, None, refl, sym, ap, ◌∙◌, arith, subst}
+use Rattle.std.proofs.Common.{◌≡◌, ℕ, ◌<◌, Bool, true, false, cond, not, ◌||◌, ◌⊎◌, inl, inr, List, [], ◌∷◌, length, Result, Ok, Err, Option, Some, None, refl, sym, ap, ◌∙◌, arith}
 use Rattle.std.specs.Prelude.{nat_lt, ◌==◌, is_none}
-use Rattle.std.specs.List.{list_all, AllByRecursion}
+use Rattle.std.specs.List.{list_all}
 use Rattle.std.proofs.lemmas.Bool.{ltb-true}
-use Rattle.std.proofs.lemmas.Bool.Decides.{nat_tests}
 use Rattle.pg_base.specs.declared.kind.Kind.{Kind}
 use Rattle.pg_base.specs.declared.side.Side.{Side}
 use Rattle.pg_text.specs.Text.{Bytes}
 use Rattle.pg_files.specs.Text.{lines, words}
 use Rattle.pg_files.specs.Key.{key_of}
-use Rattle.pg_files.specs.GameFile.{Draft, Entry, nothing, reading, after, significant, keyed, keyed_fault, named, unless, said, least, keyed_faults, first, rest, is_header, is_printable, begins_comment, game, ended, game_of}
+use Rattle.pg_files.specs.GameFile.{Draft, Entry, nothing, reading, after, significant, keyed, keyed_fault, named, unless, said, least, first, rest, is_header, is_printable, begins_comment, game, ended, game_of}
 use Rattle.pg_files.specs.Laws.{named_faults, words_faults, line_faults, IsLeast, IsFirstFault, Lacks, IsWholeFault}
 use Rattle.pg_files.specs.declared.fault.Fault.{Fault}
 use Rattle.pg_files.specs.declared.fault.Fault.TheVariants as faults
 use Rattle.pg_files.specs.declared.key.Key.{Key}
-use Rattle.pg_files.proofs.LineByLine.{bad, err_is, first_fault}
+use Rattle.pg_files.proofs.LineByLine.{bad, first_fault}
 use Rattle.pg_files.proofs.Sound.{IsSound, sound_reading, sound_nothing}
 
 -- ---- the least of a line

@@ -1,5 +1,5 @@
 -- A printed game is within the limit of a file, and its lines are words.
-use Rattle.std.proofs.Common.{◌≡◌, ℕ, zero, suc, ◌+◌, ◌*◌, ◌^◌, ◌<◌, ◌≤◌, lit<, lit≤, Bool, true, false, List, [], ◌∷◌, ◌++◌, length, map, arith, refl, sym, ap, ◌∙◌, inl, inr}
+use Rattle.std.proofs.Common.{◌≡◌, ℕ, ◌+◌, ◌*◌, ◌<◌, ◌≤◌, lit<, lit≤, true, List, [], ◌∷◌, ◌++◌, length, map, arith, refl, ap, ◌∙◌}
 use Rattle.std.specs.Prelude.{nat_lt, sum_by, Option, Some, None}
 use Rattle.std.specs.Fmt.{decimal}
 use Rattle.std.specs.List.{list_all, flat_map, All, AllByRecursion}

@@ -1,34 +1,28 @@
 -- What is printed is read again.
-use Rattle.std.proofs.Common.{◌≡◌, ℕ, zero, suc, ◌+◌, ◌*◌, ◌^◌, ◌<◌, ◌≤◌, lit<, lit≤, Bool, true, false, cond, ◌&&◌, ◌||◌, eqb, inl, inr, List, [], ◌∷◌, ◌++◌, length, map, arith, refl, sym, ap, subst, append_assoc, ◌∙◌, Ok, Err, Result}
-use Rattle.std.specs.Prelude.{◌==◌, nat_lt, nat_le, not, sum_by, Option, Some, None, codes}
+use Rattle.std.proofs.Common.{◌≡◌, ℕ, ◌+◌, ◌*◌, ◌<◌, ◌≤◌, true, false, ◌&&◌, inl, inr, List, [], ◌∷◌, ◌++◌, length, map, arith, refl, ap, ◌∙◌, Ok}
+use Rattle.std.specs.Prelude.{◌==◌, nat_lt, nat_le, sum_by, Some, None}
 use Rattle.std.specs.Fmt.{decimal}
-use Rattle.std.specs.List.{list_all, flat_map, All, AllByRecursion}
-use Rattle.std.specs.FinSet.{FinSet, contains, empty}
-use Rattle.std.specs.Ordering.{nat_cmp}
+use Rattle.std.specs.List.{list_all, All}
+use Rattle.std.specs.FinSet.{empty}
 use Rattle.std.proofs.Math.Nat.{le-mul_of_pos_right, mul_comm}
 use Rattle.std.proofs.lemmas.Bool.{cases_lt, lt-ltb, ne_eqb, and_parts, and_right}
 use Rattle.std.proofs.lemmas.Bool.Decides.{nat_tests}
-use Rattle.std.proofs.lemmas.List.{append-nil, length-append, map-append}
 use Rattle.std.proofs.lemmas.List.Elements.{All-tail}
-use Rattle.std.proofs.lemmas.List.Sums.{sum_by-cons, sum_by_push}
-use Rattle.pg_base.specs.declared.grid.Grid.{Grid}
 use Rattle.pg_base.specs.declared.kind.Kind.{Kind}
 use Rattle.pg_base.specs.declared.kind.Kind.TheVariants as kinds
 use Rattle.pg_base.specs.declared.side.Side.{Side}
 use Rattle.pg_base.specs.declared.side.Side.TheVariants as sides
-use Rattle.pg_game.specs.Fit.{AreBelow, IsLineOf, is_switching}
-use Rattle.pg_text.specs.Text.{Bytes, number, spaced}
-use Rattle.pg_files.specs.Text.{words, lines, numbers}
-use Rattle.pg_files.specs.Sets.{set_of, ascending, members, repeats}
-use Rattle.pg_files.specs.Print.{spelled, header, numbered, worded, marked, size_words, edge_words}
+use Rattle.pg_game.specs.Fit.{is_switching}
+use Rattle.pg_text.specs.Text.{Bytes, spaced}
+use Rattle.pg_files.specs.Text.{lines}
+use Rattle.pg_files.specs.Sets.{set_of, ascending, repeats}
 use Rattle.pg_base.specs.Kind.{kind_word, kind_of}
 use Rattle.pg_base.specs.Side.{side_word, side_of}
 use Rattle.pg_files.specs.Key.{key_name, key_of, rank_of, belongs, needed_rank}
-use Rattle.pg_files.specs.GameFile.{Draft, nothing, after, significant, keyed, reading, is_out_of_place, is_misplaced, lacks_grid, begins_comment, is_printable, points_for, points_so_far, is_outside}
+use Rattle.pg_files.specs.GameFile.{Draft, nothing, after, significant, keyed, is_out_of_place, is_misplaced, lacks_grid, begins_comment, points_so_far, is_outside}
 use Rattle.pg_files.specs.declared.key.Key.{Key}
 use Rattle.pg_files.specs.declared.key.Key.TheVariants as keys
-use Rattle.pg_files.proofs.Words.{is_word, is_graphic, words_spaced, lines_spelled, numbers_decimals, decimals_are_words, decimal_is_word, spaced_printable}
-use Rattle.pg_files.proofs.SetLaws.{ascending_is, repeats_none, set_of-members}
+use Rattle.pg_files.proofs.Words.{is_word, words_spaced, numbers_decimals, spaced_printable}
 
 -- ---- names
 

@@ -1,9 +1,9 @@
 -- A printed file is read line by line, each line after those before it.
-use Rattle.std.proofs.Common.{◌≡◌, ◌≢◌, ℕ, zero, suc, ◌+◌, ◌*◌, ◌<◌, ◌≤◌, lit<, lit≤, Bool, true, false, cond, List, [], ◌∷◌, ◌++◌, length, map, arith, refl, sym, ap, subst, append_assoc, ◌∙◌, Ok, Err, Result}
+use Rattle.std.proofs.Common.{◌≡◌, ℕ, ◌+◌, ◌*◌, ◌<◌, ◌≤◌, lit<, lit≤, Bool, true, false, cond, List, [], ◌∷◌, ◌++◌, length, map, arith, refl, sym, ap, subst, append_assoc, ◌∙◌, Ok, Err}
 use Rattle.std.specs.Prelude.{nat_lt, sum_by, Option, Some, None}
 use Rattle.std.specs.Fmt.{decimal}
-use Rattle.std.specs.List.{list_all, flat_map, All, AllByRecursion}
-use Rattle.std.specs.FinSet.{FinSet, contains, empty, contains-empty}
+use Rattle.std.specs.List.{list_all, All}
+use Rattle.std.specs.FinSet.{FinSet, empty}
 use Rattle.std.specs.Ordering.{nat_cmp}
 use Rattle.std.proofs.lemmas.Bool.Decides.{nat_tests}
 use Rattle.std.proofs.lemmas.List.{append-nil, length-append, map-append}
@@ -23,19 +23,18 @@ use Rattle.pg_game.specs.Fit.{AreBelow, ShareNone, IsLineOf, AreLinesOf, IsBoard
 use Rattle.pg_text.specs.Text.{Bytes, spaced}
 use Rattle.pg_files.specs.Text.{words, lines}
 use Rattle.pg_files.specs.Sets.{set_of, ascending, members, repeats}
-use Rattle.pg_files.specs.Print.{spelled, header, numbered, worded, marked, size_words, edge_words, field_words, printed, printed_lines}
+use Rattle.pg_files.specs.Print.{header, numbered, worded, marked, size_words, edge_words, field_words, printed, printed_lines}
 use Rattle.pg_base.specs.Kind.{kind_word}
 use Rattle.pg_base.specs.Side.{side_word}
-use Rattle.pg_files.specs.GameFile.{Draft, Entry, nothing, after, significant, reading, game, game_of, is_out_of_place, is_misplaced, points_for, points_so_far, field_of}
+use Rattle.pg_files.specs.GameFile.{Draft, Entry, nothing, after, significant, reading, game, game_of, is_misplaced, points_for, points_so_far, field_of}
 use Rattle.pg_files.specs.Views.{entry}
 use Rattle.pg_files.specs.declared.fault.Fault.TheVariants as faults
-use Rattle.pg_files.specs.declared.key.Key.{Key}
 use Rattle.pg_files.specs.declared.key.Key.TheVariants as keys
-use Rattle.pg_files.proofs.Words.{is_word, lines_spelled, decimals_are_words}
+use Rattle.pg_files.proofs.Words.{lines_spelled, decimals_are_words}
 use Rattle.pg_files.proofs.SetLaws.{ascending_is, repeats_none, set_of-members, below-members, members-ascend, members-apart, below_more}
 use Rattle.pg_files.proofs.Sound.{lines_kind}
-use Rattle.pg_files.proofs.PrintSize.{AreWords, printed_small}
-use Rattle.pg_files.proofs.RoundTrip.{AreSmall, smaller, one_small, two_small, all_below, factors, after_keyed, key_is_word, kind_is_word, side_is_word, in_place, line_in_place, edge_in_place, keyed_line, keyed_edge, keyed_x, keyed_y, keyed_turn, of_kind, keyed_kind, keyed_points, keyed_grid, keyed_vertices, keyed_terminals}
+use Rattle.pg_files.proofs.PrintSize.{printed_small}
+use Rattle.pg_files.proofs.RoundTrip.{smaller, one_small, two_small, all_below, factors, after_keyed, kind_is_word, side_is_word, in_place, line_in_place, edge_in_place, keyed_line, keyed_edge, keyed_x, keyed_y, keyed_turn, of_kind, keyed_kind, keyed_points, keyed_grid, keyed_vertices, keyed_terminals}
 
 -- ---- one line after the other
 

@@ -1,9 +1,9 @@
 -- Lists of numbers and their sets.
-use Rattle.std.proofs.Common.{◌≡◌, ◌≢◌, ℕ, zero, suc, ◌+◌, ◌<◌, ◌≤◌, Bool, true, false, cond, not, ◌&&◌, ◌||◌, List, [], ◌∷◌, ◌++◌, length, take, drop, get_or, add-one, drop-cons, refl, sym, ap, ◌∙◌, arith, eqb, ltb, leb, inl, inr, subst, Less}
+use Rattle.std.proofs.Common.{◌≡◌, ◌≢◌, ℕ, zero, suc, ◌+◌, ◌<◌, ◌≤◌, Bool, true, false, cond, ◌&&◌, List, [], ◌∷◌, ◌++◌, length, take, drop, get_or, add-one, drop-cons, refl, sym, ap, ◌∙◌, arith, eqb, ltb, inl, inr, Less}
 use Rattle.std.specs.Prelude.{nat_lt, nat_eq, nat_le, ◌==◌, filter}
 use Rattle.std.specs.List.{list_all, list_any, range_with_len, count_by, AllByRecursion, IsDistinct}
 use Rattle.std.specs.List.Sorted.{IsPermutation, IsStrictlyIncreasing, IsStrictlySortedBy}
-use Rattle.std.specs.FinSet.{FinSet, contains, insert, empty, from_list, from_list_push, contains-from_list_nat, contains-empty, same_set}
+use Rattle.std.specs.FinSet.{FinSet, contains, insert, empty, from_list_push, contains-from_list_nat, contains-empty}
 use Rattle.std.specs.Cmp.{nat_cmp_total, IsEquivalence, decided}
 use Rattle.std.specs.FinMap.{nat_cmp-IsAntisymmetric}
 use Rattle.std.specs.Ordering.{nat_cmp}

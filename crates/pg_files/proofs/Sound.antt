@@ -1,11 +1,10 @@
 -- What is read is within the limits.
-use Rattle.std.proofs.Common.{◌≡◌, ◌≢◌, ℕ, zero, suc, ◌+◌, ◌*◌, ◌<◌, ◌≤◌, lit<, lit≤, Bool, true, false, cond, ◌&&◌, ◌||◌, ◌⊎◌, inl, inr, List, [], ◌∷◌, ◌++◌, length, arith, refl, sym, ap, subst, ◌∙◌, Option, Some, None, Result, Ok, Err}
+use Rattle.std.proofs.Common.{◌≡◌, ◌≢◌, ℕ, suc, ◌+◌, ◌*◌, ◌<◌, ◌≤◌, lit≤, Bool, true, false, cond, ◌&&◌, ◌||◌, ◌⊎◌, inl, inr, List, [], ◌∷◌, ◌++◌, length, arith, refl, sym, ap, subst, ◌∙◌, Option, Some, None, Result, Ok, Err}
 use Rattle.std.specs.Prelude.{◌==◌, nat_lt, nat_le, not, sum_by, is_none, unwrap_or}
 use Rattle.std.specs.List.{list_all, All, AllByRecursion}
-use Rattle.std.specs.List.Sorted.{IsStrictlyIncreasing}
 use Rattle.std.specs.FinSet.{FinSet, contains, empty, contains-empty}
 use Rattle.std.specs.Ordering.{nat_cmp}
-use Rattle.std.proofs.lemmas.Bool.{cases_lt, cases_Bool, ltb-true, ltb-false, eqb-false, and_parts, or_parts}
+use Rattle.std.proofs.lemmas.Bool.{cases_lt, ltb-true, ltb-false, eqb-false, and_parts, or_parts}
 use Rattle.std.proofs.lemmas.Bool.Decides.{nat_tests}
 use Rattle.std.proofs.lemmas.List.{length-append}
 use Rattle.std.proofs.lemmas.List.Elements.{All-push}
@@ -24,12 +23,12 @@ use Rattle.pg_files.specs.Text.{lines, words, numbers, then_numbers}
 use Rattle.pg_files.specs.Sets.{set_of, ascending, repeats}
 use Rattle.pg_base.specs.Kind.{kind_of}
 use Rattle.pg_files.specs.Key.{rank_of, key_of, belongs, needed_rank}
-use Rattle.pg_files.specs.GameFile.{Draft, least, unless, keyed_faults, keyed_fault, said, with_numbers, keyed, significant, after, numbers_of, first_number, second_number, first, rest, nothing, named, is_header, begins_comment, is_printable, reading, go_on, is_misplaced, lacks_grid, is_outside, points_for, field_of, Entry, game, ended, game_of}
+use Rattle.pg_files.specs.GameFile.{Draft, least, unless, keyed_faults, keyed_fault, said, keyed, significant, after, numbers_of, first_number, second_number, first, rest, nothing, named, is_header, begins_comment, is_printable, reading, go_on, is_misplaced, lacks_grid, is_outside, points_for, field_of, Entry, game, ended, game_of}
 use Rattle.pg_files.specs.declared.fault.Fault.{Fault}
 use Rattle.pg_files.specs.declared.fault.Fault.TheVariants as faults
 use Rattle.pg_files.specs.declared.key.Key.{Key}
 use Rattle.pg_files.specs.declared.key.Key.TheVariants as keys
-use Rattle.pg_files.proofs.SetLaws.{has, in_set_of, members-ascend, has-ascending, length-ascending, below-ascending, has-below, below_more, repeats_apart}
+use Rattle.pg_files.proofs.SetLaws.{has, in_set_of, members-ascend, length-ascending, below-ascending, has-below, below_more, repeats_apart}
 
 -- ---- tables and tests
 

@@ -1,20 +1,19 @@
 -- Words that are joined are cut again into the same words.
-use Rattle.std.proofs.Common.{◌≡◌, ℕ, zero, suc, ◌+◌, ◌^◌, ◌<◌, ◌≤◌, lit<, Bool, true, false, cond, ◌&&◌, ◌||◌, eqb, List, [], ◌∷◌, ◌++◌, length, map, get_or, arith, refl, sym, ap, ◌∙◌, append_assoc}
-use Rattle.std.specs.Prelude.{◌==◌, nat_lt, not, filter, Option, Some, None, option_map}
-use Rattle.std.specs.Char.{is_ascii_digit}
+use Rattle.std.proofs.Common.{◌≡◌, ℕ, ◌^◌, ◌<◌, ◌≤◌, lit<, Bool, true, false, ◌&&◌, List, [], ◌∷◌, ◌++◌, length, map, arith, refl, ap, ◌∙◌, append_assoc}
+use Rattle.std.specs.Prelude.{◌==◌, nat_lt, not, filter, Some}
 use Rattle.std.specs.Fmt.{decimal}
 use Rattle.std.specs.List.{list_all, slice_split, flat_map, All, AllByRecursion}
-use Rattle.std.specs.Str.Parse.{digits_value, AllDigits}
+use Rattle.std.specs.Str.Parse.{AllDigits}
 use Rattle.std.proofs.lemmas.Bool.Decides.{nat_tests}
-use Rattle.std.proofs.lemmas.Fmt.{decimal_is_IsNumeral, length-decimal-le, first_decimal, decimal_digit}
+use Rattle.std.proofs.lemmas.Fmt.{decimal_is_IsNumeral}
 use Rattle.std.proofs.lemmas.List.{append-nil}
 use Rattle.std.proofs.lemmas.List.Elements.{All-from_recursion}
 use Rattle.std.proofs.lemmas.List.Splits.{slice_split_at, slice_split_none, length-slice_split}
 use Rattle.std.proofs.lemmas.Str.Parse.{digit_from_value}
 use Rattle.std.proofs.lemmas.Bool.{ltb-true, and_parts}
-use Rattle.pg_text.specs.Text.{Bytes, number, spaced}
+use Rattle.pg_text.specs.Text.{Bytes, spaced}
 use Rattle.pg_text.proofs.Decimals.{number_decimal}
-use Rattle.pg_files.specs.Text.{words, lines, without_empty_end, numbers, then_numbers}
+use Rattle.pg_files.specs.Text.{words, lines, without_empty_end, numbers}
 use Rattle.pg_files.specs.Print.{spelled}
 use Rattle.pg_files.specs.GameFile.{is_printable}
 use Rattle.pg_files.proofs.Lines.{is_feed, without_empty_end-cons}

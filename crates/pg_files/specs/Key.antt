@@ -1,5 +1,5 @@
 -- The keys of a game file.
-use Rattle.std.specs.Prelude.{ℕ, Bool, true, false, not, Option, Some, None, List, [], ◌∷◌, codes, find, if◌then◌else◌}
+use Rattle.std.specs.Prelude.{ℕ, Bool, true, not, Option, List, [], ◌∷◌, codes, find, if◌then◌else◌}
 use Rattle.std.specs.Str.{bytes_eq}
 use Rattle.pg_text.specs.Text.{Bytes}
 use Rattle.pg_base.specs.declared.kind.Kind.{Kind}

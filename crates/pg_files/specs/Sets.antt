@@ -1,7 +1,7 @@
 -- Lists of numbers and the sets of their members.
 use Rattle.std.specs.Prelude.{ℕ, Bool, false, ◌||◌, List, [], ◌∷◌, filter}
 use Rattle.std.specs.List.{range_with_len}
-use Rattle.std.specs.FinSet.{FinSet, contains, insert, empty, from_list}
+use Rattle.std.specs.FinSet.{FinSet, contains, insert, from_list}
 use Rattle.std.specs.Ordering.{nat_cmp}
 
 -- the set of the numbers of a list

@@ -1,5 +1,5 @@
 -- The values of the code, without where they lie in memory.
-use Rattle.std.specs.Prelude.{◌≡◌, ℕ, List, Option, Result, Ok, Err, IsErrAnd}
+use Rattle.std.specs.Prelude.{◌≡◌, ℕ, Result, Ok, Err, IsErrAnd}
 use Rattle.pg_game.specs.declared.game.Game.{Game}
 use Rattle.pg_files.specs.GameFile.{Draft, Entry}
 use Rattle.pg_files.specs.declared.fault.Fault.TheVariants as faults

@@ -1,6 +1,6 @@
-use Rattle.std.proofs.Common.{◌≡◌, ◌≤◌, ◌<◌, ◌+◌, ◌^◌, [], refl, sym, arith, length, ◌∙◌}
+use Rattle.std.proofs.Common.{◌≡◌, [], refl, sym, arith, length, ◌∙◌}
 use Rattle.std.proofs.lemmas.Bool.Decides.{nat_tests}
-use Rattle.std.proofs.lemmas.List.{length-drop, length-take}
+use Rattle.std.proofs.lemmas.List.{length-drop}
 use Rattle.std.proofs.lemmas.Result.{err_from_is_err_and}
 use Rattle.pg_cert_files.specs.Lines.{cut}
 use Rattle.pg_cert_files.specs.CertFile.{seen}

@@ -1,4 +1,4 @@
-use Rattle.std.proofs.Common.{◌≡◌, ℕ, ◌+◌, ◌^◌, ◌<◌, ◌++◌, length}
+use Rattle.std.proofs.Common.{◌≡◌, ◌+◌, ◌^◌, ◌<◌, ◌++◌, length}
 use Rattle.pg_text.specs.Text.{Bytes}
 use Rattle.pg_cert_files.specs.CertFile.{gathered}
 use Rattle.pg_cert_files.specs.Gatherer.{view}

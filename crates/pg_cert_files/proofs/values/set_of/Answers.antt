@@ -1,4 +1,3 @@
-use Rattle.std.proofs.Common.{◌≡◌, ◌∙◌, ap}
 use Rattle.pg_cert_files.proofs.SetLists.{one_more}
 use Rattle.pg_cert_files.proofs.values.set_of.Goals as goal
 

@@ -1,4 +1,3 @@
-use Rattle.std.proofs.Common.{◌≡◌, ◌∙◌, ◌∷◌, [], map, rules}
 use Rattle.pg_files.specs.Views.{entry}
 use Rattle.pg_files.specs.Sets.{members}
 use Rattle.pg_base.specs.Kind.{kind_word}

@@ -1,7 +1,5 @@
-use Rattle.std.proofs.Common.{◌≡◌, ◌++◌, ◌∷◌, [], ap, sym, ◌∙◌, map, append_assoc}
-use Rattle.std.specs.Prelude.{string_bytes}
-use Rattle.std.specs.List.{flat_map}
-use Rattle.pg_files.specs.Print.{spelled, edge_words, numbered}
+use Rattle.std.proofs.Common.{◌∷◌, [], map}
+use Rattle.pg_files.specs.Print.{edge_words, numbered}
 use Rattle.pg_files.specs.declared.key.Key.TheVariants as keys
 use Rattle.pg_files.proofs.PrintLemmas.{edges_text, joined_three}
 use Rattle.pg_files.proofs.printing.put_graph.Goals as goal

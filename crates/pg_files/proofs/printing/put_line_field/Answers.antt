@@ -1,5 +1,4 @@
-use Rattle.std.proofs.Common.{◌≡◌, ◌++◌, ◌∷◌, ap, sym, ◌∙◌, map, append_assoc}
-use Rattle.std.specs.Prelude.{string_bytes}
+use Rattle.std.proofs.Common.{map, append_assoc}
 use Rattle.std.specs.List.{flat_map}
 use Rattle.pg_files.specs.Print.{spelled, size_words, numbered}
 use Rattle.pg_files.specs.declared.key.Key.TheVariants as keys

@@ -1,4 +1,4 @@
-use Rattle.std.proofs.Common.{◌≡◌, ◌∙◌, take, length, arith}
+use Rattle.std.proofs.Common.{◌≡◌, take}
 use Rattle.std.proofs.lemmas.List.{take_all}
 use Rattle.pg_files.proofs.PrintLemmas.{numbers_text}
 use Rattle.pg_files.proofs.printing.put_numbers.Goals as goal

@@ -1,4 +1,4 @@
-use Rattle.std.proofs.Common.{◌≡◌, ◌<◌, ◌+◌, length, arith, ◌∙◌, sym, ap}
+use Rattle.std.proofs.Common.{◌<◌, ◌+◌, length, arith, ◌∙◌, sym, ap}
 use Rattle.std.proofs.lemmas.Bool.Decides.{nat_tests}
 use Rattle.pg_files.specs.Views.{view}
 use Rattle.pg_files.proofs.Lines.{shorter}

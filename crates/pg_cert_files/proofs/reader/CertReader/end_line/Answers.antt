@@ -1,4 +1,4 @@
-use Rattle.std.proofs.Common.{◌≡◌, ℕ, sym, ap, Some}
+use Rattle.std.proofs.Common.{ℕ, sym, ap, Some}
 use Rattle.pg_cert_files.proofs.Stands.{ends_ok, ends_err, ends_past, some_is, none_is}
 use Rattle.pg_cert_files.proofs.reader.CertReader.end_line.Goals as goal
 

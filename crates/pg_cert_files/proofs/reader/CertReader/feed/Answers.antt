@@ -1,4 +1,4 @@
-use Rattle.std.proofs.Common.{◌≡◌, ◌+◌, ◌∷◌, ◌++◌, length, arith, ap, ◌∙◌, Some, None}
+use Rattle.std.proofs.Common.{◌∷◌, length, arith, ap, Some, None}
 use Rattle.std.proofs.lemmas.List.{length-append}
 use Rattle.pg_cert_files.proofs.Stands.{feeds, gives, gives_none}
 use Rattle.pg_cert_files.proofs.reader.CertReader.feed.Goals as goal

@@ -1,5 +1,4 @@
-use Rattle.std.proofs.Common.{◌≡◌, ℕ, ◌+◌, ◌≤◌, List, ◌++◌, length}
-use Rattle.pg_cert_files.specs.Reader.{StandsFor, told}
+use Rattle.std.proofs.Common.{◌+◌, ◌≤◌, length}
 use Rattle.pg_cert_files.proofs.Stands.{HasFed}
 use Rattle.pg_cert_files.proofs.reader.CertReader.feed.Given as goal
 

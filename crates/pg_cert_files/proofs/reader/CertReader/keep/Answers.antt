@@ -1,4 +1,3 @@
-use Rattle.std.proofs.Common.{◌∙◌}
 use Rattle.pg_cert_files.proofs.Stands.{adds, if_none, if_some}
 use Rattle.pg_cert_files.proofs.reader.CertReader.keep.Goals as goal
 
