@@ -68,6 +68,42 @@ fn say(alloc: Global, side: Side, claimed: Goal) -> Result<String, Memory>
     Ok(format!(in alloc; "claim {side} {claimed}")?)
 }
 
+/// Whether the word names the side, and is read back.
+fn names_side(word: &str, side: Side) -> bool {
+    side.word() == word && Side::from_word(word.as_bytes()) == Some(side)
+}
+
+/// Whether the word names the goal, and is read back.
+fn names_goal(word: &str, claimed: Goal) -> bool {
+    claimed.word() == word && Goal::from_word(word.as_bytes()) == Some(claimed)
+}
+
+/// Whether the word names the kind, and is read back.
+fn names_kind(word: &str, kind: Kind) -> bool {
+    kind.word() == word && Kind::from_word(word.as_bytes()) == Some(kind)
+}
+
+/// The set of these points.
+fn set_of(points: &[u16]) -> PointSet
+    requires { All (λ v. v < 1024) points.now }
+{
+    let mut set = PointSet::empty();
+    for point in points {
+        set.put(*point);
+    }
+    set
+}
+
+/// Whether the set has these points below 1,024, and no other.
+fn has_just(set: &PointSet, points: &[u16]) -> bool {
+    (0..1024u16).all(|p| set.has(p) == points.contains(&p))
+}
+
+/// Whether the first point from a point on is this one.
+fn is_first(set: &PointSet, from: u16, first: Option<u16>) -> bool {
+    set.first_from(from) == first
+}
+
 #[test]
 fn a_question_mark_makes_memory(rt: HostRuntime) {
     let mut list = Vec::new(rt.alloc());
@@ -80,28 +116,31 @@ fn a_question_mark_makes_memory(rt: HostRuntime) {
 
 #[test]
 fn words_name_sides_goals_and_kinds(rt: HostRuntime) {
-    assert_eq!(rt; Side::X.other(), Side::Y);
-    assert_eq!(rt; Side::Y.other(), Side::X);
-    let text = say(rt.alloc(), Side::Y, Goal::Win).expect(&rt, "memory");
-    assert_eq!(rt; text.as_str(), "claim y win");
-    assert_eq!(rt; Goal::Draw.word(), "draw");
-    for (kind, word) in [
-        (Kind::MakerBreaker, "maker-breaker"),
-        (Kind::MakerMaker, "maker-maker"),
-        (Kind::AvoiderEnforcer, "avoider-enforcer"),
-        (Kind::Switching, "switching"),
-    ] {
-        assert_eq!(rt; kind.word(), word);
-    }
-    assert!(rt; Score::YWins < Score::Draw && Score::Draw < Score::XWins);
+    assert!(rt; names_side("x", Side::X) && names_side("y", Side::Y));
+    assert!(rt; names_goal("win", Goal::Win) && names_goal("draw", Goal::Draw));
+    assert!(rt; names_kind("maker-breaker", Kind::MakerBreaker));
+    assert!(rt; names_kind("maker-maker", Kind::MakerMaker));
+    assert!(rt; names_kind("avoider-enforcer", Kind::AvoiderEnforcer));
+    assert!(rt; names_kind("switching", Kind::Switching));
+    assert!(rt; Side::from_word(b"z").is_none());
+    assert!(rt; Goal::from_word(b"won").is_none());
+    assert!(rt; Kind::from_word(b"hex").is_none());
 }
 
 #[test]
-fn equality_of_plain_values(rt: HostRuntime) {
-    assert!(rt; are_one_side(Side::X, Side::X) && !are_one_side(Side::X, Side::Y));
+fn sides_and_goals_are_printed_by_their_words(rt: HostRuntime) {
+    let text = say(rt.alloc(), Side::Y, Goal::Win).expect(&rt, "memory");
+    assert_eq!(rt; text.as_str(), "claim y win");
+}
+
+#[test]
+fn plain_values(rt: HostRuntime) {
+    assert!(rt; are_one_side(Side::X.other(), Side::Y) && are_one_side(Side::Y.other(), Side::X));
+    assert!(rt; !are_one_side(Side::X, Side::Y));
     assert!(rt; are_one_goal(Goal::Win, Goal::Win) && !is_win(Goal::Draw));
     assert!(rt; !are_one_kind(Kind::MakerMaker, Kind::MakerBreaker));
     assert!(rt; !are_one_score(Score::Draw, Score::XWins));
+    assert!(rt; Score::YWins < Score::Draw && Score::Draw < Score::XWins);
     assert!(rt; !are_one_pair(Pair { a: 1, b: 2 }, Pair { a: 2, b: 1 }));
 }
 
@@ -129,84 +168,39 @@ fn lists_keep_their_members(rt: HostRuntime) {
     assert_eq!(rt; Pairs::from_vec(pairs).as_slice()[0].b, 9);
 }
 
-// The set of these points.
-fn set_of(points: &[u16]) -> PointSet
-    requires { All (λ v. v < 1024) points.now }
-{
-    let mut set = PointSet::empty();
-    for point in points {
-        set.put(*point);
-    }
-    set
-}
-
 #[test]
 fn points_go_in_and_out(rt: HostRuntime) {
-    let mut set = PointSet::empty();
-    assert_eq!(rt; set.len(), 0);
-    assert_eq!(rt; set.first_from(0), None);
-    for point in [0, 63, 64, 1023] {
-        set.put(point);
-        assert!(rt; set.has(point));
-    }
+    assert!(rt; has_just(&PointSet::empty(), &[]));
+    let mut set = set_of(&[0, 63, 64, 1023]);
+    assert!(rt; has_just(&set, &[0, 63, 64, 1023]));
     assert_eq!(rt; set.len(), 4);
-    assert!(rt; !set.has(1) && !set.has(65) && !set.has(127) && !set.has(1022));
     set.take(64);
-    assert!(rt; !set.has(64) && set.has(63) && set.has(0));
+    assert!(rt; has_just(&set, &[0, 63, 1023]));
     assert_eq!(rt; set.len(), 3);
 }
 
 #[test]
 fn the_first_point_from_a_point_on(rt: HostRuntime) {
     let set = set_of(&[0, 63, 64, 1023]);
-    for (from, first) in [
-        (0, 0),
-        (1, 63),
-        (63, 63),
-        (64, 64),
-        (65, 1023),
-        (1023, 1023),
-    ] {
-        assert_eq!(rt; set.first_from(from), Some(first), "from {from}");
-    }
-    for from in [1024, 65535] {
-        assert_eq!(rt; set.first_from(from), None, "from {from}");
-    }
+    assert!(rt; is_first(&set, 0, Some(0)));
+    assert!(rt; is_first(&set, 1, Some(63)));
+    assert!(rt; is_first(&set, 63, Some(63)));
+    assert!(rt; is_first(&set, 64, Some(64)));
+    assert!(rt; is_first(&set, 65, Some(1023)));
+    assert!(rt; is_first(&set, 1023, Some(1023)));
+    assert!(rt; is_first(&set, 1024, None));
+    assert!(rt; is_first(&set, 65_535, None));
+    assert!(rt; is_first(&PointSet::empty(), 0, None));
     assert!(rt; set.is_below(1024) && !set.is_below(1023));
 }
 
 #[test]
 fn sets_beside_sets(rt: HostRuntime) {
-    let (low, high, both) = (
-        set_of(&[0, 63]),
-        set_of(&[64, 1023]),
-        set_of(&[0, 63, 64, 1023]),
-    );
+    let low = set_of(&[0, 63]);
+    let high = set_of(&[64, 1023]);
+    let both = set_of(&[0, 63, 64, 1023]);
     assert!(rt; low.shares_none(&high) && !low.shares_none(&both));
     assert!(rt; low.is_subset(&both) && !both.is_subset(&low));
     assert!(rt; are_one_set(&low.union(&high), &both));
     assert!(rt; are_one_set(&both.without(&low), &high));
-}
-
-#[test]
-fn words_are_read_back(rt: HostRuntime) {
-    for side in [Side::X, Side::Y] {
-        assert!(rt; Side::from_word(side.word().as_bytes()) == Some(side));
-    }
-    for claimed in [Goal::Win, Goal::Draw] {
-        assert!(rt; Goal::from_word(claimed.word().as_bytes()) == Some(claimed));
-    }
-    for kind in [
-        Kind::MakerBreaker,
-        Kind::MakerMaker,
-        Kind::AvoiderEnforcer,
-        Kind::Switching,
-    ] {
-        assert!(rt; Kind::from_word(kind.word().as_bytes()) == Some(kind));
-    }
-    assert!(rt;
-        Side::from_word(b"z").is_none()
-            && Goal::from_word(b"won").is_none()
-            && Kind::from_word(b"hex").is_none()
-    );
 }

@@ -123,7 +123,7 @@ impl Files for MemFiles {
 
     ghost write_faults = { λ m. m.writes };
 
-    /// A listed call fails, and another only at a name that isn't held.
+    /// A listed call fails, and another only at a name that isn't held. A file that is open stays open then.
     fn open(&mut self, name: &str) -> Result<(), Failed>
         ensures opened { Opens (Some (held_in self.old)) name.now (Some (left_in self.new)) result }
         ensures same { OnOk result ((self.new.reads ≡ self.old.reads) × (self.new.writes ≡ self.old.writes)) }
@@ -133,6 +133,7 @@ impl Files for MemFiles {
         ensures held { held_in self.new ≡ held_in self.old }
         ensures making { self.new.draft ≡ self.old.draft }
         ensures busy { is_some self.new.draft ≡ is_some self.old.draft }
+        ensures kept { OnErr result (left_in self.new ≡ left_in self.old) }
         ensures listed { FailsNext self.old.failing → IsErr result }
         ensures unlisted { OnErr result (FailsNext self.old.failing ⊎ IsAbsent (Some (held_in self.old)) name.now) }
         ensures counted { CountsOne self.old.failing self.new.failing }
@@ -152,7 +153,7 @@ impl Files for MemFiles {
         }
     }
 
-    /// A listed call fails, and no other.
+    /// A listed call fails, and no other. Then nothing is taken.
     fn next(&mut self, buf: &mut [u8]) -> Result<usize, Failed>
         requires { 0 < length buf.old }
         ensures bound { IfOk result (λ k. k ≤ length buf.new) }
@@ -161,6 +162,7 @@ impl Files for MemFiles {
         ensures held { held_in self.new ≡ held_in self.old }
         ensures making { self.new.draft ≡ self.old.draft }
         ensures busy { is_some self.new.draft ≡ is_some self.old.draft }
+        ensures kept { OnErr result (left_in self.new ≡ left_in self.old) }
         ensures listed { FailsNext self.old.failing → IsErr result }
         ensures unlisted { OnErr result (FailsNext self.old.failing) }
         ensures counted { CountsOne self.old.failing self.new.failing }

@@ -29,6 +29,8 @@ fn read_open<F: Files>(
     ensures bytes { IfOk result (λ bytes. IfSome (F.left files.old) (λ left. bytes.items ≡ take (limit + 1) left)) }
     ensures causes { Causes ⊥ (F.read_faults files.old) (F.read_faults files.new) (F.write_faults files.old) (F.write_faults files.new) result }
     ensures held { F.held files.new ≡ F.held files.old }
+    ensures making { F.making files.new ≡ F.making files.old }
+    ensures busy { F.busy files.new ≡ F.busy files.old }
 {
     let mut bytes = Vec::new(alloc);
     while bytes.len() <= limit {
@@ -58,6 +60,8 @@ pub fn read_whole<F: Files>(
     ensures bytes { IfOk result (λ bytes. IsFile (F.held files.old) name.now limit bytes.items) }
     ensures causes { Causes (IsAbsent (F.held files.old) name.now) (F.read_faults files.old) (F.read_faults files.new) (F.write_faults files.old) (F.write_faults files.new) result }
     ensures held { F.held files.new ≡ F.held files.old }
+    ensures making { F.making files.new ≡ F.making files.old }
+    ensures busy { F.busy files.new ≡ F.busy files.old }
 {
     let mut buf = piece(alloc)?;
     if files.open(name).is_err() {

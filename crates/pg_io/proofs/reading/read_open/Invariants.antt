@@ -7,6 +7,8 @@ invariant-loop-bytes g l = (length l.bytes.items ≤ l.limit + 1)
     × (0 < length l.buf)
     × HasRead (g.F.Files.left l.initial.files) (g.F.Files.left l.files) l.bytes.items
     × (g.F.Files.held l.files ≡ g.F.Files.held l.initial.files)
+    × (g.F.Files.making l.files ≡ g.F.Files.making l.initial.files)
+    × (g.F.Files.busy l.files ≡ g.F.Files.busy l.initial.files)
     × (g.F.Files.read_faults l.files ≡ g.F.Files.read_faults l.initial.files)
     × (g.F.Files.write_faults l.files ≡ g.F.Files.write_faults l.initial.files)
 
