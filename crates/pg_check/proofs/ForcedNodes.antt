@@ -21,7 +21,7 @@ use Rattle.pg_game.specs.Position.{is_free}
 use Rattle.pg_game.specs.Game.{point_count, free_points, after, with_turn, IsPosition}
 use Rattle.pg_game.specs.Value.{reaches, value, Forces}
 use Rattle.pg_game.specs.Pairs.{PairsHold}
-use Rattle.pg_game.proofs.ValueLaws.{Forces-over, Forces-move, Forces-all}
+use Rattle.pg_game.proofs.ValueLaws.{Forces-over, Forces-move, Forces-all, Forces-any}
 use Rattle.pg_game.proofs.FreePoints.{any-free_points}
 use Rattle.pg_game.specs.Trees.{TreesHold, CutsHold}
 use Rattle.pg_pairing.proofs.PairLaws.{Forces-pairs_breaker, Forces-pairs_draw, Forces-pairs_avoider}
@@ -39,24 +39,10 @@ use Rattle.pg_cert.specs.Node.{position_of}
 use Rattle.pg_cert.specs.Limits.{IsNode, IsClaim, IsWithinLimits}
 use Rattle.pg_cert.specs.Valid.{is_allowed, is_built, shows_defence, shows_trees, shows_cuts, pairs_fit, IsInGame, NamesEarlier, IsNodeOf, FollowsMove, FollowMoves, HasTurn, TakesFree, EndsRight, PotentialFits, with_e_named, HasPairs, HasPotential, HasTrees, HasCuts, IsOwed, IsSound, IsValidClaim, IsValid}
 
--- a win is a draw at least
-win_is_draw : (side : Side) (s : Score) → reaches side Win s ≡ true → reaches side AtLeastDraw s ≡ true
-win_is_draw X XWins h = refl
-win_is_draw X Draw h = absurd (false≢true h)
-win_is_draw X YWins h = absurd (false≢true h)
-win_is_draw Y XWins h = absurd (false≢true h)
-win_is_draw Y Draw h = absurd (false≢true h)
-win_is_draw Y YWins h = refl
-
--- a forced win serves any goal
-Forces-any : (g : Game) (p : Position) (side : Side) (goal : Goal) → Forces g p side Win → Forces g p side goal
-Forces-any g p side Win h = h
-Forces-any g p side AtLeastDraw h = win_is_draw side (value g p) h
-
 -- ---- pairs
 
 -- where pairs are allowed and hold, they force the goal
-pairs_at : (kind : Kind) (bias : ℕ) (side : Side) (goal : Goal) (g : Game) (p : Position) (pairs : List Pair) → g.kind ≡ kind
+pub pairs_at : (kind : Kind) (bias : ℕ) (side : Side) (goal : Goal) (g : Game) (p : Position) (pairs : List Pair) → g.kind ≡ kind
     → (shows_defence kind side goal && pairs_fit kind bias) ≡ true → IsPosition g p → PairsHold g p side pairs → Forces g p side goal
 pairs_at MakerBreaker bias X goal g p pairs kind ok position h = absurd (false≢true ok)
 pairs_at MakerBreaker bias Y goal g p pairs kind ok position h = Forces-any g p Y goal (Forces-pairs_breaker g p pairs kind position h)

@@ -1,5 +1,6 @@
 -- The best of scores, and what it reaches.
 use Rattle.std.proofs.Common.{◌≡◌, true, false, ◌&&◌, ◌||◌, List, [], ◌∷◌, map, refl, ap, ◌∙◌}
+use Rattle.std.proofs.lemmas.Bool.{false≢true}
 use Rattle.std.specs.List.{list_any, list_all}
 use Rattle.pg_base.specs.declared.side.Side.{Side}
 use Rattle.pg_base.specs.declared.side.Side.TheVariants.{X, Y}
@@ -117,3 +118,17 @@ reaches-best_other side goal f [] = best_reaches side goal
 reaches-best_other side goal f (x ∷ xs) =
     ap (reaches side goal) (best-cons (other side) (f x) (map f xs)) ∙ reaches-better_other side goal (f x) (best (other side) (map f xs))
     ∙ ap (λ b. reaches side goal (f x) && b) (reaches-best_other side goal f xs)
+
+-- a win is a draw at least
+win_is_draw : (side : Side) (s : Score) → reaches side Win s ≡ true → reaches side AtLeastDraw s ≡ true
+win_is_draw X XWins h = refl
+win_is_draw X Draw h = absurd (false≢true h)
+win_is_draw X YWins h = absurd (false≢true h)
+win_is_draw Y XWins h = absurd (false≢true h)
+win_is_draw Y Draw h = absurd (false≢true h)
+win_is_draw Y YWins h = refl
+
+-- a win reaches any goal
+pub reaches-any : (side : Side) (goal : Goal) (s : Score) → reaches side Win s ≡ true → reaches side goal s ≡ true
+reaches-any side Win s h = h
+reaches-any side AtLeastDraw s h = win_is_draw side s h

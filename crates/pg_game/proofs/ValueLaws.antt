@@ -9,9 +9,10 @@ use Rattle.pg_game.specs.Position.{is_free}
 use Rattle.pg_game.specs.declared.game.Game.{Game}
 use Rattle.pg_base.specs.declared.score.Score.{Score}
 use Rattle.pg_base.specs.declared.goal.Goal.{Goal}
+use Rattle.pg_base.specs.declared.goal.Goal.TheVariants.{Win}
 use Rattle.pg_game.specs.Game.{after, free_points, point_count, is_over, outcome}
 use Rattle.pg_game.specs.Value.{best, value, value_within, reaches, Forces}
-use Rattle.pg_game.proofs.Scores.{reaches-best, reaches-best_other}
+use Rattle.pg_game.proofs.Scores.{reaches-best, reaches-best_other, reaches-any}
 use Rattle.pg_game.proofs.FreePoints.{length-free_points-after, any-free_points, all-free_points, any-free_points-from, all-free_points-from}
 use Rattle.pg_game.proofs.Strategy.{free_point}
 
@@ -101,3 +102,7 @@ pub Forces-all-from : (g : Game) (p : Position) (side : Side) (goal : Goal) → 
     → (v : ℕ) → v < point_count g → is_free p v ≡ true → Forces g (after g p v) side goal
 Forces-all-from g p side goal going yours forced =
     all-free_points-from g p (λ v. reaches side goal (value g (after g p v))) (sym (reaches-theirs g p side goal going yours) ∙ forced)
+
+-- a forced win serves any goal
+pub Forces-any : (g : Game) (p : Position) (side : Side) (goal : Goal) → Forces g p side Win → Forces g p side goal
+Forces-any g p side goal h = reaches-any side goal (value g p) h

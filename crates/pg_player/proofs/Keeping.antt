@@ -26,7 +26,7 @@ use Rattle.pg_game.specs.Avoider.{AvoiderHolds, avoider_answer}
 use Rattle.pg_game.specs.Trees.{Answered, TreesHold, CutsHold}
 use Rattle.pg_game.specs.Field.{field_points}
 use Rattle.pg_game.proofs.Moves.{turn-after_x, IsPosition-after}
-use Rattle.pg_game.proofs.ValueLaws.{Forces-over, Forces-all}
+use Rattle.pg_game.proofs.ValueLaws.{Forces-over, Forces-all, Forces-any}
 use Rattle.pg_pairing.specs.Rest.{rest, RestHolds, MayClaim, HeldBefore}
 use Rattle.pg_pairing.proofs.PairLaws.{Forces-pairs_breaker, Forces-pairs_draw, Forces-pairs_avoider}
 use Rattle.pg_potential.proofs.PotentialLaws.{Forces-potential_breaker, Forces-potential_draw}
@@ -38,6 +38,7 @@ use Rattle.pg_cert.specs.declared.node.Body.{Body}
 use Rattle.pg_cert.specs.declared.node.Body.TheVariants.{Move, Pairs, Potential, Trees, Cuts}
 use Rattle.pg_cert.specs.OwnMove.{Standing, own_move, arrives, stays, potential_point, trees_point, cuts_point, stays_with_trees, stays_with_cuts}
 use Rattle.pg_cert.specs.Valid.{is_allowed, shows_defence, shows_trees, shows_cuts, pairs_fit, PotentialFits, with_e_named}
+use Rattle.pg_check.proofs.ForcedNodes.{pairs_at}
 use Rattle.pg_player.specs.InPlay.{PotentialWaiting, Waiting, InPlay, KeepsUp}
 use Rattle.pg_player.proofs.Plays.{IsPosition-reached, reached-after, single, not-again}
 use Rattle.pg_player.proofs.Arriving.{arrived}
@@ -48,22 +49,9 @@ InPlay-after g c p s next v h going k = record { sound = h.sound; reached = reac
 
 -- ---- goals
 
--- a win is a draw at least
-win_is_draw : (side : Side) (s : Score) → reaches side Win s ≡ true → reaches side AtLeastDraw s ≡ true
-win_is_draw X XWins h = refl
-win_is_draw X Draw h = absurd (false≢true h)
-win_is_draw X YWins h = absurd (false≢true h)
-win_is_draw Y XWins h = absurd (false≢true h)
-win_is_draw Y Draw h = absurd (false≢true h)
-win_is_draw Y YWins h = refl
-
--- a forced win serves any goal
-any_goal : (g : Game) (p : Position) (side : Side) (goal : Goal) → Forces g p side Win → Forces g p side goal
-any_goal g p side Win h = h
-any_goal g p side AtLeastDraw h = win_is_draw side (value g p) h
-
+-- a forced win of one side serves any goal of the side that it is
 any_goal-is : (g : Game) (p : Position) (side s : Side) (goal : Goal) → side ≡ s → Forces g p s Win → Forces g p side goal
-any_goal-is g p side s goal e h = any_goal g p side goal (subst (λ (t : Side). Forces g p t Win) (sym e) h)
+any_goal-is g p side s goal e h = Forces-any g p side goal (subst (λ (t : Side). Forces g p t Win) (sym e) h)
 
 -- ---- a node's own move
 
@@ -98,17 +86,6 @@ breaker_only g AvoiderEnforcer X goal e ok = inr (eqb-true g.bias 1 ok)
 breaker_only g AvoiderEnforcer Y goal e ok = absurd (false≢true ok)
 breaker_only g Switching side goal e ok = absurd (false≢true ok)
 
--- where pairs are allowed and hold, they force the goal
-pairs_force : (kind : Kind) (bias : ℕ) (side : Side) (goal : Goal) (g : Game) (p : Position) (pairs : List Pair) → g.kind ≡ kind
-    → (shows_defence kind side goal && pairs_fit kind bias) ≡ true → IsPosition g p → PairsHold g p side pairs → Forces g p side goal
-pairs_force MakerBreaker bias X goal g p pairs kind ok position h = absurd (false≢true ok)
-pairs_force MakerBreaker bias Y goal g p pairs kind ok position h = any_goal g p Y goal (Forces-pairs_breaker g p pairs kind position h)
-pairs_force MakerMaker bias side Win g p pairs kind ok position h = absurd (false≢true ok)
-pairs_force MakerMaker bias side AtLeastDraw g p pairs kind ok position h = Forces-pairs_draw g p side pairs kind position h
-pairs_force AvoiderEnforcer bias X goal g p pairs kind ok position h = any_goal g p X goal (Forces-pairs_avoider g p pairs kind position h)
-pairs_force AvoiderEnforcer bias Y goal g p pairs kind ok position h = absurd (false≢true ok)
-pairs_force Switching bias side goal g p pairs kind ok position h = absurd (false≢true ok)
-
 -- what the answer by pairs keeps
 pub record PairsKept (g : Game) (p : Position) (pairs : List Pair) (last : Option ℕ) (v : ℕ) : Type 0 where
   pub rule : v ≡ pairs_answer g p pairs last
@@ -133,7 +110,7 @@ keeps-pairs g c p pairs last v h going mine k =
       own = ap (λ (q : ℕ). stays q (Pairs pairs) last) (sym k.rule);
       within = k.within;
       free = k.free;
-      forced = pairs_force g.kind g.bias c.side c.goal g (after g p v) (rest (after g p v) pairs) refl h.stands.allowed (IsPosition-after g p v position k.within k.free) holds;
+      forced = pairs_at g.kind g.bias c.side c.goal g (after g p v) (rest (after g p v) pairs) refl h.stands.allowed (IsPosition-after g p v position k.within k.free) holds;
       stands = record {
         allowed = h.stands.allowed;
         ready = λ on again. record {

@@ -17,20 +17,10 @@ use Rattle.pg_graph.proofs.GraphLemmas.{joins_same, joins_in-complete}
 use Rattle.pg_game.specs.declared.position.Position.{Position}
 use Rattle.pg_game.specs.Position.{is_free}
 use Rattle.pg_game.specs.Trees.{IsFreeEdge, differ, or_edge, lowest_crossing, lowest_parting, lowest_free_edge}
+use Rattle.pg_game.proofs.Lowest.{first_from, none_from}
 use Rattle.pg_switch.proofs.EdgeSets.{minus-agree}
 
 -- ---- the lowest number below n that passes
-
-first_from : (t : ℕ → Bool) (v a n : ℕ) → a ≤ v → v < a + n → t v ≡ true → ((w : ℕ) → a ≤ w → w < v → t w ≡ false) → find t (range_with_len a n) ≡ Some v
-first_from t v a zero low high on none = absurd (omega arith)
-first_from t v a (suc n) low high on none = elim (cases_eq a v) [
-  | inl e ↦ let here : t a ≡ true = ap t e ∙ on in rw here (ap Some e)
-  | inr ne ↦ rw (none a (omega arith) (omega arith)) (first_from t v (a + 1) n (omega arith) (omega arith) on (λ w above below. none w (omega arith) below))
-]
-
-none_from : (t : ℕ → Bool) (a n : ℕ) → ((w : ℕ) → a ≤ w → w < a + n → t w ≡ false) → find t (range_with_len a n) ≡ None
-none_from t a zero none = refl
-none_from t a (suc n) none = rw (none a (omega arith) (omega arith)) (none_from t (a + 1) n (λ w above below. none w (omega arith) (omega arith)))
 
 pub first_below : (t : ℕ → Bool) (v n : ℕ) → v < n → t v ≡ true → ((w : ℕ) → w < v → t w ≡ false) → find t (range_with_len 0 n) ≡ Some v
 first_below t v n high on none = first_from t v 0 n (omega arith) (omega arith) on (λ w above below. none w below)
