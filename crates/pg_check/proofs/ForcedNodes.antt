@@ -11,15 +11,13 @@ use Rattle.pg_base.specs.declared.goal.Goal.TheVariants.{Win, Draw as AtLeastDra
 use Rattle.pg_base.specs.declared.kind.Kind.{Kind}
 use Rattle.pg_base.specs.declared.kind.Kind.TheVariants.{MakerBreaker, MakerMaker, AvoiderEnforcer, Switching}
 use Rattle.pg_base.specs.declared.pair.Pair.{Pair}
-use Rattle.pg_base.specs.declared.score.Score.{Score}
-use Rattle.pg_base.specs.declared.score.Score.TheVariants.{XWins, Draw, YWins}
 use Rattle.pg_base.specs.declared.side.Side.{Side}
 use Rattle.pg_base.specs.declared.side.Side.TheVariants.{X, Y}
 use Rattle.pg_game.specs.declared.game.Game.{Game}
 use Rattle.pg_game.specs.declared.position.Position.{Position}
 use Rattle.pg_game.specs.Position.{is_free}
 use Rattle.pg_game.specs.Game.{point_count, free_points, after, with_turn, IsPosition}
-use Rattle.pg_game.specs.Value.{reaches, value, Forces}
+use Rattle.pg_game.specs.Value.{Forces}
 use Rattle.pg_game.specs.Pairs.{PairsHold}
 use Rattle.pg_game.proofs.ValueLaws.{Forces-over, Forces-move, Forces-all, Forces-any}
 use Rattle.pg_game.proofs.FreePoints.{any-free_points}

@@ -9,8 +9,7 @@ use Rattle.pg_base.specs.declared.goal.Goal.TheVariants.{Win, Draw as AtLeastDra
 use Rattle.pg_base.specs.declared.kind.Kind.{Kind}
 use Rattle.pg_base.specs.declared.kind.Kind.TheVariants.{MakerBreaker, MakerMaker, AvoiderEnforcer, Switching}
 use Rattle.pg_base.specs.declared.pair.Pair.{Pair}
-use Rattle.pg_base.specs.declared.score.Score.{Score}
-use Rattle.pg_base.specs.declared.score.Score.TheVariants.{XWins, Draw, YWins}
+use Rattle.pg_base.specs.declared.score.Score.TheVariants.{XWins}
 use Rattle.pg_base.specs.declared.side.Side.{Side}
 use Rattle.pg_base.specs.declared.side.Side.TheVariants.{X, Y}
 use Rattle.pg_game.specs.declared.field.Field.{Field}
@@ -19,8 +18,8 @@ use Rattle.pg_game.specs.declared.game.Game.{Game}
 use Rattle.pg_game.specs.declared.position.Position.{Position}
 use Rattle.pg_game.specs.Position.{is_free}
 use Rattle.pg_game.specs.Game.{point_count, is_over, outcome, after, IsPosition}
-use Rattle.pg_game.specs.Value.{reaches, value, Forces}
-use Rattle.pg_game.specs.Pairs.{PairsHold, pairs_answer}
+use Rattle.pg_game.specs.Value.{reaches, Forces}
+use Rattle.pg_game.specs.Pairs.{pairs_answer}
 use Rattle.pg_game.specs.Potential.{PotentialHolds, potential_answer}
 use Rattle.pg_game.specs.Avoider.{AvoiderHolds, avoider_answer}
 use Rattle.pg_game.specs.Trees.{Answered, TreesHold, CutsHold}
@@ -28,7 +27,6 @@ use Rattle.pg_game.specs.Field.{field_points}
 use Rattle.pg_game.proofs.Moves.{turn-after_x, IsPosition-after}
 use Rattle.pg_game.proofs.ValueLaws.{Forces-over, Forces-all, Forces-any}
 use Rattle.pg_pairing.specs.Rest.{rest, RestHolds, MayClaim, HeldBefore}
-use Rattle.pg_pairing.proofs.PairLaws.{Forces-pairs_breaker, Forces-pairs_draw, Forces-pairs_avoider}
 use Rattle.pg_potential.proofs.PotentialLaws.{Forces-potential_breaker, Forces-potential_draw}
 use Rattle.pg_avoider.proofs.AvoiderLaws.{Forces-avoider}
 use Rattle.pg_switch.specs.Replies.{HeldUntil, IsTreesAnswer, IsCutsAnswer}
