@@ -3,7 +3,6 @@ use Rattle.std.proofs.Common.{◌≡◌, ℕ, ◌<◌, ◌≤◌, Bool, true, fa
 use Rattle.std.proofs.lemmas.Bool.{cases_lt, cases_Bool, both_ways, and_parts, and_from, or_cases, or_left, or_right, false_from_ne_true, not_from_false, not-true}
 use Rattle.std.proofs.lemmas.List.Elements.{All-get_or}
 use Rattle.pg_base.specs.Sets.{minus, below, IsBelow}
-use Rattle.pg_base.proofs.SetLemmas.{minus_parts}
 use Rattle.pg_base.proofs.BelowLemmas.{below_parts, below_from}
 use Rattle.pg_graph.specs.Walks.{joins, edge_spans, first_end, second_end}
 use Rattle.pg_graph.specs.Span.{IsSpan}
@@ -120,15 +119,6 @@ joins_in-complete g set u v small p =
     joins_complete (first_end_of g) (second_end_of g) set (suc (edge_count g)) u v
     (joined_more (first_end_of g) (second_end_of g) set (below set (suc (edge_count g))) u v (λ z h. below_from set (suc (edge_count g)) z h (small z h)) p)
 
--- a test of the edges of the list says what walks over those of its edges say
-pub joins_edges-sound : (g : Graph) (set : ℕ → Bool) (u v : ℕ) → joins (first_end_of g) (second_end_of g) set (edge_count g) u v ≡ true → IsJoinedIn g (below set (edge_count g)) u v
-joins_edges-sound g set u v h =
-    let m = edge_count g in
-    joins_sound (first_end_of g) (second_end_of g) (below set m) m u v (joins-below (first_end_of g) (second_end_of g) set m u v ∙ h)
-
-pub joins_edges-complete : (g : Graph) (set : ℕ → Bool) (u v : ℕ) → IsJoinedIn g (below set (edge_count g)) u v → joins (first_end_of g) (second_end_of g) set (edge_count g) u v ≡ true
-joins_edges-complete g set u v p = joins_complete (first_end_of g) (second_end_of g) set (edge_count g) u v p
-
 -- without e the edges of the list are enough
 pub joins_in-edges : (g : Graph) (set : ℕ → Bool) (u v : ℕ) → set (edge_count g) ≡ false → joins_in g set u v ≡ joins (first_end_of g) (second_end_of g) set (edge_count g) u v
 joins_in-edges g set u v out = joins-suc (first_end_of g) (second_end_of g) set (edge_count g) u v out
@@ -187,10 +177,3 @@ pub spans_e-complete : (g : Graph) (set : ℕ → Bool) → AreEdges g set → I
 spans_e-complete g set small p =
     spans_in-complete g set (edge_count g) small
     (subst (λ v. IsJoinedIn g set (first_end_of g (edge_count g)) v) (sym (second_end_of-e g)) (subst (λ u. IsJoinedIn g set u g.t) (sym (first_end_of-e g)) p))
-
--- a bridge is an edge that the rest doesn't span
-pub IsBridge-unspanned : (g : Graph) (set : ℕ → Bool) (f : ℕ) → IsBridge g set f → spans_in g (minus set f) f ≡ false
-IsBridge-unspanned g set f h = false_from_ne_true _ (λ t. h (spans_in-sound g (minus set f) f t))
-
-pub IsBridge-from_unspanned : (g : Graph) (set : ℕ → Bool) (f : ℕ) → AreEdges g set → spans_in g (minus set f) f ≡ false → IsBridge g set f
-IsBridge-from_unspanned g set f small h p = both_ways _ h (spans_in-complete g (minus set f) f (λ z k. small z (minus_parts set f z k).0) p)

@@ -1,5 +1,5 @@
 use Rattle.std.proofs.Common.{sym}
-use Rattle.pg_text.proofs.Cuts.{found_at, not_found}
+use Rattle.pg_text.proofs.Cuts.{found_at}
 use Rattle.pg_text.proofs.parts.cut_at.Goals as goal
 
 pub returns-in-Some-clause-found : goal.returns-in-Some-clause-found
