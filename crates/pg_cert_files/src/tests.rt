@@ -5,120 +5,117 @@ use pg_cert::{print_cert, print_node};
 use std::alloc::{AllocError, Global};
 use std::test::Fail;
 
-/// Whole files, behind the fault of each and its line.
-const FIRST_LINES: [&str; 7] = [
-    "C2 1=",
-    "C2 1=\n",
-    "C2 1=posgame-cert 2",
-    "C2 1=posgame-cert 1 ",
-    "C2 1=posgame-cert  1\nclaim x y",
-    "C3 2=posgame-cert 1",
-    "C3 2=posgame-cert 1\n",
-];
+/// Rows of whole files, with `;` between them, each behind its fault with the line, as `answer` gives it, and `=`.
+const FIRST_LINES: &str = "\
+C2 1=;\
+C2 1=\n;\
+C2 1=posgame-cert 2;\
+C2 1=posgame-cert 1 ;\
+C2 1=posgame-cert  1\nclaim x y;\
+C3 2=posgame-cert 1;\
+C3 2=posgame-cert 1\n";
 
 /// The same, without the first line.
-const CLAIM_LINES: [&str; 29] = [
-    "C3 2=claim x z win",
-    "C3 2=claim x y won",
-    "C3 2=claim x y win ",
-    "C3 2=claim  x y win",
-    "C3 2=",
-    "C3 2=\n",
-    "C5 2=||x|over",
-    "C3 3=claim x y win",
-    "C3 3=claim x y win\nclaim x y win",
-    "C3 3=claim x y win\n||x|over",
-    "C3 3=claim x y win\nnodes",
-    "C3 3=claim x y win\nnodes 1 ",
-    "C3 3=claim x y win\nnodes  1",
-    "C4 3=claim x y win\nnodes ",
-    "C4 3=claim x y win\nnodes 0",
-    "C4 3=claim x y win\nnodes 01",
-    "C4 3=claim x y win\nnodes 1000000000",
-    "C6 3=claim x y win\nnodes 100001",
-    "C6 3=claim x y win\nnodes 999999999",
-    "C5 4=claim x y win\nnodes 100000",
-    "C5 4=claim x y win\nnodes 1",
-    "C5 4=claim x y win\nnodes 1\n",
-    "C5 4=claim x y win\nnodes 1\nclaim x y win",
-    "C5 5=claim x y win\nnodes 1\n||x|potential\n||x|potential",
-    "C3 5=claim x y win\nnodes 1\n||x|potential\nnodes 1",
-    "C3 5=claim x y win\nnodes 1\n||x|potential\n\n",
-    "C3 6=claim x y win\nnodes 1\n||x|potential\nclaim y x draw",
-    "a certificate=claim x y win\nnodes 1\n||x|potential",
-    "a certificate=claim x y win\nnodes 1\n||x|potential\n",
-];
+const CLAIM_LINES: &str = "\
+C3 2=claim x z win;\
+C3 2=claim x y won;\
+C3 2=claim x y win ;\
+C3 2=claim  x y win;\
+C3 2=;\
+C3 2=\n;\
+C5 2=||x|over;\
+C3 3=claim x y win;\
+C3 3=claim x y win\nclaim x y win;\
+C3 3=claim x y win\n||x|over;\
+C3 3=claim x y win\nnodes;\
+C3 3=claim x y win\nnodes 1 ;\
+C3 3=claim x y win\nnodes  1;\
+C4 3=claim x y win\nnodes ;\
+C4 3=claim x y win\nnodes 0;\
+C4 3=claim x y win\nnodes 01;\
+C4 3=claim x y win\nnodes 1000000000;\
+C6 3=claim x y win\nnodes 100001;\
+C6 3=claim x y win\nnodes 999999999;\
+C5 4=claim x y win\nnodes 100000;\
+C5 4=claim x y win\nnodes 1;\
+C5 4=claim x y win\nnodes 1\n;\
+C5 4=claim x y win\nnodes 1\nclaim x y win;\
+C5 5=claim x y win\nnodes 1\n||x|potential\n||x|potential;\
+C3 5=claim x y win\nnodes 1\n||x|potential\nnodes 1;\
+C3 5=claim x y win\nnodes 1\n||x|potential\n\n;\
+C3 6=claim x y win\nnodes 1\n||x|potential\nclaim y x draw;\
+a certificate=claim x y win\nnodes 1\n||x|potential;\
+a certificate=claim x y win\nnodes 1\n||x|potential\n";
 
 /// The same, without the lines before the node of a claim that has one.
-const NODE_LINES: [&str; 67] = [
-    "C3 4=|4|x|pairs 0-1-2",
-    "C4 4=|4|x|pairs 0-01",
-    "C4 4=4|4|x|over",
-    "a certificate=||x|over",
-    "C3 4=||x|over ",
-    "C3 4=||x| over",
-    "C3 4=||x|",
-    "C3 4=||z|over",
-    "C3 4=||y1|over",
-    "C3 4=|x|over",
-    "C3 4=|||x|over",
-    "a certificate=1023|0|y|over",
-    "C4 4=1024||x|over",
-    "C4 4=0  1||x|over",
-    "C4 4= ||x|over",
-    "C4 4=0 |1|x|over",
-    "C4 4=1 0||x|over",
-    "C4 4=|2 2|x|over",
-    "C4 4=00||x|over",
-    "C3 4=a||x|over b",
-    "a certificate=||x|move 0 99999",
-    "C4 4=||x|move 0 100000",
-    "C4 4=||x|move 1024 0",
-    "C3 4=||x|move 1",
-    "C4 4=||x|move 1 ",
-    "C4 4=||x|move  1",
-    "C3 4=||x|move 1 2 3",
-    "a certificate=||x|all",
-    "C3 4=||x|all ",
-    "a certificate=||x|all 0:0 1:0",
-    "C4 4=||x|all 1:0 0:0",
-    "C4 4=||x|all 1:0 1:1",
-    "C4 4=||x|all 1:",
-    "C3 4=||x|all 1:2:3",
-    "C3 4=||x|all 1",
-    "C3 4=||x|all 1:0  2:0",
-    "C4 4=||x|all 1:100000",
-    "a certificate=||x|pairs",
-    "C3 4=||x|pairs ",
-    "a certificate=||x|pairs 1-0 1-0",
-    "C4 4=||x|pairs 1-1024",
-    "a certificate=||x|potential",
-    "C3 4=||x|potential 1",
-    "a certificate=||x|trees /",
-    "a certificate=||x|trees e /",
-    "a certificate=||x|trees e 0 1 / 2 3",
-    "C4 4=||x|trees 0 e / 1",
-    "C4 4=||x|trees e e / 1",
-    "C4 4=||x|trees / e",
-    "C3 4=||x|trees e",
-    "C3 4=||x|trees",
-    "C3 4=||x|trees 0 / 1 / 2",
-    "C3 4=||x|trees 0/1",
-    "C4 4=||x|trees  /",
-    "C4 4=||x|trees / ",
-    "C4 4=||x|trees 1 0 /",
-    "C4 4=||x|cuts e / 3 2",
-    "a certificate=||x|cuts 0 / 0",
-    "a certificate=||x|threat 0",
-    "a certificate=||x|threat 2 1 0",
-    "C3 4=||x|threat",
-    "C3 4=||x|threat 0 1",
-    "C4 4=||x|threat ",
-    "C3 4=||x|threat 0 ",
-    "C4 4=||x|threat 0  1",
-    "C4 4=||x|threat e",
-    "C3 4=||x|Over",
-];
+const NODE_LINES: &str = "\
+C3 4=|4|x|pairs 0-1-2;\
+C4 4=|4|x|pairs 0-01;\
+C4 4=4|4|x|over;\
+a certificate=||x|over;\
+C3 4=||x|over ;\
+C3 4=||x| over;\
+C3 4=||x|;\
+C3 4=||z|over;\
+C3 4=||y1|over;\
+C3 4=|x|over;\
+C3 4=|||x|over;\
+a certificate=1023|0|y|over;\
+C4 4=1024||x|over;\
+C4 4=0  1||x|over;\
+C4 4= ||x|over;\
+C4 4=0 |1|x|over;\
+C4 4=1 0||x|over;\
+C4 4=|2 2|x|over;\
+C4 4=00||x|over;\
+C3 4=a||x|over b;\
+a certificate=||x|move 0 99999;\
+C4 4=||x|move 0 100000;\
+C4 4=||x|move 1024 0;\
+C3 4=||x|move 1;\
+C4 4=||x|move 1 ;\
+C4 4=||x|move  1;\
+C3 4=||x|move 1 2 3;\
+a certificate=||x|all;\
+C3 4=||x|all ;\
+a certificate=||x|all 0:0 1:0;\
+C4 4=||x|all 1:0 0:0;\
+C4 4=||x|all 1:0 1:1;\
+C4 4=||x|all 1:;\
+C3 4=||x|all 1:2:3;\
+C3 4=||x|all 1;\
+C3 4=||x|all 1:0  2:0;\
+C4 4=||x|all 1:100000;\
+a certificate=||x|pairs;\
+C3 4=||x|pairs ;\
+a certificate=||x|pairs 1-0 1-0;\
+C4 4=||x|pairs 1-1024;\
+a certificate=||x|potential;\
+C3 4=||x|potential 1;\
+a certificate=||x|trees /;\
+a certificate=||x|trees e /;\
+a certificate=||x|trees e 0 1 / 2 3;\
+C4 4=||x|trees 0 e / 1;\
+C4 4=||x|trees e e / 1;\
+C4 4=||x|trees / e;\
+C3 4=||x|trees e;\
+C3 4=||x|trees;\
+C3 4=||x|trees 0 / 1 / 2;\
+C3 4=||x|trees 0/1;\
+C4 4=||x|trees  /;\
+C4 4=||x|trees / ;\
+C4 4=||x|trees 1 0 /;\
+C4 4=||x|cuts e / 3 2;\
+a certificate=||x|cuts 0 / 0;\
+a certificate=||x|threat 0;\
+a certificate=||x|threat 2 1 0;\
+C3 4=||x|threat;\
+C3 4=||x|threat 0 1;\
+C4 4=||x|threat ;\
+C3 4=||x|threat 0 ;\
+C4 4=||x|threat 0  1;\
+C4 4=||x|threat e;\
+C3 4=||x|Over";
 
 /// The fault of the text with its line, as in `C3 2`, or `a certificate`.
 fn answer(alloc: Global, text: &[u8]) -> Result<String, AllocError> {
@@ -140,7 +137,7 @@ fn row_holds(alloc: Global, head: &str, row: &str) -> Result<bool, AllocError> {
 
 #[test]
 fn first_lines(rt: HostRuntime) -> Result<(), Fail> {
-    for row in FIRST_LINES {
+    for row in FIRST_LINES.split(';') {
         assert!(rt; row_holds(rt.alloc(), "", row)?, "{row}");
     }
     Ok(())
@@ -148,7 +145,7 @@ fn first_lines(rt: HostRuntime) -> Result<(), Fail> {
 
 #[test]
 fn claim_lines(rt: HostRuntime) -> Result<(), Fail> {
-    for row in CLAIM_LINES {
+    for row in CLAIM_LINES.split(';') {
         assert!(rt; row_holds(rt.alloc(), "posgame-cert 1\n", row)?, "{row}");
     }
     Ok(())
@@ -157,7 +154,7 @@ fn claim_lines(rt: HostRuntime) -> Result<(), Fail> {
 #[test]
 fn node_lines(rt: HostRuntime) -> Result<(), Fail> {
     let head = "posgame-cert 1\nclaim x y win\nnodes 1\n";
-    for row in NODE_LINES {
+    for row in NODE_LINES.split(';') {
         assert!(rt; row_holds(rt.alloc(), head, row)?, "{row}");
     }
     Ok(())
