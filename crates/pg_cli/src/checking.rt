@@ -95,6 +95,8 @@ pub fn check<F: Files, C: Console>(
 ) -> Result<u8, Stop>
     ensures status { IfOk result (λ status. ending status ≡ Finished status) }
     ensures quiet { IsQuiet (C.log console.old) (C.log console.new) result }
+    ensures making { F.making files.new ≡ F.making files.old }
+    ensures busy { F.busy files.new ≡ F.busy files.old }
     ensures ran { (work : Search) → Ran (Some (Check game.now certificate.now)) (told (F.held files.old) (C.log console.old) (C.left console.old)) (told (F.held files.new) (C.log console.new) (C.left console.new)) work (end_of result) }
     ensures causes { BothCauses (AreLacking (F.held files.old) game.now certificate.now)
         (faults (F.read_faults files.old) (F.write_faults files.old) (C.read_faults console.old) (C.write_faults console.old))

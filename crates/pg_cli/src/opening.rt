@@ -29,6 +29,8 @@ pub fn open_game<F: Files>(
     ensures single { IfOk result (λ game. IfOk game (λ g. g.bias ≡ 1)) }
     ensures causes { Causes (IsAbsent (F.held files.old) name.now) (F.read_faults files.old) (F.read_faults files.new) (F.write_faults files.old) (F.write_faults files.new) result }
     ensures held { F.held files.new ≡ F.held files.old }
+    ensures making { F.making files.new ≡ F.making files.old }
+    ensures busy { F.busy files.new ≡ F.busy files.old }
 {
     let text = read_whole(alloc, files, name, GAME_LIMIT)?;
     match read_game(alloc, &text) {
@@ -48,6 +50,8 @@ pub fn open_certificate<F: Files>(
     ensures limits { IfOk result (λ certificate. IfOk certificate (λ c. IsWithinLimits c)) }
     ensures causes { Causes (IsAbsent (F.held files.old) name.now) (F.read_faults files.old) (F.read_faults files.new) (F.write_faults files.old) (F.write_faults files.new) result }
     ensures held { F.held files.new ≡ F.held files.old }
+    ensures making { F.making files.new ≡ F.making files.old }
+    ensures busy { F.busy files.new ≡ F.busy files.old }
 {
     let text = read_whole(alloc, files, name, CERTIFICATE_LIMIT)?;
     match read_cert(alloc, &text) {
@@ -69,6 +73,8 @@ pub fn open_both<F: Files>(
     ensures limits { IfOk result (λ both. IfOk both (λ pair. IsWithinLimits pair.1)) }
     ensures causes { Causes (AreLacking (F.held files.old) game.now certificate.now) (F.read_faults files.old) (F.read_faults files.new) (F.write_faults files.old) (F.write_faults files.new) result }
     ensures held { F.held files.new ≡ F.held files.old }
+    ensures making { F.making files.new ≡ F.making files.old }
+    ensures busy { F.busy files.new ≡ F.busy files.old }
 {
     let game = match open_game(alloc, files, game)? {
         Ok(game) => game,

@@ -110,6 +110,8 @@ pub fn play<F: Files, C: Console>(
 ) -> Result<u8, Stop>
     ensures status { IfOk result (λ status. ending status ≡ Finished status) }
     ensures starved { result ≡ Err Stop.Memory → C.log console.new ≡ C.log console.old }
+    ensures making { F.making files.new ≡ F.making files.old }
+    ensures busy { F.busy files.new ≡ F.busy files.old }
     ensures ran { (work : Search) → Ran (Some (Play game.now certificate.now side)) (told (F.held files.old) (C.log console.old) (C.left console.old)) (told (F.held files.new) (C.log console.new) (C.left console.new)) work (end_of result) }
     ensures causes { BothCauses (AreLacking (F.held files.old) game.now certificate.now)
         (faults (F.read_faults files.old) (F.write_faults files.old) (C.read_faults console.old) (C.write_faults console.old))

@@ -25,6 +25,8 @@ fn carry_out<F: Files, C: Console>(
     ensures status { IfOk result (λ status. ending status ≡ Finished status) }
     ensures words { meaning_of (map string_bytes words.now) ≡ None → IfOk result (λ status. status ≡ 2) }
     ensures starved { result ≡ Err Stop.Memory → C.log console.new ≡ C.log console.old }
+    ensures making { F.making files.new ≡ F.making files.old }
+    ensures busy { F.busy files.new ≡ F.busy files.old }
     ensures unread { result ≡ Err Stop.Read → SaysNothing (meaning_of (map string_bytes words.now)) (C.log console.old) (C.log console.new) }
     ensures ran { (work : Search) → Ran (meaning_of (map string_bytes words.now)) (told (F.held files.old) (C.log console.old) (C.left console.old)) (told (F.held files.new) (C.log console.new) (C.left console.new)) work (end_of result) }
     ensures causes { BothCauses (IsLacking (F.held files.old) (map string_bytes words.now))
@@ -68,7 +70,7 @@ fn carry_out<F: Files, C: Console>(
 /// | 9 | the hundredth reply was refused |
 ///
 /// The first failing call on files or console ends the run. At 7 nothing was said before, nor at 5 but in play; at 6 the
-/// first texts of another answer may have been.
+/// first texts of another answer may have been. No command makes a file, and none searches: `work` stays as it was.
 ///
 /// Where the files tell what they hold, `ran` says what is said at each status: in play, that the log is a dialogue of
 /// the side to its end, and that at 0 the outcome reaches the goal of the claim. `forced` says that every claim that is
@@ -82,6 +84,8 @@ pub fn run<F: Files, C: Console>(
 ) -> u8
     requires { work.old.positions ≡ [] }
     ensures work { work.new ≡ work.old }
+    ensures making { F.making files.new ≡ F.making files.old }
+    ensures busy { F.busy files.new ≡ F.busy files.old }
     ensures ran { Ran (meaning_of (map string_bytes words.now)) (told (F.held files.old) (C.log console.old) (C.left console.old)) (told (F.held files.new) (C.log console.new) (C.left console.new)) work.new (ending result) }
     ensures forced { result ≡ 0 → AnnouncesForced (F.held files.old) (meaning_of (map string_bytes words.now)) (C.log console.old) (C.log console.new) }
     ensures starved { result ≡ 7 → C.log console.new ≡ C.log console.old }
