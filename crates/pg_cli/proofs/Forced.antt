@@ -15,8 +15,8 @@ use Rattle.pg_cert.specs.declared.cert.Cert.{Cert}
 use Rattle.pg_cert.specs.declared.cert.Claim.{Claim}
 use Rattle.pg_game.specs.Game.{with_turn, start}
 use Rattle.pg_game.specs.Value.{Forces}
-use Rattle.pg_cli.specs.Accepted.{IsForced, AreForced, IsForcedOf, SaysForcedClaim, AnnouncesForced}
-use Rattle.pg_cli.specs.Answer.{Answer, lacking, or_answer, game_held, certificate_held, both, both_held, Checks, ChecksTo}
+use Rattle.pg_cli.specs.Accepted.{IsForced, AreSaid, AreForced, IsForcedOf, SaysForcedClaim, AnnouncesForced}
+use Rattle.pg_cli.specs.Answer.{Answer, lacking, or_answer, game_held, certificate_held, both, both_held, IsSaidBy, Checks, ChecksTo}
 use Rattle.pg_player.specs.Player.{is_same_side, is_win, is_claim_of, is_win_of, first_claim, chosen_claim}
 use Rattle.pg_cli.specs.Run.{told, Finished, RefusesPlay, IsPlayedBy, Plays, Ran}
 use Rattle.pg_cli.specs.Texts.{claim_text}
@@ -66,6 +66,24 @@ ReadsWithinLimits = (text : Bytes) (c : Cert) → certificate text ≡ Ok c → 
 abbrev pub ValidClaimsAreForced : Type 0
 ValidClaimsAreForced = (g : Game) (c : Cert) → IsWithinLimits c → IsValid g c → (i : ℕ) (claim : Claim) → slice_get c.claims i ≡ Some claim → IsForced g claim
 
+-- what both names hold, where a game and a certificate are read from them
+abbrev are_said : (g c : Option Bytes) (pair : GameEntry × Cert) (played : Game) → both_held g c ≡ Ok pair → IsSaidBy pair.0 played → AreSaid g c
+are_said g c pair played e said =
+    let parts = both_ok (game_held g) (certificate_held c) pair e in
+    let first = game_there g pair.0 parts.0 in
+    let second = certificate_there c pair.1 parts.1 in
+    record {
+      game_text = first.0;
+      game_held = first.1;
+      played = played;
+      game_said = first.2 ∙ ap (λ (x : GameEntry). Ok x) (sym said.0);
+      single = said.1;
+      certificate_text = second.0;
+      certificate_held = second.1;
+      checked = pair.1;
+      certificate_said = second.2;
+    }
+
 -- the answer of a check with status 0 accepts forced claims
 abbrev pub AcceptedAreForced : Type 0
 AcceptedAreForced = (g c : Option Bytes) (a : Answer) → ChecksTo g c a → a.status ≡ 0 → AreForced g c a.texts
@@ -78,21 +96,11 @@ accepted_are_forced limits valid_forced g c a checks zero = go (both_held g c) r
       elim (both_err (game_held g) (certificate_held c) refusal e) as (λ _. AreForced g c a.texts)
       [ inl p ↦ absurd (game_status g refusal p none) | inr q ↦ absurd (certificate_status c refusal q none) ]
   go (Ok pair) e (played, said, inl accepts) =
-      let parts = both_ok (game_held g) (certificate_held c) pair e in
-      let first = game_there g pair.0 parts.0 in
-      let second = certificate_there c pair.1 parts.1 in
+      let files = are_said g c pair played e said in
       record {
-        game_text = first.0;
-        game_held = first.1;
-        played = played;
-        game_said = first.2 ∙ ap (λ (x : GameEntry). Ok x) (sym said.0);
-        single = said.1;
-        certificate_text = second.0;
-        certificate_held = second.1;
-        checked = pair.1;
-        certificate_said = second.2;
+        files = files;
         accepted = ap (λ (b : Answer). b.texts) accepts.1;
-        forced = valid_forced played pair.1 (limits second.0 pair.1 second.2) accepts.0;
+        forced = valid_forced played pair.1 (limits files.certificate_text pair.1 files.certificate_said) accepts.0;
       }
   go (Ok pair) e (played, said, inr rejects) =
       let four : a.status ≡ 4 = ap (λ (b : Answer). b.status) rejects.4 in
@@ -148,22 +156,12 @@ played_are_forced limits valid_forced g c side played claim by = go (both_held g
   go : (r : Result (GameEntry × Cert) Answer) → both_held g c ≡ r → IsPlayedBy side r played claim → IsForcedOf g c side claim
   go (Err refusal) e by = absurd by
   go (Ok pair) e (said, valid, is) =
-      let parts = both_ok (game_held g) (certificate_held c) pair e in
-      let first = game_there g pair.0 parts.0 in
-      let second = certificate_there c pair.1 parts.1 in
+      let files = are_said g c pair played e said in
       let one = chosen played pair.1 side claim is in
-      let forces = valid_forced played pair.1 (limits second.0 pair.1 second.2) valid one.0 claim one.1 in
+      let forces = valid_forced played pair.1 (limits files.certificate_text pair.1 files.certificate_said) valid one.0 claim one.1 in
       let of_turn = subst (λ (turn : Side). Forces played (with_turn played turn) claim.side claim.goal) one.3 forces in
       record {
-        game_text = first.0;
-        game_held = first.1;
-        played = played;
-        game_said = first.2 ∙ ap (λ (x : GameEntry). Ok x) (sym said.0);
-        single = said.1;
-        certificate_text = second.0;
-        certificate_held = second.1;
-        checked = pair.1;
-        certificate_said = second.2;
+        files = files;
         place = one.0;
         one = one.1;
         own = one.2;

@@ -20,8 +20,8 @@ use Rattle.pg_cli.specs.Words.{Command, Check, Play}
 abbrev pub IsForced : Game → Claim → Type 0
 IsForced g claim = Forces g (with_turn g claim.turn) claim.side claim.goal
 
--- these bytes say a game and a certificate, the texts are those that accept its claims in order, and each claim is forced
-pub record AreForced (game_bytes certificate_bytes : Option Bytes) (texts : List Bytes) : Type 0 where
+-- these bytes say a game and a certificate
+pub record AreSaid (game_bytes certificate_bytes : Option Bytes) : Type 0 where
   pub game_text : Bytes
   pub game_held : game_bytes ≡ Some game_text
   pub played : Game
@@ -32,29 +32,24 @@ pub record AreForced (game_bytes certificate_bytes : Option Bytes) (texts : List
   pub certificate_held : certificate_bytes ≡ Some certificate_text
   pub checked : Cert
   pub certificate_said : certificate certificate_text ≡ Ok checked
-  pub accepted : texts ≡ map accepted_text checked.claims
-  pub forced : (i : ℕ) (claim : Claim) → slice_get checked.claims i ≡ Some claim → IsForced played claim
+
+-- the texts are those that accept the certificate's claims in order, and each claim is forced
+pub record AreForced (game_bytes certificate_bytes : Option Bytes) (texts : List Bytes) : Type 0 where
+  pub files : AreSaid game_bytes certificate_bytes
+  pub accepted : texts ≡ map accepted_text files.checked.claims
+  pub forced : (i : ℕ) (claim : Claim) → slice_get files.checked.claims i ≡ Some claim → IsForced files.played claim
 
 -- the log grew by texts that accept forced claims
 abbrev pub SaysForced : Option Bytes → Option Bytes → Option (List Entry) → Option (List Entry) → Type 0
 SaysForced g c before after = (texts : List Bytes) × AreForced g c texts × Grows before after (map Said texts)
 
--- these bytes say a game and a certificate, and one of its claims, of this side, is forced from the game's position
+-- one of the certificate's claims, of this side, is forced from the game's position
 pub record IsForcedOf (game_bytes certificate_bytes : Option Bytes) (side : Side) (claim : Claim) : Type 0 where
-  pub game_text : Bytes
-  pub game_held : game_bytes ≡ Some game_text
-  pub played : Game
-  pub game_said : game game_text ≡ Ok (entry played)
-  -- Y claims one point a turn
-  pub single : played.bias ≡ 1
-  pub certificate_text : Bytes
-  pub certificate_held : certificate_bytes ≡ Some certificate_text
-  pub checked : Cert
-  pub certificate_said : certificate certificate_text ≡ Ok checked
+  pub files : AreSaid game_bytes certificate_bytes
   pub place : ℕ
-  pub one : slice_get checked.claims place ≡ Some claim
+  pub one : slice_get files.checked.claims place ≡ Some claim
   pub own : claim.side ≡ side
-  pub forced : Forces played (start played) side claim.goal
+  pub forced : Forces files.played (start files.played) side claim.goal
 
 -- the log grew by a claim of this side that is forced, and what followed it
 abbrev pub SaysForcedClaim : Option Bytes → Option Bytes → Side → Option (List Entry) → Option (List Entry) → Type 0
