@@ -97,14 +97,14 @@ fn sets_in(alloc: Global, g: &Game) -> Result<Option<EdgeTally>, Fail> {
     Ok(Some(tally_sets(&mut judge, g, &mut joiner)))
 }
 
-/// Adds a line with three numbers.
+/// Adds a row of three numbers.
 fn push_row(rows: &mut String, first: u32, second: u32, third: u32) -> Result<(), Fail> {
-    write!(rows, "{first} {second} {third}\n")?;
+    write!(rows, "{first} {second} {third},")?;
     Ok(())
 }
 
-/// For each board a line with three numbers: at how many positions the potential holds, how many sets of pairs hold at
-/// them, and at how many the value reaches the goal. A board that shows a fault has no line.
+/// For each board a row of three numbers: at how many positions the potential holds, how many sets of pairs hold at
+/// them, and at how many the value reaches the goal. A board that shows a fault has no row.
 fn table(alloc: Global, kind: Kind, side: Side, goal: Goal, bias: u8) -> Result<String, Fail> {
     let pairings = all_pairings(alloc)?;
     let mut rows = String::new(alloc);
@@ -120,8 +120,8 @@ fn table(alloc: Global, kind: Kind, side: Side, goal: Goal, bias: u8) -> Result<
     Ok(rows)
 }
 
-/// For each graph a line with three numbers: how many positions X wins, and how many pairs of sets are trees and how many
-/// are cuts at all of them. A graph that shows a fault has no line.
+/// For each graph a row of three numbers: how many positions X wins, and how many pairs of sets are trees and how many
+/// are cuts at all of them. A graph that shows a fault has no row.
 fn switching_table(alloc: Global) -> Result<String, Fail> {
     let mut rows = String::new(alloc);
     for ends in GRAPHS {
@@ -135,83 +135,47 @@ fn switching_table(alloc: Global) -> Result<String, Fail> {
     Ok(rows)
 }
 
-#[test]
-fn breaker_claims_one_point(rt: HostRuntime) -> Result<(), Fail> {
-    let rows = table(rt.alloc(), Kind::MakerBreaker, Side::Y, Goal::Win, 1)?;
-    assert_eq!(rt;
-        rows.as_str(),
-        "486 1116 486\n297 368 306\n240 308 270\n288 288 288\n398 596 399\n142 102 157\n216 204 216\n262 316 295\n"
-    );
-    Ok(())
+/// The part of a row that has this number, from 0, and no text where it has fewer.
+fn part(row: &str, number: usize) -> &str {
+    row.split(':').nth(number).unwrap_or("")
+}
+
+/// The word of a text that has this number, from 0, and no word where it has fewer.
+fn word(text: &str, number: usize) -> &str {
+    text.split_whitespace().nth(number).unwrap_or("")
+}
+
+/// The table of a claim, which is told as `KIND SIDE GOAL BIAS`.
+fn told(alloc: Global, claim: &str) -> Result<String, Fail> {
+    let kind = match word(claim, 0) {
+        "maker-breaker" => Kind::MakerBreaker,
+        "avoider-enforcer" => Kind::AvoiderEnforcer,
+        _ => Kind::MakerMaker,
+    };
+    let (x, win) = (word(claim, 1) == "x", word(claim, 2) == "win");
+    let side = if x { Side::X } else { Side::Y };
+    let goal = if win { Goal::Win } else { Goal::Draw };
+    table(alloc, kind, side, goal, word(claim, 3).parse::<u8>()?)
 }
 
 #[test]
-fn breaker_claims_two_points(rt: HostRuntime) -> Result<(), Fail> {
-    let rows = table(rt.alloc(), Kind::MakerBreaker, Side::Y, Goal::Win, 2)?;
-    assert_eq!(rt;
-        rows.as_str(),
-        "729 1674 729\n504 552 513\n429 462 462\n480 432 480\n628 894 629\n285 153 316\n372 306 372\n464 474 508\n"
-    );
-    Ok(())
-}
-
-#[test]
-fn breaker_claims_three_points(rt: HostRuntime) -> Result<(), Fail> {
-    let rows = table(rt.alloc(), Kind::MakerBreaker, Side::Y, Goal::Win, 3)?;
-    assert_eq!(rt;
-        rows.as_str(),
-        "972 2232 972\n693 736 711\n600 616 651\n672 576 672\n853 1192 855\n428 204 468\n528 408 528\n658 632 708\n"
-    );
-    Ok(())
-}
-
-#[test]
-fn enforcer_claims_one_point(rt: HostRuntime) -> Result<(), Fail> {
-    let rows = table(rt.alloc(), Kind::AvoiderEnforcer, Side::X, Goal::Win, 1)?;
-    assert_eq!(rt;
-        rows.as_str(),
-        "486 357 486\n297 137 306\n240 114 270\n285 116 288\n397 227 399\n142 46 158\n216 81 216\n262 130 295\n"
-    );
-    Ok(())
-}
-
-#[test]
-fn enforcer_claims_two_points(rt: HostRuntime) -> Result<(), Fail> {
-    let rows = table(rt.alloc(), Kind::AvoiderEnforcer, Side::X, Goal::Win, 2)?;
-    assert_eq!(rt;
-        rows.as_str(),
-        "729 0 729\n477 0 513\n384 0 462\n465 0 477\n618 0 628\n238 0 309\n363 0 372\n421 0 505\n"
-    );
-    Ok(())
-}
-
-#[test]
-fn enforcer_claims_three_points(rt: HostRuntime) -> Result<(), Fail> {
-    let rows = table(rt.alloc(), Kind::AvoiderEnforcer, Side::X, Goal::Win, 3)?;
-    assert_eq!(rt;
-        rows.as_str(),
-        "972 0 972\n657 0 711\n528 0 651\n645 0 672\n839 0 855\n334 0 467\n510 0 528\n580 0 708\n"
-    );
-    Ok(())
-}
-
-#[test]
-fn race_for_x(rt: HostRuntime) -> Result<(), Fail> {
-    let rows = table(rt.alloc(), Kind::MakerMaker, Side::X, Goal::Draw, 1)?;
-    assert_eq!(rt;
-        rows.as_str(),
-        "486 1116 486\n297 368 306\n240 308 270\n288 288 312\n398 596 399\n142 102 263\n216 204 249\n262 316 312\n"
-    );
-    Ok(())
-}
-
-#[test]
-fn race_for_y(rt: HostRuntime) -> Result<(), Fail> {
-    let rows = table(rt.alloc(), Kind::MakerMaker, Side::Y, Goal::Draw, 1)?;
-    assert_eq!(rt;
-        rows.as_str(),
-        "486 1116 486\n297 368 306\n240 308 270\n288 288 300\n398 596 399\n142 102 223\n216 204 237\n262 316 308\n"
-    );
+fn tables(rt: HostRuntime) -> Result<(), Fail> {
+    for row in [
+        "maker-breaker y win 1:486 1116 486,297 368 306,240 308 270,288 288 288,398 596 399,142 102 157,216 204 216,262 316 295,",
+        "maker-breaker y win 2:729 1674 729,504 552 513,429 462 462,480 432 480,628 894 629,285 153 316,372 306 372,464 474 508,",
+        "maker-breaker y win 3:972 2232 972,693 736 711,600 616 651,672 576 672,853 1192 855,428 204 468,528 408 528,658 632 708,",
+        "avoider-enforcer x win 1:486 357 486,297 137 306,240 114 270,285 116 288,397 227 399,142 46 158,216 81 216,262 130 295,",
+        "avoider-enforcer x win 2:729 0 729,477 0 513,384 0 462,465 0 477,618 0 628,238 0 309,363 0 372,421 0 505,",
+        "avoider-enforcer x win 3:972 0 972,657 0 711,528 0 651,645 0 672,839 0 855,334 0 467,510 0 528,580 0 708,",
+        "maker-maker x draw 1:486 1116 486,297 368 306,240 308 270,288 288 312,398 596 399,142 102 263,216 204 249,262 316 312,",
+        "maker-maker y draw 1:486 1116 486,297 368 306,240 308 270,288 288 300,398 596 399,142 102 223,216 204 237,262 316 308,",
+    ] {
+        assert_eq!(rt;
+            told(rt.alloc(), part(row, 0))?.as_str(),
+            part(row, 1),
+            "{row}"
+        );
+    }
     Ok(())
 }
 
@@ -220,7 +184,7 @@ fn trees_and_cuts(rt: HostRuntime) -> Result<(), Fail> {
     let rows = switching_table(rt.alloc())?;
     assert_eq!(rt;
         rows.as_str(),
-        "0 0 3\n3 4 4\n14 38 5\n4 5 38\n102 425 147\n96 473 155\n243 1233 1233\n289 1234 864\n"
+        "0 0 3,3 4 4,14 38 5,4 5 38,102 425 147,96 473 155,243 1233 1233,289 1234 864,"
     );
     Ok(())
 }
