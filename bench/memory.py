@@ -1,0 +1,51 @@
+#!/usr/bin/env python3
+"""Refuses each allocation of three short runs in turn, and counts how the runs end.
+
+Usage: memory.py
+It is run in a clone, with the kit's `rt` on the PATH. `rt try` builds the program alloc_runs once, without proofs, and
+refuses the allocation with one number; the program makes so many allocations before the run that it is each one of the
+run in turn. The first that matters is where the run isn't as due for want of what it is run on, the last where it fails
+to say its last text. The status is 1 where a run ended as none may.
+"""
+import collections
+import pathlib
+import re
+import subprocess
+import sys
+import tempfile
+
+REFUSED = 100
+ROWS = 3
+
+
+def endings(folder):
+    """How each row ended, by the number of allocations before it."""
+    for row in range(1, ROWS + 1):
+        for count in range(REFUSED):
+            case = pathlib.Path(folder, f"{row}-{count}")
+            case.touch()
+            case.with_suffix(".args").write_text(f"{row}\n{count}\n")
+    words = ["rt", "try", "--cases", folder, "--fail-alloc", str(REFUSED)]
+    crate = pathlib.Path(__file__).parent.parent / "crates" / "alloc_runs"
+    tried = subprocess.run(words, cwd=crate, stdout=subprocess.PIPE, stderr=subprocess.STDOUT, text=True)
+    found = {}
+    for row, count, said in re.findall(r"^== (\d)-(\d+)\n(.*)\n", tried.stdout, re.M):
+        found[int(row), int(count)] = said
+    return found
+
+
+def main():
+    with tempfile.TemporaryDirectory() as folder:
+        found = endings(folder)
+    if len(found) < ROWS * REFUSED:
+        sys.exit(f"only {len(found)} runs of {ROWS * REFUSED} ended")
+    for row in range(1, ROWS + 1):
+        said = [found[row, count] for count in range(REFUSED)]
+        reached = [count for count in range(REFUSED) if said[count] != "as due"]
+        counts = collections.Counter(said[min(reached) : max(reached) + 1])
+        print(f"row {row}:", ", ".join(f"{counts[it]} {it}" for it in sorted(counts)))
+    sys.exit("broken" in found.values())
+
+
+if __name__ == "__main__":
+    main()
