@@ -8,7 +8,7 @@ mod printing;
 mod reply;
 
 pub use cert::{Cert, Claim, Claims};
-pub use node::{Body, Node, Nodes};
+pub use node::{Body, Node, Nodes, with_e_named};
 pub use node_fault::NodeFault;
 pub use printing::{print_cert, print_node};
 pub use reply::{Replies, Reply};

@@ -1,10 +1,11 @@
 //! The nodes of a claim.
 ghost use Rattle.std.specs.Prelude.{◌≡◌};
 ghost use Rattle.pg_cert.specs.Node.{position_of};
+ghost use Rattle.pg_cert.specs.Valid.{with_e_named};
 
 use crate::reply::Replies;
 use pg_base::{Pairs, PointSet, Points, Side};
-use pg_game::Position;
+use pg_game::{Game, Position};
 use std::marker::Model;
 
 /// Why the claimer reaches its goal from a node's position.
@@ -74,6 +75,18 @@ impl Node {
             left: self.left,
         }
     }
+}
+
+/// The first set of edges that a node names, with the further edge between the terminals where it says so. That edge's
+/// number is the number of the game's edges.
+pub fn with_e_named(g: &Game, with_e: bool, first: &PointSet) -> PointSet
+    ensures { result ≡ with_e_named g.now with_e first.now }
+{
+    let mut members = *first;
+    if with_e {
+        members.put(g.points());
+    }
+    members
 }
 
 /// The nodes of a claim; the last is its root.

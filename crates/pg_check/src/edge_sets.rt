@@ -7,19 +7,9 @@ ghost use Rattle.pg_game.specs.Trees.{TreesHold, CutsHold};
 ghost use Rattle.pg_cert.specs.Valid.{with_e_named, AreEdgeSets};
 
 use pg_base::PointSet;
+use pg_cert::with_e_named;
 use pg_game::{Game, Position};
 use pg_graph::Joiner;
-
-/// The set, with e where that is named.
-fn with_e_named(g: &Game, with_e: bool, first: &PointSet) -> PointSet
-    ensures { result ≡ with_e_named g.now with_e first.now }
-{
-    let mut members = *first;
-    if with_e {
-        members.put(g.points());
-    }
-    members
-}
 
 /// Whether both sets hold edges of the game only.
 fn are_edge_sets(g: &Game, first: &PointSet, second: &PointSet) -> bool

@@ -2,7 +2,6 @@
 ghost use Rattle.std.specs.Prelude.{◌≡◌, ◌≢◌, ℕ, false, Option, slice_get};
 ghost use Rattle.pg_base.specs.declared.kind.Kind.TheVariants.{Switching};
 ghost use Rattle.pg_base.specs.declared.side.Side.TheVariants.{X, Y};
-ghost use Rattle.pg_cert.specs.Valid.{with_e_named};
 ghost use Rattle.pg_cert.specs.declared.cert.Claim.{Claim};
 ghost use Rattle.pg_cert.specs.declared.node.Body.TheVariants.{Potential, Trees, Cuts};
 ghost use Rattle.pg_game.specs.Game.{is_over, IsPosition};
@@ -12,8 +11,8 @@ ghost use Rattle.pg_player.specs.Stand.{body_at, standing_of};
 ghost use Rattle.pg_switch.specs.Replies.{HeldUntil};
 
 use crate::standing::{Rest, Stand, arrive, body_at};
-use pg_base::{Kind, PointSet};
-use pg_cert::{Body, Claim};
+use pg_base::Kind;
+use pg_cert::{Body, Claim, with_e_named};
 use pg_game::{Game, Position};
 use pg_graph::Joiner;
 use pg_switch::{CutPlan, ShortPlan};
@@ -40,17 +39,6 @@ fn potential_point(g: &Game, claim: &Claim, p: &Position) -> u16
         Kind::MakerBreaker | Kind::MakerMaker => pg_potential::answer(g, p, claim.side),
         Kind::Switching => unreachable!(),
     }
-}
-
-/// The first set of edges, with the edge between the terminals where it is named.
-fn with_further(g: &Game, with_e: bool, first: &PointSet) -> PointSet
-    ensures { result ≡ with_e_named g.now with_e first.now }
-{
-    let mut members = *first;
-    if with_e {
-        members.put(g.points());
-    }
-    members
 }
 
 /// Short's own move by a plan.
@@ -151,7 +139,7 @@ fn body_move(
             first,
             second,
         } => {
-            let plan = ShortPlan::start(with_further(g, *with_e, first), *second);
+            let plan = ShortPlan::start(with_e_named(g, *with_e, first), *second);
             trees_move(g, joiner, p, plan, last)
         }
         Body::Cuts {
@@ -159,7 +147,7 @@ fn body_move(
             first,
             second,
         } => {
-            let plan = CutPlan::start(with_further(g, *with_e, first), *second);
+            let plan = CutPlan::start(with_e_named(g, *with_e, first), *second);
             cuts_move(g, joiner, p, plan, last)
         }
         Body::Over | Body::All(_) | Body::Threat(_) => unreachable!(),
