@@ -10,6 +10,3 @@ mod player;
 mod standing;
 
 pub use player::{OpenFault, Player};
-
-#[cfg(test)]
-mod tests;

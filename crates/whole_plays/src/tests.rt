@@ -7,13 +7,13 @@ ghost use Rattle.std.specs.Prelude.{IfOk, IsTrue};
 ghost use Rattle.pg_cert.specs.Limits.{IsWithinLimits};
 ghost use Rattle.pg_player.specs.Player.{Waits};
 
-use crate::{OpenFault, Player};
 use pg_base::{Goal, Kind, Line, Lines, PointSet, Score, Side};
 use pg_cert::Cert;
 use pg_cert_files::read_cert;
 use pg_check::check;
 use pg_game::{Field, Game, LineField};
 use pg_graph::{Ends, Graph};
+use pg_player::{OpenFault, Player};
 use std::alloc::Global;
 use std::test::Fail;
 
