@@ -16,9 +16,9 @@ use Rattle.pg_base.specs.WordLemmas.{same_points}
 
 -- ---- one by one
 
-pub points_below-none : (s : FinSet nat_cmp) → points_below s 0 ≡ []
+pub points_start : (s : FinSet nat_cmp) → points_below s 0 ≡ []
 unfolding points_below
-points_below-none s = refl
+points_start s = refl
 
 filter-range_more : (p : ℕ → Bool) (a n v : ℕ) → a + n ≡ v → filter p (range_with_len a (suc n)) ≡ filter p (range_with_len a n) ++ one_where (p v) v
 filter-range_more p a zero v e = let here : a ≡ v = omega arith in elim (cases_Bool (p v)) [ inl on ↦ rw (here, on) refl | inr off ↦ rw (here, off) refl ]
@@ -30,17 +30,17 @@ filter-range_more p a (suc n) v e =
     ]
 
 -- one number more
-pub points_below-more : (s : FinSet nat_cmp) (n : ℕ) → points_below s (n + 1) ≡ points_below s n ++ one_where (contains s n) n
+pub points_more : (s : FinSet nat_cmp) (n : ℕ) → points_below s (n + 1) ≡ points_below s n ++ one_where (contains s n) n
 unfolding points_below
-points_below-more s n = rw add-one (filter-range_more (contains s) 0 n n (omega arith))
+points_more s n = rw add-one (filter-range_more (contains s) 0 n n (omega arith))
 
 -- one number more, which is a member
-pub points_below-with : (s : FinSet nat_cmp) (n : ℕ) → contains s n ≡ true → points_below s (n + 1) ≡ points_below s n ++ n ∷ []
-points_below-with s n on = points_below-more s n ∙ ap (λ b. points_below s n ++ one_where b n) on
+pub points_with : (s : FinSet nat_cmp) (n : ℕ) → contains s n ≡ true → points_below s (n + 1) ≡ points_below s n ++ n ∷ []
+points_with s n on = points_more s n ∙ ap (λ b. points_below s n ++ one_where b n) on
 
 -- one number more, which is no member
-pub points_below-without : (s : FinSet nat_cmp) (n : ℕ) → contains s n ≡ false → points_below s (n + 1) ≡ points_below s n
-points_below-without s n off = points_below-more s n ∙ ap (λ b. points_below s n ++ one_where b n) off ∙ append-nil (points_below s n)
+pub points_without : (s : FinSet nat_cmp) (n : ℕ) → contains s n ≡ false → points_below s (n + 1) ≡ points_below s n
+points_without s n off = points_more s n ∙ ap (λ b. points_below s n ++ one_where b n) off ∙ append-nil (points_below s n)
 
 -- ---- what they are
 
