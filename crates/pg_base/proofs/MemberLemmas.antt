@@ -58,6 +58,9 @@ pub points_below-each : (P : ℕ → Type 0) (s : FinSet nat_cmp) (n : ℕ) → 
 unfolding points_below
 points_below-each P s n h = each_from P (contains s) 0 n (λ q on lt. h q on (omega arith))
 
+pub points_below-small : (s : FinSet nat_cmp) (n : ℕ) → AllByRecursion (λ p. p < n) (points_below s n)
+points_below-small s n = points_below-each (λ p. p < n) s n (λ q on lt. lt)
+
 IsStrictlyIncreasing-range : (a n : ℕ) → IsStrictlyIncreasing (range_with_len a n)
 IsStrictlyIncreasing-range a n = λ k h.
     let len = length-range_with_len a n in
