@@ -43,7 +43,10 @@ ascends : (m : ℕ) (ps : List ℕ) → (0 < length ps → m ≤ slice_index ps 
 ascends m [] least up = refl
 ascends m (p ∷ ps) least up =
     let here : nat_le m p ≡ true = grind (arith, nat_tests, least (omega arith)) in
-    rw here (ascends (p + 1) ps (λ some. omega (arith, up 0 (omega (arith, some)))) (λ k h. let e : suc k + 1 ≡ suc (k + 1) = omega arith in subst (λ i. slice_index ps k < slice_index (p ∷ ps) i) e (up (suc k) (omega (arith, h)))))
+    rw here (ascends (p + 1) ps (λ some. omega (arith, up 0 (omega (arith, some)))) (behind p ps up))
+  where
+    behind : (p : ℕ) (ps : List ℕ) → IsStrictlyIncreasing (p ∷ ps) → IsStrictlyIncreasing ps
+    behind p ps up = λ k h. let e : suc k + 1 ≡ suc (k + 1) = omega arith in subst (λ i. slice_index ps k < slice_index (p ∷ ps) i) e (up (suc k) (omega (arith, h)))
 
 points_are : (ps : List ℕ) → ascend_from 0 ps ≡ true → AllByRecursion (λ p. p < 1024) ps → ascending_of (map decimal ps) ≡ Ok ps
 points_are ps e h = let read = points_back ps h in rw (read, e) refl
