@@ -1,12 +1,13 @@
 -- A text is its first line and then the lines behind its line feed.
-use Rattle.std.proofs.Common.{◌≡◌, ℕ, ◌+◌, ◌<◌, ◌≤◌, Bool, false, List, [], ◌∷◌, ◌++◌, length, eqb, arith, refl, ap, ◌∙◌, inl, inr}
-use Rattle.std.specs.Prelude.{◌==◌}
-use Rattle.std.specs.List.{slice_split, position_or_len, before_first, after_first, All}
+use Rattle.std.proofs.Common.{◌≡◌, ℕ, ◌+◌, ◌<◌, ◌≤◌, Bool, false, List, [], ◌∷◌, ◌++◌, length, take, drop, eqb, arith, refl, ap, ◌∙◌, inl, inr}
+use Rattle.std.specs.Prelude.{◌==◌, Some, None}
+use Rattle.std.specs.List.{slice_split, position, position_or_len, before_first, after_first, All}
 use Rattle.std.proofs.lemmas.Bool.{cases_lt}
 use Rattle.std.proofs.lemmas.Bool.Decides.{nat_tests}
 use Rattle.std.proofs.lemmas.List.{take_all, drop_all, length-append, length-drop}
 use Rattle.std.proofs.lemmas.List.Splits.{slice_split_at, slice_split_first, slice_split_none, length-slice_split}
 use Rattle.std.proofs.lemmas.List.Sums.{fails_before_first}
+use Rattle.pg_text.proofs.Cuts.{first_is, first_is_past}
 use Rattle.pg_text.specs.Text.{Bytes, Lacks, without_empty_end, lines}
 
 abbrev pub is_feed : ℕ → Bool
@@ -19,6 +20,14 @@ without_empty_end-cons part (next ∷ parts) h = refl
 pub without_empty_end-append : (front : List Bytes) (last : Bytes) → without_empty_end (front ++ last ∷ []) ≡ front ++ without_empty_end (last ∷ [])
 without_empty_end-append [] last = refl
 without_empty_end-append (part ∷ front) last = without_empty_end-cons part (front ++ last ∷ []) (omega (arith, length-append front (last ∷ []))) ∙ ap (λ (x : List Bytes). part ∷ x) (without_empty_end-append front last)
+
+pub feed_some : (text : Bytes) (end : ℕ) → position is_feed text ≡ Some end → (end < length text) × (before_first is_feed text ≡ take end text) × (after_first is_feed text ≡ drop (end + 1) text)
+feed_some text end e = let found = first_is is_feed text end e in (found.0, ap (λ i. take i text) found.1, ap (λ i. drop (i + 1) text) found.1)
+
+pub feed_none : (text : Bytes) → position is_feed text ≡ None → (before_first is_feed text ≡ text) × (after_first is_feed text ≡ [])
+feed_none text e =
+    let past = first_is_past is_feed text e in
+    (take_all _ _ past, drop_all (position_or_len is_feed text + 1) text (omega arith))
 
 no_feed : (text : Bytes) → length text ≤ position_or_len is_feed text → All (λ b. is_feed b ≡ false) text
 no_feed text past = λ i d lt. fails_before_first is_feed text i d (omega arith)
