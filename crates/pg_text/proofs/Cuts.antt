@@ -1,8 +1,8 @@
 -- A text that is cut at a sign.
-use Rattle.std.proofs.Common.{◌≡◌, ℕ, ◌+◌, ◌-◌, ◌<◌, ◌≤◌, Bool, true, false, cond, ltb, List, [], ◌∷◌, ◌++◌, length, take, drop, get_or, arith, refl, sym, ap, subst, ◌∙◌, Option, Some, None}
+use Rattle.std.proofs.Common.{◌≡◌, ℕ, ◌+◌, ◌-◌, ◌<◌, ◌≤◌, Bool, true, List, [], ◌∷◌, ◌++◌, length, take, drop, get_or, arith, refl, sym, ap, subst, ◌∙◌, Option, Some, None}
 use Rattle.std.specs.Prelude.{◌==◌}
 use Rattle.std.specs.List.{position, position_or_len, before_first}
-use Rattle.std.proofs.lemmas.Bool.{ltb-false, eqb-true}
+use Rattle.std.proofs.lemmas.Bool.{eqb-true}
 use Rattle.std.proofs.lemmas.Bool.Decides.{nat_tests}
 use Rattle.std.proofs.lemmas.List.{take_all, length-take, length-drop, get_or-take}
 use Rattle.std.proofs.lemmas.List.Quantifiers.{position-Some}
@@ -16,12 +16,8 @@ is_sign sign b = b == sign
 pub first_is : (p : ℕ → Bool) (text : Bytes) (end : ℕ) → position p text ≡ Some end → (end < length text) × (position_or_len p text ≡ end)
 first_is p text end e = let found = position-Some p text end 0 e in (found.0, position_or_len_is p text end 0 (omega (arith, found.0)) found.2 (λ lt. found.1))
 
-cases_no_position : (b : Bool) (i : ℕ) → cond b (Some i) None ≡ None → b ≡ false
-cases_no_position true i e = absurd cc
-cases_no_position false i e = refl
-
 pub first_is_past : (p : ℕ → Bool) (text : Bytes) → position p text ≡ None → length text ≤ position_or_len p text
-first_is_past p text e = ltb-false _ _ (cases_no_position (ltb (position_or_len p text) (length text)) (position_or_len p text) e)
+first_is_past p text e = grind (arith, nat_tests, e)
 
 front_lacks : (sign : ℕ) (text : Bytes) → Lacks sign (before_first (is_sign sign) text)
 front_lacks sign text = λ i d lt.
