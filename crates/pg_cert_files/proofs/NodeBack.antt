@@ -34,7 +34,8 @@ use Rattle.pg_cert_files.specs.declared.values.Edges.{Edges}
 use Rattle.pg_text.proofs.Cuts.{just_two, four_three}
 use Rattle.pg_cert_files.proofs.NodeLimits.{odd_len, set_from}
 use Rattle.pg_text.proofs.Decimals.{all_append, all_of, all_map, decimal_not, two_decimals}
-use Rattle.pg_cert_files.proofs.Words.{IsPlain, IsQuiet, IsWord, decimal_is_word, lacks_bar, word_quiet, spaced_quiet, words_spaced, point_decimal, child_decimal, each_back, points_back}
+use Rattle.pg_text.proofs.Words.{IsPlain, IsQuiet, IsWord, decimal_is_word, word_quiet, spaced_quiet, words_spaced, quiet_text}
+use Rattle.pg_cert_files.proofs.Words.{lacks_bar, point_decimal, child_decimal, each_back, points_back}
 
 -- ---- sets
 
@@ -315,15 +316,6 @@ node_back n h =
     let bar = bar_behind (spaced (set_words n.x)) (spaced (set_words n.y) ++ 124 ∷ (side_word n.turn ++ 124 ∷ body_text n.body)) in
     let shape = shape_back n h.body in
     rw (bar, shape) (node_is_back n h)
-
-no_feed : (b : ℕ) → IsQuiet b → (b == 10) ≡ false
-no_feed b h = grind (arith, nat_tests, h.0)
-
-quiet_text : (t : Bytes) → AllByRecursion IsQuiet t → AllByRecursion (λ b. (b == 10) ≡ false) t
-quiet_text t h = all_of IsQuiet (λ b. (b == 10) ≡ false) no_feed t h
-
-pub quiet_lacks_feed : (t : Bytes) → AllByRecursion IsQuiet t → Lacks 10 t
-quiet_lacks_feed t h = All-from_recursion (λ b. (b == 10) ≡ false) t (quiet_text t h)
 
 -- no line feed stands in it
 pub node_lacks_feed : (n : Node) → IsNode n → Lacks 10 (node_line_text n)

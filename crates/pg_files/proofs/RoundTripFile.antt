@@ -20,8 +20,8 @@ use Rattle.pg_game.specs.declared.field.LineField.{LineField}
 use Rattle.pg_game.specs.declared.game.Game.{Game}
 use Rattle.pg_game.specs.Field.{field_points}
 use Rattle.pg_game.specs.Fit.{AreBelow, ShareNone, IsLineOf, AreLinesOf, IsBoard, IsFit, is_switching}
-use Rattle.pg_text.specs.Text.{Bytes, spaced}
-use Rattle.pg_files.specs.Text.{words, lines}
+use Rattle.pg_text.specs.Text.{Bytes, spaced, lines}
+use Rattle.pg_files.specs.Text.{words}
 use Rattle.pg_base.specs.Points.{members}
 use Rattle.pg_base.proofs.MemberLemmas.{points_below-ascend, from_list-points_below}
 use Rattle.pg_files.specs.Sets.{set_of, ascending, repeats}

@@ -18,8 +18,8 @@ use Rattle.pg_game.specs.declared.field.Field.{Field}
 use Rattle.pg_game.specs.declared.field.Field.TheVariants as fields
 use Rattle.pg_game.specs.declared.field.LineField.{LineField}
 use Rattle.pg_game.specs.Fit.{AreBelow, ShareNone, IsLineOf, AreLinesOf, IsBoard, IsFit, is_switching, greatest_bias}
-use Rattle.pg_text.specs.Text.{Bytes, number}
-use Rattle.pg_files.specs.Text.{lines, words, numbers, then_numbers}
+use Rattle.pg_text.specs.Text.{Bytes, number, lines}
+use Rattle.pg_files.specs.Text.{words, numbers, then_numbers}
 use Rattle.pg_files.specs.Sets.{set_of, ascending, repeats}
 use Rattle.pg_base.specs.Kind.{kind_of}
 use Rattle.pg_files.specs.Key.{rank_of, key_of, belongs, needed_rank}
