@@ -15,4 +15,6 @@ pub use numbered::{number_count, position_of, sets_of};
 pub use pairings::all_pairings;
 
 #[cfg(test)]
+mod plain_rows;
+#[cfg(test)]
 mod tests;

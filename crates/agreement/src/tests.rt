@@ -1,13 +1,11 @@
 //! Tables of small games. The numbers are those of bench/agreement.py, which finds them in another way.
-ghost use Rattle.std.specs.Prelude.{◌≡◌, IfOk, IfSome};
 ghost use Rattle.pg_game.specs.Game.{IsPosition};
-ghost use Rattle.pg_game.specs.Judge.{IsMadeForGame};
 
 use crate::lines::{is_forced, potential_holds};
 use crate::{EdgeTally, Tally, all_pairings, tally_claim, tally_sets};
 use pg_base::{Goal, Kind, Pairs, PointSet, Side};
-use pg_game::{Field, Game, Judge, LineField, Position};
-use pg_graph::{Ends, Graph, Joiner};
+use pg_game::{Field, Game, Judge, LineField, Position, joiner_for};
+use pg_graph::{Ends, Graph};
 use std::alloc::Global;
 use std::test::Fail;
 
@@ -58,16 +56,6 @@ fn switching_of(alloc: Global, ends: &[(u16, u16)]) -> Result<Game, Fail> {
         ends: Ends::from_vec(ends.to_vec(alloc)?),
     });
     Ok(Game::new(Kind::Switching, field, none, none, Side::X, 1)?)
-}
-
-/// A joiner for the game, and none on lines.
-fn joiner_for(alloc: Global, g: &Game) -> Result<Option<Joiner>, Fail>
-    ensures { IfOk result (λ found. IfSome found (λ j. IsMadeForGame j g.now)) }
-{
-    match &g.field {
-        Field::Lines(_) => Ok(None),
-        Field::Graph(graph) => Ok(Some(Joiner::new(alloc, graph)?)),
-    }
 }
 
 /// The table of the claim in the game, where it is a small one on lines.

@@ -1,12 +1,13 @@
 -- A printed text that grows at its end.
-use Rattle.std.proofs.Common.{◌≡◌, ℕ, suc, ◌+◌, Bool, true, false, ◌||◌, List, [], ◌∷◌, ◌++◌, map, refl, sym, ap, ◌∙◌, append_assoc, arith}
+use Rattle.std.proofs.Common.{◌≡◌, ℕ, ◌+◌, Bool, true, false, ◌||◌, List, [], ◌∷◌, ◌++◌, map, refl, sym, ap, ◌∙◌, append_assoc}
 use Rattle.std.proofs.lemmas.List.{append-nil}
-use Rattle.std.proofs.lemmas.List.Concat.{flat_map-append}
 use Rattle.std.specs.FinSet.{FinSet, contains}
 use Rattle.std.specs.Fmt.{decimal}
 use Rattle.std.specs.Ordering.{nat_cmp}
+use Rattle.pg_base.specs.Points.{points_below, one_where}
+use Rattle.pg_base.proofs.MemberLemmas.{points_more}
 use Rattle.pg_text.specs.Text.{Bytes, spaced, behind_spaces}
-use Rattle.pg_cert.specs.Print.{one_where, separated, points_below}
+use Rattle.pg_cert.specs.Print.{separated}
 
 abbrev pub is_begun : List ℕ → Bool
 is_begun [] = false
@@ -28,26 +29,18 @@ begun_more [] true n = refl
 begun_more [] false n = refl
 begun_more (p ∷ ps) b n = refl
 
-below_more : (s : FinSet nat_cmp) (n : ℕ) → points_below s (n + 1) ≡ points_below s n ++ one_where (contains s n) n
-unfolding points_below
-below_more s n = let e : n + 1 ≡ suc n = omega arith in ap (λ (k : ℕ). points_below s k) e
-
-pub none_below : (s : FinSet nat_cmp) → points_below s 0 ≡ []
-unfolding points_below
-none_below s = refl
-
 -- one point more of a set that is printed
 pub field_grows : (s : FinSet nat_cmp) (n : ℕ) (old now next : Bytes) (begun : Bool) → now ≡ old ++ spaced (map decimal (points_below s n)) → begun ≡ is_begun (points_below s n) → next ≡ now ++ separated begun (one_where (contains s n) n)
     → next ≡ old ++ spaced (map decimal (points_below s (n + 1)))
 field_grows s n old now next begun e f g =
     g ∙ ap (λ (t : Bytes). t ++ separated begun (one_where (contains s n) n)) e ∙ append_assoc old (spaced (map decimal (points_below s n))) (separated begun (one_where (contains s n) n))
     ∙ ap (λ (b : Bool). old ++ (spaced (map decimal (points_below s n)) ++ separated b (one_where (contains s n) n))) f ∙ ap (λ (t : Bytes). old ++ t) (sym (field_more (points_below s n) (contains s n) n))
-    ∙ ap (λ (ps : List ℕ). old ++ spaced (map decimal ps)) (sym (below_more s n))
+    ∙ ap (λ (ps : List ℕ). old ++ spaced (map decimal ps)) (sym (points_more s n))
 
 pub begun_grows : (s : FinSet nat_cmp) (n : ℕ) (begun next : Bool) → begun ≡ is_begun (points_below s n) → next ≡ (begun || contains s n) → next ≡ is_begun (points_below s (n + 1))
-begun_grows s n begun next f g = g ∙ ap (λ b. b || contains s n) f ∙ sym (begun_more (points_below s n) (contains s n) n) ∙ ap (λ (ps : List ℕ). is_begun ps) (sym (below_more s n))
+begun_grows s n begun next f g = g ∙ ap (λ b. b || contains s n) f ∙ sym (begun_more (points_below s n) (contains s n) n) ∙ ap (λ (ps : List ℕ). is_begun ps) (sym (points_more s n))
 
 pub set_grows : (s : FinSet nat_cmp) (n : ℕ) (old now next : Bytes) → now ≡ old ++ behind_spaces (map decimal (points_below s n)) → next ≡ now ++ separated true (one_where (contains s n) n) → next ≡ old ++ behind_spaces (map decimal (points_below s (n + 1)))
 set_grows s n old now next e g =
     g ∙ ap (λ (t : Bytes). t ++ separated true (one_where (contains s n) n)) e ∙ append_assoc old (behind_spaces (map decimal (points_below s n))) (separated true (one_where (contains s n) n))
-    ∙ ap (λ (t : Bytes). old ++ t) (sym (others_more (points_below s n) (contains s n) n)) ∙ ap (λ (ps : List ℕ). old ++ behind_spaces (map decimal ps)) (sym (below_more s n))
+    ∙ ap (λ (t : Bytes). old ++ t) (sym (others_more (points_below s n) (contains s n) n)) ∙ ap (λ (ps : List ℕ). old ++ behind_spaces (map decimal ps)) (sym (points_more s n))

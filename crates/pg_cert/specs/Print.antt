@@ -1,13 +1,14 @@
 -- The printed text of a certificate.
-use Rattle.std.specs.Prelude.{ℕ, zero, suc, Bool, true, false, if◌then◌else◌, List, [], ◌∷◌, ◌++◌, length, map, codes}
-use Rattle.std.specs.FinSet.{FinSet, contains}
+use Rattle.std.specs.Prelude.{ℕ, Bool, true, false, List, [], ◌∷◌, ◌++◌, length, map, codes}
+use Rattle.std.specs.FinSet.{FinSet}
 use Rattle.std.specs.Fmt.{decimal}
 use Rattle.std.specs.List.{flat_map}
 use Rattle.std.specs.Ordering.{nat_cmp}
 use Rattle.pg_base.specs.Side.{side_word}
 use Rattle.pg_base.specs.Goal.{goal_word}
+use Rattle.pg_base.specs.Points.{members}
 use Rattle.pg_base.specs.declared.pair.Pair.{Pair}
-use Rattle.pg_text.specs.Text.{Bytes, behind_spaces, spaced}
+use Rattle.pg_text.specs.Text.{Bytes, spaced}
 use Rattle.pg_cert.specs.declared.reply.Reply.{Reply}
 use Rattle.pg_cert.specs.declared.node.Body.{Body}
 use Rattle.pg_cert.specs.declared.node.Body.TheVariants as bodies
@@ -15,25 +16,15 @@ use Rattle.pg_cert.specs.declared.node.Node.{Node}
 use Rattle.pg_cert.specs.declared.cert.Claim.{Claim}
 use Rattle.pg_cert.specs.declared.cert.Cert.{Cert}
 
--- the number, if the test holds
-abbrev pub one_where : Bool → ℕ → List ℕ
-one_where true n = n ∷ []
-one_where false n = []
-
 -- the first number, behind a space if others stand before it
 abbrev pub separated : Bool → List ℕ → Bytes
 separated begun [] = []
 separated true (n ∷ ns) = 32 ∷ decimal n
 separated false (n ∷ ns) = decimal n
 
--- the members below n, in ascending order
-unfoldable pub points_below : FinSet nat_cmp → ℕ → List ℕ
-points_below s zero = []
-points_below s (suc n) = points_below s n ++ one_where (contains s n) n
-
 -- the points of a set as words
 abbrev pub set_words : FinSet nat_cmp → List Bytes
-set_words s = map decimal (points_below s 1024)
+set_words s = map decimal (members s)
 
 -- a point and a child as a word
 abbrev pub reply_word : Reply → Bytes

@@ -1,7 +1,7 @@
 -- When a node is faulty, and when a certificate is valid for a game.
-use Rattle.std.specs.Prelude.{◌≡◌, ◌≢◌, ℕ, ◌+◌, ◌<◌, ◌≤◌, Bool, true, false, ◌&&◌, ◌||◌, ◌==◌, List, length, map, slice_get, Option, Some, if◌then◌else◌}
+use Rattle.std.specs.Prelude.{◌≡◌, ℕ, ◌+◌, ◌<◌, ◌≤◌, Bool, true, false, ◌&&◌, ◌==◌, List, length, map, slice_get, Some, if◌then◌else◌}
 use Rattle.std.specs.List.{All as Each}
-use Rattle.std.specs.FinSet.{FinSet, contains, insert}
+use Rattle.std.specs.FinSet.{FinSet, insert}
 use Rattle.std.specs.Ordering.{nat_cmp}
 use Rattle.pg_base.specs.Points.{AreBelow}
 use Rattle.pg_base.specs.Side.{other}
@@ -28,7 +28,6 @@ use Rattle.pg_cert.specs.declared.cert.Claim.{Claim}
 use Rattle.pg_cert.specs.declared.node.Node.{Node}
 use Rattle.pg_cert.specs.declared.node.Body.{Body}
 use Rattle.pg_cert.specs.declared.node.Body.TheVariants.{Over, Move, All, Pairs, Potential, Trees, Cuts, Threat}
-use Rattle.pg_cert.specs.declared.reply.Reply.{Reply}
 use Rattle.pg_cert.specs.declared.node_fault.NodeFault.{NodeFault}
 use Rattle.pg_cert.specs.declared.node_fault.NodeFault.TheVariants as faults
 

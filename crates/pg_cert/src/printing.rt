@@ -4,9 +4,10 @@ ghost use Rattle.std.specs.Prelude.{◌≡◌, ◌<◌, ◌||◌, true, ◌++◌
 ghost use Rattle.std.specs.FinSet.{contains};
 ghost use Rattle.std.specs.Fmt.{decimal};
 ghost use Rattle.std.specs.List.{flat_map};
+ghost use Rattle.pg_base.specs.Points.{one_where};
 ghost use Rattle.pg_text.specs.Text.{spaced, behind_spaces};
 ghost use Rattle.pg_cert.specs.Limits.{IsNode, IsWithinLimits};
-ghost use Rattle.pg_cert.specs.Print.{one_where, separated, set_words, reply_word, pair_word, e_words, edge_words, body_name, body_words, body_text, node_text, claim_text, printed_certificate};
+ghost use Rattle.pg_cert.specs.Print.{separated, set_words, reply_word, pair_word, e_words, edge_words, body_name, body_words, body_text, node_text, claim_text, printed_certificate};
 
 use crate::cert::{Cert, Claim};
 use crate::node::{Body, Node};

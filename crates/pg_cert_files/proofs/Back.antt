@@ -35,8 +35,8 @@ use Rattle.pg_cert_files.proofs.Stands.{after_none, at_feed}
 use Rattle.pg_cert_files.proofs.WholeFile.{gathered_more, gathered_none, fits_file, cert_of}
 use Rattle.pg_cert_files.proofs.CertLimits.{behind_more}
 use Rattle.pg_text.proofs.Decimals.{number_decimal}
-use Rattle.pg_cert_files.proofs.Words.{IsWord, decimal_is_word, lacks_space, spaced_quiet}
-use Rattle.pg_cert_files.proofs.NodeBack.{side_is_word, node_line_text, node_back, node_lacks_feed, quiet_lacks_feed}
+use Rattle.pg_text.proofs.Words.{IsWord, decimal_is_word, lacks_space, spaced_quiet, quiet_lacks_feed}
+use Rattle.pg_cert_files.proofs.NodeBack.{side_is_word, node_line_text, node_back, node_lacks_feed}
 
 -- a text of whole lines without a fault, and what they have said
 pub record IsAt (text : Bytes) (p : Progress) (g : Gathered) : Type 0 where

@@ -8,10 +8,10 @@ use Rattle.std.proofs.lemmas.Bool.Decides.{nat_tests}
 use Rattle.std.proofs.lemmas.List.{length-append}
 use Rattle.std.proofs.lemmas.List.Elements.{All-from_recursion}
 use Rattle.std.proofs.lemmas.List.Sums.{sum_by_push}
-use Rattle.pg_text.specs.Text.{Bytes, number}
+use Rattle.pg_text.specs.Text.{Bytes, number, lines}
 use Rattle.pg_cert_files.specs.Form.{has_bar}
 use Rattle.pg_cert_files.specs.NodeLine.{node_line}
-use Rattle.pg_cert_files.specs.Lines.{lines, head_of, count_of}
+use Rattle.pg_cert_files.specs.Lines.{head_of, count_of}
 use Rattle.pg_cert_files.specs.CertFile.{Step, header_step, claimed, claim_step, numbered, counted, behind, node_step, step_due, step, Seen, nothing, listed, taken, goes_on, after, seen, end_fault, or_at_end, fault_of, parts_of, Gathered, last_claim, closed, with_part, none_gathered, gathered, unless_faulty, certificate, at_number}
 use Rattle.pg_cert.specs.Limits.{IsNode, IsClaim, IsWithinLimits, node_count}
 use Rattle.pg_cert_files.specs.declared.fault.Fault.{Fault}

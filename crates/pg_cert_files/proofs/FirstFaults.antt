@@ -2,8 +2,7 @@
 use Rattle.std.proofs.Common.{◌≡◌, ℕ, suc, ◌+◌, ◌⊎◌, inl, inr, List, [], ◌∷◌, ◌++◌, length, arith, refl, sym, ap, ◌∙◌, Option, Some, None, Result, Ok, Err}
 use Rattle.std.specs.Prelude.{fold, nat_lt}
 use Rattle.std.proofs.lemmas.Bool.{ltb-true}
-use Rattle.pg_text.specs.Text.{Bytes}
-use Rattle.pg_cert_files.specs.Lines.{lines}
+use Rattle.pg_text.specs.Text.{Bytes, lines}
 use Rattle.pg_cert_files.specs.CertFile.{Step, Seen, nothing, taken, after, seen, step, end_fault, at_number, or_at_end, fault_of, parts_of, unless_faulty, certificate}
 use Rattle.pg_cert_files.specs.FirstFault.{IsFaultOfLine, IsFaultOfEnd, IsFirstFault}
 use Rattle.pg_cert_files.specs.declared.fault.Fault.{Fault}

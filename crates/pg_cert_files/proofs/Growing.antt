@@ -6,6 +6,7 @@ use Rattle.std.proofs.lemmas.List.Splits.{length-slice_split, slice_split-cons_y
 use Rattle.std.proofs.lemmas.List.{append-nil}
 use Rattle.std.proofs.lemmas.List.Sums.{fold-append}
 use Rattle.pg_text.specs.Text.{Bytes, Lacks}
+use Rattle.pg_text.proofs.Lines.{is_feed}
 use Rattle.pg_cert_files.specs.Lines.{Cut, with_byte, cut}
 use Rattle.pg_cert_files.specs.CertFile.{Seen, nothing, after, seen}
 use Rattle.pg_cert_files.specs.Reader.{told}
@@ -49,9 +50,6 @@ pub rest_line : (text last : Bytes) → (cut (text ++ (last ++ 10 ∷ []))).rest
 rest_line text last = ap (λ (t : Bytes). (cut t).rest) (sym (append_assoc text last (10 ∷ []))) ∙ ap (λ (c : Cut). c.rest) (cut_feed (text ++ last))
 
 -- ---- the same by the parts that `split` gives
-
-abbrev is_feed : ℕ → Bool
-is_feed b = b == 10
 
 abbrev onto_front : Bytes → List Bytes → List Bytes
 onto_front r [] = []

@@ -1,26 +1,27 @@
 -- A printed node line is read again as the same node.
-use Rattle.std.proofs.Common.{◌≡◌, ℕ, zero, suc, ◌+◌, ◌%◌, ◌<◌, ◌≤◌, lit<, Bool, true, false, cond, ◌&&◌, ◌||◌, inl, inr, List, [], ◌∷◌, ◌++◌, length, map, arith, refl, sym, ap, ◌∙◌, Option, Some, Result, Ok, eqb, ltb}
-use Rattle.std.specs.Prelude.{◌==◌, nat_le, codes, is_some}
-use Rattle.std.specs.FinSet.{FinSet, contains, from_list, from_list_push, nat_cmp-IsAntisymmetric, contains-empty}
+use Rattle.std.proofs.Common.{◌≡◌, ℕ, suc, ◌+◌, ◌%◌, ◌<◌, ◌≤◌, lit<, Bool, true, false, inl, inr, List, [], ◌∷◌, ◌++◌, length, map, arith, refl, sym, ap, subst, ◌∙◌, Option, Some, Result, Ok}
+use Rattle.std.specs.Prelude.{◌==◌, nat_le, codes, is_some, slice_index}
+use Rattle.std.specs.FinSet.{FinSet, contains, from_list}
 use Rattle.std.specs.Fmt.{decimal}
 use Rattle.std.specs.List.{list_any, AllByRecursion}
+use Rattle.std.specs.List.Sorted.{IsStrictlyIncreasing}
 use Rattle.std.specs.Ordering.{nat_cmp}
-use Rattle.std.specs.Cmp.{nat_cmp_total}
-use Rattle.std.proofs.lemmas.Bool.{cases_Bool, cases_eq, le-ltb, lt-ltb, and_parts, and_right, or_right, false≢true}
+use Rattle.std.proofs.lemmas.Bool.{cases_Bool, or_right, false≢true}
 use Rattle.std.proofs.lemmas.Bool.Decides.{nat_tests}
-use Rattle.std.proofs.lemmas.List.{append-nil, length-map, length-append}
+use Rattle.std.proofs.lemmas.List.{length-map, length-append}
 use Rattle.std.proofs.lemmas.Fmt.{decimal_is_IsNumeral}
 use Rattle.std.proofs.lemmas.List.Elements.{All-from_recursion, recursion_from_All}
 use Rattle.pg_base.specs.declared.side.Side.{Side}
 use Rattle.pg_base.specs.declared.side.Side.TheVariants as sides
 use Rattle.pg_base.specs.declared.pair.Pair.{Pair}
-use Rattle.pg_base.specs.WordLemmas.{in_insert, same_points}
+use Rattle.pg_base.specs.Points.{members}
+use Rattle.pg_base.proofs.MemberLemmas.{points_below-each, points_below-small, points_below-ascend, from_list-points_below}
 use Rattle.pg_text.specs.Text.{Bytes, Lacks, parts, two_parts, four_parts, spaced, behind_spaces}
 use Rattle.pg_cert_files.specs.Form.{form_of, are_odd, each_has_one, is_slash, has_one_slash, fits, Shape, with_fields, shape_of}
 use Rattle.pg_cert_files.specs.NodeLine.{ascending_of, field_words, reply_of, points_pair, word_reply, word_pair, is_e, begins_with_e, after_e, before_slash, after_slash, edges_with, edges_of, body_of, meets, node_of, node_line}
 use Rattle.pg_cert.specs.Limits.{ArePoints, IsReply, IsPair, IsBody, IsNode, ascend_from}
 use Rattle.pg_base.specs.Side.{side_word, side_of}
-use Rattle.pg_cert.specs.Print.{one_where, points_below, set_words, reply_word, pair_word, edge_words, body_name, body_words, body_text}
+use Rattle.pg_cert.specs.Print.{set_words, reply_word, pair_word, edge_words, body_name, body_words, body_text}
 use Rattle.pg_cert_files.specs.Views.{and_then}
 use Rattle.pg_cert_files.specs.declared.fault.Fault.{Fault}
 use Rattle.pg_cert_files.specs.declared.form.Form.{Form}
@@ -33,82 +34,32 @@ use Rattle.pg_cert_files.specs.declared.values.Edges.{Edges}
 use Rattle.pg_text.proofs.Cuts.{just_two, four_three}
 use Rattle.pg_cert_files.proofs.NodeLimits.{odd_len, set_from}
 use Rattle.pg_text.proofs.Decimals.{all_append, all_of, all_map, decimal_not, two_decimals}
-use Rattle.pg_cert_files.proofs.Words.{IsPlain, IsQuiet, IsWord, decimal_is_word, lacks_bar, word_quiet, spaced_quiet, words_spaced, point_decimal, child_decimal, each_back, points_back}
+use Rattle.pg_text.proofs.Words.{IsPlain, IsQuiet, IsWord, decimal_is_word, word_quiet, spaced_quiet, words_spaced, quiet_text}
+use Rattle.pg_cert_files.proofs.Words.{lacks_bar, point_decimal, child_decimal, each_back, points_back}
 
 -- ---- sets
 
-members_small : (s : FinSet nat_cmp) (n : ℕ) → AllByRecursion (λ p. p < n) (points_below s n)
-unfolding points_below
-members_small s zero = tt
-members_small s (suc n) = all_append (λ p. p < suc n) (points_below s n) (one_where (contains s n) n) (all_of (λ p. p < n) (λ p. p < suc n) (λ p h. omega arith) (points_below s n) (members_small s n)) (one_small (contains s n) n)
+-- numbers in strict order, none below the first that may stand there, ascend
+ascends : (m : ℕ) (ps : List ℕ) → (0 < length ps → m ≤ slice_index ps 0) → IsStrictlyIncreasing ps → ascend_from m ps ≡ true
+ascends m [] least up = refl
+ascends m (p ∷ ps) least up =
+    let here : nat_le m p ≡ true = grind (arith, nat_tests, least (omega arith)) in
+    rw here (ascends (p + 1) ps (λ some. omega (arith, up 0 (omega (arith, some)))) (behind p ps up))
   where
-    one_small : (b : Bool) (n : ℕ) → AllByRecursion (λ p. p < suc n) (one_where b n)
-    one_small true n = (omega arith, tt)
-    one_small false n = tt
-
-members_in : (s : FinSet nat_cmp) (n : ℕ) → AllByRecursion (λ p. contains s p ≡ true) (points_below s n)
-unfolding points_below
-members_in s zero = tt
-members_in s (suc n) = all_append (λ p. contains s p ≡ true) (points_below s n) (one_where (contains s n) n) (members_in s n) (one_in (contains s n) n refl)
-  where
-    one_in : (b : Bool) (n : ℕ) → contains s n ≡ b → AllByRecursion (λ p. contains s p ≡ true) (one_where b n)
-    one_in true n e = (e, tt)
-    one_in false n e = tt
-
-one_more : (ps : List ℕ) (b : Bool) (n q : ℕ) → contains (set_from (ps ++ one_where b n)) q ≡ cond b (eqb q n || contains (set_from ps) q) (contains (set_from ps) q)
-one_more ps true n q = ap (λ (s : FinSet nat_cmp). contains s q) (from_list_push nat_cmp_total nat_cmp-IsAntisymmetric ps n) ∙ in_insert (set_from ps) n q
-one_more ps false n q = ap (λ (l : List ℕ). contains (set_from l) q) (append-nil ps)
-
-in_members : (s : FinSet nat_cmp) (n q : ℕ) → contains (set_from (points_below s n)) q ≡ (ltb q n && contains s q)
-unfolding points_below
-in_members s zero q = contains-empty nat_cmp q ∙ ap (λ b. b && contains s q) (sym (le-ltb q 0 (omega arith)))
-in_members s (suc n) q =
-    one_more (points_below s n) (contains s n) n q
-    ∙ elim (cases_Bool (contains s n)) [
-      | inl on ↦ rw on (ap (λ b. eqb q n || b) (in_members s n q) ∙ last_in q on)
-      | inr off ↦ rw off (in_members s n q ∙ last_out q off)
-    ]
-  where
-    last_in : (q : ℕ) → contains s n ≡ true → (eqb q n || (ltb q n && contains s q)) ≡ (ltb q (suc n) && contains s q)
-    last_in q on = elim (cases_eq q n) [ inl e ↦ rw e (grind (arith, nat_tests)) | inr ne ↦ grind (arith, nat_tests) ]
-
-    last_out : (q : ℕ) → contains s n ≡ false → (ltb q n && contains s q) ≡ (ltb q (suc n) && contains s q)
-    last_out q off = elim (cases_eq q n) [ inl e ↦ rw e (grind (arith, nat_tests)) | inr ne ↦ grind (arith, nat_tests) ]
-
--- the set of the points that are printed
-pub set_back : (s : FinSet nat_cmp) → ArePoints s → set_from (points_below s 1024) ≡ s
-set_back s small = same_points (set_from (points_below s 1024)) s (λ q. in_members s 1024 q ∙ elim (cases_Bool (contains s q)) [
-  | inl on ↦ let t : ltb q 1024 ≡ true = lt-ltb q 1024 (small q on) in rw t refl
-  | inr off ↦ rw off (and_right (ltb q 1024) false refl)
-])
-
-ascend_push : (m n : ℕ) (ps : List ℕ) → ascend_from m ps ≡ true → AllByRecursion (λ p. p < n) ps → m ≤ n → ascend_from m (ps ++ n ∷ []) ≡ true
-ascend_push m n [] e h le = let t : nat_le m n ≡ true = grind (arith, nat_tests) in rw t refl
-ascend_push m n (p ∷ ps) e h le =
-    let both = and_parts (nat_le m p) (ascend_from (p + 1) ps) e in
-    let others = ascend_push (p + 1) n ps both.1 h.1 (omega (arith, h.0)) in
-    rw (both.0, others) refl
-
-one_ascends : (b : Bool) (n : ℕ) (ps : List ℕ) → ascend_from 0 ps ≡ true → AllByRecursion (λ p. p < n) ps → ascend_from 0 (ps ++ one_where b n) ≡ true
-one_ascends true n ps e h = ascend_push 0 n ps e h (omega arith)
-one_ascends false n ps e h = ap (λ (qs : List ℕ). ascend_from 0 qs) (append-nil ps) ∙ e
-
-members_ascend : (s : FinSet nat_cmp) (n : ℕ) → ascend_from 0 (points_below s n) ≡ true
-unfolding points_below
-members_ascend s zero = refl
-members_ascend s (suc n) = one_ascends (contains s n) n (points_below s n) (members_ascend s n) (members_small s n)
+    behind : (p : ℕ) (ps : List ℕ) → IsStrictlyIncreasing (p ∷ ps) → IsStrictlyIncreasing ps
+    behind p ps up = λ k h. let e : suc k + 1 ≡ suc (k + 1) = omega arith in subst (λ i. slice_index ps k < slice_index (p ∷ ps) i) e (up (suc k) (omega (arith, h)))
 
 points_are : (ps : List ℕ) → ascend_from 0 ps ≡ true → AllByRecursion (λ p. p < 1024) ps → ascending_of (map decimal ps) ≡ Ok ps
 points_are ps e h = let read = points_back ps h in rw (read, e) refl
 
-pub set_points : (s : FinSet nat_cmp) → ascending_of (set_words s) ≡ Ok (points_below s 1024)
-set_points s = points_are (points_below s 1024) (members_ascend s 1024) (members_small s 1024)
+pub set_points : (s : FinSet nat_cmp) → ascending_of (set_words s) ≡ Ok (members s)
+set_points s = points_are (members s) (ascends 0 (members s) (λ some. omega arith) (points_below-ascend s 1024)) (points_below-small s 1024)
 
 points_words : (ps : List ℕ) → AllByRecursion (λ p. p < 1024) ps → AllByRecursion IsWord (map decimal ps)
 points_words ps h = all_map decimal (λ p. p < 1024) IsWord (λ p k. decimal_is_word p (omega arith)) ps h
 
 pub set_are_words : (s : FinSet nat_cmp) → AllByRecursion IsWord (set_words s)
-set_are_words s = points_words (points_below s 1024) (members_small s 1024)
+set_are_words s = points_words (members s) (points_below-small s 1024)
 
 some_len : (t : Bytes) → 0 < length t → field_words t ≡ parts 32 t
 some_len [] h = absurd (omega arith)
@@ -121,8 +72,8 @@ fields_of : (ps : List ℕ) → AllByRecursion (λ p. p < 1024) ps → field_wor
 fields_of [] h = refl
 fields_of (p ∷ ps) h = field_word (decimal p) (map decimal ps) (decimal_is_word p (omega (arith, h.0))) (points_words ps h.1) (decimal_is_IsNumeral p (omega (arith, h.0))).0.0
 
-pub field_back : (s : FinSet nat_cmp) → ascending_of (field_words (spaced (set_words s))) ≡ Ok (points_below s 1024)
-field_back s = ap ascending_of (fields_of (points_below s 1024) (members_small s 1024)) ∙ set_points s
+pub field_back : (s : FinSet nat_cmp) → ascending_of (field_words (spaced (set_words s))) ≡ Ok (members s)
+field_back s = ap ascending_of (fields_of (members s) (points_below-small s 1024)) ∙ set_points s
 
 none_met : (s : FinSet nat_cmp) (ys : List ℕ) → AllByRecursion (λ v. contains s v ≡ false) ys → list_any (contains s) ys ≡ false
 none_met s [] h = refl
@@ -134,8 +85,8 @@ not_in s t v h on = elim (cases_Bool (contains s v)) [
   | inr off ↦ off
 ]
 
-apart_back : (s t : FinSet nat_cmp) → ((v : ℕ) → contains s v ≡ true → contains t v ≡ false) → meets s (points_below t 1024) ≡ false
-apart_back s t h = none_met s (points_below t 1024) (all_of (λ v. contains t v ≡ true) (λ v. contains s v ≡ false) (λ v on. not_in s t v (h v) on) (points_below t 1024) (members_in t 1024))
+apart_back : (s t : FinSet nat_cmp) → ((v : ℕ) → contains s v ≡ true → contains t v ≡ false) → meets s (members t) ≡ false
+apart_back s t h = none_met s (members t) (points_below-each (λ v. contains s v ≡ false) t 1024 (λ v on lt. not_in s t v (h v) on))
 
 -- ---- bodies
 
@@ -241,7 +192,7 @@ one_slash [] vs h k = let none = no_slash_in vs k in rw none refl
 one_slash (w ∷ ws) vs h k = rw h.0 (one_slash ws vs h.1 k)
 
 set_no_slashes : (s : FinSet nat_cmp) → AllByRecursion (λ w. is_slash w ≡ false) (set_words s)
-set_no_slashes s = no_slashes (points_below s 1024) (members_small s 1024)
+set_no_slashes s = no_slashes (members s) (points_below-small s 1024)
 
 edges_fit : (e : Bool) (a b : FinSet nat_cmp) → has_one_slash (edge_words e a b) ≡ true
 edges_fit true a b = one_slash (set_words a) (set_words b) (set_no_slashes a) (set_no_slashes b)
@@ -253,7 +204,7 @@ begins_not (p ∷ ps) vs h = let no : is_e (decimal p) ≡ false = decimal_not 1
 
 edges_start : (e : Bool) (a b : FinSet nat_cmp) → (begins_with_e (edge_words e a b) ≡ e) × (after_e (edge_words e a b) ≡ set_words a ++ slash ∷ set_words b)
 edges_start true a b = (refl, refl)
-edges_start false a b = begins_not (points_below a 1024) (set_words b) (members_small a 1024)
+edges_start false a b = begins_not (members a) (set_words b) (points_below-small a 1024)
 
 abbrev edges : Bool → FinSet nat_cmp → FinSet nat_cmp → Edges
 edges e a b = record { with_e = e; first = a; second = b }
@@ -266,11 +217,11 @@ read_body body = Ok body
 
 sets_back : (e : Bool) (a b : FinSet nat_cmp) → ArePoints a → ArePoints b → edges_with e (set_words a ++ slash ∷ set_words b) ≡ Ok (edges e a b)
 sets_back e a b h k =
-    let front : ascending_of (before_slash (set_words a ++ slash ∷ set_words b)) ≡ Ok (points_below a 1024) = ap ascending_of (before_words (set_words a) (set_words b) (set_no_slashes a)) ∙ set_points a in
-    let behind : ascending_of (after_slash (set_words a ++ slash ∷ set_words b)) ≡ Ok (points_below b 1024) = ap ascending_of (after_words (set_words a) (set_words b) (set_no_slashes a)) ∙ set_points b in
+    let front : ascending_of (before_slash (set_words a ++ slash ∷ set_words b)) ≡ Ok (members a) = ap ascending_of (before_words (set_words a) (set_words b) (set_no_slashes a)) ∙ set_points a in
+    let behind : ascending_of (after_slash (set_words a ++ slash ∷ set_words b)) ≡ Ok (members b) = ap ascending_of (after_words (set_words a) (set_words b) (set_no_slashes a)) ∙ set_points b in
     ap (λ (r : Result (List ℕ) Fault). and_then r (λ first. and_then (ascending_of (after_slash (set_words a ++ slash ∷ set_words b))) (λ second. Ok (edges e (from_list first) (from_list second))))) front
-    ∙ ap (λ (r : Result (List ℕ) Fault). and_then r (λ second. Ok (edges e (from_list (points_below a 1024)) (from_list second)))) behind
-    ∙ ap (λ (s : FinSet nat_cmp). read_edges (edges e s (set_from (points_below b 1024)))) (set_back a h) ∙ ap (λ (s : FinSet nat_cmp). read_edges (edges e a s)) (set_back b k)
+    ∙ ap (λ (r : Result (List ℕ) Fault). and_then r (λ second. Ok (edges e (from_list (members a)) (from_list second)))) behind
+    ∙ ap (λ (s : FinSet nat_cmp). read_edges (edges e s (set_from (members b)))) (from_list-points_below a 1024 h) ∙ ap (λ (s : FinSet nat_cmp). read_edges (edges e a s)) (from_list-points_below b 1024 k)
 
 edges_back : (e : Bool) (a b : FinSet nat_cmp) → ArePoints a → ArePoints b → edges_of (edge_words e a b) ≡ Ok (edges e a b)
 edges_back e a b h k =
@@ -353,8 +304,8 @@ node_is_back n h =
     let x = field_back n.x in
     let y = field_back n.y in
     let body = body_back n.body h.body in
-    let xs = set_back n.x h.x in
-    let ys = set_back n.y h.y in
+    let xs = from_list-points_below n.x 1024 h.x in
+    let ys = from_list-points_below n.y 1024 h.y in
     let apart = apart_back n.x n.y h.apart in
     rw (x, y, body, xs, apart, ys, sym h.left) refl
 
@@ -365,15 +316,6 @@ node_back n h =
     let bar = bar_behind (spaced (set_words n.x)) (spaced (set_words n.y) ++ 124 ∷ (side_word n.turn ++ 124 ∷ body_text n.body)) in
     let shape = shape_back n h.body in
     rw (bar, shape) (node_is_back n h)
-
-no_feed : (b : ℕ) → IsQuiet b → (b == 10) ≡ false
-no_feed b h = grind (arith, nat_tests, h.0)
-
-quiet_text : (t : Bytes) → AllByRecursion IsQuiet t → AllByRecursion (λ b. (b == 10) ≡ false) t
-quiet_text t h = all_of IsQuiet (λ b. (b == 10) ≡ false) no_feed t h
-
-pub quiet_lacks_feed : (t : Bytes) → AllByRecursion IsQuiet t → Lacks 10 t
-quiet_lacks_feed t h = All-from_recursion (λ b. (b == 10) ≡ false) t (quiet_text t h)
 
 -- no line feed stands in it
 pub node_lacks_feed : (n : Node) → IsNode n → Lacks 10 (node_line_text n)

@@ -4,8 +4,8 @@ use Rattle.std.specs.Prelude.{IfNone, is_some}
 use Rattle.std.specs.Global.{Vec}
 use Rattle.std.proofs.lemmas.List.{append-nil, length-append}
 use Rattle.std.proofs.Math.Seq.{take-append_seam}
-use Rattle.pg_text.specs.Text.{Bytes, Lacks}
-use Rattle.pg_cert_files.specs.Lines.{Cut, cut, unless_empty, lines}
+use Rattle.pg_text.specs.Text.{Bytes, Lacks, without_empty_end, lines}
+use Rattle.pg_cert_files.specs.Lines.{Cut, cut}
 use Rattle.pg_cert_files.specs.CertFile.{Seen, nothing, step, taken, after, seen, listed, outcome, at_number, end_fault, fault_of, parts_of}
 use Rattle.pg_cert_files.specs.Reader.{StandsFor, told, IsBad}
 use Rattle.pg_cert_files.specs.Views.{number_of}
@@ -13,7 +13,8 @@ use Rattle.pg_cert_files.specs.declared.fault.Fault.{Fault}
 use Rattle.pg_cert_files.specs.declared.part.Part.{Part}
 use Rattle.pg_cert_files.specs.declared.progress.Progress.{Progress}
 use Rattle.pg_cert_files.specs.declared.reader.CertReader.{CertReader}
-use Rattle.pg_cert_files.proofs.Growing.{cut_add, cut_feed, told_add, told_feed, told_line, rest_line}
+use Rattle.pg_text.proofs.Lines.{without_empty_end-append, one_line}
+use Rattle.pg_cert_files.proofs.Growing.{cut_add, cut_feed, told_add, told_feed, told_line, rest_line, cut_is_split}
 
 pub stands_new : (v : Vec ℕ) → v.items ≡ [] → StandsFor (record { pending = v; progress = nothing.progress; count = 0; fault = None }) []
 unfolding cut seen
@@ -171,20 +172,18 @@ outcome_at_none r text stands none = outcome_none (told text) r stands.fault sta
 pub outcome_at_some : (r : CertReader) (text : Bytes) (bad : Fault × ℕ) → StandsFor r text → r.fault ≡ Some bad → outcome (told text) ≡ Some bad
 outcome_at_some r text bad stands some = rw (stands.fault, some) refl
 
+lines_are : (text : Bytes) → lines text ≡ (cut text).whole ++ without_empty_end ((cut text).rest ∷ [])
+unfolding lines
+lines_are text = ap without_empty_end (cut_is_split text) ∙ without_empty_end-append (cut text).whole (cut text).rest
+
 -- a text without an unfinished line
 pub at_feed : (text : Bytes) → (cut text).rest ≡ [] → seen (lines text) ≡ told text
-unfolding lines
-at_feed text e = rw (e, append-nil (cut text).whole) refl
-
-unless_is : (rest : Bytes) → 0 < length rest → unless_empty rest ≡ rest ∷ []
-unless_is [] some = absurd (omega arith)
-unless_is (b ∷ bs) some = refl
+at_feed text e = ap seen (lines_are text ∙ ap (λ (last : Bytes). (cut text).whole ++ without_empty_end (last ∷ [])) e ∙ append-nil (cut text).whole)
 
 -- an unfinished line counts as if its line feed had come
 pub unfinished : (text : Bytes) → 0 < length (cut text).rest → seen (lines text) ≡ told (text ++ 10 ∷ [])
-unfolding lines seen
 unfinished text some =
-    ap (λ (last : List Bytes). seen ((cut text).whole ++ last)) (unless_is (cut text).rest some) ∙ sym (ap (λ (c : Cut). seen c.whole) (cut_feed text))
+    ap seen (lines_are text ∙ ap (λ (last : List Bytes). (cut text).whole ++ last) (one_line (cut text).rest some)) ∙ sym (ap (λ (c : Cut). seen c.whole) (cut_feed text))
 
 seen_cases : (text rest : Bytes) → (cut text).rest ≡ rest → (f : Fault × ℕ) → (told text).fault ≡ Some f → seen (lines text) ≡ told text
 seen_cases text [] e f some = at_feed text e

@@ -1,10 +1,10 @@
 -- Certificate files: which line is due, what each line adds, and the first fault.
 use Rattle.std.specs.Prelude.{ℕ, ◌+◌, ◌-◌, ◌||◌, nat_lt, nat_le, ◌==◌, if◌then◌else◌, List, [], ◌∷◌, ◌++◌, length, Option, Some, None, Result, Ok, Err, codes, fold}
 use Rattle.std.specs.Str.{bytes_eq}
-use Rattle.pg_text.specs.Text.{Bytes, number}
+use Rattle.pg_text.specs.Text.{Bytes, number, lines}
 use Rattle.pg_cert_files.specs.Form.{has_bar}
 use Rattle.pg_cert_files.specs.NodeLine.{node_line}
-use Rattle.pg_cert_files.specs.Lines.{lines, head_of, count_of}
+use Rattle.pg_cert_files.specs.Lines.{head_of, count_of}
 use Rattle.pg_cert_files.specs.Views.{and_then}
 use Rattle.pg_cert_files.specs.declared.fault.Fault.{Fault}
 use Rattle.pg_cert_files.specs.declared.fault.Fault.TheVariants as faults

@@ -1,10 +1,10 @@
 -- What the first fault of a file is, in words of its lines.
 use Rattle.std.specs.Prelude.{◌≡◌, ℕ, ◌+◌, ◌<◌, ◌⊎◌, ◌||◌, ◌==◌, Bool, true, false, not, nat_lt, nat_le, is_none, is_err, find, codes, List, [], ◌∷◌, ◌++◌, length, Option, Some, None, Err}
 use Rattle.std.specs.Str.{bytes_eq}
-use Rattle.pg_text.specs.Text.{Bytes, number}
+use Rattle.pg_text.specs.Text.{Bytes, number, lines}
 use Rattle.pg_cert_files.specs.Form.{has_bar, Shape, shape_of}
 use Rattle.pg_cert_files.specs.NodeLine.{node_of}
-use Rattle.pg_cert_files.specs.Lines.{lines, head_of, count_of}
+use Rattle.pg_cert_files.specs.Lines.{head_of, count_of}
 use Rattle.pg_cert_files.specs.CertFile.{seen, step, end_fault}
 use Rattle.pg_cert_files.specs.declared.fault.Fault.{Fault}
 use Rattle.pg_cert_files.specs.declared.fault.Fault.TheVariants as faults

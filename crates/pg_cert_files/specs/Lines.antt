@@ -1,4 +1,4 @@
--- A text as its lines, and what claim lines and `nodes` lines say.
+-- A text as its whole lines and what stands behind them, and what claim lines and `nodes` lines say.
 use Rattle.std.specs.Prelude.{ℕ, ◌==◌, if◌then◌else◌, List, [], ◌∷◌, ◌++◌, fold, Option, Some, None, codes}
 use Rattle.std.specs.Str.{bytes_eq}
 use Rattle.pg_base.specs.declared.side.Side.{Side}
@@ -21,15 +21,6 @@ with_byte c b = if b == 10 then record { whole = c.whole ++ c.rest ∷ []; rest 
 -- the text, byte for byte
 unfoldable pub cut : Bytes → Cut
 cut text = fold with_byte (record { whole = []; rest = [] }) text
-
--- the last line, where it lacks its line feed
-abbrev pub unless_empty : Bytes → List Bytes
-unless_empty [] = []
-unless_empty (b ∷ bs) = (b ∷ bs) ∷ []
-
--- the lines of a text; the last may lack its line feed
-unfoldable pub lines : Bytes → List Bytes
-lines text = (cut text).whole ++ unless_empty (cut text).rest
 
 -- a claim of two sides and a goal
 abbrev pub head_with : Option Side → Option Side → Option Goal → Option Head

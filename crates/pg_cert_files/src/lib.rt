@@ -14,6 +14,3 @@ mod values;
 pub use fault::CertFault;
 pub use laws::{names_the_first_fault, reads_back, reads_within_limits};
 pub use reading::read_cert;
-
-#[cfg(test)]
-mod tests;

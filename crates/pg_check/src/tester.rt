@@ -1,10 +1,9 @@
 //! What the tests of a node work with.
 ghost use Rattle.std.specs.Prelude.{IfOk};
-ghost use Rattle.pg_game.specs.Judge.{IsMadeForGame, room_of};
 ghost use Rattle.pg_check.specs.Tester.{IsReadyFor};
 
 use pg_base::Memory;
-use pg_game::{Field, Game, Judge};
+use pg_game::{Game, Judge, joiner_for};
 use pg_graph::Joiner;
 use std::alloc::Global;
 
@@ -15,16 +14,6 @@ pub(crate) struct Tester {
     pub(crate) judge: Judge,
     /// Says what edges join; there is none on lines.
     pub(crate) joiner: Option<Joiner>,
-}
-
-/// A joiner for the game's graph, and none on lines.
-fn joiner_for(alloc: Global, g: &Game) -> Result<Option<Joiner>, Memory>
-    ensures { IfOk result (λ joiner. IsMadeForGame (room_of joiner) g.now) }
-{
-    match &g.field {
-        Field::Lines(_) => Ok(None),
-        Field::Graph(graph) => Ok(Some(Joiner::new(alloc, graph)?)),
-    }
 }
 
 impl Tester {

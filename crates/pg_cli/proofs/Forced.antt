@@ -1,5 +1,6 @@
 -- Claims that a check accepts are forced.
-use Rattle.std.proofs.Common.{◌≡◌, ◌⊎◌, ℕ, suc, Bool, true, false, cond, ◌&&◌, List, [], ◌∷◌, find, slice_get, Option, Some, None, Result, Ok, Err, refl, sym, ◌∙◌, ap, subst, inl, inr, arith}
+use Rattle.std.proofs.Common.{◌≡◌, ◌⊎◌, ℕ, suc, Bool, true, false, cond, List, [], ◌∷◌, find, slice_get, Option, Some, None, Result, Ok, Err, refl, sym, ◌∙◌, ap, subst, inl, inr, arith}
+use Rattle.std.proofs.lemmas.Bool.{and_parts}
 use Rattle.pg_base.specs.declared.side.Side.{Side}
 use Rattle.pg_base.specs.declared.side.Side.TheVariants.{X, Y}
 use Rattle.pg_io.specs.Files.{Bytes, Holding}
@@ -123,10 +124,6 @@ same_side X Y e = absurd (cc e)
 same_side Y X e = absurd (cc e)
 same_side Y Y e = refl
 
-both_true : (a b : Bool) → (a && b) ≡ true → (a ≡ true) × (b ≡ true)
-both_true true b e = (refl, e)
-both_true false b e = absurd (cc e)
-
 -- the claim that is chosen is one of the certificate, of the side and the game's turn
 IsChosen : Game → Cert → Side → Claim → Type 0
 IsChosen g c side claim = (i : ℕ) × (slice_get c.claims i ≡ Some claim) × (claim.side ≡ side) × (claim.turn ≡ g.turn)
@@ -134,7 +131,7 @@ IsChosen g c side claim = (i : ℕ) × (slice_get c.claims i ≡ Some claim) × 
 of_side : (g : Game) (c : Cert) (side : Side) (claim : Claim) → (i : ℕ) × (slice_get c.claims i ≡ Some claim) × (is_claim_of side g.turn claim ≡ true) → IsChosen g c side claim
 unfolding IsChosen
 of_side g c side claim (i, at, test) =
-    let parts = both_true (is_same_side claim.side side) (is_same_side claim.turn g.turn) test in
+    let parts = and_parts (is_same_side claim.side side) (is_same_side claim.turn g.turn) test in
     (i, at, same_side claim.side side parts.0, same_side claim.turn g.turn parts.1)
 
 chosen : (g : Game) (c : Cert) (side : Side) (claim : Claim) → chosen_claim g c side ≡ Some claim → IsChosen g c side claim
@@ -143,7 +140,7 @@ chosen g c side claim e = go (find (is_win_of side g.turn) c.claims) refl e wher
   go : (o : Option Claim) → find (is_win_of side g.turn) c.claims ≡ o → first_claim o (find (is_claim_of side g.turn) c.claims) ≡ Some claim → IsChosen g c side claim
   go (Some first) is e =
       let there = found (is_win_of side g.turn) c.claims claim (is ∙ e) in
-      of_side g c side claim (there.0, there.1, (both_true (is_claim_of side g.turn claim) (is_win claim.goal) there.2).0)
+      of_side g c side claim (there.0, there.1, (and_parts (is_claim_of side g.turn claim) (is_win claim.goal) there.2).0)
   go None is e = of_side g c side claim (found (is_claim_of side g.turn) c.claims claim e)
 
 -- a claim by which a side is played is forced

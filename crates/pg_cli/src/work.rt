@@ -65,33 +65,3 @@ impl Work {
         self.positions[i]
     }
 }
-
-#[cfg(test)]
-mod tests {
-    use super::Work;
-    use pg_base::{PointSet, Score, Side};
-    use pg_game::Position;
-    use std::test::Fail;
-
-    #[test]
-    fn tells_the_question_and_the_positions(rt: HostRuntime) -> Result<(), Fail> {
-        let empty = Work::new(rt.alloc());
-        assert_eq!(rt; empty.question(), None);
-        assert_eq!(rt; empty.positions(), 0);
-        let first = Position {
-            x: PointSet::empty(),
-            y: PointSet::empty(),
-            turn: Side::Y,
-            left: 1,
-        };
-        let mut work = Work::new(rt.alloc());
-        work.question = Some(Score::Draw);
-        work.positions.push(first)?;
-        assert_eq!(rt; work.question(), Some(Score::Draw));
-        assert_eq!(rt; work.positions(), 1);
-        if work.positions() == 1 {
-            assert!(rt; work.position(0).turn == Side::Y);
-        }
-        Ok(())
-    }
-}

@@ -5,8 +5,8 @@ use Rattle.std.specs.List.{list_all}
 use Rattle.std.proofs.lemmas.Bool.{ltb-true}
 use Rattle.pg_base.specs.declared.kind.Kind.{Kind}
 use Rattle.pg_base.specs.declared.side.Side.{Side}
-use Rattle.pg_text.specs.Text.{Bytes}
-use Rattle.pg_files.specs.Text.{lines, words}
+use Rattle.pg_text.specs.Text.{Bytes, lines}
+use Rattle.pg_files.specs.Text.{words}
 use Rattle.pg_files.specs.Key.{key_of}
 use Rattle.pg_files.specs.GameFile.{Draft, Entry, nothing, reading, after, significant, keyed, keyed_fault, named, unless, said, least, first, rest, is_header, is_printable, begins_comment, game, ended, game_of}
 use Rattle.pg_files.specs.Laws.{named_faults, words_faults, line_faults, IsLeast, IsFirstFault, Lacks, IsWholeFault}

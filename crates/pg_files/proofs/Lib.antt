@@ -1,5 +1,4 @@
 pub mod Finds
-pub mod Lines
 pub mod SetLaws
 pub mod Sound
 pub mod LineByLine

@@ -3,13 +3,12 @@ use Rattle.std.proofs.Common.{◌≡◌, ℕ, ◌+◌, ◌<◌, List, [], ◌∷
 use Rattle.std.specs.List.{before_first, after_first}
 use Rattle.std.proofs.lemmas.List.{nil_from_length}
 use Rattle.pg_files.specs.declared.fault.Fault.{Fault}
-use Rattle.pg_text.specs.Text.{Bytes}
-use Rattle.pg_files.specs.Text.{lines}
+use Rattle.pg_text.specs.Text.{Bytes, lines}
 use Rattle.pg_files.specs.GameFile.{Draft, go_on, after, reading}
 use Rattle.pg_files.specs.declared.fault.ReadError.{ReadError}
 use Rattle.pg_files.specs.declared.fault.ReadError.TheVariants as errors
 use Rattle.pg_files.specs.Views.{Fails, IsReadAs, at}
-use Rattle.pg_files.proofs.Lines.{is_feed, lines_cut}
+use Rattle.pg_text.proofs.Lines.{is_feed, lines_cut}
 
 pub reads_on : (n : ℕ) (d next : Draft) (text line behind : Bytes) → 0 < length text → line ≡ before_first is_feed text → behind ≡ after_first is_feed text → after d line ≡ Ok next
     → reading (n + 1) next (lines behind) ≡ reading n d (lines text)

@@ -21,7 +21,7 @@ use Rattle.pg_game.specs.declared.field.LineField.{LineField}
 use Rattle.pg_game.specs.Field.{field_points}
 use Rattle.pg_game.specs.Fit.{IsLineOf, AreLinesOf, IsBoard, IsFit}
 use Rattle.pg_text.specs.Text.{Bytes, spaced}
-use Rattle.pg_files.specs.Sets.{members}
+use Rattle.pg_base.specs.Points.{members}
 use Rattle.pg_files.specs.Print.{spelled, header, numbered, worded, marked, size_words, edge_words, field_words, printed, printed_lines}
 use Rattle.pg_base.specs.Kind.{kind_word}
 use Rattle.pg_base.specs.Side.{side_word}
@@ -30,7 +30,8 @@ use Rattle.pg_files.specs.GameFile.{Entry}
 use Rattle.pg_files.specs.declared.key.Key.{Key}
 use Rattle.pg_files.specs.declared.key.Key.TheVariants as keys
 use Rattle.pg_files.proofs.Words.{is_word, decimals_are_words}
-use Rattle.pg_files.proofs.SetLaws.{members-length, below-members}
+use Rattle.pg_base.proofs.MemberLemmas.{points_below-length}
+use Rattle.pg_files.proofs.SetLaws.{below-members}
 use Rattle.pg_files.proofs.RoundTrip.{AreSmall, smaller, one_small, two_small, all_below, factors, key_is_word, kind_is_word, side_is_word}
 
 -- ---- what is printed is small numbers
@@ -208,5 +209,5 @@ printed_small g fit =
               (both_words (marked keys.Y (members g.y)) (worded keys.Turn (side_word g.turn) ∷ []) (marks_words keys.Y (members g.y) y) (turn_words, tt))),
         ),
       ),
-      sum_len (length (printed g)) _ _ _ _ _ _ (ap length (printed_parts g) ∙ parts) (lit≤ tt) (kind_line_len g.kind) field.1.1 (marks_len keys.X (members g.x) x (members-length g.x)) (marks_len keys.Y (members g.y) y (members-length g.y)) (turn_line_len g.turn),
+      sum_len (length (printed g)) _ _ _ _ _ _ (ap length (printed_parts g) ∙ parts) (lit≤ tt) (kind_line_len g.kind) field.1.1 (marks_len keys.X (members g.x) x (points_below-length g.x 1024)) (marks_len keys.Y (members g.y) y (points_below-length g.y 1024)) (turn_line_len g.turn),
     )

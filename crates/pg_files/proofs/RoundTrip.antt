@@ -13,8 +13,7 @@ use Rattle.pg_base.specs.declared.kind.Kind.TheVariants as kinds
 use Rattle.pg_base.specs.declared.side.Side.{Side}
 use Rattle.pg_base.specs.declared.side.Side.TheVariants as sides
 use Rattle.pg_game.specs.Fit.{is_switching}
-use Rattle.pg_text.specs.Text.{Bytes, spaced}
-use Rattle.pg_files.specs.Text.{lines}
+use Rattle.pg_text.specs.Text.{Bytes, spaced, lines}
 use Rattle.pg_files.specs.Sets.{set_of, ascending, repeats}
 use Rattle.pg_base.specs.Kind.{kind_word, kind_of}
 use Rattle.pg_base.specs.Side.{side_word, side_of}
@@ -22,7 +21,7 @@ use Rattle.pg_files.specs.Key.{key_name, key_of, rank_of, belongs, needed_rank}
 use Rattle.pg_files.specs.GameFile.{Draft, nothing, after, significant, keyed, is_out_of_place, is_misplaced, lacks_grid, begins_comment, points_so_far, is_outside}
 use Rattle.pg_files.specs.declared.key.Key.{Key}
 use Rattle.pg_files.specs.declared.key.Key.TheVariants as keys
-use Rattle.pg_files.proofs.Words.{is_word, words_spaced, numbers_decimals, spaced_printable}
+use Rattle.pg_files.proofs.Words.{is_word, words_again, numbers_decimals, spaced_printable}
 
 -- ---- names
 
@@ -31,7 +30,7 @@ pub after_words : (d : Draft) (w : Bytes) (ws : List Bytes) → list_all is_word
 unfolding after
 after_words d w ws e plain =
     let longer : (length (w ∷ ws) == 0) ≡ false = grind (arith, nat_tests) in
-    rw (spaced_printable (w ∷ ws) e, plain, words_spaced w ws e, longer) refl
+    rw (spaced_printable (w ∷ ws) e, plain, words_again w ws e, longer) refl
 
 kind_again : (kind : Kind) → kind_of (kind_word kind) ≡ Some kind
 kind_again kinds.MakerBreaker = refl

@@ -20,9 +20,11 @@ use Rattle.pg_game.specs.declared.field.LineField.{LineField}
 use Rattle.pg_game.specs.declared.game.Game.{Game}
 use Rattle.pg_game.specs.Field.{field_points}
 use Rattle.pg_game.specs.Fit.{AreBelow, ShareNone, IsLineOf, AreLinesOf, IsBoard, IsFit, is_switching}
-use Rattle.pg_text.specs.Text.{Bytes, spaced}
-use Rattle.pg_files.specs.Text.{words, lines}
-use Rattle.pg_files.specs.Sets.{set_of, ascending, members, repeats}
+use Rattle.pg_text.specs.Text.{Bytes, spaced, lines}
+use Rattle.pg_files.specs.Text.{words}
+use Rattle.pg_base.specs.Points.{members}
+use Rattle.pg_base.proofs.MemberLemmas.{points_below-ascend, from_list-points_below}
+use Rattle.pg_files.specs.Sets.{set_of, ascending, repeats}
 use Rattle.pg_files.specs.Print.{header, numbered, worded, marked, size_words, edge_words, field_words, printed, printed_lines}
 use Rattle.pg_base.specs.Kind.{kind_word}
 use Rattle.pg_base.specs.Side.{side_word}
@@ -31,7 +33,7 @@ use Rattle.pg_files.specs.Views.{entry}
 use Rattle.pg_files.specs.declared.fault.Fault.TheVariants as faults
 use Rattle.pg_files.specs.declared.key.Key.TheVariants as keys
 use Rattle.pg_files.proofs.Words.{lines_spelled, decimals_are_words}
-use Rattle.pg_files.proofs.SetLaws.{ascending_is, repeats_none, set_of-members, below-members, members-ascend, members-apart, below_more}
+use Rattle.pg_files.proofs.SetLaws.{ascending_is, repeats_none, below-members, members-apart, below_more}
 use Rattle.pg_files.proofs.Sound.{lines_kind}
 use Rattle.pg_files.proofs.PrintSize.{printed_small}
 use Rattle.pg_files.proofs.RoundTrip.{smaller, one_small, two_small, all_below, factors, after_keyed, kind_is_word, side_is_word, in_place, line_in_place, edge_in_place, keyed_line, keyed_edge, keyed_x, keyed_y, keyed_turn, of_kind, keyed_kind, keyed_points, keyed_grid, keyed_vertices, keyed_terminals}
@@ -207,9 +209,9 @@ tail_goes kind d x y turn points h five no_x no_y is x_below y_below apart =
     let few : points ≤ 1000 = omega (arith, h.few, is) in
     let x_in : list_all (λ n. nat_lt n (points_so_far d)) (members x) ≡ true = ap (λ k. list_all (λ n. nat_lt n k) (members x)) is ∙ below-members points x x_below in
     let y_in : list_all (λ n. nat_lt n (points_so_far d)) (members y) ≡ true = ap (λ k. list_all (λ n. nat_lt n k) (members y)) is ∙ below-members points y y_below in
-    let x_again = set_of-members x (λ q held. omega (arith, x_below q held)) in
-    let y_again = set_of-members y (λ q held. omega (arith, y_below q held)) in
-    let a = marks_x kind d (members x) x h five no_x x_again x_in (repeats_none (members x) (members-ascend x)) in
+    let x_again = from_list-points_below x 1024 (λ q held. omega (arith, x_below q held)) in
+    let y_again = from_list-points_below y 1024 (λ q held. omega (arith, y_below q held)) in
+    let a = marks_x kind d (members x) x h five no_x x_again x_in (repeats_none (members x) (points_below-ascend x 1024)) in
     let d1 : Draft = record d { rank = a.0; x = x } in
     let h1 : TakesMarks kind d1 = record { begun = h.begun; kind_is = h.kind_is; needed = a.1; few = h.few } in
     let b = marks_y kind d1 (members y) y h1 a.2 no_y y_again y_in (members-apart x y apart) in

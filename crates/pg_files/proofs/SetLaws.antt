@@ -1,24 +1,24 @@
 -- Lists of numbers and their sets.
-use Rattle.std.proofs.Common.{◌≡◌, ◌≢◌, ℕ, zero, suc, ◌+◌, ◌<◌, ◌≤◌, Bool, true, false, cond, ◌&&◌, List, [], ◌∷◌, ◌++◌, length, take, drop, get_or, add-one, drop-cons, refl, sym, ap, ◌∙◌, arith, eqb, ltb, inl, inr, Less}
-use Rattle.std.specs.Prelude.{nat_lt, nat_eq, nat_le, ◌==◌, filter}
-use Rattle.std.specs.List.{list_all, list_any, range_with_len, count_by, AllByRecursion, IsDistinct}
+use Rattle.std.proofs.Common.{◌≡◌, ℕ, ◌+◌, ◌<◌, ◌≤◌, Bool, true, false, cond, ◌&&◌, List, [], ◌∷◌, length, take, drop, get_or, add-one, drop-cons, refl, sym, ap, ◌∙◌, arith, eqb, ltb, inl, inr, Less}
+use Rattle.std.specs.Prelude.{nat_lt, nat_eq, ◌==◌}
+use Rattle.std.specs.List.{list_all, list_any, count_by, AllByRecursion, IsDistinct}
 use Rattle.std.specs.List.Sorted.{IsPermutation, IsStrictlyIncreasing, IsStrictlySortedBy}
 use Rattle.std.specs.FinSet.{FinSet, contains, insert, empty, from_list_push, contains-from_list_nat, contains-empty}
 use Rattle.std.specs.Cmp.{nat_cmp_total, IsEquivalence, decided}
 use Rattle.std.specs.FinMap.{nat_cmp-IsAntisymmetric}
 use Rattle.std.specs.Ordering.{nat_cmp}
-use Rattle.std.proofs.lemmas.Bool.{cases_Bool, cases_eq, cases_lt, eq-eqb, ne_eqb, eqb-true, ltb-true, and_parts, and_right, or_cases, or_parts, or_right}
+use Rattle.std.proofs.lemmas.Bool.{cases_Bool, cases_eq, cases_lt, eq-eqb, ne_eqb, eqb-true, ltb-true, and_parts, or_cases, or_parts, or_right}
 use Rattle.std.proofs.lemmas.Bool.Decides.{nat_tests}
-use Rattle.std.proofs.lemmas.List.Sums.{sum_by-cons, length-filter, count_by-le-length}
+use Rattle.std.proofs.lemmas.List.Sums.{sum_by-cons}
 use Rattle.std.proofs.lemmas.List.Sorted.{sum_by-IsPermutation}
-use Rattle.std.proofs.lemmas.List.Kept.{IsStrictlyIncreasing-filter}
-use Rattle.std.proofs.lemmas.List.FromFn.{length-range_with_len, get_or-range_with_len}
 use Rattle.std.proofs.lemmas.Map.Keys.{sorted_from_strictly_increasing}
 use Rattle.std.proofs.lemmas.Map.Made.{length-from_same_keys}
-use Rattle.std.proofs.lemmas.List.{take_more, append-nil}
+use Rattle.std.proofs.lemmas.List.{take_more}
 use Rattle.pg_base.specs.Line.{StandsTwice}
-use Rattle.pg_base.specs.WordLemmas.{in_insert, same_points}
-use Rattle.pg_files.specs.Sets.{set_of, ascending, repeats, members, members_below}
+use Rattle.pg_base.specs.WordLemmas.{in_insert}
+use Rattle.pg_base.specs.Points.{members}
+use Rattle.pg_base.proofs.MemberLemmas.{points_below-ascend, has-points_below}
+use Rattle.pg_files.specs.Sets.{set_of, ascending, repeats}
 
 -- ---- the steps of the loops
 
@@ -108,56 +108,7 @@ same_sorted (x ∷ xs) (y ∷ ys) p q same =
           sym l ∙ same ∙ r
     ]
 
--- ---- the members of a set
-
-IsStrictlyIncreasing-range : (a n : ℕ) → IsStrictlyIncreasing (range_with_len a n)
-IsStrictlyIncreasing-range a n = λ k h.
-    let len = length-range_with_len a n in
-    let here = get_or-range_with_len a n k 0 (omega arith) in
-    let next = get_or-range_with_len a n (k + 1) 0 (omega arith) in
-    omega arith
-
-below-ascend : (n : ℕ) (s : FinSet nat_cmp) → IsStrictlyIncreasing (members_below n s)
-unfolding members_below
-below-ascend n s = IsStrictlyIncreasing-filter (contains s) (range_with_len 0 n) (IsStrictlyIncreasing-range 0 n)
-
-pub members-ascend : (s : FinSet nat_cmp) → IsStrictlyIncreasing (members s)
-unfolding members
-members-ascend s = below-ascend 1024 s
-
-in_range_end : (a q : ℕ) → (nat_le a q && nat_lt q (a + 0)) ≡ false
-in_range_end a q = grind (arith, nat_tests)
-
-in_range_here : (a n : ℕ) → (nat_le a a && nat_lt a (a + suc n)) ≡ true
-in_range_here a n = grind (arith, nat_tests)
-
-in_range_more : (a n q : ℕ) → q ≢ a → (nat_le (a + 1) q && nat_lt q (a + 1 + n)) ≡ (nat_le a q && nat_lt q (a + suc n))
-in_range_more a n q apart = grind (arith, nat_tests)
-
-has-filter-range : (p : ℕ → Bool) (a n q : ℕ) → has (filter p (range_with_len a n)) q ≡ (p q && (nat_le a q && nat_lt q (a + n)))
-has-filter-range p a zero q = rw (in_range_end a q) (sym (and_right (p q) false refl))
-has-filter-range p a (suc n) q =
-    let later = has-filter-range p (a + 1) n q in
-    elim (cases_eq q a) [
-      | inl here ↦ elim (cases_Bool (p a)) [
-        | inl on ↦ rw (here, on, in_range_here a n, eq-eqb a a refl) refl
-        | inr off ↦ let none : p q ≡ false = ap p here ∙ off in rw (off, later, none) refl
-      ]
-      | inr apart ↦ elim (cases_Bool (p a)) [
-        | inl on ↦ rw (on, ne_eqb a q (λ e. apart (sym e)), later) (ap (λ b. p q && b) (in_range_more a n q apart))
-        | inr off ↦ rw (off, later) (ap (λ b. p q && b) (in_range_more a n q apart))
-      ]
-    ]
-
-has-below_members : (n : ℕ) (s : FinSet nat_cmp) (q : ℕ) → has (members_below n s) q ≡ (contains s q && nat_lt q n)
-unfolding members_below
-has-below_members n s q =
-    let from_zero : (nat_le 0 q && nat_lt q (0 + n)) ≡ nat_lt q n = grind (arith, nat_tests) in
-    has-filter-range (contains s) 0 n q ∙ ap (λ b. contains s q && b) from_zero
-
-pub has-members : (s : FinSet nat_cmp) (q : ℕ) → has (members s) q ≡ (contains s q && nat_lt q 1024)
-unfolding members
-has-members s q = has-below_members 1024 s q
+-- ---- numbers below a limit
 
 -- a member of a list of numbers that are all below a number
 pub has-below : (limit : ℕ) (ns : List ℕ) (q : ℕ) → list_all (λ n. nat_lt n limit) ns ≡ true → has ns q ≡ true → nat_lt q limit ≡ true
@@ -178,8 +129,8 @@ within ns q all = elim (cases_Bool (has ns q)) [
 -- a list in strict order of numbers below 1,024 is that of the members of its set
 pub members_are : (s : FinSet nat_cmp) (ns : List ℕ) → IsStrictlyIncreasing ns → list_all (λ n. nat_lt n 1024) ns ≡ true → ((q : ℕ) → has ns q ≡ contains s q) → ns ≡ members s
 members_are s ns up below same =
-    same_sorted ns (members s) (sorted_from_strictly_increasing ns up) (sorted_from_strictly_increasing (members s) (members-ascend s))
-    (λ q. within ns q below ∙ ap (λ b. b && nat_lt q 1024) (same q) ∙ sym (has-members s q))
+    same_sorted ns (members s) (sorted_from_strictly_increasing ns up) (sorted_from_strictly_increasing (members s) (points_below-ascend s 1024))
+    (λ q. within ns q below ∙ ap (λ b. b && nat_lt q 1024) (same q) ∙ sym (has-points_below s 1024 q))
 
 below_permutation : (limit : ℕ) (ns ms : List ℕ) → ((q : ℕ) → has ms q ≡ true → has ns q ≡ true) → list_all (λ n. nat_lt n limit) ns ≡ true → list_all (λ n. nat_lt n limit) ms ≡ true
 below_permutation limit ns [] from all = refl
@@ -244,16 +195,6 @@ repeats_from_sorted s (n ∷ ns) up apart =
 
 -- ---- there and back
 
--- the members of a set of numbers below 1,024 make it up
-pub set_of-members : (s : FinSet nat_cmp) → ((q : ℕ) → contains s q ≡ true → q < 1024) → set_of (members s) ≡ s
-set_of-members s below = same_points (set_of (members s)) s (λ q. in_set_of (members s) q ∙ has-members s q ∙ inside q)
-  where
-    inside : (q : ℕ) → (contains s q && nat_lt q 1024) ≡ contains s q
-    inside q = elim (cases_Bool (contains s q)) [
-      | inl on ↦ let lt = below q on in rw on (let t : ltb q 1024 ≡ true = grind (arith, nat_tests) in t)
-      | inr off ↦ rw off refl
-    ]
-
 -- a list in strict order of numbers below 1,024 is its own ascending list
 pub ascending_is : (ns : List ℕ) → IsStrictlyIncreasing ns → list_all (λ n. nat_lt n 1024) ns ≡ true → ascending ns ≡ ns
 ascending_is ns up below = sym (members_are (set_of ns) ns up below (λ q. sym (in_set_of ns q)))
@@ -261,7 +202,7 @@ ascending_is ns up below = sym (members_are (set_of ns) ns up below (λ q. sym (
 -- ---- ascending lists
 
 pub has-ascending : (ns : List ℕ) (q : ℕ) → list_all (λ n. nat_lt n 1024) ns ≡ true → has (ascending ns) q ≡ has ns q
-has-ascending ns q below = has-members (set_of ns) q ∙ ap (λ b. b && nat_lt q 1024) (in_set_of ns q) ∙ sym (within ns q below)
+has-ascending ns q below = has-points_below (set_of ns) 1024 q ∙ ap (λ b. b && nat_lt q 1024) (in_set_of ns q) ∙ sym (within ns q below)
 
 -- whether two numbers are equal, the second first
 abbrev same : ℕ → ℕ → Bool
@@ -287,7 +228,7 @@ repeats_none ns up = repeats_from_sorted empty ns (sorted_from_strictly_increasi
 
 pub length-ascending : (ns : List ℕ) → list_all (λ n. nat_lt n 1024) ns ≡ true → repeats empty ns ≡ false → length (ascending ns) ≡ length ns
 length-ascending ns below different =
-    length-from_same_keys same-equivalence (ascending ns) ns (distinct_from_repeats empty (ascending ns) (repeats_none (ascending ns) (members-ascend (set_of ns)))) (distinct_from_repeats empty ns different)
+    length-from_same_keys same-equivalence (ascending ns) ns (distinct_from_repeats empty (ascending ns) (repeats_none (ascending ns) (points_below-ascend (set_of ns) 1024))) (distinct_from_repeats empty ns different)
     (λ q. has-ascending ns q below)
 
 below_keys : (limit : ℕ) (ms : List ℕ) → ((q : ℕ) → has ms q ≡ true → nat_lt q limit ≡ true) → list_all (λ n. nat_lt n limit) ms ≡ true
@@ -296,59 +237,17 @@ below_keys limit (m ∷ ms) from = rw (from m (rw (eq-eqb m m refl) refl)) (belo
 
 pub below-ascending : (limit : ℕ) (ns : List ℕ) → list_all (λ n. nat_lt n limit) ns ≡ true → list_all (λ n. nat_lt n limit) (ascending ns) ≡ true
 below-ascending limit ns below =
-    below_keys limit (ascending ns) (λ q h. has-below limit ns q below (sym (in_set_of ns q) ∙ (and_parts (contains (set_of ns) q) (nat_lt q 1024) (sym (has-members (set_of ns) q) ∙ h)).0))
+    below_keys limit (ascending ns) (λ q h. has-below limit ns q below (sym (in_set_of ns q) ∙ (and_parts (contains (set_of ns) q) (nat_lt q 1024) (sym (has-points_below (set_of ns) 1024 q) ∙ h)).0))
 
 pub below-members : (limit : ℕ) (s : FinSet nat_cmp) → ((q : ℕ) → contains s q ≡ true → q < limit) → list_all (λ n. nat_lt n limit) (members s) ≡ true
 below-members limit s below =
-    below_keys limit (members s) (λ q h. let lt = below q (and_parts (contains s q) (nat_lt q 1024) (sym (has-members s q) ∙ h)).0 in let t : ltb q limit ≡ true = grind (arith, nat_tests) in t)
-
--- ---- the members one by one
-
-filter-range-more : (p : ℕ → Bool) (a n : ℕ) → filter p (range_with_len a (suc n)) ≡ filter p (range_with_len a n) ++ cond (p (a + n)) ((a + n) ∷ []) []
-filter-range-more p a zero = let e : a + 0 ≡ a = omega arith in elim (cases_Bool (p a)) [ inl on ↦ rw (e, on) refl | inr off ↦ rw (e, off) refl ]
-filter-range-more p a (suc n) =
-    let e : a + 1 + n ≡ a + suc n = omega arith in
-    let more = ap (λ k. filter p (range_with_len (a + 1) n) ++ cond (p k) (k ∷ []) []) e in
-    let others = filter-range-more p (a + 1) n ∙ more in
-    elim (cases_Bool (p a)) [
-      | inl on ↦ rw on (ap (λ (t : List ℕ). a ∷ t) others)
-      | inr off ↦ rw off others
-    ]
-
-one-more : (s : FinSet nat_cmp) (n : ℕ) → filter (contains s) (range_with_len 0 (suc n)) ≡ filter (contains s) (range_with_len 0 n) ++ cond (contains s n) (n ∷ []) []
-one-more s n =
-    let e : 0 + n ≡ n = omega arith in
-    filter-range-more (contains s) 0 n ∙ ap (λ k. filter (contains s) (range_with_len 0 n) ++ cond (contains s k) (k ∷ []) []) e
-
-pub members_with : (s : FinSet nat_cmp) (n : ℕ) → contains s n ≡ true → members_below (n + 1) s ≡ members_below n s ++ n ∷ []
-unfolding members_below
-members_with s n on = rw add-one (one-more s n ∙ ap (λ b. filter (contains s) (range_with_len 0 n) ++ cond b (n ∷ []) []) on)
-
-pub members_without : (s : FinSet nat_cmp) (n : ℕ) → contains s n ≡ false → members_below (n + 1) s ≡ members_below n s
-unfolding members_below
-members_without s n off = rw add-one (one-more s n ∙ ap (λ b. filter (contains s) (range_with_len 0 n) ++ cond b (n ∷ []) []) off ∙ append-nil (filter (contains s) (range_with_len 0 n)))
-
-pub members_all : (s : FinSet nat_cmp) → members s ≡ members_below 1024 s
-unfolding members
-members_all s = refl
-
-pub members_start : (s : FinSet nat_cmp) → members_below 0 s ≡ []
-unfolding members_below
-members_start s = refl
+    below_keys limit (members s) (λ q h. let lt = below q (and_parts (contains s q) (nat_lt q 1024) (sym (has-points_below s 1024 q) ∙ h)).0 in let t : ltb q limit ≡ true = grind (arith, nat_tests) in t)
 
 -- ---- printed marks
 
-members_below-length : (n : ℕ) (s : FinSet nat_cmp) → length (members_below n s) ≤ n
-unfolding members_below
-members_below-length n s = omega (arith, length-filter (contains s) (range_with_len 0 n), count_by-le-length (contains s) (range_with_len 0 n), length-range_with_len 0 n)
-
-pub members-length : (s : FinSet nat_cmp) → length (members s) ≤ 1024
-unfolding members
-members-length s = members_below-length 1024 s
-
 -- the members of a set that has none of another's
 pub members-apart : (s t : FinSet nat_cmp) → ((q : ℕ) → contains s q ≡ true → contains t q ≡ false) → repeats s (members t) ≡ false
-members-apart s t apart = repeats_from_sorted s (members t) (sorted_from_strictly_increasing (members t) (members-ascend t)) (λ q h. free q (and_parts (contains t q) (nat_lt q 1024) (sym (has-members t q) ∙ h)).0)
+members-apart s t apart = repeats_from_sorted s (members t) (sorted_from_strictly_increasing (members t) (points_below-ascend t 1024)) (λ q h. free q (and_parts (contains t q) (nat_lt q 1024) (sym (has-points_below t 1024 q) ∙ h)).0)
   where
     free : (q : ℕ) → contains t q ≡ true → contains s q ≡ false
     free q held = elim (cases_Bool (contains s q)) [ inl on ↦ let no = apart q on in absurd cc | inr off ↦ off ]

@@ -18,8 +18,8 @@ use Rattle.pg_game.specs.declared.field.Field.{Field}
 use Rattle.pg_game.specs.declared.field.Field.TheVariants as fields
 use Rattle.pg_game.specs.declared.field.LineField.{LineField}
 use Rattle.pg_game.specs.Fit.{AreBelow, ShareNone, IsLineOf, AreLinesOf, IsBoard, IsFit, is_switching, greatest_bias}
-use Rattle.pg_text.specs.Text.{Bytes, number}
-use Rattle.pg_files.specs.Text.{lines, words, numbers, then_numbers}
+use Rattle.pg_text.specs.Text.{Bytes, number, lines}
+use Rattle.pg_files.specs.Text.{words, numbers, then_numbers}
 use Rattle.pg_files.specs.Sets.{set_of, ascending, repeats}
 use Rattle.pg_base.specs.Kind.{kind_of}
 use Rattle.pg_files.specs.Key.{rank_of, key_of, belongs, needed_rank}
@@ -28,7 +28,8 @@ use Rattle.pg_files.specs.declared.fault.Fault.{Fault}
 use Rattle.pg_files.specs.declared.fault.Fault.TheVariants as faults
 use Rattle.pg_files.specs.declared.key.Key.{Key}
 use Rattle.pg_files.specs.declared.key.Key.TheVariants as keys
-use Rattle.pg_files.proofs.SetLaws.{has, in_set_of, members-ascend, length-ascending, below-ascending, has-below, below_more, repeats_apart}
+use Rattle.pg_base.proofs.MemberLemmas.{points_below-ascend}
+use Rattle.pg_files.proofs.SetLaws.{has, in_set_of, length-ascending, below-ascending, has-below, below_more, repeats_apart}
 
 -- ---- tables and tests
 
@@ -205,7 +206,7 @@ line_is points ns few below different some short =
     let small = below_more points ns (omega arith) below in
     let len = length-ascending ns small different in
     let all = AllPass-from_list_all (λ n. nat_lt n points) (ascending ns) (below-ascending points ns below) in
-    record { some = omega arith; short = omega arith; ascending = members-ascend (set_of ns); range = λ i d lt. ltb-true _ points (all i d lt) }
+    record { some = omega arith; short = omega arith; ascending = points_below-ascend (set_of ns) 1024; range = λ i d lt. ltb-true _ points (all i d lt) }
 
 more_lines : (points : ℕ) (grid : Option Grid) (lines : List (List ℕ)) (line : List ℕ) → AreLines points grid lines → IsLineOf points 1 line → length lines < 20000 → sum_by length lines + length line ≤ 400000 → AreLines points grid (lines ++ line ∷ [])
 more_lines points grid lines line h one few summed = record {

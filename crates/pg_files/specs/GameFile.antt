@@ -10,8 +10,8 @@ use Rattle.pg_base.specs.declared.kind.Kind.TheVariants as kinds
 use Rattle.pg_base.specs.declared.side.Side.{Side}
 use Rattle.pg_game.specs.declared.field.Field.{Field}
 use Rattle.pg_game.specs.declared.field.Field.TheVariants as fields
-use Rattle.pg_text.specs.Text.{Bytes}
-use Rattle.pg_files.specs.Text.{lines, words, numbers}
+use Rattle.pg_text.specs.Text.{Bytes, lines}
+use Rattle.pg_files.specs.Text.{words, numbers}
 use Rattle.pg_files.specs.Sets.{set_of, ascending, repeats}
 use Rattle.pg_base.specs.Kind.{kind_of}
 use Rattle.pg_base.specs.Side.{side_of}

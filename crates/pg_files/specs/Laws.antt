@@ -1,8 +1,8 @@
 -- What a fault of a file means, above the definition of reading.
 use Rattle.std.specs.Prelude.{◌≡◌, ℕ, ◌+◌, ◌<◌, Bool, true, false, not, ◌||◌, ◌⊎◌, if◌then◌else◌, List, [], ◌∷◌, ◌++◌, length, Option, Some, None, is_none, Ok, ◌==◌}
 use Rattle.std.specs.List.{list_all, AllByRecursion}
-use Rattle.pg_text.specs.Text.{Bytes}
-use Rattle.pg_files.specs.Text.{lines, words}
+use Rattle.pg_text.specs.Text.{Bytes, lines}
+use Rattle.pg_files.specs.Text.{words}
 use Rattle.pg_files.specs.Key.{key_of}
 use Rattle.pg_files.specs.GameFile.{Draft, nothing, reading, keyed_faults, first, rest, is_header, is_printable, begins_comment}
 use Rattle.pg_files.specs.declared.fault.Fault.{Fault}

@@ -6,7 +6,7 @@ use Rattle.pg_base.specs.declared.grid.Grid.{Grid}
 use Rattle.pg_game.specs.declared.field.Field.{Field}
 use Rattle.pg_game.specs.declared.field.Field.TheVariants as fields
 use Rattle.pg_text.specs.Text.{Bytes, spaced}
-use Rattle.pg_files.specs.Sets.{members}
+use Rattle.pg_base.specs.Points.{members}
 use Rattle.pg_base.specs.Kind.{kind_word}
 use Rattle.pg_base.specs.Side.{side_word}
 use Rattle.pg_files.specs.Key.{key_name}

@@ -15,6 +15,3 @@ pub use fault::{Fault, GameFault};
 pub use laws::{first_fault_is_told, printed_game_is_read, what_is_read_fits};
 pub use printing::print_game;
 pub use reading::read_game;
-
-#[cfg(test)]
-mod tests;

@@ -1,6 +1,6 @@
 //! A game from its text.
 ghost use Rattle.std.specs.Prelude.{◌≡◌, ◌≤◌, ◌==◌, length, IfOk, Ok};
-ghost use Rattle.pg_files.specs.Text.{lines};
+ghost use Rattle.pg_text.specs.Text.{lines};
 ghost use Rattle.std.specs.List.{position, before_first, after_first};
 ghost use Rattle.pg_files.specs.GameFile.{nothing, reading, ended, field_of, game, IsSaid};
 ghost use Rattle.pg_files.specs.Views.{IsReadAs, view, entry};
@@ -23,7 +23,7 @@ fn feed(text: &[u8]) -> Option<usize>
 }
 
 /// The first line, and what stands behind its line feed.
-#[tactic(auto, using(crate::proofs::Lines::feed_some, crate::proofs::Lines::feed_none))]
+#[tactic(auto, using(pg_text::proofs::Lines::feed_some, pg_text::proofs::Lines::feed_none))]
 fn first_line(text: &[u8]) -> (&[u8], &[u8])
     ensures line { result.0.now ≡ before_first (λ b. b == 10) text.now }
     ensures rest { result.1.now ≡ after_first (λ b. b == 10) text.now }

@@ -1,7 +1,8 @@
 //! Lists of numbers that points are made of.
 ghost use Rattle.std.specs.Prelude.{◌≡◌, ◌≤◌, length, IfOk, IsTrue, false, nat_lt};
 ghost use Rattle.std.specs.List.{list_all};
-ghost use Rattle.pg_files.specs.Sets.{set_of, ascending, members, repeats};
+ghost use Rattle.pg_base.specs.Points.{members};
+ghost use Rattle.pg_files.specs.Sets.{set_of, ascending, repeats};
 ghost use Rattle.std.specs.FinSet.{empty};
 
 use pg_base::{Line, LineFault, Memory, PointSet};
@@ -75,7 +76,7 @@ pub fn line_of(alloc: Global, numbers: &[u32]) -> Result<Line, Memory>
 }
 
 /// The points of the set in ascending order.
-#[tactic(auto, using(crate::proofs::SetLaws::members_with, crate::proofs::SetLaws::members_without, crate::proofs::SetLaws::members_all, crate::proofs::SetLaws::members_start))]
+#[tactic(auto, using(pg_base::proofs::MemberLemmas::points_with, pg_base::proofs::MemberLemmas::points_without, pg_base::proofs::MemberLemmas::points_start))]
 pub fn members(alloc: Global, set: &PointSet) -> Result<Vec<u16>, AllocError>
     ensures { IfOk result (λ points. points.items ≡ members set.now) }
 {

@@ -1,5 +1,6 @@
 -- What a judge answers: which moves are legal and what follows them; and the games for which it is made.
-use Rattle.std.specs.Prelude.{◌≡◌, ℕ, Bool, ◌||◌, Option, Some, None, Result, Ok, Err, if◌then◌else◌, nat_lt}
+use Rattle.std.specs.Prelude.{◌≡◌, ◌≢◌, ℕ, Bool, ◌||◌, Option, Some, None, Result, Ok, Err, if◌then◌else◌, nat_lt}
+use Rattle.pg_base.specs.declared.kind.Kind.TheVariants.{Switching}
 use Rattle.pg_base.specs.declared.score.Score.{Score}
 use Rattle.pg_base.specs.declared.score.Score.TheVariants.{XWins, Draw, YWins}
 use Rattle.pg_graph.specs.Joiner.{Room, IsMadeFor}
@@ -32,6 +33,11 @@ IsRoomOf room (OnGraph h) = IsMadeFor room h
 -- the judge is made for games with as many vertices and edges as this one
 abbrev pub IsMadeForGame : Room → Game → Type 0
 IsMadeForGame room g = IsRoomOf room g.field
+
+-- a switching game has a joiner that is made for it
+abbrev pub HasJoiner : Option Room → Game → Type 0
+HasJoiner (Some room) g = IsMadeForGame room g
+HasJoiner None g = g.kind ≢ Switching
 
 -- the result where it is X's line that counts, by the scores where X has filled one and where it can't any more
 abbrev pub filling_result : Score → Score → Bool → Bool → Bool → Option Score

@@ -1,8 +1,9 @@
 //! Whether a game is over and who has won, and which moves are legal.
-ghost use Rattle.std.specs.Prelude.{◌≡◌, ◌≢◌, Some, None, IfOk, if◌then◌else◌};
+ghost use Rattle.std.specs.Prelude.{◌≡◌, ◌≢◌, Some, None, IsOk, IfOk, if◌then◌else◌};
+ghost use Rattle.pg_base.specs.declared.kind.Kind.TheVariants.{Switching};
 ghost use Rattle.pg_game.specs.Fit.{AreBelow};
 ghost use Rattle.pg_game.specs.Game.{point_count, is_over, outcome};
-ghost use Rattle.pg_game.specs.Judge.{IsMadeForGame, judged_move};
+ghost use Rattle.pg_game.specs.Judge.{IsMadeForGame, HasJoiner, judged_move, room_of};
 
 use crate::field::Field;
 use crate::game::Game;
@@ -13,6 +14,25 @@ use pg_base::{Kind, Memory, Score};
 use pg_graph::Joiner;
 use std::alloc::Global;
 use std::marker::Model;
+
+/// A joiner for the game's graph, and none for a game on lines.
+///
+/// # Errors
+///
+/// `Memory` where no memory is found; a game on lines needs none.
+pub fn joiner_for(alloc: Global, g: &Game) -> Result<Option<Joiner>, Memory>
+    ensures made { IfOk result (λ joiner. IsMadeForGame (room_of joiner) g.now) }
+    ensures joined { IfOk result (λ joiner. HasJoiner joiner g.now) }
+    ensures lines { g.now.kind ≢ Switching → IsOk result }
+{
+    match &g.field {
+        Field::Lines(_) => Ok(None),
+        Field::Graph(graph) => {
+            let joiner = Joiner::new(alloc, graph)?;
+            Ok(Some(joiner))
+        }
+    }
+}
 
 /// Judges positions and moves, with room to work in for games on graphs with a certain number of vertices and edges.
 #[derive(Debug, Drop)]
@@ -37,17 +57,11 @@ impl Judge {
     ///
     /// `Memory` where no memory is found; a game on lines needs none. No other call of a judge takes memory.
     pub fn new(alloc: Global, g: &Game) -> Result<Judge, Memory>
-        ensures { IfOk result (λ judge. IsMadeForGame judge g.now) }
+        ensures made { IfOk result (λ judge. IsMadeForGame judge g.now) }
+        ensures lines { g.now.kind ≢ Switching → IsOk result }
     {
-        match &g.field {
-            Field::Lines(_) => Ok(Judge { joiner: None }),
-            Field::Graph(graph) => {
-                let joiner = Joiner::new(alloc, graph)?;
-                Ok(Judge {
-                    joiner: Some(joiner),
-                })
-            }
-        }
+        let joiner = joiner_for(alloc, g)?;
+        Ok(Judge { joiner })
     }
 
     /// The outcome of the position, and None exactly where it isn't over.

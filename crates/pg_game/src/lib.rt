@@ -13,7 +13,7 @@ mod value;
 
 pub use field::{Field, LineField};
 pub use game::{Game, Misfit};
-pub use judge::Judge;
+pub use judge::{Judge, joiner_for};
 pub use position::{Illegal, Position};
 pub use value::reaches;
 

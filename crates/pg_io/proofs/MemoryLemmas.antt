@@ -1,41 +1,31 @@
 -- Finding a file in the list, and putting one in front.
-use Rattle.std.proofs.Common.{◌≡◌, ◌≢◌, ℕ, ◌+◌, ◌<◌, ◌≤◌, Bool, true, false, cond, List, [], ◌∷◌, ◌++◌, length, min, length-take, take, drop, get_or, Option, Some, None, refl, sym, ◌∙◌, ap, subst, arith, nat_lt, slice_get, rules}
+use Rattle.std.proofs.Common.{◌≡◌, ◌≢◌, ℕ, ◌+◌, ◌<◌, ◌≤◌, Bool, true, false, List, [], ◌∷◌, ◌++◌, length, min, length-take, take, drop, get_or, Option, Some, None, refl, sym, ◌∙◌, ap, subst, arith, slice_get, rules}
 use Rattle.std.specs.List.{find, position, position_or_len}
 use Rattle.std.specs.Option.{option_map, IsSome}
 use Rattle.std.specs.Str.{bytes_eq}
 use Rattle.std.proofs.lemmas.List.Folds.{find_at}
 use Rattle.std.proofs.lemmas.List.{take-append-drop, drop-drop}
 use Rattle.std.proofs.Math.Seq.{take-append_seam}
-use Rattle.std.proofs.lemmas.Option.{slice_get_read, slice_get_past, slice_get-get_or}
+use Rattle.std.proofs.lemmas.List.Quantifiers.{position-Some}
+use Rattle.std.proofs.lemmas.Option.{cond_some, slice_get_read, slice_get_past, slice_get-get_or}
 use Rattle.std.proofs.lemmas.Slice.Eq.{bytes_eq-Decides}
 use Rattle.std.proofs.lemmas.Bool.Decides.{nat_tests}
 use Rattle.pg_io.specs.Files.{Bytes, Stores}
 use Rattle.pg_io.specs.Memory.{has_name, held_by, contents, unread}
 
-at_of : (b : Bool) (n i : ℕ) → cond b (Some n) None ≡ Some i → (n ≡ i) × (b ≡ true)
-at_of true n i e = (search rules, refl)
-at_of false n i e = absurd (cc e)
-
-none_of : (b : Bool) (n : ℕ) → cond b (Some n) None ≡ None → b ≡ false
-none_of true n e = absurd (cc e)
-none_of false n e = refl
-
 pub found : {X : Type 0} (p : X → Bool) (xs : List X) (i : ℕ) → position p xs ≡ Some i → find p xs ≡ slice_get xs i
-found p xs i e = let parts : (position_or_len p xs ≡ i) × (nat_lt (position_or_len p xs) (length xs) ≡ true) = at_of _ _ i e in find_at p xs ∙ ap (slice_get xs) parts.0
+found p xs i e = find_at p xs ∙ ap (slice_get xs) (cond_some _ _ _ e).1
 
 pub lost : {X : Type 0} (p : X → Bool) (xs : List X) → position p xs ≡ None → find p xs ≡ None
 lost p xs e =
-    let test : nat_lt (position_or_len p xs) (length xs) ≡ false = none_of _ _ e in
-    let past : length xs ≤ position_or_len p xs = grind (arith, nat_tests, test) in
+    let past : length xs ≤ position_or_len p xs = grind (arith, nat_tests, e) in
     find_at p xs ∙ slice_get_past xs (position_or_len p xs) past
 
 pub held-found : (files : List (Bytes × Bytes)) (name : Bytes) (i : ℕ) → position (has_name name) files ≡ Some i
     → (held_by files name ≡ Some (get_or files i ([], [])).1) × (i < length files)
 unfolding held_by
 held-found files name i e =
-    let parts : (position_or_len (has_name name) files ≡ i) × (nat_lt (position_or_len (has_name name) files) (length files) ≡ true) = at_of _ _ i e in
-    let test : nat_lt i (length files) ≡ true = subst (λ n. nat_lt n (length files) ≡ true) parts.0 parts.1 in
-    let within : i < length files = grind (arith, nat_tests, test) in
+    let within : i < length files = (position-Some (has_name name) files i ([], []) e).0 in
     (ap (option_map (λ f. f.1)) (found (has_name name) files i e ∙ slice_get-get_or files i ([], []) within), within)
 
 pub held-lost : (files : List (Bytes × Bytes)) (name : Bytes) → position (has_name name) files ≡ None → held_by files name ≡ None
@@ -62,9 +52,7 @@ pub held-read : (files : List (Bytes × Bytes)) (name : Bytes) (i : ℕ) (file :
     → file ≡ get_or files i file → ◌≡◌ {A = Option Bytes} (Some file.1) (held_by files name)
 unfolding held_by
 held-read files name i file e is =
-    let parts : (position_or_len (has_name name) files ≡ i) × (nat_lt (position_or_len (has_name name) files) (length files) ≡ true) = at_of _ _ i e in
-    let test : nat_lt i (length files) ≡ true = subst (λ n. nat_lt n (length files) ≡ true) parts.0 parts.1 in
-    let within : i < length files = grind (arith, nat_tests, test) in
+    let within : i < length files = (position-Some (has_name name) files i ([], []) e).0 in
     sym (ap (option_map (λ f. f.1)) (found (has_name name) files i e ∙ slice_get_read files (length files) i file refl within is))
 
 pub taken_front : (left copied rest : Bytes) (k : ℕ) → k ≤ length left → copied ≡ take k left → left ≡ take k (copied ++ rest) ++ drop k left

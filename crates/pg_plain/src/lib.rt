@@ -17,6 +17,3 @@ pub use edge_sets::{cuts_hold, trees_hold};
 pub use leaves::{avoider_holds, greatest_weight, limit, potential_holds, total, weight};
 pub use pairs::pairs_hold;
 pub use threats::is_threat_line;
-
-#[cfg(test)]
-mod tests;

@@ -9,12 +9,12 @@ use Rattle.pg_game.specs.declared.game.Game.{Game}
 use Rattle.pg_game.specs.declared.position.Position.{Position}
 use Rattle.pg_game.specs.Position.{is_free}
 use Rattle.pg_game.specs.Game.{point_count, is_over, outcome, after}
-use Rattle.pg_game.specs.Judge.{IsMadeForGame}
+use Rattle.pg_game.specs.Judge.{IsMadeForGame, HasJoiner}
 use Rattle.pg_game.proofs.Limits.{point_count-le}
 use Rattle.pg_game.proofs.Moves.{IsPosition-after}
 use Rattle.pg_cert.specs.declared.cert.Claim.{Claim}
 use Rattle.pg_cert.specs.OwnMove.{Standing}
-use Rattle.pg_player.specs.InPlay.{InPlay, HasJoiner, IsPlaying}
+use Rattle.pg_player.specs.InPlay.{InPlay, IsPlaying}
 use Rattle.pg_player.specs.Player.{Play, Waits, TakesReply, Moves, Answers}
 use Rattle.pg_player.proofs.Plays.{IsPosition-reached}
 

@@ -1,9 +1,9 @@
 -- What keeps a player going: facts on its claim, its position and where it stands, which every move and every reply keep.
-use Rattle.std.specs.Prelude.{◌≡◌, ◌≢◌, ◌⊎◌, ℕ, ◌<◌, true, false, List, map, Option, Some, None, if◌then◌else◌}
+use Rattle.std.specs.Prelude.{◌≡◌, ◌⊎◌, ℕ, ◌<◌, true, false, List, map, Option, Some, None, if◌then◌else◌}
 use Rattle.std.specs.List.{All as Each}
 use Rattle.pg_base.specs.Side.{other}
 use Rattle.pg_base.specs.declared.kind.Kind.{Kind}
-use Rattle.pg_base.specs.declared.kind.Kind.TheVariants.{MakerBreaker, AvoiderEnforcer, Switching}
+use Rattle.pg_base.specs.declared.kind.Kind.TheVariants.{MakerBreaker, AvoiderEnforcer}
 use Rattle.pg_base.specs.declared.pair.Pair.{Pair}
 use Rattle.pg_base.specs.declared.score.Score.{Score}
 use Rattle.pg_base.specs.declared.side.Side.{Side}
@@ -12,7 +12,7 @@ use Rattle.pg_game.specs.declared.game.Game.{Game}
 use Rattle.pg_game.specs.declared.position.Position.{Position}
 use Rattle.pg_game.specs.Position.{is_free}
 use Rattle.pg_game.specs.Game.{point_count, free_points, is_over, outcome, after, start}
-use Rattle.pg_game.specs.Judge.{IsMadeForGame}
+use Rattle.pg_game.specs.Judge.{IsMadeForGame, HasJoiner}
 use Rattle.pg_game.specs.Play.{IsLegalPlay, played}
 use Rattle.pg_game.specs.Value.{Forces}
 use Rattle.pg_game.specs.Potential.{PotentialHolds}
@@ -107,11 +107,6 @@ pub record InPlay (g : Game) (c : Claim) (p : Position) (s : Standing) : Type 0 
   pub reached : IsReached g p
   pub forced : Forces g p c.side c.goal
   pub stands : Stands g c p s
-
--- a switching game has a joiner that is made for it
-abbrev pub HasJoiner : Option Room → Game → Type 0
-HasJoiner (Some room) g = IsMadeForGame room g
-HasJoiner None g = g.kind ≢ Switching
 
 -- what a player keeps: it is in play, it knows the outcome, and its judge and its joiner are made for the game
 pub record IsPlaying (g : Game) (c : Claim) (p : Position) (s : Standing) (ending : Option Score) (judge : Room) (joiner : Option Room) : Type 0 where

@@ -6,7 +6,8 @@ ghost use Rattle.pg_cert.specs.declared.cert.Claim.{Claim};
 ghost use Rattle.pg_cert.specs.declared.node.Body.TheVariants.{Potential, Trees, Cuts};
 ghost use Rattle.pg_game.specs.Game.{is_over, IsPosition};
 ghost use Rattle.pg_game.specs.Trees.{TreesHold, CutsHold};
-ghost use Rattle.pg_player.specs.InPlay.{InPlay, HasJoiner, KeepsUp};
+ghost use Rattle.pg_game.specs.Judge.{HasJoiner};
+ghost use Rattle.pg_player.specs.InPlay.{InPlay, KeepsUp};
 ghost use Rattle.pg_player.specs.Stand.{body_at, standing_of};
 ghost use Rattle.pg_switch.specs.Replies.{HeldUntil};
 

@@ -5,7 +5,6 @@ ghost use Rattle.pg_game.specs.Game.{start, is_over, outcome};
 ghost use Rattle.pg_game.specs.Judge.{judged_move};
 ghost use Rattle.pg_game.specs.Play.{IsLegalPlay, played};
 ghost use Rattle.pg_game.specs.Value.{reaches};
-ghost use Rattle.pg_player.specs.InPlay.{HasJoiner};
 ghost use Rattle.pg_player.specs.Player.{Moves, Answers, MakesMove, TakesReply, Waits, chosen_claim};
 
 use crate::choice::chosen_claim;
@@ -14,7 +13,7 @@ use crate::standing::{Stand, replied, root};
 use pg_base::{Goal, Memory, Score, Side};
 use pg_cert::Claim;
 use pg_check::Checked;
-use pg_game::{Field, Game, Illegal, Judge, Position};
+use pg_game::{Game, Illegal, Judge, Position, joiner_for};
 use pg_graph::Joiner;
 use std::alloc::Global;
 use std::marker::Model;
@@ -67,19 +66,6 @@ pub enum OpenFault {
     NoClaim,
     /// No memory is left.
     Memory,
-}
-
-/// A joiner for a game on a graph.
-fn joiner_for(alloc: Global, g: &Game) -> Result<Option<Joiner>, Memory>
-    ensures { IfOk result (λ joiner. HasJoiner joiner g.now) }
-{
-    match &g.field {
-        Field::Lines(_) => Ok(None),
-        Field::Graph(graph) => {
-            let joiner = Joiner::new(alloc, graph)?;
-            Ok(Some(joiner))
-        }
-    }
 }
 
 impl<'a> Player<'a> {

@@ -1,12 +1,10 @@
 //! Rows worked by hand.
-ghost use Rattle.std.specs.Prelude.{IfOk, IfSome};
 ghost use Rattle.pg_game.specs.Game.{IsPosition};
-ghost use Rattle.pg_game.specs.Judge.{IsMadeForGame};
 
 use crate::{CutPlan, ShortPlan, cuts_hold, trees_hold};
 use pg_base::{Kind, PointSet, Side};
-use pg_game::{Field, Game, Judge, Position};
-use pg_graph::{Ends, Graph, Joiner};
+use pg_game::{Field, Game, Judge, Position, joiner_for};
+use pg_graph::{Ends, Graph};
 use std::alloc::Global;
 use std::test::Fail;
 
@@ -41,16 +39,6 @@ fn turn_of(g: &Game, turn: Side) -> Position
     ensures { IsPosition g.now result }
 {
     g.with_turn(turn)
-}
-
-/// A joiner for the game, and none on lines.
-fn joiner_for(alloc: Global, g: &Game) -> Result<Option<Joiner>, Fail>
-    ensures { IfOk result (λ found. IfSome found (λ j. IsMadeForGame j g.now)) }
-{
-    match &g.field {
-        Field::Lines(_) => Ok(None),
-        Field::Graph(graph) => Ok(Some(Joiner::new(alloc, graph)?)),
-    }
 }
 
 /// Whether the side's sets hold: trees for X and cuts for Y.

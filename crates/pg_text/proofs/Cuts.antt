@@ -1,24 +1,23 @@
 -- A text that is cut at a sign.
-use Rattle.std.proofs.Common.{◌≡◌, ℕ, ◌+◌, ◌-◌, ◌<◌, Bool, true, false, cond, ltb, List, [], ◌∷◌, ◌++◌, length, take, drop, get_or, arith, refl, sym, ap, subst, ◌∙◌, Option, Some, None}
+use Rattle.std.proofs.Common.{◌≡◌, ℕ, ◌+◌, ◌-◌, ◌<◌, ◌≤◌, Bool, true, List, [], ◌∷◌, ◌++◌, length, take, drop, get_or, arith, refl, sym, ap, subst, ◌∙◌, Option, Some, None}
 use Rattle.std.specs.Prelude.{◌==◌}
 use Rattle.std.specs.List.{position, position_or_len, before_first}
-use Rattle.std.proofs.lemmas.Bool.{ltb-true, ltb-false, eqb-true}
+use Rattle.std.proofs.lemmas.Bool.{eqb-true}
 use Rattle.std.proofs.lemmas.Bool.Decides.{nat_tests}
 use Rattle.std.proofs.lemmas.List.{take_all, length-take, length-drop, get_or-take}
-use Rattle.std.proofs.lemmas.List.Sums.{fails_before_first, passes_at_first, split_at_first}
+use Rattle.std.proofs.lemmas.List.Quantifiers.{position-Some}
+use Rattle.std.proofs.lemmas.List.Sums.{fails_before_first, passes_at_first, position_or_len_is, split_at_first}
 use Rattle.std.proofs.lemmas.List.Splits.{slice_split_at, slice_split_none, length-slice_split}
 use Rattle.pg_text.specs.Text.{Bytes, Lacks, parts, pair_of, two_parts, Four, four_of, four_parts}
 
 abbrev is_sign : ℕ → ℕ → Bool
 is_sign sign b = b == sign
 
-cases_position : (b : Bool) (i end : ℕ) → cond b (Some i) None ≡ Some end → (b ≡ true) × (i ≡ end)
-cases_position true i end e = (refl, cc)
-cases_position false i end e = absurd cc
+pub first_is : (p : ℕ → Bool) (text : Bytes) (end : ℕ) → position p text ≡ Some end → (end < length text) × (position_or_len p text ≡ end)
+first_is p text end e = let found = position-Some p text end 0 e in (found.0, position_or_len_is p text end 0 (omega (arith, found.0)) found.2 (λ lt. found.1))
 
-cases_no_position : (b : Bool) (i : ℕ) → cond b (Some i) None ≡ None → b ≡ false
-cases_no_position true i e = absurd cc
-cases_no_position false i e = refl
+pub first_is_past : (p : ℕ → Bool) (text : Bytes) → position p text ≡ None → length text ≤ position_or_len p text
+first_is_past p text e = grind (arith, nat_tests, e)
 
 front_lacks : (sign : ℕ) (text : Bytes) → Lacks sign (before_first (is_sign sign) text)
 front_lacks sign text = λ i d lt.
@@ -27,8 +26,8 @@ front_lacks sign text = λ i d lt.
 
 pub found_at : (sign : ℕ) (text : Bytes) (end : ℕ) → position (is_sign sign) text ≡ Some end → (text ≡ take end text ++ sign ∷ take (length text - (end + 1)) (drop (end + 1) text)) × Lacks sign (take end text)
 found_at sign text end e =
-    let found = cases_position (ltb (position_or_len (is_sign sign) text) (length text)) (position_or_len (is_sign sign) text) end e in
-    let lt = ltb-true _ _ found.0 in
+    let found = first_is (is_sign sign) text end e in
+    let lt : position_or_len (is_sign sign) text < length text = omega (arith, found.0, found.1) in
     let here : get_or text (position_or_len (is_sign sign) text) 0 ≡ sign = eqb-true _ _ (passes_at_first (is_sign sign) text 0 lt) in
     let all : take (length text - (end + 1)) (drop (end + 1) text) ≡ drop (end + 1) text = take_all _ _ (omega (arith, length-drop (end + 1) text)) in
     let cut : text ≡ take (position_or_len (is_sign sign) text) text ++ (get_or text (position_or_len (is_sign sign) text) 0 ∷ drop (position_or_len (is_sign sign) text + 1) text) = split_at_first (is_sign sign) text 0 lt in
@@ -37,9 +36,7 @@ found_at sign text end e =
     (subst (λ (t : Bytes). text ≡ take end text ++ sign ∷ t) (sym all) moved, subst (λ (i : ℕ). Lacks sign (take i text)) found.1 (front_lacks sign text))
 
 pub not_found : (sign : ℕ) (text : Bytes) → position (is_sign sign) text ≡ None → Lacks sign text
-not_found sign text e =
-    let none = cases_no_position (ltb (position_or_len (is_sign sign) text) (length text)) (position_or_len (is_sign sign) text) e in
-    subst (Lacks sign) (take_all (position_or_len (is_sign sign) text) text (ltb-false _ _ none)) (front_lacks sign text)
+not_found sign text e = subst (Lacks sign) (take_all (position_or_len (is_sign sign) text) text (first_is_past (is_sign sign) text e)) (front_lacks sign text)
 
 is_itself : (sign : ℕ) → is_sign sign sign ≡ true
 is_itself sign = grind (arith, nat_tests)

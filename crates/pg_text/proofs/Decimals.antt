@@ -29,6 +29,10 @@ pub all_map : {A B : Type 0} (f : A → B) (P : A → Type 0) (Q : B → Type 0)
 all_map f P Q h [] k = tt
 all_map f P Q h (x ∷ xs) k = (h x k.0, all_map f P Q h xs k.1)
 
+pub all_pass : {A : Type 0} (P : A → Type 0) (test : A → Bool) → ((x : A) → P x → test x ≡ true) → (xs : List A) → AllByRecursion P xs → list_all test xs ≡ true
+all_pass P test h [] k = refl
+all_pass P test h (x ∷ xs) k = let e = h x k.0 in rw e (all_pass P test h xs k.1)
+
 digits_are : (w : Bytes) → AllDigits 10 w → AllByRecursion IsDigit w
 digits_are [] h = tt
 digits_are (c ∷ cs) h = (digit_from_value c h.0, digits_are cs h.1)
@@ -65,8 +69,7 @@ ascii_digit : (c : ℕ) → 48 ≤ c → c ≤ 57 → is_ascii_digit c ≡ true
 ascii_digit c low high = grind (arith, nat_tests)
 
 all_digits : (w : Bytes) → AllByRecursion IsDigit w → list_all is_ascii_digit w ≡ true
-all_digits [] h = refl
-all_digits (c ∷ cs) h = let e = ascii_digit c h.0.0 h.0.1 in rw e (all_digits cs h.1)
+all_digits w h = all_pass IsDigit is_ascii_digit (λ c k. ascii_digit c k.0 k.1) w h
 
 numeral_is : (w : Bytes) → 0 < length w → length w < 10 → list_all is_ascii_digit w ≡ true → 48 < get_or w 0 0 → number w ≡ Some (digits_value 10 w)
 unfolding number

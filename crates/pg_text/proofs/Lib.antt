@@ -1,3 +1,5 @@
 pub mod Cuts
 pub mod Digits
 pub mod Decimals
+pub mod Words
+pub mod Lines

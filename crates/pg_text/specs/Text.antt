@@ -1,4 +1,4 @@
--- Text of signs and words: parts with one sign between each two, words behind single spaces, and numbers.
+-- Text of signs and words: parts with one sign between each two, lines, words behind single spaces, and numbers.
 use Rattle.std.specs.Prelude.{◌≡◌, ℕ, Bool, false, ◌&&◌, ◌||◌, not, nat_lt, ◌==◌, if◌then◌else◌, List, [], ◌∷◌, ◌++◌, length, slice_index, Option, Some, None}
 use Rattle.std.specs.Char.{is_ascii_digit}
 use Rattle.std.specs.List.{slice_split, list_all, flat_map, All}
@@ -11,6 +11,15 @@ Bytes = List ℕ
 -- what stands between the signs, empty parts too
 abbrev pub parts : ℕ → Bytes → List Bytes
 parts sign text = slice_split (λ b. b == sign) text
+
+-- A text is cut into lines at each line feed. One that ends the text begins no further line.
+abbrev pub without_empty_end : List Bytes → List Bytes
+without_empty_end [] = []
+without_empty_end (part ∷ []) = if length part == 0 then [] else part ∷ []
+without_empty_end (part ∷ next ∷ parts) = part ∷ without_empty_end (next ∷ parts)
+
+unfoldable pub lines : Bytes → List Bytes
+lines text = without_empty_end (slice_split (λ b. b == 10) text)
 
 -- two parts, and no more
 abbrev pub pair_of : List Bytes → Option (Bytes × Bytes)

@@ -193,6 +193,12 @@ fn stops_saying(alloc: Global, row: &str) -> Result<bool, AllocError> {
 }
 
 #[test]
+fn no_question_is_asked_before_a_search(rt: HostRuntime) {
+    let work = Work::new(rt.alloc());
+    assert!(rt; work.question().is_none() && work.positions() == 0);
+}
+
+#[test]
 fn noughts_and_crosses_with_breaker_in_the_centre(rt: HostRuntime) -> Result<(), Fail> {
     for row in [
         "claim x y win;nodes 1;|4|x|pairs 0-1 2-5 8-7 6-3=accepted x y win",

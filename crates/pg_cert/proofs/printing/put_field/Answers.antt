@@ -1,7 +1,7 @@
-use Rattle.std.proofs.Common.{◌≡◌, ◌++◌, ◌∙◌, [], refl, sym, ap}
+use Rattle.std.proofs.Common.{refl, sym}
 use Rattle.std.specs.Prelude.{string_bytes}
 use Rattle.std.proofs.lemmas.List.{append-nil}
-use Rattle.pg_cert.specs.Print.{points_below}
+use Rattle.pg_base.specs.Points.{points_below}
 use Rattle.pg_cert.proofs.Printed.{field_grows, begun_grows}
 use Rattle.pg_cert.proofs.printing.put_field.Goals as goal
 

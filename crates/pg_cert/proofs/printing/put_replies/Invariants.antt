@@ -1,4 +1,4 @@
-use Rattle.std.proofs.Common.{◌≡◌, ◌++◌, take, map, length}
+use Rattle.std.proofs.Common.{◌≡◌, ◌++◌, take, map}
 use Rattle.std.specs.Prelude.{string_bytes}
 use Rattle.pg_text.specs.Text.{behind_spaces}
 use Rattle.pg_cert.specs.Print.{reply_word}

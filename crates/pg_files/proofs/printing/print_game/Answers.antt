@@ -1,5 +1,5 @@
 use Rattle.pg_files.specs.Views.{entry}
-use Rattle.pg_files.specs.Sets.{members}
+use Rattle.pg_base.specs.Points.{members}
 use Rattle.pg_base.specs.Kind.{kind_word}
 use Rattle.pg_base.specs.Side.{side_word}
 use Rattle.pg_files.specs.Print.{printed, header, worded, field_words, marked}

@@ -1,7 +1,7 @@
 use Rattle.std.proofs.Common.{◌<◌, ◌+◌, length, arith, ◌∙◌, sym, ap}
 use Rattle.std.proofs.lemmas.Bool.Decides.{nat_tests}
 use Rattle.pg_files.specs.Views.{view}
-use Rattle.pg_files.proofs.Lines.{shorter}
+use Rattle.pg_text.proofs.Lines.{shorter}
 use Rattle.pg_files.proofs.LineByLine.{reads_on, ends, is_over}
 use Rattle.pg_files.proofs.reading.read_lines.Goals as goal
 

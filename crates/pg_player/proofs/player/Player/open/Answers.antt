@@ -20,7 +20,7 @@ invariant_of-result c =
     let sound = sound-chosen g c.args.c.cert.now c.args.side claim c.args.c.limits c.args.c.valid is in
     let s = standing_of claim.nodes c.root.result in
     IsPlaying-next g claim (start g) c.start-position.result s c.over-ending.result c.in-Ok.judge c.over-ending.new.self c.in-Ok-joiner_for.joiner c.in-Ok-joiner_for.joiner
-    (InPlay-root g claim s sound is.turn_is c.root.ensures) c.start-position.ensures c.over-ending.ensures.result c.in-Ok.ensures c.over-ending.ensures.kept c.in-Ok-joiner_for.ensures refl
+    (InPlay-root g claim s sound is.turn_is c.root.ensures) c.start-position.ensures c.over-ending.ensures.result c.in-Ok.ensures.made c.over-ending.ensures.kept c.in-Ok-joiner_for.ensures.joined refl
 
 pub returns-clause-side : goal.returns-clause-side
 returns-clause-side c = (chosen-is c.args.c.game.now c.args.c.cert.now c.args.side c.in-Some.claim.now (sym c.in-Some.ensures)).side_is

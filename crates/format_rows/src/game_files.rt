@@ -1,5 +1,6 @@
-use crate::{GameFault, print_game, read_game};
+//! Game files with faults, and files that read and print back.
 use pg_base::{Grid, Kind, Memory, Side};
+use pg_files::{GameFault, print_game, read_game};
 use pg_game::{Field, Game};
 use std::alloc::{AllocError, Global};
 use std::fmt::Write;

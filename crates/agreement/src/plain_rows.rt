@@ -2,13 +2,13 @@
 //!
 //! A game is told as `KIND COUNT TURN BIAS:LINES:X:Y`, with commas between lines. A graph is told by the number of its
 //! vertices and by its edges; its terminals are 0 and 1. A row is a game, what is tried on it, and last what is due.
-use crate::{
-    Class, avoider_holds, class_of, cuts_hold, greatest_weight, is_threat_line, limit, pairs_hold,
-    potential_holds, total, trees_hold, value, weight,
-};
 use pg_base::{Kind, Pair, PointSet, Score, Side};
 use pg_game::{Field, Game, Judge, LineField};
 use pg_graph::{Ends, Graph};
+use pg_plain::{
+    Class, avoider_holds, class_of, cuts_hold, greatest_weight, is_threat_line, limit, pairs_hold,
+    potential_holds, total, trees_hold, value, weight,
+};
 use std::alloc::Global;
 use std::test::Fail;
 

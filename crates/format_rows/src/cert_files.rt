@@ -1,7 +1,7 @@
 //! Files with faults, and files that read and print back.
-use super::*;
 use pg_base::Memory;
 use pg_cert::{print_cert, print_node};
+use pg_cert_files::{CertFault, read_cert};
 use std::alloc::{AllocError, Global};
 use std::test::Fail;
 

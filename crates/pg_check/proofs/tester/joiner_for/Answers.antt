@@ -1,5 +1,0 @@
-use Rattle.pg_game.proofs.Outcomes.{IsGraph-board}
-use Rattle.pg_check.proofs.tester.joiner_for.Goals as goal
-
-pub new-requires : goal.new-requires
-new-requires c = record { graph = IsGraph-board c.in-Graph.graph (c.args.g.now.fits.on_graph c.in-Graph.graph c.in-Graph.is) }
