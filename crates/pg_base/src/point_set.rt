@@ -95,9 +95,10 @@ impl PointSet {
         self.words[(p / 64) as usize] &= !(1 << (p % 64));
     }
 
-    /// How many points the set has.
+    /// How many points the set has, 1,024 at most.
     pub fn len(&self) -> u32
-        ensures { result ≡ set.len self.now }
+        ensures exact { result ≡ set.len self.now }
+        ensures few { result ≤ 1024 }
     {
         let mut points = 0;
         for word in &self.words {

@@ -27,7 +27,7 @@ free_after_y true false b = refl
 free_after_y false a b = refl
 
 -- the same at each side to move
-free_at : (x y : FinSet nat_cmp) (turn : Side) (v q : ℕ) → (not (contains (x_after turn x v) q) && not (contains (y_after turn y v) q)) ≡ (not (eqb q v) && (not (contains x q) && not (contains y q)))
+pub free_at : (x y : FinSet nat_cmp) (turn : Side) (v q : ℕ) → (not (contains (x_after turn x v) q) && not (contains (y_after turn y v) q)) ≡ (not (eqb q v) && (not (contains x q) && not (contains y q)))
 free_at x y X v q = ap (λ b. not b && not (contains y q)) (in_insert x v q) ∙ free_after_x (eqb q v) (contains x q) (contains y q)
 free_at x y Y v q = ap (λ b. not (contains x q) && not b) (in_insert y v q) ∙ free_after_y (eqb q v) (contains x q) (contains y q)
 
@@ -44,7 +44,7 @@ keeps_out p v a (suc n) h =
     let rest = keeps_out p v (a + 1) n (omega arith) in
     rw ne (elim (cases_Bool (p a)) [ inl on ↦ rw on (ap suc rest) | inr off ↦ rw off rest ])
 
-one_fewer : (p : ℕ → Bool) (v a n : ℕ) → p v ≡ true → a ≤ v → v < a + n → length (filter (λ q. not (eqb q v) && p q) (range_with_len a n)) + 1 ≡ length (filter p (range_with_len a n))
+pub one_fewer : (p : ℕ → Bool) (v a n : ℕ) → p v ≡ true → a ≤ v → v < a + n → length (filter (λ q. not (eqb q v) && p q) (range_with_len a n)) + 1 ≡ length (filter p (range_with_len a n))
 one_fewer p v a zero on low high = absurd (omega arith)
 one_fewer p v a (suc n) on low high =
     elim (cases_eq v a) [
@@ -68,7 +68,7 @@ length-free_points-after g p v within free =
 
 -- ---- members of the list
 
-any-filter : (p t : ℕ → Bool) (v a n : ℕ) → a ≤ v → v < a + n → p v ≡ true → t v ≡ true → list_any t (filter p (range_with_len a n)) ≡ true
+pub any-filter : (p t : ℕ → Bool) (v a n : ℕ) → a ≤ v → v < a + n → p v ≡ true → t v ≡ true → list_any t (filter p (range_with_len a n)) ≡ true
 any-filter p t v a zero low high on pass = absurd (omega arith)
 any-filter p t v a (suc n) low high on pass =
     elim (cases_eq v a) [
@@ -78,13 +78,13 @@ any-filter p t v a (suc n) low high on pass =
           elim (cases_Bool (p a)) [ inl here ↦ rw here (or_right (t a) _ rest) | inr off ↦ rw off rest ]
     ]
 
-all-filter : (p t : ℕ → Bool) (a n : ℕ) → ((v : ℕ) → a ≤ v → v < a + n → p v ≡ true → t v ≡ true) → list_all t (filter p (range_with_len a n)) ≡ true
+pub all-filter : (p t : ℕ → Bool) (a n : ℕ) → ((v : ℕ) → a ≤ v → v < a + n → p v ≡ true → t v ≡ true) → list_all t (filter p (range_with_len a n)) ≡ true
 all-filter p t a zero each = refl
 all-filter p t a (suc n) each =
     let rest = all-filter p t (a + 1) n (λ v low high. each v (omega arith) (omega arith)) in
     elim (cases_Bool (p a)) [ inl here ↦ rw here (and_from (t a) _ (each a (omega arith) (omega arith) here) rest) | inr off ↦ rw off rest ]
 
-any-filter-from : (p t : ℕ → Bool) (a n : ℕ) → list_any t (filter p (range_with_len a n)) ≡ true → (v : ℕ) × (a ≤ v) × (v < a + n) × (p v ≡ true) × (t v ≡ true)
+pub any-filter-from : (p t : ℕ → Bool) (a n : ℕ) → list_any t (filter p (range_with_len a n)) ≡ true → (v : ℕ) × (a ≤ v) × (v < a + n) × (p v ≡ true) × (t v ≡ true)
 any-filter-from p t a zero h = absurd (false≢true h)
 any-filter-from p t a (suc n) h = elim (cases_Bool (p a)) [
   | inl here ↦ elim (or_cases (t a) _ (rw here at h)) [
@@ -94,7 +94,7 @@ any-filter-from p t a (suc n) h = elim (cases_Bool (p a)) [
   | inr off ↦ let w = any-filter-from p t (a + 1) n (rw off at h) in (w.0, omega (arith, w.1), omega (arith, w.2), w.3, w.4)
 ]
 
-all-filter-from : (p t : ℕ → Bool) (a n : ℕ) → list_all t (filter p (range_with_len a n)) ≡ true → (v : ℕ) → a ≤ v → v < a + n → p v ≡ true → t v ≡ true
+pub all-filter-from : (p t : ℕ → Bool) (a n : ℕ) → list_all t (filter p (range_with_len a n)) ≡ true → (v : ℕ) → a ≤ v → v < a + n → p v ≡ true → t v ≡ true
 all-filter-from p t a zero h v low high on = absurd (omega arith)
 all-filter-from p t a (suc n) h v low high on = elim (cases_Bool (p a)) [
   | inl here ↦

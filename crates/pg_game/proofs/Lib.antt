@@ -1,7 +1,9 @@
 pub mod Members
 pub mod FreePoints
+pub mod Sides
 pub mod Scores
 pub mod Moves
+pub mod RulesLaws
 pub mod Strategy
 pub mod ValueLaws
 pub mod Limits
@@ -16,3 +18,5 @@ pub mod FreeCounts
 pub mod LastPoint
 pub mod Unfilled
 pub mod RowLines
+pub mod ThreatLaws
+pub mod ThreatSearch

@@ -13,22 +13,7 @@ use Rattle.pg_game.specs.Position.{is_free, points_of, AreDisjoint, claims_in_tu
 use Rattle.pg_game.specs.Game.{point_count, bias_of, after, with_turn, start, IsPosition}
 use Rattle.pg_game.specs.Play.{IsLegalPlay, played}
 use Rattle.pg_game.proofs.FreePoints.{is_free-after}
-
--- ---- sides
-
-pub side≢other : (side : Side) → side ≢ other side
-side≢other X e = cc
-side≢other Y e = cc
-
-pub side_cases : (turn side : Side) → (turn ≡ side) ⊎ (turn ≡ other side)
-side_cases X X = inl refl
-side_cases X Y = inr refl
-side_cases Y X = inr refl
-side_cases Y Y = inl refl
-
-pub other_other : (side : Side) → other (other side) ≡ side
-other_other X = refl
-other_other Y = refl
+pub use Rattle.pg_game.proofs.Sides.{side≢other, side_cases, other_other}
 
 -- ---- the points of the mover and of the other side
 

@@ -9,7 +9,7 @@ use Rattle.pg_base.specs.declared.score.Score.{Score}
 use Rattle.pg_base.specs.declared.score.Score.TheVariants.{XWins, Draw, YWins}
 use Rattle.pg_base.specs.declared.goal.Goal.{Goal}
 use Rattle.pg_base.specs.declared.goal.Goal.TheVariants.{Win, Draw as AtLeastDraw}
-use Rattle.pg_game.specs.Value.{better, best, reaches}
+use Rattle.pg_game.specs.Rules.{better, best, reaches}
 
 -- what a side likes more of two reaches its goal where one of them does
 reaches-better : (side : Side) (goal : Goal) (s t : Score) → reaches side goal (better side s t) ≡ (reaches side goal s || reaches side goal t)

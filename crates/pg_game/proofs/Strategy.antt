@@ -1,5 +1,5 @@
 -- How a side forces a goal by keeping an invariant.
-use Rattle.std.proofs.Common.{◌≡◌, ℕ, List, [], ◌∷◌, zero, suc, ◌<◌, ◌≤◌, Bool, true, false, not, ◌&&◌, ◌||◌, map, length, refl, sym, ap, ◌∙◌, inl, inr, ◌⊎◌, arith}
+use Rattle.std.proofs.Common.{◌≡◌, ℕ, List, [], ◌∷◌, ◌<◌, ◌≤◌, Bool, true, false, not, ◌&&◌, ◌||◌, length, refl, sym, ◌∙◌, inl, inr, ◌⊎◌, arith}
 use Rattle.std.proofs.lemmas.Bool.{cases_Bool, or_left, or_right, not_from_false, false≢true}
 use Rattle.pg_game.specs.declared.position.Position.{Position}
 use Rattle.pg_base.specs.declared.side.Side.{Side}
@@ -11,10 +11,10 @@ use Rattle.pg_base.specs.declared.goal.Goal.{Goal}
 use Rattle.pg_game.specs.Game.{after, free_points, point_count, is_over, is_full, is_over_by}
 use Rattle.pg_game.specs.Play.{IsLegalPlay}
 pub use Rattle.pg_game.specs.Strategy.{Keeps}
-use Rattle.pg_game.specs.Value.{best, value, value_within, reaches, Forces}
-use Rattle.pg_game.proofs.Scores.{reaches-best, reaches-best_other}
-use Rattle.pg_game.proofs.FreePoints.{length-free_points-after, any-free_points, all-free_points, no_free_points, first_free, none-full}
-use Rattle.pg_game.proofs.Moves.{side_cases}
+use Rattle.pg_game.specs.Rules.{IsEnding}
+use Rattle.pg_game.specs.Value.{rules_of, Forces}
+use Rattle.pg_game.proofs.RulesLaws.{ForcesBy-from_keeps}
+use Rattle.pg_game.proofs.FreePoints.{length-free_points-after, first_free, none-full, is_full-none}
 use Rattle.pg_game.specs.Field.{field_points, field_joins}
 use Rattle.pg_game.specs.declared.field.Field.{Field}
 use Rattle.pg_game.specs.declared.field.Field.TheVariants.{Lines, Graph as OnGraph}
@@ -64,35 +64,13 @@ free_point g p going = elim (cases_Bool (is_full g p)) [
 
 -- ---- keeping an invariant
 
-module _ {I : Position → Type 0} (g : Game) (side : Side) (goal : Goal) (keeps : Keeps g side goal I) where
-  within : (moves : ℕ) (p : Position) → I p → length (free_points g p) ≤ moves → reaches side goal (value_within moves g p) ≡ true
-  unfolding value_within
-  within zero p i few = keeps.ends p i (over-where_full g p (no_free_points g p (omega arith)))
-  within (suc moves) p i few =
-      elim (cases_Bool (is_over g p)) [
-        | inl over ↦ rw over (keeps.ends p i over)
-        | inr going ↦ rw going (elim (side_cases p.turn side) [
-          | inl mine ↦
-              let move = keeps.own p i going mine in
-              let fewer = length-free_points-after g p move.0 move.1 move.2 in
-              let good = within moves (after g p move.0) move.3 (omega arith) in
-              ap (λ (s : Side). reaches side goal (best s (map (λ v. value_within moves g (after g p v)) (free_points g p)))) mine
-              ∙ (reaches-best side goal (λ v. value_within moves g (after g p v)) (free_points g p)
-              ∙ any-free_points g p (λ v. reaches side goal (value_within moves g (after g p v))) move.0 move.1 move.2 good)
-          | inr yours ↦
-              ap (λ (s : Side). reaches side goal (best s (map (λ v. value_within moves g (after g p v)) (free_points g p)))) yours
-              ∙ (reaches-best_other side goal (λ v. value_within moves g (after g p v)) (free_points g p)
-              ∙ all-free_points g p (λ v. reaches side goal (value_within moves g (after g p v)))
-              (λ v range free.
-              let fewer = length-free_points-after g p v range free in
-              within moves (after g p v) (keeps.theirs p i going yours v range free) (omega arith)))
-        ])
-      ]
+-- a game's rules end it where no point is free
+pub IsEnding-game : (g : Game) → IsEnding (rules_of g)
+IsEnding-game g = record { full = λ p none. over-where_full g p (is_full-none g p none) }
 
-  -- so the side forces its goal wherever the invariant holds
-  pub Forces-from_keeps : (p : Position) → I p → Forces g p side goal
-  unfolding value
-  Forces-from_keeps p i = within (length (free_points g p)) p i (omega arith)
+-- the side forces its goal wherever an invariant holds that it keeps
+pub Forces-from_keeps : {I : Position → Type 0} (g : Game) (side : Side) (goal : Goal) → Keeps g side goal I → (p : Position) → I p → Forces g p side goal
+Forces-from_keeps g side goal keeps p i = ForcesBy-from_keeps (rules_of g) (IsEnding-game g) side goal keeps p i
 
 -- a legal play has at most as many moves as points are free
 pub length-legal_play : (g : Game) (p : Position) (moves : List ℕ) → IsLegalPlay g p moves → length moves ≤ length (free_points g p)

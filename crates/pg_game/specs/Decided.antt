@@ -17,6 +17,7 @@ use Rattle.pg_game.specs.Game.{lines_of, free_points, is_touched, is_over, outco
 use Rattle.pg_game.specs.Pairs.{breaker_of}
 use Rattle.pg_game.specs.Potential.{potential_holds}
 use Rattle.pg_game.specs.Avoider.{avoider_holds}
+use Rattle.pg_game.specs.Threat.{may_attack, has_threat_line}
 
 -- ---- questions and answers
 
@@ -79,6 +80,17 @@ defends Switching g t p = false
 abbrev pub by_potential : Game → Score → Position → Option Bool
 by_potential g t p = if defends g.kind g t p then Some (answer_for (defender g.kind t)) else None
 
+-- how many replies a threat line may force that decides a position
+abbrev pub greatest_depth : ℕ
+greatest_depth = 3
+
+-- whether the side to move has a threat line that is short enough
+unfoldable pub attack_wins : Game → Position → Bool
+attack_wins g p = may_attack g.kind p.turn && has_threat_line greatest_depth g p
+
+abbrev pub by_threat : Game → Position → Option Bool
+by_threat g p = if attack_wins g p then Some (answer_for p.turn) else None
+
 -- whether each of the lists can have two different points of its own, of those that pass
 unfoldable pub has_private_pairs : List (List ℕ) → (ℕ → Bool) → Bool
 has_private_pairs [] test = true
@@ -110,9 +122,9 @@ pairs_exist g p side = has_lines g.kind && (avoider_can_pair g.kind g p && has_p
 abbrev pub by_pairs : Game → Score → Position → Option Bool
 by_pairs g t p = if pairs_exist g p (defender g.kind t) then Some (answer_for (defender g.kind t)) else None
 
--- The answer of the first criterion that applies: the game is over, a potential holds, or private pairs exist. (Threat lines come between the last two once they are found by code.)
+-- The answer of the first criterion that applies: the game is over, a potential holds, the side to move has a short threat line, or private pairs exist.
 unfoldable pub decided : Game → Score → Position → Option Bool
-decided g t p = first_known (by_end g t p) (first_known (by_potential g t p) (by_pairs g t p))
+decided g t p = first_known (by_end g t p) (first_known (by_potential g t p) (first_known (by_threat g p) (by_pairs g t p)))
 
 -- some criterion answers the question so
 abbrev pub IsDecided : Game → Score → Position → Bool → Type 0

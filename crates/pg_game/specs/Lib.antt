@@ -1,6 +1,7 @@
 pub mod Field
 pub mod Fit
 pub mod Position
+pub mod Rules
 pub mod Game
 pub mod Value
 pub mod Play

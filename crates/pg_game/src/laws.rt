@@ -4,12 +4,14 @@ ghost use Rattle.pg_base.specs.Side.{other};
 ghost use Rattle.pg_base.specs.declared.goal.Goal.{Goal};
 ghost use Rattle.pg_base.specs.declared.side.Side.{Side};
 ghost use Rattle.pg_graph.specs.declared.graph.Graph.{Graph};
+ghost use Rattle.pg_game.specs.Decided.{attack_wins, greatest_depth};
 ghost use Rattle.pg_game.specs.Field.{terminals_joined};
 ghost use Rattle.pg_game.specs.Game.{point_count, free_points, after, bias_of, start, with_turn, is_over, outcome, IsPosition};
 ghost use Rattle.pg_game.specs.Play.{IsLegalPlay, played};
 ghost use Rattle.pg_game.specs.Position.{is_free};
 ghost use Rattle.pg_game.specs.PositionLemmas.{equal_positions};
 ghost use Rattle.pg_game.specs.Strategy.{Keeps};
+ghost use Rattle.pg_game.specs.Threat.{may_attack, has_threat_line, depth_of, IsThreatLine, IsFirstThreatLine};
 ghost use Rattle.pg_game.specs.Value.{value, best, Forces};
 ghost use Rattle.pg_game.specs.Walked.{AreConnected, IsJoiningGame};
 ghost use Rattle.pg_game.specs.declared.field.Field.TheVariants.{Graph as OnGraph};
@@ -78,4 +80,21 @@ pub fn joining_is_by_walks()
 /// Positions are equal by `==` exactly where they are the same.
 pub fn equal_positions_are_same()
     ensures { (p : Position) → (q : Position) → IsTrue (equal_positions p q) ↔ (p ≡ q) }
+{}
+
+/// The attacker of a threat line wins: X in Maker-Breaker, and either side in Maker-Maker. After each attack either the
+/// other side makes the forced reply, and the attacker goes on, or the attacker takes that point and has filled a line.
+///
+/// Allis, van den Herik and Huntjens, Go-Moku solved by new search techniques (1996).
+pub fn threat_lines_force()
+    ensures { (g : Game) → (p : Position) → (side : Side) → (points : List ℕ) → may_attack g.kind side ≡ true → IsPosition g p → IsThreatLine g p side points → Forces g p side Goal.Win }
+{}
+
+/// The computed tests say exactly that there is a threat line of the side to move: one of at most some depth (`within`),
+/// and one that is short enough to decide a position, of a side that wins by filling a line (`short`). Of the threat lines
+/// of least depth at most one is the first in the order of lists (`one`).
+pub fn threat_lines_are_found()
+    ensures within { (depth : ℕ) → (g : Game) → (p : Position) → IsTrue (has_threat_line depth g p) ↔ ((points : List ℕ) × (depth_of points ≤ depth) × IsThreatLine g p p.turn points) }
+    ensures short { (g : Game) → (p : Position) → IsTrue (attack_wins g p) ↔ ((may_attack g.kind p.turn ≡ true) × (points : List ℕ) × (depth_of points ≤ greatest_depth) × IsThreatLine g p p.turn points) }
+    ensures one { (g : Game) → (p : Position) → (side : Side) → (points : List ℕ) → (others : List ℕ) → IsFirstThreatLine g p side points → IsFirstThreatLine g p side others → points ≡ others }
 {}

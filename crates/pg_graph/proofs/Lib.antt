@@ -16,4 +16,5 @@ pub mod CutAnswers
 mod RootLemmas
 mod LabelLemmas
 mod StepLemmas
+mod ReadLemmas
 mod SplitLemmas

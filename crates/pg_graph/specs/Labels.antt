@@ -1,7 +1,9 @@
 -- Labels of vertices: one for the vertices that are joined.
-use Rattle.std.specs.Prelude.{◌≡◌, ◌≢◌, ℕ, ◌<◌, ◌⊎◌, ◌==◌, ◌↔◌, Bool, true, cond, List, length}
+use Rattle.std.specs.Prelude.{◌≡◌, ◌≢◌, ℕ, ◌<◌, ◌⊎◌, ◌==◌, ◌↔◌, Bool, true, cond, List, length, slice_index}
 use Rattle.pg_base.specs.Sets.{below}
 use Rattle.pg_graph.specs.Walks.{IsJoined}
+use Rattle.pg_graph.specs.declared.graph.Graph.{Graph}
+use Rattle.pg_graph.specs.Graph.{joins_in}
 use Rattle.pg_graph.specs.Roots.{root_of, IsUpward}
 
 -- vertices below n are joined by the edges of the set that are below k, just where r gives them one label
@@ -29,3 +31,9 @@ pub record IsLabelling (a b : ℕ → ℕ) (set : ℕ → Bool) (up : List ℕ) 
 -- exactly one of two labels is this one
 abbrev pub IsSplit : ℕ → ℕ → ℕ → Type 0
 IsSplit first second label = ((first ≡ label) × (second ≢ label)) ⊎ ((first ≢ label) × (second ≡ label))
+
+-- a label below the number of vertices for each vertex: two have the same one just where edges of the set join them
+pub record AreLabels (g : Graph) (set : ℕ → Bool) (names : List ℕ) : Type 0 where
+  pub size : length names ≡ g.vertices
+  pub range : (v : ℕ) → v < g.vertices → slice_index names v < g.vertices
+  pub same : (u v : ℕ) → u < g.vertices → v < g.vertices → (slice_index names u ≡ slice_index names v) ↔ (joins_in g set u v ≡ true)

@@ -7,8 +7,8 @@ ghost use Rattle.pg_graph.specs.Joiner.{AreEdges, Crosses, Parts, IsLowest};
 ghost use Rattle.pg_graph.specs.Labels.{IsSplit};
 ghost use Rattle.pg_graph.specs.Roots.{root_of, IsUpward, SameRoots};
 
+use crate::components::{label, top};
 use crate::graph::Graph;
-use crate::labels::{label, top};
 use pg_base::PointSet;
 
 /// Whether a walk of edges of the set leads from u to v.

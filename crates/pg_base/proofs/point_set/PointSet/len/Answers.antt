@@ -17,7 +17,10 @@ loop-word-preserved c = record {
   bound = omega (arith, ones-le 64 (get_or c.self.inside.words c.loop-word.word-index 0) (c.self.invariant.fit c.loop-word.word-index), c.loop-word.invariant.bound);
 }
 
-pub returns : goal.returns
-returns c =
+pub returns-clause-exact : goal.returns-clause-exact
+returns-clause-exact c =
     let end : 64 * c.loop-word.word-index ≡ 1024 = omega arith in
     c.loop-word.invariant.counted ∙ ap (λ n. len (members_below c.self.inside.words n)) end ∙ ap len c.self.view_is
+
+pub returns-clause-few : goal.returns-clause-few
+returns-clause-few c = omega (arith, c.loop-word.invariant.bound)

@@ -6,8 +6,8 @@ use Rattle.pg_graph.specs.Labels.{IsLinked, IsMerged}
 use Rattle.pg_graph.specs.declared.graph.Graph.{Graph}
 use Rattle.pg_graph.proofs.GraphLemmas.{ends_in_range}
 use Rattle.pg_graph.proofs.StepLemmas.{IsLinked-begin, IsLinked-skip, IsLinked-merged, IsLabelling-all}
-use Rattle.pg_graph.proofs.labels.label.Goals as goal
-use Rattle.pg_graph.proofs.labels.label.Goals.{then-has, else-has}
+use Rattle.pg_graph.proofs.components.label.Goals as goal
+use Rattle.pg_graph.proofs.components.label.Goals.{then-has, else-has}
 
 small_ends : (g : Graph) (set : ℕ → Bool) → IsGraph g → IsBelow set (suc (edge_count g)) → (j : ℕ) → set j ≡ true → (first_end_of g j < g.vertices) × (second_end_of g j < g.vertices)
 small_ends g set h small j t = let l : j < suc (edge_count g) = small j t in ends_in_range g j h (omega arith)

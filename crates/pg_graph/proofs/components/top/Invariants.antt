@@ -1,6 +1,6 @@
 use Rattle.std.proofs.Common.{◌≡◌, ◌<◌, length}
 use Rattle.pg_graph.specs.Roots.{root_of, IsUpward, SameRoots}
-use Rattle.pg_graph.proofs.labels.top.Given as goal
+use Rattle.pg_graph.proofs.components.top.Given as goal
 
 abbrev pub invariant-loop-up : goal.invariant-loop-up
 invariant-loop-up l = record {

@@ -1,7 +1,7 @@
 use Rattle.std.proofs.Common.{◌≡◌, ◌≤◌, arith, length, get_or, sym, ◌∙◌}
 use Rattle.std.proofs.Math.ListN.{set, length-set}
 use Rattle.pg_graph.proofs.RootLemmas.{root-halved, root-top, root-up, IsUpward-set}
-use Rattle.pg_graph.proofs.labels.top.Goals as goal
+use Rattle.pg_graph.proofs.components.top.Goals as goal
 
 pub loop-up-preserved : goal.loop-up-preserved
 loop-up-preserved c =

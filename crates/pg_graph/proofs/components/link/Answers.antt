@@ -2,7 +2,7 @@ use Rattle.std.proofs.Common.{◌≡◌, arith, sym, ◌∙◌, inl, inr}
 use Rattle.pg_graph.specs.Roots.{root_of}
 use Rattle.pg_graph.proofs.RootLemmas.{root-top}
 use Rattle.pg_graph.proofs.StepLemmas.{merged}
-use Rattle.pg_graph.proofs.labels.link.Goals as goal
+use Rattle.pg_graph.proofs.components.link.Goals as goal
 
 pub returns-then-a-b-clause-merged : goal.returns-then-a-b-clause-merged
 returns-then-a-b-clause-merged c =

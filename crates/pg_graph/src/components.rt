@@ -1,13 +1,40 @@
 //! Labels for the vertices of a graph, by union and find with path halving (Tarjan and van Leeuwen 1984).
-ghost use Rattle.std.specs.Prelude.{◌≡◌, ℕ, ◌<◌, ◌≤◌, length, slice_index};
+ghost use Rattle.std.specs.Prelude.{◌≡◌, ℕ, ◌<◌, ◌≤◌, IfOk, length, slice_index};
 ghost use Rattle.std.specs.FinSet.{contains};
 ghost use Rattle.pg_graph.specs.Graph.{IsGraph, first_end_of, second_end_of};
 ghost use Rattle.pg_graph.specs.Joiner.{AreEdges};
-ghost use Rattle.pg_graph.specs.Labels.{IsLabelling, IsMerged};
+ghost use Rattle.pg_graph.specs.Labels.{IsLabelling, IsMerged, AreLabels};
 ghost use Rattle.pg_graph.specs.Roots.{root_of, IsUpward, SameRoots};
 
 use crate::graph::Graph;
-use pg_base::PointSet;
+use pg_base::{Memory, PointSet};
+use std::alloc::Global;
+
+/// A label for each vertex: two vertices have the same one just where edges of the set join them. `Memory` says that
+/// there is no room for them.
+pub fn labels(alloc: Global, g: &Graph, set: &PointSet) -> Result<Vec<u16>, Memory>
+    requires graph { IsGraph g.now }
+    requires set { AreEdges g.now (contains set.now) }
+    ensures { IfOk result (λ names. AreLabels g.now (contains set.now) names.items) }
+{
+    let mut up = vec![in alloc; 0; g.vertices as usize]?;
+    let mut names = vec![in alloc; 0; g.vertices as usize]?;
+    label(&mut up, g, set);
+    read_tops(&mut up, &mut names);
+    Ok(names)
+}
+
+/// Writes the top above each vertex.
+fn read_tops(up: &mut [u16], names: &mut [u16])
+    requires upward { IsUpward up.old }
+    requires size { length names.old ≡ length up.old }
+    requires few { length up.old ≤ 500 }
+    ensures { (v : ℕ) → v < length up.old → (slice_index names.new v ≡ root_of up.old v) × (slice_index names.new v < length up.old) }
+{
+    for v in 0..up.len() {
+        names[v] = top(up, v as u16);
+    }
+}
 
 /// Gives two vertices one top just where edges of the set join them.
 pub(crate) fn label(up: &mut [u16], g: &Graph, set: &PointSet)

@@ -1,0 +1,19 @@
+-- The two sides.
+use Rattle.std.proofs.Common.{◌≡◌, ◌≢◌, ◌⊎◌, inl, inr, refl}
+use Rattle.pg_base.specs.declared.side.Side.{Side}
+use Rattle.pg_base.specs.declared.side.Side.TheVariants.{X, Y}
+use Rattle.pg_base.specs.Side.{other}
+
+pub side≢other : (side : Side) → side ≢ other side
+side≢other X e = cc
+side≢other Y e = cc
+
+pub side_cases : (turn side : Side) → (turn ≡ side) ⊎ (turn ≡ other side)
+side_cases X X = inl refl
+side_cases X Y = inr refl
+side_cases Y X = inr refl
+side_cases Y Y = inl refl
+
+pub other_other : (side : Side) → other (other side) ≡ side
+other_other X = refl
+other_other Y = refl

@@ -1,0 +1,20 @@
+use Rattle.std.proofs.Common.{◌≡◌, ◌<◌, ℕ, List, length, slice_index, arith, sym, ◌∙◌, subst}
+use Rattle.std.specs.FinSet.{contains}
+use Rattle.std.proofs.lemmas.List.{take_at}
+use Rattle.pg_graph.specs.Graph.{first_end_of, second_end_of}
+use Rattle.pg_graph.specs.Labels.{IsLabelling, AreLabels}
+use Rattle.pg_graph.specs.Roots.{root_of}
+use Rattle.pg_graph.proofs.ReadLemmas.{AreLabels-read}
+use Rattle.pg_graph.proofs.components.labels.Goals as goal
+
+pub returns : goal.returns
+returns c =
+    let g = c.args.g.now in
+    let read = c.read_tops.new.names in
+    let tops = c.label.new.up in
+    let size : length read ≡ c.in_ok-names.names.len = omega arith in
+    let whole : length tops ≡ c.in_ok-up.up.len = omega (arith, c.in_ok-up.ensures.len) in
+    let seen : c.deref_mut-2.result.now ≡ tops = c.deref_mut-2.ensures.value ∙ take_at tops _ c.in_ok-up.up.len whole in
+    let labelled = subst (λ (l : List ℕ). IsLabelling (first_end_of g) (second_end_of g) (contains c.args.set.now) l) (sym seen) c.label.ensures in
+    subst (λ (l : List ℕ). AreLabels g (contains c.args.set.now) l) (sym (take_at read _ c.in_ok-names.names.len size))
+    (AreLabels-read g (contains c.args.set.now) c.deref_mut-2.result.now read c.requires.set (omega (arith, c.in_ok-up.ensures.len)) (omega (arith, c.in_ok-names.ensures.len, c.in_ok-up.ensures.len)) labelled c.read_tops.ensures)
