@@ -73,6 +73,27 @@ class LineGame:
             for left in range(1, self.bias + 1):
                 yield x, y, "y", left
 
+    def threats(self, mine, theirs):
+        """The free points with which the side would fill a line."""
+        lacks = [line - mine for line in self.lines]
+        return {v for lack in lacks if len(lack) == 1 for v in lack if v not in theirs}
+
+    def attack(self, mine, theirs, depth):
+        """Whether the side to move fills a line, by attacks that force so many replies at most."""
+        for v in self.free(mine, theirs):
+            now = mine | {v}
+            if any(line <= now for line in self.lines):
+                return True
+            if depth and not (self.kind == "race" and self.threats(theirs, now)):
+                if any(self.attack(now, theirs | {u}, depth - 1) for u in self.threats(now, theirs)):
+                    return True
+        return False
+
+    def threat_line(self, x, y, turn, depth):
+        attacks = self.kind == "race" or self.kind == "breaker" and turn == "x"
+        mine, theirs = (x, y) if turn == "x" else (y, x)
+        return attacks and self.score(x, y) is None and self.attack(mine, theirs, depth)
+
     def weights(self, base, harmless, x, y):
         for line in self.lines:
             if not line & harmless:
@@ -135,6 +156,21 @@ def pair_counts(kind, side, goal, bias):
         sets = [[pair for i, pair in enumerate(every) if number >> i & 1] for number in range(1 << len(every))]
         disjoint = [pairs for pairs in sets if len({v for pair in pairs for v in pair}) == 2 * len(pairs)]
         counts += tally(game, side, goal, [functools.partial(game.pairing, side, pairs) for pairs in disjoint])
+    return counts
+
+
+def threat_counts(kind):
+    counts = []
+    for lines in BOARDS:
+        game = LineGame(kind, POINTS, lines)
+        at_once = attacks = won = 0
+        for x, y, turn, left in game.positions():
+            wins = game.value(x, y, turn, left) == (1 if turn == "x" else -1)
+            attack = game.threat_line(x, y, turn, 3)
+            assert wins or not attack, (kind, lines, x, y, turn)
+            at_once += game.threat_line(x, y, turn, 0)
+            attacks, won = attacks + attack, won + wins
+        counts.append((at_once, attacks, won))
     return counts
 
 
@@ -206,6 +242,8 @@ def main():
     for side in "xy":
         print("potential in a race,", side, potential_counts("race", side, "draw", 1))
         print("pairs in a race,", side, pair_counts("race", side, "draw", 1))
+    for kind in ("breaker", "race"):
+        print("threat lines,", kind, threat_counts(kind))
     for ends in GRAPHS:
         print("positions that X wins, trees, cuts on", ends, GraphGame(list(ends)).counts())
 

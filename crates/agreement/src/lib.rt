@@ -8,11 +8,13 @@ mod edge_sets;
 mod lines;
 mod numbered;
 mod pairings;
+mod threats;
 
 pub use edge_sets::{EdgeTally, tally_sets};
 pub use lines::{Tally, tally_claim};
 pub use numbered::{number_count, position_of, sets_of};
 pub use pairings::all_pairings;
+pub use threats::{ThreatTally, tally_threats};
 
 #[cfg(test)]
 mod plain_rows;

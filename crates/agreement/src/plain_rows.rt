@@ -6,8 +6,8 @@ use pg_base::{Kind, Pair, PointSet, Score, Side};
 use pg_game::{Field, Game, Judge, LineField};
 use pg_graph::{Ends, Graph};
 use pg_plain::{
-    Class, avoider_holds, class_of, cuts_hold, greatest_weight, is_threat_line, limit, pairs_hold,
-    potential_holds, total, trees_hold, value, weight,
+    Class, attack_wins, avoider_holds, class_of, cuts_hold, greatest_weight, has_threat_line,
+    is_threat_line, limit, pairs_hold, potential_holds, total, trees_hold, value, weight,
 };
 use std::alloc::Global;
 use std::test::Fail;
@@ -347,6 +347,43 @@ fn threat_lines(rt: HostRuntime) -> Result<(), Fail> {
         "switching 2 x 1:0 1,1 0:::0:no",
     ] {
         assert_eq!(rt; by_threats(rt.alloc(), row)?, part(row, 5), "{row}");
+    }
+    Ok(())
+}
+
+/// The least depth, of at most three, within which the side to move has a threat line, if any, and whether one wins.
+fn depth_word(alloc: Global, row: &str) -> Result<String, Fail> {
+    let g = game(alloc, row)?;
+    let wins = yes_or_no(attack_wins(&g, &g.start()));
+    for depth in 0..4 {
+        if has_threat_line(&g, &g.start(), depth) {
+            return Ok(format!(in alloc; "{depth} {wins}")?);
+        }
+    }
+    Ok(format!(in alloc; "none {wins}")?)
+}
+
+#[test]
+fn depths_of_threat_lines(rt: HostRuntime) -> Result<(), Fail> {
+    for row in [
+        "maker-breaker 9 x 1:three:4:1:2 yes",
+        "maker-breaker 9 x 1:three:4:0:2 yes",
+        "maker-maker 9 x 1:three:4:1:2 yes",
+        "maker-maker 9 x 1:three:4:0:none no",
+        "maker-breaker 9 x 1:three:0 4:1:0 yes",
+        "maker-breaker 9 x 1:three::4:none no",
+        "maker-breaker 3 x 1:0 1,0 2:::1 yes",
+        "maker-breaker 3 y 1:0 1,0 2:::1 no",
+        "maker-maker 3 y 1:0 1,0 2:::1 yes",
+        "avoider-enforcer 3 x 1:0 1,0 2:::1 no",
+        "maker-breaker 3 x 2:0 1,0 2:::none no",
+        "switching 2 x 1:0 1,1 0:::none no",
+    ] {
+        assert_eq!(rt;
+            depth_word(rt.alloc(), row)?.as_str(),
+            part(row, 4),
+            "{row}"
+        );
     }
     Ok(())
 }

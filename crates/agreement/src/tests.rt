@@ -2,7 +2,7 @@
 ghost use Rattle.pg_game.specs.Game.{IsPosition};
 
 use crate::lines::{is_forced, potential_holds};
-use crate::{EdgeTally, Tally, all_pairings, tally_claim, tally_sets};
+use crate::{EdgeTally, Tally, ThreatTally, all_pairings, tally_claim, tally_sets, tally_threats};
 use pg_base::{Goal, Kind, Pairs, PointSet, Side};
 use pg_game::{Field, Game, Judge, LineField, Position, joiner_for};
 use pg_graph::{Ends, Graph};
@@ -85,6 +85,15 @@ fn sets_in(alloc: Global, g: &Game) -> Result<Option<EdgeTally>, Fail> {
     Ok(Some(tally_sets(&mut judge, g, &mut joiner)))
 }
 
+/// The table of threat lines in the game, where it is a small one.
+fn threats_in(alloc: Global, g: &Game) -> Result<Option<ThreatTally>, Fail> {
+    if g.points() > 12 {
+        return Ok(None);
+    }
+    let mut judge = Judge::new(alloc, g)?;
+    Ok(Some(tally_threats(&mut judge, g)))
+}
+
 /// Adds a row of three numbers.
 fn push_row(rows: &mut String, first: u32, second: u32, third: u32) -> Result<(), Fail> {
     write!(rows, "{first} {second} {third},")?;
@@ -116,6 +125,21 @@ fn switching_table(alloc: Global) -> Result<String, Fail> {
         match sets_in(alloc, &switching_of(alloc, ends)?)? {
             Some(tally) if tally.faults == 0 => {
                 push_row(&mut rows, tally.won, tally.trees, tally.cuts)?;
+            }
+            _ => {}
+        }
+    }
+    Ok(rows)
+}
+
+/// For each board a row of three numbers: at how many positions the side to move wins by its next move, at how many by a
+/// threat line, and at how many the value is its win. A board that shows a fault has no row.
+fn threat_table(alloc: Global, kind: Kind) -> Result<String, Fail> {
+    let mut rows = String::new(alloc);
+    for lines in BOARDS {
+        match threats_in(alloc, &game_of(alloc, kind, 5, lines, 1)?)? {
+            Some(tally) if tally.faults == 0 => {
+                push_row(&mut rows, tally.at_once, tally.attacks, tally.won)?;
             }
             _ => {}
         }
@@ -163,6 +187,23 @@ fn tables(rt: HostRuntime) -> Result<(), Fail> {
             part(row, 1),
             "{row}"
         );
+    }
+    Ok(())
+}
+
+#[test]
+fn threat_lines(rt: HostRuntime) -> Result<(), Fail> {
+    for (kind, rows) in [
+        (
+            Kind::MakerBreaker,
+            "0 0 243,72 81 315,78 90 321,84 84 315,45 49 288,95 106 308,87 87 321,76 87 314,",
+        ),
+        (
+            Kind::MakerMaker,
+            "0 0 0,144 162 252,156 180 294,144 144 240,90 98 132,130 132 294,150 150 318,142 156 240,",
+        ),
+    ] {
+        assert_eq!(rt; threat_table(rt.alloc(), kind)?.as_str(), rows);
     }
     Ok(())
 }

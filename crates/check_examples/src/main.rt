@@ -7,7 +7,7 @@ use std::alloc::{AllocError, Global};
 use std::io;
 
 /// Each game with a certificate for it.
-const EXAMPLES: [(&str, &str); 21] = [
+const EXAMPLES: [(&str, &str); 23] = [
     ("noughts-and-crosses.game", "breaker-in-the-centre.cert"),
     ("noughts-and-crosses.game", "a-pair-missing.cert"),
     ("two-lines.game", "maker-takes-the-middle.cert"),
@@ -29,6 +29,8 @@ const EXAMPLES: [(&str, &str); 21] = [
     ("corners.game", "corners-too-heavy.cert"),
     ("corners-breaker-begins.game", "corners-potential.cert"),
     ("diamond.game", "diamond-an-edge-missing.cert"),
+    ("four-in-a-row.game", "four-in-a-row-threats.cert"),
+    ("four-in-a-row.game", "four-in-a-row-overlooked.cert"),
 ];
 
 /// The words that check a certificate for a game.

@@ -1,11 +1,10 @@
 -- The numbers of the faults of nodes.
 use Rattle.std.specs.Prelude.{ℕ}
 use Rattle.pg_cert.specs.declared.node_fault.NodeFault.{NodeFault}
-use Rattle.pg_cert.specs.declared.node_fault.NodeFault.TheVariants.{Unbuilt, Child, Marks, Turn, Moves, End, Pairs, Potential, Trees, Cuts, Threat, Root, Body}
+use Rattle.pg_cert.specs.declared.node_fault.NodeFault.TheVariants.{Child, Marks, Turn, Moves, End, Pairs, Potential, Trees, Cuts, Threat, Root, Body}
 
 -- the number of a fault's code
 abbrev pub fault_number : NodeFault → ℕ
-fault_number Unbuilt = 0
 fault_number Child = 1
 fault_number Marks = 2
 fault_number Turn = 3

@@ -20,7 +20,7 @@ use Rattle.pg_game.specs.Pairs.{PairsHold}
 use Rattle.pg_game.specs.Potential.{PotentialHolds}
 use Rattle.pg_game.specs.Avoider.{AvoiderHolds}
 use Rattle.pg_game.specs.Trees.{TreesHold, CutsHold}
-use Rattle.pg_game.specs.Threat.{IsThreatLine}
+use Rattle.pg_game.specs.Threat.{may_attack, IsThreatLine}
 use Rattle.pg_cert.specs.Node.{position_of}
 use Rattle.pg_cert.specs.NodeFault.{fault_number}
 use Rattle.pg_cert.specs.declared.cert.Cert.{Cert}
@@ -42,12 +42,6 @@ shows_defence MakerMaker side AtLeastDraw = true
 shows_defence AvoiderEnforcer X goal = true
 shows_defence AvoiderEnforcer Y goal = false
 shows_defence Switching side goal = false
-
--- whether threat lines are a means of the side
-abbrev pub shows_threats : Kind → Side → Bool
-shows_threats MakerBreaker X = true
-shows_threats MakerMaker side = true
-shows_threats _ _ = false
 
 -- whether the side is the one that plays by trees, or by cuts, in a game of the kind
 abbrev pub shows_trees : Kind → Side → Bool
@@ -72,13 +66,7 @@ is_allowed kind bias side goal (Pairs pairs) = shows_defence kind side goal && p
 is_allowed kind bias side goal Potential = shows_defence kind side goal
 is_allowed kind bias side goal (Trees with_e first second) = shows_trees kind side
 is_allowed kind bias side goal (Cuts with_e first second) = shows_cuts kind side
-is_allowed kind bias side goal (Threat points) = shows_threats kind side && bias == 1
-
--- whether this version checks the body in games of a kind that allows it: all but threat lines, which come later
-abbrev pub is_built : Kind → Body → Bool
-is_built MakerBreaker (Threat points) = false
-is_built MakerMaker (Threat points) = false
-is_built _ _ = true
+is_allowed kind bias side goal (Threat points) = may_attack kind side && bias == 1
 
 -- ---- what a node owes
 
@@ -177,7 +165,6 @@ Owes g c n P = IsOwed g c n → P
 
 -- THE TABLE: what node number k of the claim owes under each fault's name
 abbrev pub Passes : Game → Claim → ℕ → Node → NodeFault → Type 0
-Passes g c k n faults.Unbuilt = is_built g.kind n.body ≡ true
 Passes g c k n faults.Child = NamesEarlier k n.body
 Passes g c k n faults.Marks = IsInGame g n × FollowMoves g c.nodes (position_of n) n.body
 Passes g c k n faults.Turn = Owes g c n (HasTurn c.side (position_of n) n.body)

@@ -2,11 +2,9 @@
 ghost use Rattle.std.specs.Prelude.{◌≡◌};
 ghost use Rattle.pg_cert.specs.NodeFault.{fault_number};
 
-/// What can be wrong with a node of a claim, the least first. The number of each is its code, J0 to J12.
+/// What can be wrong with a node of a claim, the least first. The number of each is its code, J1 to J12.
 #[derive(Clone, Copy, Debug, PartialEq, Eq, PartialOrd, Ord, Hash)]
 pub enum NodeFault {
-    /// J0: the body is allowed in games of this kind, and isn't built for them yet.
-    Unbuilt,
     /// J1: the body names a child whose number isn't below the node's own.
     Child,
     /// J2: a mark isn't a point of the game, or the child of a move isn't the position after it.
@@ -34,12 +32,11 @@ pub enum NodeFault {
 }
 
 impl NodeFault {
-    /// The number of its code: 0 to 12.
+    /// The number of its code: 1 to 12.
     pub fn number(self) -> u8
         ensures { result ≡ fault_number self }
     {
         match self {
-            NodeFault::Unbuilt => 0,
             NodeFault::Child => 1,
             NodeFault::Marks => 2,
             NodeFault::Turn => 3,

@@ -1,11 +1,11 @@
 -- Every node of a valid claim is forced, by induction on its number.
-use Rattle.std.proofs.Common.{◌≡◌, ◌∙◌, ℕ, zero, suc, ◌+◌, ◌<◌, true, ◌&&◌, List, [], ◌∷◌, Some, slice_get, length, map, get_or, refl, sym, ap, subst, inl, inr, arith, eqb, eqb-true, eq-eqb}
+use Rattle.std.proofs.Common.{◌≡◌, ◌∙◌, ℕ, zero, suc, ◌+◌, ◌<◌, true, ◌&&◌, ◌==◌, List, [], ◌∷◌, Some, slice_get, length, map, get_or, refl, sym, ap, subst, inl, inr, arith, eqb, eqb-true, eq-eqb}
 use Rattle.std.specs.List.{list_any, All as Each}
 use Rattle.std.specs.FinSet.{FinSet}
 use Rattle.std.specs.Ordering.{nat_cmp}
 use Rattle.std.proofs.lemmas.List.{get_or_default}
 use Rattle.std.proofs.lemmas.Option.{slice_get_within, slice_get-get_or}
-use Rattle.std.proofs.lemmas.Bool.{cases_Bool, false≢true}
+use Rattle.std.proofs.lemmas.Bool.{cases_Bool, and_parts, false≢true}
 use Rattle.pg_base.specs.declared.goal.Goal.{Goal}
 use Rattle.pg_base.specs.declared.goal.Goal.TheVariants.{Win, Draw as AtLeastDraw}
 use Rattle.pg_base.specs.declared.kind.Kind.{Kind}
@@ -21,6 +21,8 @@ use Rattle.pg_game.specs.Value.{Forces}
 use Rattle.pg_game.specs.Pairs.{PairsHold}
 use Rattle.pg_game.proofs.ValueLaws.{Forces-over, Forces-move, Forces-all, Forces-any}
 use Rattle.pg_game.proofs.FreePoints.{any-free_points}
+use Rattle.pg_game.specs.Threat.{may_attack, IsThreatLine}
+use Rattle.pg_game.proofs.ThreatLaws.{Forces-threat}
 use Rattle.pg_game.specs.Trees.{TreesHold, CutsHold}
 use Rattle.pg_pairing.proofs.PairLaws.{Forces-pairs_breaker, Forces-pairs_draw, Forces-pairs_avoider}
 use Rattle.pg_potential.proofs.PotentialLaws.{Forces-potential_breaker, Forces-potential_draw}
@@ -35,7 +37,7 @@ use Rattle.pg_cert.specs.declared.reply.Reply.{Reply}
 use Rattle.pg_cert.specs.declared.node_fault.NodeFault.TheVariants as faults
 use Rattle.pg_cert.specs.Node.{position_of}
 use Rattle.pg_cert.specs.Limits.{IsNode, IsClaim, IsWithinLimits}
-use Rattle.pg_cert.specs.Valid.{is_allowed, is_built, shows_defence, shows_trees, shows_cuts, pairs_fit, IsInGame, NamesEarlier, IsNodeOf, FollowsMove, FollowMoves, HasTurn, TakesFree, EndsRight, PotentialFits, with_e_named, HasPairs, HasPotential, HasTrees, HasCuts, IsOwed, IsSound, IsValidClaim, IsValid}
+use Rattle.pg_cert.specs.Valid.{is_allowed, shows_defence, shows_trees, shows_cuts, pairs_fit, IsInGame, NamesEarlier, IsNodeOf, FollowsMove, FollowMoves, HasTurn, TakesFree, EndsRight, PotentialFits, with_e_named, HasPairs, HasPotential, HasTrees, HasCuts, HasThreat, IsOwed, IsSound, IsValidClaim, IsValid}
 
 -- ---- pairs
 
@@ -83,13 +85,14 @@ cuts_at AvoiderEnforcer side goal g p first second ok position h = absurd (false
 cuts_at Switching X goal g p first second ok position h = absurd (false≢true ok)
 cuts_at Switching Y goal g p first second ok position h = Forces-any g p Y goal (Forces-cuts g p first second position h)
 
--- ---- bodies that aren't built
+-- ---- threat lines
 
-no_threat : (kind : Kind) (bias : ℕ) (side : Side) (goal : Goal) (points : List ℕ) → is_built kind (Threat points) ≡ true → is_allowed kind bias side goal (Threat points) ≡ true → ⊥
-no_threat MakerBreaker bias side goal points built allowed = false≢true built
-no_threat MakerMaker bias side goal points built allowed = false≢true built
-no_threat AvoiderEnforcer bias side goal points built allowed = false≢true allowed
-no_threat Switching bias side goal points built allowed = false≢true allowed
+-- where threat lines are allowed, one forces the goal
+threat_at : (kind : Kind) (bias : ℕ) (side : Side) (goal : Goal) (g : Game) (p : Position) (points : List ℕ) → g.kind ≡ kind
+    → (may_attack kind side && bias == 1) ≡ true → IsPosition g p → IsThreatLine g p side points → Forces g p side goal
+threat_at kind bias side goal g p points same ok position h =
+    let may = (and_parts (may_attack kind side) _ ok).0 in
+    Forces-any g p side goal (Forces-threat g p side points (subst (λ (k : Kind). may_attack k side ≡ true) (sym same) may) position h)
 
 -- ---- limits of the members
 
@@ -168,33 +171,33 @@ module _ (g : Game) (c : Claim) where
       child k r.child (after g p v) before (earlier found.0 some found.2)
       (subst (λ (q : ℕ). IsNodeOf c.nodes r.child (after g p q)) point (next.leads (subst (λ (q : ℕ). q < point_count g) (sym point) range) (subst (λ (q : ℕ). is_free p q ≡ true) (sym point) free)))
 
-  body : (k : ℕ) (p : Position) (b : Body) → ForcedBefore k → is_built g.kind b ≡ true → is_allowed g.kind g.bias c.side c.goal b ≡ true → IsPosition g p
+  body : (k : ℕ) (p : Position) (b : Body) → ForcedBefore k → is_allowed g.kind g.bias c.side c.goal b ≡ true → IsPosition g p
       → NamesEarlier k b → FollowMoves g c.nodes p b → HasTurn c.side p b → TakesFree g p b → EndsRight g c.side c.goal p b
-      → HasPairs g c.side p b → HasPotential g c.side p b → HasTrees g p b → HasCuts g p b → Forces g p c.side c.goal
-  body k p Over before built allowed position earlier follow turn takes ends pairs potential trees cuts = Forces-over g p c.side c.goal ends.0 ends.1
-  body k p (Move point j) before built allowed position earlier follow turn takes ends pairs potential trees cuts =
+      → HasPairs g c.side p b → HasPotential g c.side p b → HasTrees g p b → HasCuts g p b → HasThreat g c.side p b → Forces g p c.side c.goal
+  body k p Over before allowed position earlier follow turn takes ends pairs potential trees cuts threat = Forces-over g p c.side c.goal ends.0 ends.1
+  body k p (Move point j) before allowed position earlier follow turn takes ends pairs potential trees cuts threat =
       Forces-move g p c.side c.goal ends turn point takes.0 takes.1 (child k j (after g p point) before earlier (follow.leads takes.0 takes.1))
-  body k p (All replies) before built allowed position earlier follow turn takes ends pairs potential trees cuts =
+  body k p (All replies) before allowed position earlier follow turn takes ends pairs potential trees cuts threat =
       Forces-all g p c.side c.goal ends turn (reply_forced k p replies before earlier follow takes)
-  body k p (Pairs pairs_of) before built allowed position earlier follow turn takes ends pairs potential trees cuts =
+  body k p (Pairs pairs_of) before allowed position earlier follow turn takes ends pairs potential trees cuts threat =
       pairs_at g.kind g.bias c.side c.goal g p pairs_of refl allowed position pairs
-  body k p Potential before built allowed position earlier follow turn takes ends pairs potential trees cuts =
+  body k p Potential before allowed position earlier follow turn takes ends pairs potential trees cuts threat =
       potential_at g.kind c.side c.goal g p refl allowed position potential
-  body k p (Trees with_e first second) before built allowed position earlier follow turn takes ends pairs potential trees cuts =
+  body k p (Trees with_e first second) before allowed position earlier follow turn takes ends pairs potential trees cuts threat =
       trees_at g.kind c.side c.goal g p (with_e_named g with_e first) second allowed position trees.1
-  body k p (Cuts with_e first second) before built allowed position earlier follow turn takes ends pairs potential trees cuts =
+  body k p (Cuts with_e first second) before allowed position earlier follow turn takes ends pairs potential trees cuts threat =
       cuts_at g.kind c.side c.goal g p (with_e_named g with_e first) second allowed position cuts.1
-  body k p (Threat points) before built allowed position earlier follow turn takes ends pairs potential trees cuts =
-      absurd (no_threat g.kind g.bias c.side c.goal points built allowed)
+  body k p (Threat points) before allowed position earlier follow turn takes ends pairs potential trees cuts threat =
+      threat_at g.kind g.bias c.side c.goal g p points refl allowed position threat
 
   sound : (k : ℕ) (n : Node) → ForcedBefore k → IsNode n → IsSound g c k n → Forces g (position_of n) c.side c.goal
   sound k n before limits h =
       let allowed = h faults.Body in
       let marks = h faults.Marks in
       let owed : IsOwed g c n = record { allowed = allowed; in_game = marks.0 } in
-      body k (position_of n) n.body before (h faults.Unbuilt) allowed (position-of g n limits marks.0)
+      body k (position_of n) n.body before allowed (position-of g n limits marks.0)
       (h faults.Child) marks.1 (h faults.Turn owed) (h faults.Moves owed) (h faults.End owed)
-      (h faults.Pairs owed) (h faults.Potential owed) (h faults.Trees owed) (h faults.Cuts owed)
+      (h faults.Pairs owed) (h faults.Potential owed) (h faults.Trees owed) (h faults.Cuts owed) (h faults.Threat owed)
 
   forced-before : IsClaim c → IsValidClaim g c → (k : ℕ) → ForcedBefore k
   unfolding ForcedBefore

@@ -4,3 +4,4 @@ mod NamedEdges
 pub mod ClaimLemmas
 pub mod ForcedNodes
 mod FirstFaults
+mod ThreatTests

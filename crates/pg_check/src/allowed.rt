@@ -1,6 +1,7 @@
 //! Which bodies are allowed, and which nodes stand on the game's points.
 ghost use Rattle.std.specs.Prelude.{◌≡◌, ◌↔◌, IsTrue};
-ghost use Rattle.pg_cert.specs.Valid.{is_allowed, is_built, shows_defence, shows_threats, shows_trees, shows_cuts, pairs_fit, IsInGame};
+ghost use Rattle.pg_game.specs.Threat.{may_attack};
+ghost use Rattle.pg_cert.specs.Valid.{is_allowed, shows_defence, shows_trees, shows_cuts, pairs_fit, IsInGame};
 
 use pg_base::{Goal, Kind, Side};
 use pg_cert::{Body, Node};
@@ -18,9 +19,9 @@ fn shows_defence(kind: Kind, side: Side, goal: Goal) -> bool
     }
 }
 
-/// Whether threat lines are a means of the side.
-fn shows_threats(kind: Kind, side: Side) -> bool
-    ensures { result ≡ shows_threats kind side }
+/// Whether the side wins by filling a line.
+fn may_attack(kind: Kind, side: Side) -> bool
+    ensures { result ≡ may_attack kind side }
 {
     match kind {
         Kind::MakerBreaker => matches!(side, Side::X),
@@ -63,23 +64,7 @@ pub(crate) fn is_allowed(kind: Kind, bias: u8, side: Side, goal: Goal, body: &Bo
         Body::Potential => shows_defence(kind, side, goal),
         Body::Trees { .. } => shows_trees(kind, side),
         Body::Cuts { .. } => shows_cuts(kind, side),
-        Body::Threat(_) => shows_threats(kind, side) && bias == 1,
-    }
-}
-
-/// Whether this version checks the body in games of the kind, where it is allowed.
-pub(crate) fn is_built(kind: Kind, body: &Body) -> bool
-    ensures { result ≡ is_built kind body.now }
-{
-    match body {
-        Body::Over
-        | Body::Move { .. }
-        | Body::All(_)
-        | Body::Pairs(_)
-        | Body::Potential
-        | Body::Trees { .. }
-        | Body::Cuts { .. } => true,
-        Body::Threat(_) => matches!(kind, Kind::AvoiderEnforcer | Kind::Switching),
+        Body::Threat(_) => may_attack(kind, side) && bias == 1,
     }
 }
 

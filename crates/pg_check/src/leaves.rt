@@ -5,12 +5,13 @@ ghost use Rattle.pg_base.specs.declared.side.Side.{Side};
 ghost use Rattle.pg_base.specs.declared.goal.Goal.{Goal};
 ghost use Rattle.pg_game.specs.Game.{IsPosition};
 ghost use Rattle.pg_game.specs.Judge.{IsMadeForGame, room_of};
-ghost use Rattle.pg_cert.specs.Valid.{HasPairs, PotentialFits, HasPotential, HasTrees, HasCuts, HasThreat, is_built, is_allowed};
+ghost use Rattle.pg_cert.specs.Valid.{HasPairs, PotentialFits, HasPotential, HasTrees, HasCuts, HasThreat, is_allowed};
 
 use crate::edge_sets::{cuts_hold, trees_hold};
+use crate::threats::threat_holds;
 use pg_base::{Goal, Kind, Side};
 use pg_cert::Body;
-use pg_game::{Game, Position};
+use pg_game::{Game, Judge, Position};
 use pg_graph::Joiner;
 
 /// Whether pairs meet their condition.
@@ -87,13 +88,14 @@ pub(crate) fn has_cuts(joiner: &mut Option<Joiner>, g: &Game, p: &Position, body
 }
 
 /// Whether the points are a threat line.
-pub(crate) fn has_threat(g: &Game, side: Side, p: &Position, body: &Body) -> bool
-    requires built { is_built g.now.kind body.now ≡ true }
-    requires allowed { (bias : ℕ) × (s : Side) × (goal : Goal) × (is_allowed g.now.kind bias s goal body.now ≡ true) }
-    ensures { IsTrue result ↔ HasThreat g.now side p.now body.now }
+pub(crate) fn has_threat(judge: &mut Judge, g: &Game, side: Side, p: &Position, body: &Body) -> bool
+    requires made { IsMadeForGame judge.old g.now }
+    requires position { IsPosition g.now p.now }
+    ensures threat { IsTrue result ↔ HasThreat g.now side p.now body.now }
+    ensures kept { judge.new ≡ judge.old }
 {
-    let Body::Threat(_) = body else {
+    let Body::Threat(points) = body else {
         return true;
     };
-    unreachable!()
+    threat_holds(judge, g, p, side, points.as_slice())
 }

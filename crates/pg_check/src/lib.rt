@@ -9,5 +9,6 @@ mod leaves;
 mod moves;
 mod node;
 mod tester;
+mod threats;
 
 pub use checked::{CheckFault, Checked, check, faults_are_told, valid_claims_are_forced};

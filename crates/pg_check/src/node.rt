@@ -6,9 +6,9 @@ ghost use Rattle.pg_game.specs.Game.{IsPosition, is_over, outcome};
 ghost use Rattle.pg_game.specs.Value.{reaches};
 ghost use Rattle.pg_cert.specs.Node.{position_of};
 ghost use Rattle.pg_check.specs.Tester.{IsReadyFor};
-ghost use Rattle.pg_cert.specs.Valid.{Passes, IsOwed, IsRoot, IsSound, IsLeastFault, EndsRight, is_built};
+ghost use Rattle.pg_cert.specs.Valid.{Passes, IsOwed, IsRoot, IsSound, IsLeastFault, EndsRight};
 
-use crate::allowed::{is_allowed, is_built, is_in_game};
+use crate::allowed::{is_allowed, is_in_game};
 use crate::leaves::{has_cuts, has_pairs, has_potential, has_threat, has_trees};
 use crate::moves::{follow_moves, has_turn, names_earlier, takes_free};
 use crate::tester::Tester;
@@ -84,13 +84,11 @@ fn passes(
     requires marks { ShareNone node.now.x node.now.y }
     requires left { 1 ≤ node.now.left }
     requires owed { IsTrue owed ↔ IsOwed g.now claim.now node.now }
-    requires built { fault ≢ NodeFault.Unbuilt → is_built g.now.kind node.now.body ≡ true }
     ensures passes { IsTrue result ↔ Passes g.now claim.now k node.now fault }
     ensures kept { tester.new ≡ tester.old }
 {
     let p = node.position();
     match fault {
-        NodeFault::Unbuilt => is_built(g.kind, &node.body),
         NodeFault::Child => names_earlier(k, &node.body),
         NodeFault::Marks => {
             is_in_game(g, node) && follow_moves(g, claim.nodes.as_slice(), &p, &node.body)
@@ -104,7 +102,9 @@ fn passes(
         NodeFault::Potential => !owed || has_potential(g, claim.side, &p, &node.body),
         NodeFault::Trees => !owed || has_trees(&mut tester.joiner, g, &p, &node.body),
         NodeFault::Cuts => !owed || has_cuts(&mut tester.joiner, g, &p, &node.body),
-        NodeFault::Threat => !owed || has_threat(g, claim.side, &p, &node.body),
+        NodeFault::Threat => {
+            !owed || has_threat(&mut tester.judge, g, claim.side, &p, &node.body)
+        }
         NodeFault::Root => is_root(g, claim, k, node),
         NodeFault::Body => is_allowed(g.kind, g.bias, claim.side, claim.goal, &node.body),
     }
@@ -128,7 +128,6 @@ pub(crate) fn first_fault(
 {
     let owed = is_owed(g, claim, node);
     for fault in [
-        NodeFault::Unbuilt,
         NodeFault::Child,
         NodeFault::Marks,
         NodeFault::Turn,

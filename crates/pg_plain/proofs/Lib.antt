@@ -4,3 +4,4 @@ pub mod LeafLaws
 pub mod Reached
 pub mod EdgeConditions
 pub mod NearLines
+pub mod ThreatSearches

@@ -9,6 +9,7 @@ mod edge_sets;
 mod leaves;
 mod pairs;
 mod reach;
+mod threat_search;
 mod threats;
 
 pub use best_play::value;
@@ -16,4 +17,5 @@ pub use classes::{Class, class_of};
 pub use edge_sets::{cuts_hold, trees_hold};
 pub use leaves::{avoider_holds, greatest_weight, limit, potential_holds, total, weight};
 pub use pairs::pairs_hold;
+pub use threat_search::{attack_wins, has_threat_line};
 pub use threats::is_threat_line;

@@ -4,6 +4,7 @@ ghost use Rattle.std.specs.List.{All, list_all, list_any};
 ghost use Rattle.std.specs.FinSet.{contains};
 ghost use Rattle.pg_game.specs.Game.{has_filled, all_touched, is_filled, is_full, is_over};
 ghost use Rattle.pg_game.specs.Threat.{is_near, threatens, has_threat, IsAttack, Forcing, Filling, LeadsToLine, IsThreatLine};
+ghost use Rattle.pg_plain.specs.Attacks.{IsGoing};
 
 use crate::leaves::{is_on, is_touched, lines_of};
 use pg_base::{Kind, Line, PointSet, Side};
@@ -110,7 +111,7 @@ fn is_attack(g: &Game, p: &Position, v: u16) -> bool
 }
 
 /// Whether taking v is an attack that fills no line, and after which the other side must take u.
-fn is_forcing(g: &Game, p: &Position, side: Side, v: u16, u: u16) -> bool
+pub(crate) fn is_forcing(g: &Game, p: &Position, side: Side, v: u16, u: u16) -> bool
     ensures forcing { IsTrue result ↔ Forcing g.now p.now side v u }
     ensures few { IsTrue result → (v < 1024) × (u < 1024) }
 {
@@ -125,7 +126,7 @@ fn is_forcing(g: &Game, p: &Position, side: Side, v: u16, u: u16) -> bool
 }
 
 /// Whether taking v fills a line.
-fn is_filling(g: &Game, p: &Position, side: Side, v: u16) -> bool
+pub(crate) fn is_filling(g: &Game, p: &Position, side: Side, v: u16) -> bool
     ensures { IsTrue result ↔ Filling g.now p.now side v }
 {
     is_attack(g, p, v) && has_filled(g, &g.after(p, v), side)
@@ -143,6 +144,16 @@ fn leads_to_line(g: &Game, p: &Position, side: Side, points: &[u16]) -> bool
                 && leads_to_line(g, &g.after(&g.after(p, *v), *u), side, others)
         }
     }
+}
+
+/// Whether each side claims one point a turn in a game on lines that isn't over.
+pub(crate) fn is_going(g: &Game, p: &Position) -> bool
+    ensures { IsTrue result ↔ IsGoing g.now p.now }
+{
+    if g.kind == Kind::Switching {
+        return false;
+    }
+    g.bias == 1 && !is_over(g, p)
 }
 
 /// Whether the side is to move in a game that isn't over and in which each side claims one point a turn, and the attacks

@@ -20,14 +20,12 @@ use Rattle.pg_cert.specs.declared.node.Body.TheVariants.{Over, Move, All, Pairs,
 use Rattle.pg_cert.specs.declared.node_fault.NodeFault.TheVariants as faults
 use Rattle.pg_cert.specs.Node.{position_of}
 use Rattle.pg_cert.specs.OwnMove.{Standing, arrives}
-use Rattle.pg_cert.specs.Valid.{is_allowed, is_built, FollowMoves, HasTurn, TakesFree, EndsRight, PotentialFits, HasPairs, HasPotential, HasTrees, HasCuts, IsNodeOf, IsOwed, IsSound}
+use Rattle.pg_cert.specs.Valid.{is_allowed, FollowMoves, HasTurn, TakesFree, EndsRight, PotentialFits, HasPairs, HasPotential, HasTrees, HasCuts, HasThreat, IsNodeOf, IsOwed, IsSound}
 use Rattle.pg_check.proofs.ForcedNodes.{Forces-node}
 use Rattle.pg_player.specs.InPlay.{Ready, Waiting, Stands, PotentialWaiting, IsSoundClaim}
-use Rattle.pg_player.proofs.Stable.{no_threat}
 
 -- what a sound node gives, part by part
 record Owed (g : Game) (c : Claim) (p : Position) (b : Body) : Type 0 where
-  pub built : is_built g.kind b ≡ true
   pub allowed : is_allowed g.kind g.bias c.side c.goal b ≡ true
   pub follow : FollowMoves g c.nodes p b
   pub turn : HasTurn c.side p b
@@ -37,12 +35,12 @@ record Owed (g : Game) (c : Claim) (p : Position) (b : Body) : Type 0 where
   pub potential : HasPotential g c.side p b
   pub trees : HasTrees g p b
   pub cuts : HasCuts g p b
+  pub threat : HasThreat g c.side p b
 
 owed : (g : Game) (c : Claim) (k : ℕ) (n : Node) → IsSound g c k n → Owed g c (position_of n) n.body
 owed g c k n h =
     let due : IsOwed g c n = record { allowed = h faults.Body; in_game = (h faults.Marks).0 } in
     record {
-      built = h faults.Unbuilt;
       allowed = h faults.Body;
       follow = (h faults.Marks).1;
       turn = h faults.Turn due;
@@ -52,6 +50,7 @@ owed g c k n h =
       potential = h faults.Potential due;
       trees = h faults.Trees due;
       cuts = h faults.Cuts due;
+      threat = h faults.Threat due;
     }
 
 potential-waits : (kind : Kind) (g : Game) (p : Position) (side : Side) → PotentialFits kind g p side → PotentialWaiting kind g p side
@@ -69,7 +68,7 @@ module _ (g : Game) (c : Claim) (p : Position) where
   ready Potential h going mine = h.potential
   ready (Trees with_e first second) h going mine = h.trees.1
   ready (Cuts with_e first second) h going mine = h.cuts.1
-  ready (Threat points) h going mine = no_threat g.kind g.bias c.side c.goal points h.built h.allowed
+  ready (Threat points) h going mine = h.threat.leads
 
   waiting : (b : Body) → Owed g c p b → is_over g p ≡ false → p.turn ≡ other c.side → Waiting g c p b
   waiting Over h going theirs = false≢true (sym going ∙ h.ends.0)
@@ -79,7 +78,7 @@ module _ (g : Game) (c : Claim) (p : Position) where
   waiting Potential h going theirs = potential-waits g.kind g p c.side h.potential
   waiting (Trees with_e first second) h going theirs = h.trees.1
   waiting (Cuts with_e first second) h going theirs = h.cuts.1
-  waiting (Threat points) h going theirs = no_threat g.kind g.bias c.side c.goal points h.built h.allowed
+  waiting (Threat points) h going theirs = absurd (side≢other c.side (sym h.turn ∙ theirs))
 
 Stands-node : (g : Game) (c : Claim) (k : ℕ) (n : Node) → IsSound g c k n → Stands g c (position_of n) (record { body = n.body; last = None })
 Stands-node g c k n h =

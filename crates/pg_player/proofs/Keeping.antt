@@ -1,6 +1,8 @@
 -- What an own move keeps, body by body.
-use Rattle.std.proofs.Common.{◌≡◌, ◌≢◌, ◌∙◌, ℕ, ◌<◌, Bool, true, false, ◌&&◌, List, Option, Some, None, if◌then◌else◌, refl, sym, ap, subst, subst₂, inl, inr, ◌⊎◌, eqb-true}
-use Rattle.std.proofs.lemmas.Bool.{cases_Bool, false≢true}
+use Rattle.std.proofs.Common.{◌≡◌, ◌≢◌, ◌∙◌, ℕ, ◌<◌, Bool, true, false, ◌&&◌, ◌==◌, ◌+◌, suc, List, [], ◌∷◌, drop, get_or, length, arith, Option, Some, None, if◌then◌else◌, refl, sym, ap, subst, subst₂, inl, inr, ◌⊎◌, eqb-true}
+use Rattle.std.proofs.lemmas.Bool.{cases_Bool, cases_lt, and_parts, false≢true}
+use Rattle.std.proofs.lemmas.List.{drop_all}
+use Rattle.std.proofs.Math.Seq.{drop-cons}
 use Rattle.std.specs.FinSet.{FinSet, insert}
 use Rattle.std.specs.Ordering.{nat_cmp}
 use Rattle.pg_base.specs.Side.{other}
@@ -22,6 +24,8 @@ use Rattle.pg_game.specs.Value.{reaches, Forces}
 use Rattle.pg_game.specs.Pairs.{pairs_answer}
 use Rattle.pg_game.specs.Potential.{PotentialHolds, potential_answer}
 use Rattle.pg_game.specs.Avoider.{AvoiderHolds, avoider_answer}
+use Rattle.pg_game.specs.Threat.{may_attack, LeadsToLine, IsAttack, IsAttacking}
+use Rattle.pg_game.proofs.ThreatLaws.{unfilled-going, over-filling, Forces-attacked}
 use Rattle.pg_game.specs.Trees.{Answered, TreesHold, CutsHold}
 use Rattle.pg_game.specs.Field.{field_points}
 use Rattle.pg_game.proofs.Moves.{turn-after_x, IsPosition-after}
@@ -33,11 +37,11 @@ use Rattle.pg_switch.specs.Replies.{HeldUntil, IsTreesAnswer, IsCutsAnswer}
 use Rattle.pg_switch.proofs.SwitchLaws.{Forces-trees, Forces-cuts}
 use Rattle.pg_cert.specs.declared.cert.Claim.{Claim}
 use Rattle.pg_cert.specs.declared.node.Body.{Body}
-use Rattle.pg_cert.specs.declared.node.Body.TheVariants.{Move, Pairs, Potential, Trees, Cuts}
+use Rattle.pg_cert.specs.declared.node.Body.TheVariants.{Move, Pairs, Potential, Trees, Cuts, Threat}
 use Rattle.pg_cert.specs.OwnMove.{Standing, own_move, arrives, stays, potential_point, trees_point, cuts_point, stays_with_trees, stays_with_cuts}
 use Rattle.pg_cert.specs.Valid.{is_allowed, shows_defence, shows_trees, shows_cuts, pairs_fit, PotentialFits, with_e_named}
 use Rattle.pg_check.proofs.ForcedNodes.{pairs_at}
-use Rattle.pg_player.specs.InPlay.{PotentialWaiting, Waiting, InPlay, KeepsUp}
+use Rattle.pg_player.specs.InPlay.{PotentialWaiting, MustReply, Waiting, InPlay, KeepsUp}
 use Rattle.pg_player.proofs.Plays.{IsPosition-reached, reached-after, single, not-again}
 use Rattle.pg_player.proofs.Arriving.{arrived}
 
@@ -119,6 +123,47 @@ keeps-pairs g c p pairs last v h going mine k =
           ]));
         };
         waiting = λ on theirs. record { are = due.are; holds = holds };
+      };
+    }
+
+-- ---- threat lines
+
+-- where threat lines are allowed, the side may attack and each side claims one point a turn
+pub threat_kind : (kind : Kind) (side : Side) (bias : ℕ) → (may_attack kind side && bias == 1) ≡ true → (may_attack kind side ≡ true) × (bias ≡ 1)
+threat_kind kind side bias ok = let parts = and_parts (may_attack kind side) _ ok in (parts.0, eqb-true bias 1 parts.1)
+
+-- a player that is to attack
+pub attacking : (g : Game) (c : Claim) (p : Position) (s : Standing) → may_attack g.kind c.side ≡ true → InPlay g c p s → is_over g p ≡ false → p.turn ≡ c.side → IsAttacking g p c.side
+attacking g c p s may h going mine = record { position = IsPosition-reached g p h.reached; turn = mine; unfilled = unfilled-going g c.side may p going }
+
+-- what the other side must do after an attack while the game goes on
+must-reply : (g : Game) (p : Position) (side : Side) (v : ℕ) (points : List ℕ) → g.bias ≡ 1 → may_attack g.kind side ≡ true → IsAttacking g p side → LeadsToLine g p side (v ∷ points)
+    → is_over g (after g p v) ≡ false → MustReply g (after g p v) side points
+must-reply g p side v [] one may h leads on = absurd (false≢true (sym on ∙ over-filling g side one may p v h leads))
+must-reply g p side v (u ∷ others) one may h leads on = (leads.0.threat, leads.0.safe, leads.1)
+
+attack-at : (g : Game) (p : Position) (side : Side) (v : ℕ) (points : List ℕ) → LeadsToLine g p side (v ∷ points) → IsAttack g p v
+attack-at g p side v [] leads = leads.attack
+attack-at g p side v (u ∷ others) leads = leads.0.attack
+
+-- the next attack
+pub keeps-threat : (g : Game) (c : Claim) (p : Position) (v : ℕ) (points : List ℕ) (last : Option ℕ) → InPlay g c p (record { body = Threat (v ∷ points); last = last }) → is_over g p ≡ false → p.turn ≡ c.side
+    → KeepsUp g c p (record { body = Threat (v ∷ points); last = last }) v (record { body = Threat points; last = last })
+unfolding own_move
+keeps-threat g c p v points last h going mine =
+    let ok = threat_kind g.kind c.side g.bias h.stands.allowed in
+    let leads = h.stands.ready going mine in
+    let at = attack-at g p c.side v points leads in
+    let to_move = attacking g c p (record { body = Threat (v ∷ points); last = last }) ok.0 h going mine in
+    record {
+      own = refl;
+      within = at.range;
+      free = at.free;
+      forced = Forces-any g (after g p v) c.side c.goal (Forces-attacked g c.side ok.1 ok.0 v points p to_move leads);
+      stands = record {
+        allowed = h.stands.allowed;
+        ready = λ on again. absurd (not-again g p c.side v ok.1 to_move.position mine again);
+        waiting = λ on theirs. must-reply g p c.side v points ok.1 ok.0 to_move leads on;
       };
     }
 
@@ -338,3 +383,16 @@ module _ (g : Game) (c : Claim) (p : Position) (body : Body) (with_e : Bool) (fi
   pub cuts-whole : (v : ℕ) (next : Standing) → body ≡ Cuts with_e first second → InPlay g c p (record { body = body; last = last })
       → (InPlay g c p (record { body = Cuts false f s; last = last }) → KeepsUp g c p (record { body = Cuts false f s; last = last }) v next) → KeepsUp g c p (record { body = body; last = last }) v next
   cuts-whole v next is h keeps = whole Cuts v next is h (InPlay-cuts g c p with_e first second last) (KeepsUp-cuts g c p with_e first second last v next) keeps
+
+-- ---- a threat line from a place on
+
+pub keeps-line : (g : Game) (c : Claim) (p : Position) (points : List ℕ) (from v : ℕ) (last : Option ℕ) → v ≡ get_or points from 0 → InPlay g c p (record { body = Threat (drop from points); last = last }) → is_over g p ≡ false → p.turn ≡ c.side
+    → KeepsUp g c p (record { body = Threat (drop from points); last = last }) v (record { body = Threat (drop (from + 1) points); last = last })
+keeps-line g c p points from v last is h going mine = elim (cases_lt from (length points)) [
+  | inl within ↦
+      let next : suc from ≡ from + 1 = omega arith in
+      let split : drop from points ≡ v ∷ drop (from + 1) points = drop-cons points from 0 within ∙ ap (λ n. get_or points from 0 ∷ drop n points) next ∙ ap (λ w. w ∷ drop (from + 1) points) (sym is) in
+      subst (λ (xs : List ℕ). KeepsUp g c p (record { body = Threat xs; last = last }) v (record { body = Threat (drop (from + 1) points); last = last })) (sym split)
+      (keeps-threat g c p v (drop (from + 1) points) last (subst (λ (xs : List ℕ). InPlay g c p (record { body = Threat xs; last = last })) split h) going mine)
+  | inr past ↦ absurd (subst (λ (xs : List ℕ). LeadsToLine g p c.side xs) (drop_all from points past) (h.stands.ready going mine))
+]

@@ -19,6 +19,8 @@ use Rattle.pg_game.specs.Value.{Forces}
 use Rattle.pg_game.specs.Avoider.{AvoiderHolds}
 use Rattle.pg_game.proofs.FreePoints.{any-free_points}
 use Rattle.pg_game.proofs.Moves.{side≢other, other_other, turn-passes}
+use Rattle.pg_game.specs.Threat.{LeadsToLine}
+use Rattle.pg_game.proofs.ThreatLaws.{near-from, near-stays, near-filling}
 use Rattle.pg_game.proofs.ValueLaws.{Forces-all-from}
 use Rattle.pg_pairing.proofs.Filters.{find_member, find_none}
 use Rattle.pg_potential.proofs.PotentialLaws.{kept-reply_breaker, kept-reply_draw}
@@ -34,7 +36,7 @@ use Rattle.pg_player.specs.Stand.{LeadsOn}
 use Rattle.pg_player.specs.InPlay.{Stands, PotentialWaiting, InPlay}
 use Rattle.pg_player.proofs.Plays.{IsPosition-reached, reached-after, single}
 use Rattle.pg_player.proofs.Arriving.{arrived}
-use Rattle.pg_player.proofs.Keeping.{trees_kind, cuts_kind}
+use Rattle.pg_player.proofs.Keeping.{trees_kind, cuts_kind, threat_kind}
 
 -- the side that replied isn't to move where it claims one point a turn
 passed : (g : Game) (p : Position) (side : Side) (v : ℕ) → bias_of g (other side) ≡ 1 → IsPosition g p → p.turn ≡ other side → (after g p v).turn ≡ other side → ⊥
@@ -114,38 +116,60 @@ module _ (g : Game) (c : Claim) (p : Position) (v : ℕ) (going : is_over g p �
       record { sound = h.sound; reached = reached-after g p v h.reached going within free; forced = there.forced; stands = there.stands }
 
   -- everywhere else it stays
-  stands_on : (b : Body) (last : Option ℕ) → ((rs : List Reply) → b ≡ All rs → ⊥) → InPlay g c p (record { body = b; last = last }) → Stands g c (after g p v) (record { body = b; last = Some v })
-  stands_on Over last other_than h = absurd (h.stands.waiting going theirs)
-  stands_on (Move point child) last other_than h = absurd (h.stands.waiting going theirs)
-  stands_on (All replies) last other_than h = absurd (other_than replies refl)
-  stands_on (Pairs pairs) last other_than h =
+  stands_on : (b : Body) (last : Option ℕ) → ((rs : List Reply) → b ≡ All rs → ⊥) → ((ps : List ℕ) → b ≡ Threat ps → ⊥) → InPlay g c p (record { body = b; last = last }) → Stands g c (after g p v) (record { body = b; last = Some v })
+  stands_on Over last other_than no_line h = absurd (h.stands.waiting going theirs)
+  stands_on (Move point child) last other_than no_line h = absurd (h.stands.waiting going theirs)
+  stands_on (All replies) last other_than no_line h = absurd (other_than replies refl)
+  stands_on (Pairs pairs) last other_than no_line h =
       let all = h.stands.waiting going theirs in
       record {
         allowed = h.stands.allowed;
         ready = λ on mine. record { are = all.are; state = inl (record { before = p; reply = v; last_is = refl; theirs = theirs; within = within; free = free; leads = refl; held = all.holds }) };
         waiting = λ on again. absurd (passed g p c.side v (pairs_single g g.kind c.side c.goal refl h.stands.allowed) (IsPosition-reached g p h.reached) theirs again);
       }
-  stands_on Potential last other_than h =
+  stands_on Potential last other_than no_line h =
       let kept = potential_kept g g.kind p c.side c.goal v refl h.stands.allowed (IsPosition-reached g p h.reached) theirs within free (h.stands.waiting going theirs) in
       record { allowed = h.stands.allowed; ready = λ on mine. kept.fits; waiting = λ on again. kept.waits }
-  stands_on (Trees with_e first second) last other_than h = record {
+  stands_on (Trees with_e first second) last other_than no_line h = record {
     allowed = h.stands.allowed;
     ready = λ on mine. record { before = p; theirs = theirs ∙ ap other (sym mine); within = within; free = free; leads = refl; held = h.stands.waiting going theirs };
     waiting = λ on again. absurd (passed g p c.side v (claims_one g (other c.side) (single g Switching (trees_kind g.kind c.side h.stands.allowed).0 refl)) (IsPosition-reached g p h.reached) theirs again);
   }
-  stands_on (Cuts with_e first second) last other_than h = record {
+  stands_on (Cuts with_e first second) last other_than no_line h = record {
     allowed = h.stands.allowed;
     ready = λ on mine. record { before = p; theirs = theirs ∙ ap other (sym mine); within = within; free = free; leads = refl; held = h.stands.waiting going theirs };
     waiting = λ on again. absurd (passed g p c.side v (claims_one g (other c.side) (single g Switching (cuts_kind g.kind c.side h.stands.allowed).0 refl)) (IsPosition-reached g p h.reached) theirs again);
   }
-  stands_on (Threat points) last other_than h = absurd (h.stands.waiting going theirs)
+  stands_on (Threat points) last other_than no_line h = absurd (no_line points refl)
 
-  InPlay-stays : (b : Body) (last : Option ℕ) → ((rs : List Reply) → b ≡ All rs → ⊥) → InPlay g c p (record { body = b; last = last }) → InPlay g c (after g p v) (record { body = b; last = Some v })
-  InPlay-stays b last other_than h = record {
+  InPlay-stays : (b : Body) (last : Option ℕ) → ((rs : List Reply) → b ≡ All rs → ⊥) → ((ps : List ℕ) → b ≡ Threat ps → ⊥) → InPlay g c p (record { body = b; last = last }) → InPlay g c (after g p v) (record { body = b; last = Some v })
+  InPlay-stays b last other_than no_line h = record {
     sound = h.sound;
     reached = reached-after g p v h.reached going within free;
     forced = forced_after g c p (record { body = b; last = last }) v h going theirs within free;
-    stands = stands_on b last other_than h;
+    stands = stands_on b last other_than no_line h;
+  }
+
+  -- on a threat line: the next attack where the forced point was taken, and else that point
+  line_on : (u : ℕ) (points : List ℕ) (last : Option ℕ) → InPlay g c p (record { body = Threat (u ∷ points); last = last }) → (after g p v).turn ≡ c.side → LeadsToLine g (after g p v) c.side (if u == v then points else u ∷ [])
+  line_on u points last h mine =
+      let must = h.stands.waiting going theirs in
+      elim (cases_Bool (u == v)) [
+        | inl taken ↦ rw taken (subst (λ (w : ℕ). LeadsToLine g (after g p w) c.side points) (eqb-true u v taken) must.2)
+        | inr left ↦ rw left (near-filling g (after g p v) c.side u mine (near-stays g p c.side u v (λ e. absurd (false≢true (sym left ∙ eq-eqb u v (sym e)))) (near-from g p c.side u must.0)))
+      ]
+
+  InPlay-line : (u : ℕ) (points : List ℕ) (last : Option ℕ) → InPlay g c p (record { body = Threat (u ∷ points); last = last })
+      → InPlay g c (after g p v) (record { body = Threat (if u == v then points else u ∷ []); last = Some v })
+  InPlay-line u points last h = record {
+    sound = h.sound;
+    reached = reached-after g p v h.reached going within free;
+    forced = forced_after g c p (record { body = Threat (u ∷ points); last = last }) v h going theirs within free;
+    stands = record {
+      allowed = h.stands.allowed;
+      ready = λ on mine. line_on u points last h mine;
+      waiting = λ on again. absurd (passed g p c.side v (claims_one g (other c.side) (threat_kind g.kind c.side g.bias h.stands.allowed).1) (IsPosition-reached g p h.reached) theirs again);
+    };
   }
 
   -- the reply leads on
@@ -167,12 +191,13 @@ module _ (g : Game) (c : Claim) (p : Position) (v : ℕ) (going : is_over g p �
   leads_on Potential last h = tt
   leads_on (Trees with_e first second) last h = tt
   leads_on (Cuts with_e first second) last h = tt
-  leads_on (Threat points) last h = h.stands.waiting going theirs
+  leads_on (Threat []) last h = h.stands.waiting going theirs
+  leads_on (Threat (u ∷ points)) last h = tt
 
-  at_same : (b : Body) (last : Option ℕ) (next : Standing) → ((rs : List Reply) → b ≡ All rs → ⊥) → InPlay g c p (record { body = b; last = last }) → ◌≡◌ {A = Option Standing} (Some (record { body = b; last = Some v })) (Some next) → InPlay g c (after g p v) next
-  at_same b last next other_than h rule =
+  at_same : (b : Body) (last : Option ℕ) (next : Standing) → ((rs : List Reply) → b ≡ All rs → ⊥) → ((ps : List ℕ) → b ≡ Threat ps → ⊥) → InPlay g c p (record { body = b; last = last }) → ◌≡◌ {A = Option Standing} (Some (record { body = b; last = Some v })) (Some next) → InPlay g c (after g p v) next
+  at_same b last next other_than no_line h rule =
       let same : ◌≡◌ {A = Standing} (record { body = b; last = Some v }) next = cc in
-      subst (λ (s : Standing). InPlay g c (after g p v) s) same (InPlay-stays b last other_than h)
+      subst (λ (s : Standing). InPlay g c (after g p v) s) same (InPlay-stays b last other_than no_line h)
 
   -- a reply keeps the player in play
   pub InPlay-replied : (b : Body) (last : Option ℕ) (next : Standing) → InPlay g c p (record { body = b; last = last }) → replied_by b c.nodes v ≡ Some next → InPlay g c (after g p v) next
@@ -181,11 +206,14 @@ module _ (g : Game) (c : Claim) (p : Position) (v : ℕ) (going : is_over g p �
   InPlay-replied (All replies) last next h rule =
       let r = leads_on (All replies) last h in
       InPlay-child replies last r.0 next h r.1 (sym (replied_by-child c.nodes replies v r.0 r.1) ∙ rule)
-  InPlay-replied (Pairs pairs) last next h rule = at_same (Pairs pairs) last next (λ rs e. cc) h rule
-  InPlay-replied Potential last next h rule = at_same Potential last next (λ rs e. cc) h rule
-  InPlay-replied (Trees with_e first second) last next h rule = at_same (Trees with_e first second) last next (λ rs e. cc) h rule
-  InPlay-replied (Cuts with_e first second) last next h rule = at_same (Cuts with_e first second) last next (λ rs e. cc) h rule
-  InPlay-replied (Threat points) last next h rule = absurd (h.stands.waiting going theirs)
+  InPlay-replied (Pairs pairs) last next h rule = at_same (Pairs pairs) last next (λ rs e. cc) (λ ps e. cc) h rule
+  InPlay-replied Potential last next h rule = at_same Potential last next (λ rs e. cc) (λ ps e. cc) h rule
+  InPlay-replied (Trees with_e first second) last next h rule = at_same (Trees with_e first second) last next (λ rs e. cc) (λ ps e. cc) h rule
+  InPlay-replied (Cuts with_e first second) last next h rule = at_same (Cuts with_e first second) last next (λ rs e. cc) (λ ps e. cc) h rule
+  InPlay-replied (Threat []) last next h rule = absurd (h.stands.waiting going theirs)
+  InPlay-replied (Threat (u ∷ points)) last next h rule =
+      let same : ◌≡◌ {A = Standing} (record { body = Threat (if u == v then points else u ∷ []); last = Some v }) next = cc in
+      subst (λ (s : Standing). InPlay g c (after g p v) s) same (InPlay-line u points last h)
 
 -- ---- what a judge has found legal
 

@@ -28,6 +28,8 @@ use Rattle.pg_game.specs.Field.{field_points}
 use Rattle.pg_game.specs.Game.{point_count, after}
 use Rattle.pg_game.specs.Position.{is_free}
 use Rattle.pg_game.specs.Pairs.{PairsHold, HoldsPair}
+use Rattle.pg_game.specs.Threat.{IsThreatLine}
+use Rattle.pg_game.proofs.ThreatSearch.{leads_test, leads-tested, tested-leads}
 use Rattle.pg_game.specs.Trees.{IsFreeEdge, AreFreeWithE, AreTrees, AreCuts, TreesHoldOn, CutsHoldOn, with_set}
 use Rattle.pg_game.proofs.Members.{list_any-one, member-from_any}
 use Rattle.pg_switch.proofs.EdgeSets.{with_e-edges, free-edges, with_set-edges}
@@ -39,7 +41,7 @@ use Rattle.pg_cert.specs.declared.node.Body.TheVariants.{Over, Move, All as Ever
 use Rattle.pg_cert.specs.declared.node_fault.NodeFault.{NodeFault}
 use Rattle.pg_cert.specs.declared.node_fault.NodeFault.TheVariants as faults
 use Rattle.pg_cert.specs.Node.{position_of}
-use Rattle.pg_cert.specs.Valid.{is_allowed, is_built, IsInGame, NamesEarlier, IsNodeOf, FollowsMove, FollowMoves, HasTurn, TakesFree, EndsRight, PotentialFits, with_e_named, HasPairs, HasPotential, HasTrees, HasCuts, HasThreat, Passes, IsSound, IsValidClaim}
+use Rattle.pg_cert.specs.Valid.{is_allowed, IsInGame, NamesEarlier, IsNodeOf, FollowsMove, FollowMoves, HasTurn, TakesFree, EndsRight, PotentialFits, with_e_named, HasPairs, HasPotential, HasTrees, HasCuts, HasThreat, Passes, IsSound, IsValidClaim}
 
 -- ---- facts that have one proof at most
 
@@ -268,22 +270,24 @@ has_cuts g p (Cuts with_e first second) t =
     ((below first (point_count g) (∥∥₁_map t (λ h. h.0.0)), below second (point_count g) (∥∥₁_map t (λ h. h.0.1))), cuts-hold g.field p (with_e_named g with_e first) second (∥∥₁_map t (λ h. h.1)))
 has_cuts g p (Threat points) t = tt
 
--- a threat line isn't built where it is allowed
-pub no_threat : (kind : Kind) (bias : ℕ) (side : Side) (goal : Goal) (points : List ℕ) → is_built kind (Threat points) ≡ true → is_allowed kind bias side goal (Threat points) ≡ true → ⊥
-no_threat MakerBreaker bias side goal points built allowed = false≢true built
-no_threat MakerMaker bias side goal points built allowed = false≢true built
-no_threat AvoiderEnforcer bias side goal points built allowed = false≢true allowed
-no_threat Switching bias side goal points built allowed = false≢true allowed
+-- a threat line is one by tests
+threat-line : (g : Game) (p : Position) (side : Side) (points : List ℕ) → ∥ IsThreatLine g p side points ∥₁ → IsThreatLine g p side points
+threat-line g p side points t = record {
+  single = same_number _ _ (∥∥₁_map t (λ h. h.single));
+  going = same_bool _ _ (∥∥₁_map t (λ h. h.going));
+  turn = same_side _ _ (∥∥₁_map t (λ h. h.turn));
+  leads = tested-leads g side points p (same_bool (leads_test g p side points) true (∥∥₁_map t (λ h. leads-tested g side points p h.leads)));
+}
 
-has_threat : (g : Game) (bias : ℕ) (s side : Side) (goal : Goal) (p : Position) (b : Body) → is_built g.kind b ≡ true → is_allowed g.kind bias s goal b ≡ true → HasThreat g side p b
-has_threat g bias s side goal p Over built allowed = tt
-has_threat g bias s side goal p (Move point child) built allowed = tt
-has_threat g bias s side goal p (Every replies) built allowed = tt
-has_threat g bias s side goal p (Pairs pairs) built allowed = tt
-has_threat g bias s side goal p Potential built allowed = tt
-has_threat g bias s side goal p (Trees with_e first second) built allowed = tt
-has_threat g bias s side goal p (Cuts with_e first second) built allowed = tt
-has_threat g bias s side goal p (Threat points) built allowed = absurd (no_threat g.kind bias s goal points built allowed)
+has_threat : (g : Game) (side : Side) (p : Position) (b : Body) → ∥ HasThreat g side p b ∥₁ → HasThreat g side p b
+has_threat g side p Over t = tt
+has_threat g side p (Move point child) t = tt
+has_threat g side p (Every replies) t = tt
+has_threat g side p (Pairs pairs) t = tt
+has_threat g side p Potential t = tt
+has_threat g side p (Trees with_e first second) t = tt
+has_threat g side p (Cuts with_e first second) t = tt
+has_threat g side p (Threat points) t = threat-line g p side points t
 
 -- ---- nodes and claims
 
@@ -295,7 +299,6 @@ in_game g n t = record {
 }
 
 passes : (g : Game) (c : Claim) (k : ℕ) (n : Node) (fault : NodeFault) → ∥ IsSound g c k n ∥₁ → Passes g c k n fault
-passes g c k n faults.Unbuilt t = same_bool _ _ (∥∥₁_map t (λ h. h faults.Unbuilt))
 passes g c k n faults.Child t = names_earlier k n.body (∥∥₁_map t (λ h. h faults.Child))
 passes g c k n faults.Marks t = (in_game g n (∥∥₁_map t (λ h. (h faults.Marks).0)), follow-moves g c.nodes (position_of n) n.body (∥∥₁_map t (λ h. (h faults.Marks).1)))
 passes g c k n faults.Turn t = λ owed. has_turn c.side (position_of n) n.body (∥∥₁_map t (λ h. h faults.Turn owed))
@@ -305,7 +308,7 @@ passes g c k n faults.Pairs t = λ owed. has_pairs g c.side (position_of n) n.bo
 passes g c k n faults.Potential t = λ owed. has_potential g c.side (position_of n) n.body (∥∥₁_map t (λ h. h faults.Potential owed))
 passes g c k n faults.Trees t = λ owed. has_trees g (position_of n) n.body owed.in_game.x (∥∥₁_map t (λ h. h faults.Trees owed))
 passes g c k n faults.Cuts t = λ owed. has_cuts g (position_of n) n.body (∥∥₁_map t (λ h. h faults.Cuts owed))
-passes g c k n faults.Threat t = λ owed. has_threat g g.bias c.side c.side c.goal (position_of n) n.body (same_bool _ _ (∥∥₁_map t (λ h. h faults.Unbuilt))) owed.allowed
+passes g c k n faults.Threat t = λ owed. has_threat g c.side (position_of n) n.body (∥∥₁_map t (λ h. h faults.Threat owed))
 passes g c k n faults.Root t = λ end. same_position _ _ (∥∥₁_map t (λ h. h faults.Root end))
 passes g c k n faults.Body t = same_bool _ _ (∥∥₁_map t (λ h. h faults.Body))
 

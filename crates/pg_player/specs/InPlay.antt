@@ -1,9 +1,9 @@
 -- What keeps a player going: facts on its claim, its position and where it stands, which every move and every reply keep.
-use Rattle.std.specs.Prelude.{◌≡◌, ◌⊎◌, ℕ, ◌<◌, true, false, List, map, Option, Some, None, if◌then◌else◌}
+use Rattle.std.specs.Prelude.{◌≡◌, ◌⊎◌, ℕ, ◌<◌, true, false, List, [], ◌∷◌, map, Option, Some, None, if◌then◌else◌}
 use Rattle.std.specs.List.{All as Each}
 use Rattle.pg_base.specs.Side.{other}
 use Rattle.pg_base.specs.declared.kind.Kind.{Kind}
-use Rattle.pg_base.specs.declared.kind.Kind.TheVariants.{MakerBreaker, AvoiderEnforcer}
+use Rattle.pg_base.specs.declared.kind.Kind.TheVariants.{MakerBreaker, MakerMaker, AvoiderEnforcer}
 use Rattle.pg_base.specs.declared.pair.Pair.{Pair}
 use Rattle.pg_base.specs.declared.score.Score.{Score}
 use Rattle.pg_base.specs.declared.side.Side.{Side}
@@ -17,6 +17,7 @@ use Rattle.pg_game.specs.Play.{IsLegalPlay, played}
 use Rattle.pg_game.specs.Value.{Forces}
 use Rattle.pg_game.specs.Potential.{PotentialHolds}
 use Rattle.pg_game.specs.Avoider.{AvoiderHolds}
+use Rattle.pg_game.specs.Threat.{threatens, has_threat, LeadsToLine}
 use Rattle.pg_game.specs.Trees.{TreesHold, CutsHold}
 use Rattle.pg_cert.specs.declared.cert.Claim.{Claim}
 use Rattle.pg_cert.specs.declared.node.Node.{Node}
@@ -60,6 +61,11 @@ pub record NamesAll (g : Game) (nodes : List Node) (p : Position) (replies : Lis
   pub exact : map (λ r. r.point) replies ≡ free_points g p
   pub next : Each (λ r. FollowsMove g nodes p r.point r.child) replies
 
+-- after an attack the other side must take the point, and what follows leads to a line
+abbrev pub MustReply : Game → Position → Side → List ℕ → Type 0
+MustReply g p side [] = ⊥
+MustReply g p side (u ∷ others) = (threatens g p side u ≡ true) × (g.kind ≡ MakerMaker → has_threat g p (other side) ≡ false) × LeadsToLine g (after g p u) side others
+
 -- the player is to move at the body
 abbrev pub Ready : Game → Claim → Position → Body → Option ℕ → Type 0
 Ready g c p Over last = ⊥
@@ -69,7 +75,7 @@ Ready g c p (Pairs pairs) last = PairsReady g c.side p pairs last
 Ready g c p Potential last = PotentialFits g.kind g p c.side
 Ready g c p (Trees with_e first second) last = HeldUntil g p (λ q. TreesHold g q (with_e_named g with_e first) second) last
 Ready g c p (Cuts with_e first second) last = HeldUntil g p (λ q. CutsHold g q (with_e_named g with_e first) second) last
-Ready g c p (Threat points) last = ⊥
+Ready g c p (Threat points) last = LeadsToLine g p c.side points
 
 -- the other side is to move at the body
 abbrev pub Waiting : Game → Claim → Position → Body → Type 0
@@ -80,7 +86,7 @@ Waiting g c p (Pairs pairs) = PairsWaiting g c.side p pairs
 Waiting g c p Potential = PotentialWaiting g.kind g p c.side
 Waiting g c p (Trees with_e first second) = TreesHold g p (with_e_named g with_e first) second
 Waiting g c p (Cuts with_e first second) = CutsHold g p (with_e_named g with_e first) second
-Waiting g c p (Threat points) = ⊥
+Waiting g c p (Threat points) = MustReply g p c.side points
 
 -- the body is allowed, and while the game goes on it keeps what it needs, whoever is to move
 pub record Stands (g : Game) (c : Claim) (p : Position) (s : Standing) : Type 0 where

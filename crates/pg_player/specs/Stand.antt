@@ -1,5 +1,5 @@
 -- What the code keeps of a standing.
-use Rattle.std.specs.Prelude.{◌≡◌, ◌==◌, ◌<◌, ℕ, false, List, length, Option, Some, None, find, slice_get}
+use Rattle.std.specs.Prelude.{◌≡◌, ◌==◌, ◌<◌, ℕ, false, List, [], ◌∷◌, drop, length, Option, Some, None, find, slice_get}
 use Rattle.pg_cert.specs.declared.node.Body.{Body}
 use Rattle.pg_cert.specs.declared.node.Body.TheVariants.{Over, Move, All, Trees, Cuts, Threat}
 use Rattle.pg_cert.specs.declared.node.Node.{Node}
@@ -14,11 +14,19 @@ abbrev pub body_at : Option Node → Body
 body_at (Some node) = node.body
 body_at None = Over
 
+-- the points of a threat line, and none where the body is another
+abbrev pub threat_of : Body → List ℕ
+threat_of (Threat points) = points
+threat_of _ = []
+
 -- what is left of the body of a claim's node
 abbrev pub body_of : List Node → Rest → Body
 body_of nodes (rest.Whole number) = body_at (slice_get nodes number)
 body_of nodes (rest.Short plan) = Trees false plan.first plan.second
 body_of nodes (rest.Cut plan) = Cuts false plan.first plan.second
+body_of nodes (rest.Line number from) = Threat (drop from (threat_of (body_at (slice_get nodes number))))
+body_of nodes (rest.Last u) = Threat (u ∷ [])
+body_of nodes rest.Won = Threat []
 
 -- where the player stands
 abbrev pub standing_of : List Node → Stand → Standing
@@ -29,5 +37,6 @@ abbrev pub LeadsOn : List Node → Body → ℕ → Type 0
 LeadsOn nodes Over v = ⊥
 LeadsOn nodes (Move point child) v = ⊥
 LeadsOn nodes (All replies) v = (r : Reply) × (find (λ q. q.point == v) replies ≡ Some r) × (r.child < length nodes)
-LeadsOn nodes (Threat points) v = ⊥
+LeadsOn nodes (Threat []) v = ⊥
+LeadsOn nodes (Threat (u ∷ points)) v = Unit {0}
 LeadsOn nodes _ v = Unit {0}

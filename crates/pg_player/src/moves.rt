@@ -1,17 +1,17 @@
 //! The own moves of a player.
-ghost use Rattle.std.specs.Prelude.{◌≡◌, ◌≢◌, ℕ, false, Option, slice_get};
+ghost use Rattle.std.specs.Prelude.{◌≡◌, ◌≢◌, ℕ, false, Option, drop, slice_get};
 ghost use Rattle.pg_base.specs.declared.kind.Kind.TheVariants.{Switching};
 ghost use Rattle.pg_base.specs.declared.side.Side.TheVariants.{X, Y};
 ghost use Rattle.pg_cert.specs.declared.cert.Claim.{Claim};
-ghost use Rattle.pg_cert.specs.declared.node.Body.TheVariants.{Potential, Trees, Cuts};
+ghost use Rattle.pg_cert.specs.declared.node.Body.TheVariants.{Potential, Trees, Cuts, Threat};
 ghost use Rattle.pg_game.specs.Game.{is_over, IsPosition};
 ghost use Rattle.pg_game.specs.Trees.{TreesHold, CutsHold};
 ghost use Rattle.pg_game.specs.Judge.{HasJoiner};
 ghost use Rattle.pg_player.specs.InPlay.{InPlay, KeepsUp};
-ghost use Rattle.pg_player.specs.Stand.{body_at, standing_of};
+ghost use Rattle.pg_player.specs.Stand.{body_at, threat_of, standing_of};
 ghost use Rattle.pg_switch.specs.Replies.{HeldUntil};
 
-use crate::standing::{Rest, Stand, arrive, body_at};
+use crate::standing::{Rest, Stand, arrive, body_at, threat_at};
 use pg_base::Kind;
 use pg_cert::{Body, Claim, with_e_named};
 use pg_game::{Game, Position};
@@ -100,6 +100,29 @@ fn cuts_move(
     }
 }
 
+/// The next attack of the threat line of the node of that number, from a place on.
+fn line_move(
+    g: &Game,
+    claim: &Claim,
+    p: &Position,
+    number: usize,
+    from: usize,
+    last: Option<u16>,
+) -> Made
+    requires playing { InPlay g.now claim.now p.now (record { body = Threat (drop from (threat_of (body_at (slice_get claim.now.nodes number)))); last = last }) }
+    requires going { is_over g.now p.now ≡ false }
+    requires turn { p.now.turn ≡ claim.now.side }
+    ensures { KeepsUp g.now claim.now p.now (record { body = Threat (drop from (threat_of (body_at (slice_get claim.now.nodes number)))); last = last }) result.point (standing_of claim.now.nodes result.stand) }
+{
+    Made {
+        point: threat_at(claim, number)[from],
+        stand: Stand {
+            rest: Rest::Line(number, from + 1),
+            last,
+        },
+    }
+}
+
 /// The own move at a node's body.
 fn body_move(
     g: &Game,
@@ -151,7 +174,8 @@ fn body_move(
             let plan = CutPlan::start(with_e_named(g, *with_e, first), *second);
             cuts_move(g, joiner, p, plan, last)
         }
-        Body::Over | Body::All(_) | Body::Threat(_) => unreachable!(),
+        Body::Threat(_) => line_move(g, claim, p, number, 0, last),
+        Body::Over | Body::All(_) => unreachable!(),
     }
 }
 
@@ -179,5 +203,14 @@ pub(crate) fn own_move(
         }
         Rest::Short(plan) => trees_move(g, joiner, p, plan, last),
         Rest::Cut(plan) => cuts_move(g, joiner, p, plan, last),
+        Rest::Line(number, from) => line_move(g, claim, p, number, from, last),
+        Rest::Last(point) => Made {
+            point,
+            stand: Stand {
+                rest: Rest::Won,
+                last,
+            },
+        },
+        Rest::Won => unreachable!(),
     }
 }

@@ -1,7 +1,8 @@
 //! Where a player stands, and where it goes.
-ghost use Rattle.std.specs.Prelude.{◌≡◌, ◌==◌, ◌<◌, ◌-◌, Some, length, find, option_map, slice_get};
+ghost use Rattle.std.specs.Prelude.{◌≡◌, ◌==◌, ◌<◌, ◌-◌, Some, drop, length, find, option_map, slice_get};
 ghost use Rattle.pg_cert.specs.OwnMove.{arrives, replied_by};
-ghost use Rattle.pg_player.specs.Stand.{body_at, body_of, standing_of, LeadsOn};
+ghost use Rattle.pg_cert.specs.declared.node.Body.TheVariants.{Threat};
+ghost use Rattle.pg_player.specs.Stand.{body_at, body_of, threat_of, standing_of, LeadsOn};
 
 use pg_cert::{Body, Claim, Reply};
 use pg_switch::{CutPlan, ShortPlan};
@@ -15,6 +16,12 @@ pub(crate) enum Rest {
     Short(ShortPlan),
     /// The cuts that Cut's answers have left.
     Cut(CutPlan),
+    /// The threat line of the node of that number, from that place on.
+    Line(usize, usize),
+    /// The point that the other side left, as the last attack.
+    Last(u16),
+    /// Nothing of a threat line.
+    Won,
 }
 
 /// Where the player stands: what is left of the body, and the last reply since it came to its node.
@@ -70,6 +77,33 @@ pub(crate) fn body_at(claim: &Claim, number: usize) -> &Body
     &claim.nodes.as_slice()[number].body
 }
 
+/// The points of the threat line of the node of that number, and none where it has another body.
+pub(crate) fn threat_at(claim: &Claim, number: usize) -> &[u16]
+    ensures { result.now ≡ threat_of (body_at (slice_get claim.now.nodes number)) }
+{
+    let Some(node) = claim.nodes.as_slice().get(number) else {
+        return &[];
+    };
+    match &node.body {
+        Body::Threat(points) => points.as_slice(),
+        _ => &[],
+    }
+}
+
+/// What is left of the threat line from a place on after a reply: the rest where the point there was taken, and else that
+/// point.
+fn line_replied(claim: &Claim, number: usize, from: usize, v: u16) -> Rest
+    requires { LeadsOn claim.now.nodes (Threat (drop from (threat_of (body_at (slice_get claim.now.nodes number))))) v }
+    ensures { replied_by (Threat (drop from (threat_of (body_at (slice_get claim.now.nodes number))))) claim.now.nodes v ≡ Some (record { body = body_of claim.now.nodes result; last = Some v }) }
+{
+    let u = threat_at(claim, number)[from];
+    if u == v {
+        Rest::Line(number, from + 1)
+    } else {
+        Rest::Last(u)
+    }
+}
+
 /// Where the player stands at a node's body after a reply: on at the child where all replies are named, else it stays.
 fn body_replied(claim: &Claim, number: usize, body: &Body, v: u16) -> Stand
     requires body { body.now ≡ body_at (slice_get claim.now.nodes number) }
@@ -81,6 +115,7 @@ fn body_replied(claim: &Claim, number: usize, body: &Body, v: u16) -> Stand
             Some(reply) => arrive(claim, reply.child as usize),
             None => unreachable!(),
         },
+        Body::Threat(_) => stay(line_replied(claim, number, 0, v), v),
         _ => stay(Rest::Whole(number), v),
     }
 }
@@ -92,6 +127,8 @@ pub(crate) fn replied(claim: &Claim, rest: Rest, v: u16) -> Stand
 {
     match rest {
         Rest::Whole(number) => body_replied(claim, number, body_at(claim, number), v),
-        Rest::Short(_) | Rest::Cut(_) => stay(rest, v),
+        Rest::Line(number, from) => stay(line_replied(claim, number, from, v), v),
+        Rest::Last(u) => stay(if u == v { Rest::Won } else { rest }, v),
+        Rest::Short(_) | Rest::Cut(_) | Rest::Won => stay(rest, v),
     }
 }

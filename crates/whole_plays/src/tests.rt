@@ -1,7 +1,7 @@
 //! Plays worked by hand.
 //!
-//! A game is told as `KIND POINTS TURN BIAS:LINES:Y`, with commas between lines, and on a graph with the number of its
-//! vertices and with edges; its terminals are 0 and 1. A certificate is told without its first line, and its lines end at
+//! A game is told as `KIND POINTS TURN BIAS:LINES:Y:X`, with commas between lines and X's marks left out where there are
+//! none, and on a graph with the number of its vertices and with edges; its terminals are 0 and 1. A certificate is told without its first line, and its lines end at
 //! semicolons. A play is told as `REPLIES:TOLD:SCORE`: what is told are the own moves, and 1,000 for each refusal.
 ghost use Rattle.std.specs.Prelude.{IfOk, IsTrue};
 ghost use Rattle.pg_cert.specs.Limits.{IsWithinLimits};
@@ -107,8 +107,8 @@ fn game(alloc: Global, text: &str) -> Result<Game, Fail> {
     let kind = kind(word(head, 0));
     let field = field(alloc, kind, word(head, 1).parse::<u16>()?, part(text, 1))?;
     let bias = word(head, 3).parse::<u8>()?;
-    let y = set(alloc, part(text, 2))?;
-    Ok(Game::new(kind, field, PointSet::empty(), y, side(word(head, 2)), bias)?)
+    let (x, y) = (set(alloc, part(text, 3))?, set(alloc, part(text, 2))?);
+    Ok(Game::new(kind, field, x, y, side(word(head, 2)), bias)?)
 }
 
 /// The certificate that a text tells.
@@ -250,6 +250,22 @@ fn plays_by_potentials_trees_and_cuts(rt: HostRuntime) -> Result<(), Fail> {
         "switching 2 y 1:0 1,1 0:=claim y x win;nodes 1;||y|trees 0 / 1=x=0:1:x=1:0:x",
         "switching 4 y 1:0 2,0 3,2 3,2 1,3 1:=claim y y win;nodes 1;||y|cuts e 0 4 / 1 2 3=y=0 4:1 3 2:y=1 0 5 4:1 1000 3 1000 2:y",
         "switching 3 x 1:0 2,2 1:=claim x y win;nodes 1;||x|cuts 0 / 1=y=0:1:y=1:0:y",
+    ] {
+        assert!(rt; holds(rt.alloc(), row)?, "{row}");
+    }
+    Ok(())
+}
+
+/// Each list of replies on two lines, and on noughts and crosses with X in the centre: a reply that isn't forced is
+/// answered at the point that it left.
+#[test]
+fn plays_by_threat_lines(rt: HostRuntime) -> Result<(), Fail> {
+    for row in [
+        "maker-breaker 3 x 1:0 1,0 2:=claim x x win;nodes 1;||x|threat 0 1 2=x=1:0 2:x=2:0 1:x=0 3 1:0 1000 1000 2:x",
+        "maker-breaker 3 x 1:0 1,0 2:=claim x x win;nodes 4;0|1|x|threat 2;0|2|x|threat 1;0||y|all 1:0 2:1;||x|move 0 2=x=1:0 2:x=2:0 1:x",
+        "maker-maker 3 y 1:0 1,0 2:=claim y y win;nodes 1;||y|threat 0 1 2=y=1:0 2:y=2:0 1:y",
+        "maker-breaker 9 x 1:0 1 2,3 4 5,6 7 8,0 3 6,1 4 7,2 5 8,0 4 8,2 4 6:1:4=claim x x win;nodes 1;4|1|x|threat 0 8 3 5 6=x=2:0 8:x=3:0 8:x=5:0 8:x=6:0 8:x=7:0 8:x=8 2:0 3 5:x=8 5:0 3 6:x=8 6:0 3 5:x=8 7:0 3 5:x=4 8 1 8 5:0 1000 3 1000 1000 6:x",
+        "maker-maker 9 x 1:0 1 2,3 4 5,6 7 8,0 3 6,1 4 7,2 5 8,0 4 8,2 4 6:1:4=claim x x win;nodes 1;4|1|x|threat 0 8 3 5 6=x=2:0 8:x=8 2:0 3 5:x=8 5:0 3 6:x",
     ] {
         assert!(rt; holds(rt.alloc(), row)?, "{row}");
     }

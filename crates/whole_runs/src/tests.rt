@@ -276,7 +276,7 @@ fn trees_of_moves(rt: HostRuntime) -> Result<(), Fail> {
         "claim x x win;nodes 6;0 2|1|y|over;0 1|2|y|over;0|1|x|move 2 0;0|2|x|move 1 1;0||y|all 1:2;||x|move 0 4=rejected J4 claim 0 node 4",
         "claim x x win;nodes 6;0 2|1|y|over;0 1|2|y|over;0|1|x|move 2 0;0|2|x|move 1 1;0||y|all 1:2 2:2;||x|move 0 4=rejected J2 claim 0 node 4",
         "claim y x win;nodes 6;0 2|1|y|over;0 1|2|y|over;0|1|x|move 2 0;0|2|x|move 1 1;0||y|all 1:2 2:3;||x|move 0 4=rejected J11 claim 0 node 5",
-        "claim x x win;nodes 6;0 2|1|y|over;0 1|2|y|over;0|1|x|threat 2;0|2|x|move 1 1;0||y|all 1:2 2:3;||x|move 0 4=rejected J0 claim 0 node 2",
+        "claim x x win;nodes 6;0 2|1|y|over;0 1|2|y|over;0|1|x|threat 2;0|2|x|move 1 1;0||y|all 1:2 2:3;||x|move 0 4=accepted x x win",
         "claim x x win;nodes 6;0 2|1|y|over;0 1|2|y|over;0|1|x|move 2 2;0|2|x|move 1 1;0||y|all 1:2 2:3;||x|move 0 4=rejected J1 claim 0 node 2",
         "claim x x win;nodes 6;0 2|1|y|over;0 1|2|y|over;0|1|x|move 2 0;0|2|x|move 1 1;0||y|all 1:2 2:3;||x|move 0 5=rejected J1 claim 0 node 5",
         "claim x x win;nodes 6;0 2|1|y|over;0 1|2|y|over;0|1|x|move 2 1;0|2|x|move 1 1;0||y|all 1:2 2:3;||x|move 0 4=rejected J2 claim 0 node 2",
@@ -296,7 +296,6 @@ fn trees_of_moves(rt: HostRuntime) -> Result<(), Fail> {
 fn single_nodes(rt: HostRuntime) -> Result<(), Fail> {
     for row in [
         "claim x y win;nodes 1;||x|potential=rejected J7 claim 0 node 0",
-        "claim x x win;nodes 1;||x|threat 0 1 2=rejected J0 claim 0 node 0",
         "claim x x win;nodes 1;||x|move 0 0=rejected J1 claim 0 node 0",
         "claim x x win;nodes 1;||x|move 3 0=rejected J1 claim 0 node 0",
         "claim x x win;nodes 1;0 9|1|y|over=rejected J2 claim 0 node 0",
@@ -388,6 +387,86 @@ fn trees_and_cuts(rt: HostRuntime) -> Result<(), Fail> {
         "kind switching;vertices 3;terminals 0 1;edge 0 2;edge 2 1;turn x=claim x x win;nodes 1;||x|trees e 0 / 1=rejected J8 claim 0 node 0",
         "kind switching;vertices 3;terminals 0 1;edge 0 2;edge 2 1;turn x=claim x x win;nodes 1;||x|cuts 0 / 1=rejected J12 claim 0 node 0",
         "kind switching;vertices 3;terminals 0 1;turn x=claim x y win;nodes 1;||x|cuts /=accepted x y win",
+    ] {
+        assert!(rt; game_row_holds(rt.alloc(), row)?, "{row}");
+    }
+    Ok(())
+}
+
+/// Noughts and crosses with X in the centre: an attack that forces a reply, which in Maker-Maker may be an attack itself.
+#[test]
+fn threat_lines_in_noughts_and_crosses(rt: HostRuntime) -> Result<(), Fail> {
+    for row in [
+        "kind maker-breaker;points 9;line 0 1 2;line 3 4 5;line 6 7 8;line 0 3 6;line 1 4 7;line 2 5 8;line 0 4 8;line 2 4 6;x 4;y 1;turn x=claim x x win;nodes 1;4|1|x|threat 0 8 3 5 6=accepted x x win",
+        "kind maker-breaker;points 9;line 0 1 2;line 3 4 5;line 6 7 8;line 0 3 6;line 1 4 7;line 2 5 8;line 0 4 8;line 2 4 6;x 4;y 0;turn x=claim x x win;nodes 1;4|0|x|threat 2 6 5 3 8=accepted x x win",
+        "kind maker-maker;points 9;line 0 1 2;line 3 4 5;line 6 7 8;line 0 3 6;line 1 4 7;line 2 5 8;line 0 4 8;line 2 4 6;x 4;y 1;turn x=claim x x win;nodes 1;4|1|x|threat 0 8 3 5 6=accepted x x win",
+        "kind maker-maker;points 9;line 0 1 2;line 3 4 5;line 6 7 8;line 0 3 6;line 1 4 7;line 2 5 8;line 0 4 8;line 2 4 6;x 4;y 0;turn x=claim x x win;nodes 1;4|0|x|threat 2 6 5 3 8=rejected J10 claim 0 node 0",
+    ] {
+        assert!(rt; game_row_holds(rt.alloc(), row)?, "{row}");
+    }
+    Ok(())
+}
+
+#[test]
+fn threat_lines_on_two_lines(rt: HostRuntime) -> Result<(), Fail> {
+    for row in [
+        "claim x x win;nodes 1;||x|threat 0 1 2=accepted x x win",
+        "claim x x win;nodes 1;||x|threat 0 2 1=accepted x x win",
+        "claim x x draw;nodes 1;||x|threat 0 1 2=accepted x x draw",
+        "claim x x win;nodes 4;0|1|x|threat 2;0|2|x|threat 1;0||y|all 1:0 2:1;||x|move 0 2=accepted x x win",
+        "claim x x win;nodes 4;0|1|x|threat 2;0|2|x|threat 1;0||y|all 1:0;||x|move 0 2=rejected J4 claim 0 node 2",
+        "claim x x win;nodes 2;0|1|x|threat 2;0||y|all 1:0 2:0=rejected J2 claim 0 node 1",
+        "claim x x win;nodes 1;3||x|threat 0 1 2=rejected J2 claim 0 node 0",
+        "claim y x win;nodes 1;||y|threat 0 1 2=rejected J3 claim 0 node 0",
+        "claim y x win;nodes 1;||x|threat 0 1 2=rejected J11 claim 0 node 0",
+        "claim x x win;nodes 1;0||x|threat 1=rejected J11 claim 0 node 0",
+        "claim x y win;nodes 1;||x|threat 0 1 2=rejected J12 claim 0 node 0",
+        "claim x y win;nodes 1;0||x|threat 1=rejected J11 claim 0 node 0",
+        "claim x y win;nodes 1;||y|threat 3=rejected J11 claim 0 node 0",
+    ] {
+        assert!(rt; row_holds(rt.alloc(), two_lines(), row)?, "{row}");
+    }
+    Ok(())
+}
+
+/// Points that aren't a threat line: the last attack fills no line, an attack is taken or no point, a reply is no point or
+/// taken, and the game is over.
+#[test]
+fn points_that_are_no_threat_line(rt: HostRuntime) -> Result<(), Fail> {
+    for row in [
+        "claim x x win;nodes 1;||x|threat 0=rejected J10 claim 0 node 0",
+        "claim x x win;nodes 1;||x|threat 1 0 2=rejected J10 claim 0 node 0",
+        "claim x x win;nodes 1;||x|threat 0 1 1=rejected J10 claim 0 node 0",
+        "claim x x win;nodes 1;||x|threat 0 1 0=rejected J10 claim 0 node 0",
+        "claim x x win;nodes 1;||x|threat 3 1 2=rejected J10 claim 0 node 0",
+        "claim x x win;nodes 1;||x|threat 0 3 2=rejected J10 claim 0 node 0",
+        "claim x x win;nodes 1;||x|threat 0 1 1023=rejected J10 claim 0 node 0",
+        "claim x x win;nodes 1;||x|threat 0 0 1=rejected J10 claim 0 node 0",
+        "claim x x win;nodes 2;0 1||x|threat 2;||x|threat 0 1 2=rejected J10 claim 0 node 0",
+        "claim x x win;nodes 2;1|0|x|threat 2;||x|threat 0 1 2=rejected J10 claim 0 node 0",
+        "claim x x win;nodes 3;0|1|x|threat 2;0|2|x|threat 2;||x|threat 0 1 2=rejected J10 claim 0 node 1",
+    ] {
+        assert!(rt; row_holds(rt.alloc(), two_lines(), row)?, "{row}");
+    }
+    Ok(())
+}
+
+/// A reply that isn't forced, an attack that fills a line before the last, a defender's own threat, either side of
+/// Maker-Maker, and kinds that know no threat lines.
+#[test]
+fn threat_lines_in_other_games(rt: HostRuntime) -> Result<(), Fail> {
+    for row in [
+        "kind maker-breaker;points 4;line 0 1;line 0 2;turn x=claim x x win;nodes 1;||x|threat 0 3 2=rejected J10 claim 0 node 0",
+        "kind maker-breaker;points 4;line 0 1;line 0 2;x 0;turn x=claim x x win;nodes 1;0||x|threat 1 2 3=rejected J10 claim 0 node 0",
+        "kind maker-breaker;points 4;line 0 1;line 0 2;x 0;turn x=claim x x win;nodes 1;0||x|threat 2=accepted x x win",
+        "kind maker-maker;points 3;line 0 1;line 0 2;turn y=claim y y win;nodes 1;||y|threat 0 1 2=accepted y y win",
+        "kind maker-maker;points 3;line 0 1;line 0 2;turn y=claim y y draw;nodes 1;||y|threat 0 2 1=accepted y y draw",
+        "kind maker-maker;points 3;line 0 1;line 0 2;turn x=claim x y win;nodes 1;||x|threat 0 1 2=rejected J3 claim 0 node 0",
+        "kind maker-maker;points 5;line 0 1;line 0 2;line 3 4;y 3;turn x=claim x x win;nodes 1;|3|x|threat 0 1 2=rejected J10 claim 0 node 0",
+        "kind maker-maker;points 5;line 0 1;line 0 2;line 3 4;x 4;y 3;turn x=claim x x win;nodes 1;4|3|x|threat 0 1 2=accepted x x win",
+        "kind avoider-enforcer;points 3;line 0 1;line 0 2;turn x=claim x x win;nodes 1;||x|threat 0 1 2=rejected J12 claim 0 node 0",
+        "kind avoider-enforcer;points 3;line 0 1;line 0 2;turn y=claim y y win;nodes 1;||y|threat 0 1 2=rejected J12 claim 0 node 0",
+        "kind switching;vertices 2;terminals 0 1;edge 0 1;turn x=claim x x win;nodes 1;||x|threat 0=rejected J12 claim 0 node 0",
     ] {
         assert!(rt; game_row_holds(rt.alloc(), row)?, "{row}");
     }

@@ -5,8 +5,10 @@ use std::test::Fail;
 #[test]
 fn moves_on_two_lines(rt: HostRuntime) -> Result<(), Fail> {
     for row in [
-        "claim x x win;nodes 6;0 2|1|y|threat 0;0 1|2|y|over;0|1|x|move 2 0;0|2|x|move 1 1;0||y|all 1:2 2:3;||x|move 0 4=rejected J0 claim 0 node 0",
-        "claim x x win;nodes 6;0 2|1|y|over;0 1|2|y|over;0|1|x|move 2 0;0|2|x|move 1 1;0||y|all 1:2 2:3;||x|threat 0 1 2=rejected J0 claim 0 node 5",
+        "claim x x win;nodes 6;0 2|1|y|threat 0;0 1|2|y|over;0|1|x|move 2 0;0|2|x|move 1 1;0||y|all 1:2 2:3;||x|move 0 4=rejected J3 claim 0 node 0",
+        "claim x x win;nodes 6;0 2|1|y|over;0 1|2|y|over;0|1|x|move 2 0;0|2|x|move 1 1;0||y|all 1:2 2:3;||x|threat 0 1 1=rejected J10 claim 0 node 5",
+        "claim x x win;nodes 6;0 2|1|y|over;0 1|2|y|over;0|1|x|threat 1;0|2|x|move 1 1;0||y|all 1:2 2:3;||x|move 0 4=rejected J10 claim 0 node 2",
+        "claim x x win;nodes 6;0 2|1|x|threat 0;0 1|2|y|over;0|1|x|move 2 0;0|2|x|move 1 1;0||y|all 1:2 2:3;||x|move 0 4=rejected J10 claim 0 node 0",
         "claim x x win;nodes 6;0 2|1|y|all 0:0;0 1|2|y|over;0|1|x|move 2 0;0|2|x|move 1 1;0||y|all 1:2 2:3;||x|move 0 4=rejected J1 claim 0 node 0",
         "claim x x win;nodes 6;0 9|1|y|over;0 1|2|y|over;0|1|x|move 2 0;0|2|x|move 1 1;0||y|all 1:2 2:3;||x|move 0 4=rejected J2 claim 0 node 0",
         "claim x x win;nodes 6;0 2|1|x|all;0 1|2|y|over;0|1|x|move 2 0;0|2|x|move 1 1;0||y|all 1:2 2:3;||x|move 0 4=rejected J3 claim 0 node 0",

@@ -1,0 +1,18 @@
+use Rattle.std.proofs.Common.{◌∙◌, sym, ap}
+use Rattle.std.proofs.lemmas.Bool.{false≢true}
+use Rattle.std.specs.List.{list_any}
+use Rattle.std.specs.FinSet.{FinSet, insert}
+use Rattle.std.specs.Ordering.{nat_cmp}
+use Rattle.pg_game.specs.Game.{is_filled, lines_of}
+use Rattle.pg_check.proofs.ThreatTests.{threatens-off, threatens-is}
+use Rattle.pg_check.proofs.threats.threatens.Goals as goal
+
+pub returns-then-not-is_attack-clause-threat : goal.returns-then-not-is_attack-clause-threat
+returns-then-not-is_attack-clause-threat c =
+    threatens-off c.args.g.now c.args.p.now c.args.side c.args.u (λ at. false≢true (sym c.if-not-is_attack.true ∙ c.is_attack.ensures.attack.1 at))
+
+pub returns-clause-threat : goal.returns-clause-threat
+returns-clause-threat c =
+    c.fills_some.ensures
+    ∙ ap (λ (s : FinSet nat_cmp). list_any (is_filled s) (lines_of c.args.g.now)) (c.put.ensures ∙ ap (λ (s : FinSet nat_cmp). insert s c.args.u) c.points_of.ensures)
+    ∙ threatens-is c.args.g.now c.args.p.now c.args.side c.args.u c.requires (c.is_attack.ensures.attack.0 c.if-not-is_attack.false)

@@ -1,0 +1,163 @@
+//! Threat lines, attack by attack.
+ghost use Rattle.std.specs.Prelude.{◌≡◌, ◌<◌, ◌↔◌, ℕ, true, false, List, IsTrue, IfSome, IfNone};
+ghost use Rattle.std.specs.List.{All, list_any};
+ghost use Rattle.std.specs.FinSet.{contains};
+ghost use Rattle.pg_game.specs.Game.{lines_of, has_filled, is_filled, IsPosition};
+ghost use Rattle.pg_game.specs.Position.{points_of};
+ghost use Rattle.pg_game.specs.Judge.{IsMadeForGame};
+ghost use Rattle.pg_game.specs.Potential.{is_on};
+ghost use Rattle.pg_game.specs.Threat.{is_near, threatens, has_threat, IsAttack, Forcing, Filling, LeadsToLine, IsThreatLine};
+ghost use Rattle.pg_check.specs.Lacked.{filled_but};
+
+use pg_base::{Kind, Line, PointSet, Side};
+use pg_game::{Field, Game, Judge, Position};
+
+/// The lines of a game, and none on a graph.
+fn lines_of(g: &Game) -> &[Line]
+    ensures lines { result.now ≡ lines_of g.now }
+    ensures range { All (All (λ v. v < 1024)) result.now }
+{
+    match &g.field {
+        Field::Lines(field) => field.lines.as_slice(),
+        Field::Graph(_) => &[],
+    }
+}
+
+/// Whether each point of the line is in the set.
+fn is_filled(points: &PointSet, line: &Line) -> bool
+    requires { All (λ v. v < 1024) line.now }
+    ensures { result ≡ is_filled points.now line.now }
+{
+    line.as_slice().iter().all(|v| points.has(*v))
+}
+
+/// Whether the set has all points of some line.
+fn fills_some(g: &Game, points: &PointSet) -> bool
+    ensures { result ≡ list_any (is_filled points.now) (lines_of g.now) }
+{
+    lines_of(g).iter().any(|line| is_filled(points, line))
+}
+
+/// The point of the line that isn't in the set, where there is just one.
+fn only_lacked(points: &PointSet, line: &Line) -> Option<u16>
+    requires { All (λ v. v < 1024) line.now }
+    ensures one { IfSome result (λ u. (is_on u line.now ≡ true) × (contains points.now u ≡ false) × (filled_but points.now u line.now ≡ true)) }
+    ensures few { IfSome result (λ u. u < 1024) }
+    ensures none { IfNone result ((u : ℕ) → is_on u line.now ≡ true → contains points.now u ≡ false → filled_but points.now u line.now ≡ true → ⊥) }
+{
+    let mut lacked = None;
+    for i in 0..line.len() {
+        let v = line.at(i);
+        if !points.has(v) {
+            if lacked.is_some() {
+                return None;
+            }
+            lacked = Some(v);
+        }
+    }
+    lacked
+}
+
+/// Whether the side lacks only one free point to fill the line.
+fn is_nearly_filled(p: &Position, side: Side, line: &Line) -> bool
+    requires { All (λ v. v < 1024) line.now }
+    ensures { result ≡ list_any (is_near p.now side line.now) line.now }
+{
+    match only_lacked(p.points_of(side), line) {
+        Some(u) => p.is_free(u),
+        None => false,
+    }
+}
+
+/// Whether the side lacks only one free point to fill some line.
+fn has_threat(g: &Game, p: &Position, side: Side) -> bool
+    ensures { result ≡ has_threat g.now p.now side }
+{
+    lines_of(g)
+        .iter()
+        .any(|line| is_nearly_filled(p, side, line))
+}
+
+/// Whether the point is a free point of the game.
+fn is_attack(g: &Game, p: &Position, v: u16) -> bool
+    ensures attack { IsTrue result ↔ IsAttack g.now p.now v }
+    ensures few { IsTrue result → v < 1024 }
+{
+    v < g.points() && p.is_free(v)
+}
+
+/// Whether the side has filled a line.
+fn has_filled(g: &Game, p: &Position, side: Side) -> bool
+    ensures { result ≡ has_filled g.now p.now side }
+{
+    fills_some(g, p.points_of(side))
+}
+
+/// Whether the side, which has filled no line, lacks only the free point u to fill some line.
+fn threatens(g: &Game, p: &Position, side: Side, u: u16) -> bool
+    requires { has_filled g.now p.now side ≡ false }
+    ensures threat { result ≡ threatens g.now p.now side u }
+    ensures few { IsTrue result → u < 1024 }
+{
+    if !is_attack(g, p, u) {
+        return false;
+    }
+    let mut points = *p.points_of(side);
+    points.put(u);
+    fills_some(g, &points)
+}
+
+/// Whether taking v is an attack that fills no line, and after which the other side must take u.
+fn is_forcing(g: &Game, p: &Position, side: Side, v: u16, u: u16) -> bool
+    ensures forcing { IsTrue result ↔ Forcing g.now p.now side v u }
+    ensures few { IsTrue result → (v < 1024) × (u < 1024) }
+{
+    if !is_attack(g, p, v) {
+        return false;
+    }
+    let after = g.after(p, v);
+    if g.kind == Kind::MakerMaker && has_threat(g, &after, side.other()) {
+        return false;
+    }
+    !has_filled(g, &after, side) && threatens(g, &after, side, u)
+}
+
+/// Whether taking v fills a line.
+fn is_filling(g: &Game, p: &Position, side: Side, v: u16) -> bool
+    ensures { IsTrue result ↔ Filling g.now p.now side v }
+{
+    is_attack(g, p, v) && has_filled(g, &g.after(p, v), side)
+}
+
+/// Whether the attacks and forced replies, one after the other, end in an attack that fills a line.
+fn leads_to_line(g: &Game, p: &Position, side: Side, points: &[u16]) -> bool
+    ensures { IsTrue result ↔ LeadsToLine g.now p.now side points.now }
+{
+    match points {
+        [] => false,
+        [v] => is_filling(g, p, side, *v),
+        [v, u, others @ ..] => {
+            is_forcing(g, p, side, *v, *u)
+                && leads_to_line(g, &g.after(&g.after(p, *v), *u), side, others)
+        }
+    }
+}
+
+/// Whether the points are a threat line of the side.
+pub(crate) fn threat_holds(
+    judge: &mut Judge,
+    g: &Game,
+    p: &Position,
+    side: Side,
+    points: &[u16],
+) -> bool
+    requires made { IsMadeForGame judge.old g.now }
+    requires position { IsPosition g.now p.now }
+    ensures line { IsTrue result ↔ IsThreatLine g.now p.now side points.now }
+    ensures kept { judge.new ≡ judge.old }
+{
+    if g.bias != 1 || p.turn != side {
+        return false;
+    }
+    judge.over(g, p).is_none() && leads_to_line(g, p, side, points)
+}
