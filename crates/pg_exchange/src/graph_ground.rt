@@ -1,0 +1,196 @@
+//! Spanning forests of a graph as bases.
+ghost use Rattle.std.specs.Prelude.{◌≡◌, ℕ, Bool, suc, IfOk, vec_len};
+ghost use Rattle.std.specs.FinSet.{contains};
+ghost use Rattle.pg_base.specs.Points.{AreBelow, ShareNone};
+ghost use Rattle.pg_base.specs.Sets.{either, below};
+ghost use Rattle.pg_graph.specs.Graph.{IsGraph, edge_count, spans_in};
+ghost use Rattle.pg_graph.specs.Joiner.{IsMadeFor, AreEdges};
+ghost use Rattle.pg_graph.specs.Labels.{AreLabels};
+ghost use Rattle.pg_graph.specs.Span.{IsBase};
+ghost use Rattle.pg_exchange.specs.Forest.{graph_matroid, elements_of, IsApart, IsFree, IsGrown};
+
+use crate::ground::Ground;
+use crate::path::path;
+use crate::search::shared;
+use pg_base::{Memory, PointSet};
+use pg_graph::{Ends, Graph, Joiner, labels};
+use std::alloc::Global;
+
+/// A spanning forest of the edges that two sets leave, over the edges of the first: the base. The graph with the edges
+/// of the first set contracted and those of the second deleted is what it spans.
+#[derive(Drop)]
+pub struct GraphGround {
+    graph: Graph,
+    names: Vec<u16>,
+    above: Vec<u16>,
+    via: Vec<u16>,
+    depth: Vec<u16>,
+    x: PointSet,
+    elements: PointSet,
+    base: PointSet,
+    ghost fits: { IsGraph graph },
+    ghost labelled: { AreLabels graph (contains x) names.items },
+    ghost above_size: { vec_len above ≡ graph.vertices },
+    ghost via_size: { vec_len via ≡ graph.vertices },
+    ghost depth_size: { vec_len depth ≡ graph.vertices },
+    ghost x_edges: { AreEdges graph (contains x) },
+    ghost element_edges: { AreEdges graph (contains elements) },
+    ghost is_forest: { IsBase (graph_matroid graph (contains x) (contains elements)).spans (contains elements) (contains base) },
+}
+
+impl GraphGround {
+    /// A spanning forest of the edges that are in neither set, and of `e` where it is wanted.
+    pub fn new(
+        alloc: Global,
+        g: &Graph,
+        x: &PointSet,
+        y: &PointSet,
+        with_e: bool,
+    ) -> Result<GraphGround, Memory>
+        requires graph { IsGraph g.now }
+        requires x { AreBelow x.now (edge_count g.now) }
+        requires y { AreBelow y.now (edge_count g.now) }
+        requires apart { ShareNone x.now y.now }
+        ensures { IfOk result (λ forest. ⟦<GraphGround as Ground>⟧.matroid forest ≡ graph_matroid g.now (contains x.now) (elements_of g.now (contains x.now) (contains y.now) with_e)) }
+    {
+        GraphGround::apart_from(alloc, g, x, y, with_e, &PointSet::empty())
+    }
+
+    /// As `new`, a spanning forest with no more of the avoided elements than it needs: its other members span all that
+    /// isn't avoided, so none of that could come in for an avoided member.
+    ///
+    /// The elements that aren't avoided are tried first (Kruskal 1956).
+    pub fn apart_from(
+        alloc: Global,
+        g: &Graph,
+        x: &PointSet,
+        y: &PointSet,
+        with_e: bool,
+        avoided: &PointSet,
+    ) -> Result<GraphGround, Memory>
+        requires graph { IsGraph g.now }
+        requires x { AreBelow x.now (edge_count g.now) }
+        requires y { AreBelow y.now (edge_count g.now) }
+        requires apart { ShareNone x.now y.now }
+        ensures matroid { IfOk result (λ forest. ⟦<GraphGround as Ground>⟧.matroid forest ≡ graph_matroid g.now (contains x.now) (elements_of g.now (contains x.now) (contains y.now) with_e)) }
+        ensures apart { IfOk result (λ forest. IsApart (⟦<GraphGround as Ground>⟧.matroid forest) (⟦<GraphGround as Ground>⟧.base forest) (contains avoided.now)) }
+    {
+        let elements = elements_of(g, x, y, with_e);
+        let mut joiner = Joiner::new(alloc, g)?;
+        let none = PointSet::empty();
+        let others = grown(&mut joiner, g, x, &elements.without(avoided), &none);
+        let base = grown(&mut joiner, g, x, &shared(&elements, avoided), &others);
+        let ends = g.ends.as_slice().to_vec(alloc)?;
+        let names = labels(alloc, g, x)?;
+        let above = vec![in alloc; 0; g.vertices as usize]?;
+        let via = vec![in alloc; 0; g.vertices as usize]?;
+        let depth = vec![in alloc; 0; g.vertices as usize]?;
+        let graph = Graph {
+            vertices: g.vertices,
+            s: g.s,
+            t: g.t,
+            ends: Ends::from_vec(ends),
+        };
+        Ok(GraphGround {
+            graph,
+            names,
+            above,
+            via,
+            depth,
+            x: *x,
+            elements,
+            base,
+        })
+    }
+}
+
+/// The edges in neither set, and `e` where it is wanted.
+fn elements_of(g: &Graph, x: &PointSet, y: &PointSet, with_e: bool) -> PointSet
+    requires { IsGraph g.now }
+    ensures { contains result ≡ elements_of g.now (contains x.now) (contains y.now) with_e }
+{
+    let marked = x.union(y);
+    let mut elements = PointSet::empty();
+    for k in 0..g.edge_count() {
+        if !marked.has(k) {
+            elements.put(k);
+        }
+    }
+    if with_e {
+        elements.put(g.edge_count());
+    }
+    elements
+}
+
+/// The base with each candidate, in ascending order, whose ends the edges of x and what is there don't join.
+fn grown(
+    joiner: &mut Joiner,
+    g: &Graph,
+    x: &PointSet,
+    candidates: &PointSet,
+    base: &PointSet,
+) -> PointSet
+    requires graph { IsGraph g.now }
+    requires made { IsMadeFor joiner.old g.now }
+    requires x { AreEdges g.now (contains x.now) }
+    requires candidates { AreEdges g.now (contains candidates.now) }
+    requires base { AreEdges g.now (contains base.now) }
+    requires free { IsFree (λ a k. spans_in g.now (either (contains x.now) a) k) (contains base.now) }
+    ensures grown { IsGrown (λ a k. spans_in g.now (either (contains x.now) a) k) (contains base.now) (below (contains candidates.now) (suc (edge_count g.now))) (contains result) }
+    ensures kept { joiner.new ≡ joiner.old }
+{
+    let mut result = *base;
+    for k in 0..g.edge_count() + 1 {
+        if candidates.has(k) {
+            let (u, v) = g.ends_of(k);
+            if !joiner.joined(g, &x.union(&result), u, v) {
+                result.put(k);
+            }
+        }
+    }
+    result
+}
+
+impl Ground for GraphGround {
+    ghost matroid = { λ s. graph_matroid s.graph (contains s.x) (contains s.elements) };
+
+    ghost base = { λ s. contains s.base };
+
+    ghost use Rattle.pg_exchange.specs.ForestLaws.{IsSpan-graph_matroid, small_edges};
+
+    ghost spanning = { λ s. IsSpan-graph_matroid s.graph (contains s.x) (contains s.elements) };
+
+    ghost is_base = { λ s. s.is_forest };
+
+    ghost small = { λ s. small_edges s.graph (contains s.elements) s.fits s.element_edges };
+
+    fn elements(&self) -> PointSet {
+        self.elements
+    }
+
+    fn member(&self, f: u16) -> bool {
+        f < 1024 && self.base.has(f)
+    }
+
+    fn circuit(&mut self, f: u16) -> PointSet {
+        let (u, v) = self.graph.ends_of(f);
+        let (from, to) = (self.names[u as usize], self.names[v as usize]);
+        path(
+            &mut self.above,
+            &mut self.via,
+            &mut self.depth,
+            &self.names,
+            &self.graph,
+            &self.base,
+            from,
+            to,
+        )
+    }
+
+    fn swap(&mut self, out: u16, into: u16) {
+        let mut base = self.base;
+        base.take(out);
+        base.put(into);
+        self.base = base;
+    }
+}

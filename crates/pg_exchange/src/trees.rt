@@ -1,0 +1,34 @@
+//! Two spanning forests of a graph.
+ghost use Rattle.std.specs.Prelude.{◌≡◌, ◌<◌, ℕ, true, IfOk};
+ghost use Rattle.std.specs.FinSet.{contains};
+ghost use Rattle.pg_base.specs.Points.{AreBelow, ShareNone};
+ghost use Rattle.pg_graph.specs.Graph.{IsGraph, edge_count};
+ghost use Rattle.pg_exchange.specs.Forest.{graph_matroid, elements_of, IsApart};
+
+use crate::exchange::Exchange;
+use crate::graph_ground::GraphGround;
+use crate::ground::Ground;
+use crate::search::members;
+use pg_base::{Memory, PointSet};
+use pg_graph::Graph;
+use std::alloc::Global;
+
+/// Two spanning forests of one graph.
+pub type Trees = Exchange<GraphGround>;
+
+impl Exchange<GraphGround> {
+    /// Two spanning forests of the graph with the edges of x contracted, those of y deleted and `e` added. The second has
+    /// an edge of the first only where the edges outside the first don't span as much.
+    pub fn new(alloc: Global, g: &Graph, x: &PointSet, y: &PointSet) -> Result<Trees, Memory>
+        requires graph { IsGraph g.now }
+        requires x { AreBelow x.now (edge_count g.now) }
+        requires y { AreBelow y.now (edge_count g.now) }
+        requires apart { ShareNone x.now y.now }
+        ensures matroid { IfOk result (λ trees. ⟦<GraphGround as Ground>⟧.matroid trees.first ≡ graph_matroid g.now (contains x.now) (elements_of g.now (contains x.now) (contains y.now) true)) }
+        ensures apart { IfOk result (λ trees. IsApart (⟦<GraphGround as Ground>⟧.matroid trees.first) (⟦<GraphGround as Ground>⟧.base trees.second) (⟦<GraphGround as Ground>⟧.base trees.first)) }
+    {
+        let first = GraphGround::new(alloc, g, x, y, true)?;
+        let second = GraphGround::apart_from(alloc, g, x, y, true, &members(&first))?;
+        Ok(Exchange::open(first, second))
+    }
+}
