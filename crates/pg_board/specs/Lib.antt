@@ -1,0 +1,12 @@
+pub mod Rows
+pub mod Shape
+pub mod Counts
+pub mod Lines
+pub mod Board
+pub mod Fits
+pub mod ViewCode
+pub mod Points
+pub mod Opening
+pub mod Near
+pub mod Totals
+pub mod Gathered

@@ -1,0 +1,69 @@
+//! The counts of a board's lines, as cells of its trail.
+ghost use Rattle.std.specs.Prelude.{◌≡◌, ◌≢◌, ◌<◌, ◌≤◌, ◌+◌, ℕ, ◌==◌, ◌&&◌, length, get_or};
+ghost use Rattle.pg_base.specs.declared.side.Side.{Side};
+ghost use Rattle.pg_base.specs.declared.side.Side.TheVariants.{X, Y};
+ghost use Rattle.pg_base.specs.Side.{other};
+ghost use Rattle.pg_base.specs.Sets.{one_if};
+ghost use Rattle.pg_game.specs.Potential.{is_turn_of};
+ghost use Rattle.pg_trail.specs.Extends.{Extends};
+ghost use Rattle.pg_board.specs.Shape.{line_in, count_cell, free_cell, cell_count};
+ghost use Rattle.pg_board.specs.Counts.{AreCounted, IsCountedMore, IsMoved, count_in, lines_in};
+
+use crate::layout::Layout;
+use pg_base::Side;
+use pg_trail::Trail;
+
+/// Where the line has none of the side's points: one line fewer of the side's with so many free points.
+fn leave(layout: &Layout, trail: &mut Trail, side: Side, own: u32, free: u32)
+    requires width { length trail.old.cells ≡ cell_count layout.now }
+    requires short { free ≤ layout.now.longest }
+    requires some { own ≡ 0 → 1 ≤ lines_in layout.now trail.old.cells side free }
+    requires room { 1 ≤ trail.old.spare }
+    ensures lines { IsMoved layout.now side (λ f. one_if ((own == 0) && (free == f))) (λ f. 0) trail.old.cells trail.new.cells }
+    ensures trail { Extends 1 trail.old trail.new }
+{
+    if own == 0 {
+        let cell = layout.free_cell(side, free);
+        let lines = trail.get(cell);
+        trail.set(cell, lines - 1);
+    }
+}
+
+/// Where the line has none of the side's points: it has one free point fewer.
+fn narrow(layout: &Layout, trail: &mut Trail, side: Side, own: u32, free: u32)
+    requires width { length trail.old.cells ≡ cell_count layout.now }
+    requires short { free ≤ layout.now.longest }
+    requires more { 1 ≤ free }
+    requires some { own ≡ 0 → 1 ≤ lines_in layout.now trail.old.cells side free }
+    requires few { (f : ℕ) → f ≤ layout.now.longest → lines_in layout.now trail.old.cells side f ≤ 20000 }
+    requires room { 2 ≤ trail.old.spare }
+    ensures lines { IsMoved layout.now side (λ f. one_if ((own == 0) && (free == f))) (λ f. one_if ((own == 0) && (free == f + 1))) trail.old.cells trail.new.cells }
+    ensures trail { Extends 2 trail.old trail.new }
+{
+    if own == 0 {
+        leave(layout, trail, side, own, free);
+        let cell = layout.free_cell(side, free - 1);
+        let lines = trail.get(cell);
+        trail.set(cell, lines + 1);
+    }
+}
+
+/// One more point of the side in the line.
+pub(crate) fn claim(layout: &Layout, trail: &mut Trail, side: Side, line: u32)
+    requires counted { AreCounted layout.now trail.old.cells }
+    requires range { line < length layout.now.lines }
+    requires free { count_in layout.now trail.old.cells X line + count_in layout.now trail.old.cells Y line < length (line_in layout.now line) }
+    requires room { 4 ≤ trail.old.spare }
+    ensures counted { AreCounted layout.now trail.new.cells }
+    ensures more { IsCountedMore layout.now side line trail.old.cells trail.new.cells }
+    ensures trail { Extends 4 trail.old trail.new }
+{
+    let cell = layout.count_cell(side, line);
+    let own = trail.get(cell);
+    let enemy = side.other();
+    let theirs = trail.get(layout.count_cell(enemy, line));
+    let free = layout.line(line).len() as u32 - (own + theirs);
+    leave(layout, trail, side, own, free);
+    narrow(layout, trail, enemy, theirs, free);
+    trail.set(cell, own + 1);
+}

@@ -1,0 +1,171 @@
+//! Whether a potential decides a board's position, and whether the game is over, by counts.
+ghost use Rattle.std.specs.Prelude.{◌≡◌, ◌≢◌, ◌<◌, ◌≤◌, ◌+◌, ◌^◌, Bool, length, get_or};
+ghost use Rattle.std.specs.List.{list_any};
+ghost use Rattle.pg_base.specs.declared.kind.Kind.TheVariants.{MakerMaker, Switching};
+ghost use Rattle.pg_game.specs.Position.{points_of};
+ghost use Rattle.pg_game.specs.Game.{is_filled, is_over_by, outcome_by};
+ghost use Rattle.pg_game.specs.Potential.{is_turn_of};
+ghost use Rattle.pg_game.specs.Avoider.{x_takes_last};
+ghost use Rattle.pg_game.specs.Decided.{at_least, defender};
+ghost use Rattle.pg_board.specs.Shape.{turn_cell};
+ghost use Rattle.pg_board.specs.Fits.{position_of, free_points_in};
+ghost use Rattle.pg_board.specs.Totals.{times_in, potential_in, avoider_in, Agree, IsBase};
+
+use crate::layout::Layout;
+use crate::points::{left, turn};
+use crate::totals::{greatest_weight, live_with, total};
+use pg_base::{Kind, Score, Side};
+use pg_trail::Trail;
+
+/// Whether it is the side's turn.
+fn is_turn_of(side: Side, turn: Side) -> bool
+    ensures { result ≡ is_turn_of side turn }
+{
+    match side {
+        Side::X => turn == Side::X,
+        Side::Y => turn == Side::Y,
+    }
+}
+
+/// How often the greatest weight counts for the side.
+fn times_counted(layout: &Layout, trail: &Trail, bias: u8, side: Side) -> u8
+    requires agrees { Agree layout.now trail.now.cells }
+    requires some { 1 ≤ bias }
+    requires turn { get_or trail.now.cells turn_cell 0 ≤ bias }
+    ensures { result ≡ times_in (record { bias = bias; shape = layout.now }) (position_of layout.now trail.now.cells) side }
+{
+    if is_turn_of(side, turn(trail)) {
+        bias - left(trail)
+    } else {
+        bias
+    }
+}
+
+/// Whether the potential is low enough for the side: the total, with the greatest weight of a free point as often as it
+/// counts, is below the limit. The greatest weight is found only where the total is below it.
+pub(crate) fn potential_holds(layout: &Layout, trail: &Trail, bias: u8, side: Side) -> bool
+    requires agrees { Agree layout.now trail.now.cells }
+    requires fits { IsBase (1 + bias) layout.now }
+    requires some { 1 ≤ bias }
+    requires few { bias ≤ 7 }
+    requires turn { get_or trail.now.cells turn_cell 0 ≤ bias }
+    ensures { result ≡ potential_in (record { bias = bias; shape = layout.now }) (position_of layout.now trail.now.cells) side }
+{
+    let base = 1 + u128::from(bias);
+    let limit = base.pow(u32::from(layout.longest()));
+    let total = total(layout, trail, side, base);
+    if total >= limit {
+        return false;
+    }
+    let times = u128::from(times_counted(layout, trail, bias, side));
+    if times == 0 {
+        return true;
+    }
+    total + times * greatest_weight(layout, trail, side, base) < limit
+}
+
+/// Whether X takes the last of so many free points, where a side is to move and still claims so many in its turn.
+fn x_takes_last(bias: u16, turn: Side, left: u16, free: u16) -> bool
+    requires { bias ≤ 7 }
+    ensures { result ≡ x_takes_last bias turn left free }
+{
+    match turn {
+        Side::X => 0 < free && (free - 1) % (bias + 1) == 0,
+        Side::Y => left < free && (free - left - 1) % (bias + 1) == 0,
+    }
+}
+
+/// Whether Avoider takes the last of so many free points.
+fn avoider_ends(layout: &Layout, trail: &Trail, bias: u8, free: u16) -> bool
+    requires agrees { Agree layout.now trail.now.cells }
+    requires few { bias ≤ 7 }
+    requires turn { get_or trail.now.cells turn_cell 0 ≤ bias }
+    requires free { free ≡ length (free_points_in layout.now (position_of layout.now trail.now.cells)) }
+    ensures { result ≡ x_takes_last bias (position_of layout.now trail.now.cells).turn (position_of layout.now trail.now.cells).left (length (free_points_in layout.now (position_of layout.now trail.now.cells))) }
+{
+    x_takes_last(u16::from(bias), turn(trail), u16::from(left(trail)), free)
+}
+
+/// Whether Avoider's potential is low enough: the total, twice where Avoider takes the last free point, is below the
+/// limit.
+pub(crate) fn avoider_holds(layout: &Layout, trail: &Trail, bias: u8, free: u16) -> bool
+    requires agrees { Agree layout.now trail.now.cells }
+    requires fits { IsBase 2 layout.now }
+    requires few { bias ≤ 7 }
+    requires turn { get_or trail.now.cells turn_cell 0 ≤ bias }
+    requires free { free ≡ length (free_points_in layout.now (position_of layout.now trail.now.cells)) }
+    ensures { result ≡ avoider_in (record { bias = bias; shape = layout.now }) (position_of layout.now trail.now.cells) }
+{
+    let base: u128 = 2;
+    let limit = base.pow(u32::from(layout.longest()));
+    let total = total(layout, trail, Side::Y, base);
+    if total >= limit {
+        return false;
+    }
+    let risk = if avoider_ends(layout, trail, bias, free) {
+        2 * total
+    } else {
+        total
+    };
+    risk < limit
+}
+
+/// Whether the side has filled a line: some line has no point of the other side and no free point.
+pub(crate) fn has_filled(layout: &Layout, trail: &Trail, side: Side) -> bool
+    requires { Agree layout.now trail.now.cells }
+    ensures { result ≡ list_any (is_filled (points_of (position_of layout.now trail.now.cells) side)) layout.now.lines }
+{
+    live_with(layout, trail, side.other(), 0) != 0
+}
+
+/// Whether a game on lines is over, by what X and Y have filled, whether Y has a point of every line, and whether no
+/// point is free.
+pub(crate) fn is_over_by(
+    kind: Kind,
+    x_filled: bool,
+    y_filled: bool,
+    touched: bool,
+    full: bool,
+) -> bool
+    ensures { (joined joinable : Bool) → kind ≢ Switching → result ≡ is_over_by kind x_filled y_filled touched full joined joinable }
+{
+    match kind {
+        Kind::MakerMaker => x_filled || y_filled || full,
+        _ => x_filled || touched || full,
+    }
+}
+
+/// The outcome of a game on lines that is over.
+pub(crate) fn outcome_by(kind: Kind, x_filled: bool, y_filled: bool) -> Score
+    ensures { (joined : Bool) → kind ≢ Switching → result ≡ outcome_by kind x_filled y_filled joined }
+{
+    match kind {
+        Kind::MakerBreaker if x_filled => Score::XWins,
+        Kind::AvoiderEnforcer if !x_filled => Score::XWins,
+        Kind::MakerMaker if x_filled => Score::XWins,
+        Kind::MakerMaker if !y_filled => Score::Draw,
+        _ => Score::YWins,
+    }
+}
+
+/// Whether the second score is at least the first.
+pub(crate) fn at_least(wanted: Score, score: Score) -> bool
+    ensures { result ≡ at_least wanted score }
+{
+    match wanted {
+        Score::XWins => score == Score::XWins,
+        Score::Draw => score != Score::YWins,
+        Score::YWins => true,
+    }
+}
+
+/// The side that wants no less than a draw in Maker-Maker, where it is asked whether X reaches the score.
+pub(crate) fn draw_side(wanted: Score) -> Side
+    ensures { result ≡ defender MakerMaker wanted }
+{
+    if wanted == Score::XWins {
+        Side::Y
+    } else {
+        Side::X
+    }
+}
