@@ -1,0 +1,7 @@
+mod Walks
+mod Boards
+mod LineCounts
+mod Scans
+mod Attacks
+mod Searching
+pub mod Deciding

@@ -1,0 +1,28 @@
+use Rattle.std.proofs.Common.{arith, sym, ◌∙◌, ◌<◌, length}
+use Rattle.pg_board.specs.Board.{line_at}
+use Rattle.pg_threat.proofs.Scans.{put-step, skip-step, again-put, again-skip}
+use Rattle.pg_threat.proofs.lacking.put_open.Goals as goal
+use Rattle.pg_threat.proofs.lacking.put_open.Goals.{then-is_free, else-is_free}
+
+pub loop-i-preserved : goal.loop-i-preserved
+loop-i-preserved c =
+    let p = c.args.p.now in
+    let line = line_at c.args.b.now.game c.args.line in
+    let within : c.loop-i.i < length line = omega (arith, c.line_len-i-end.ensures, c.loop-i-test.true) in
+    let q = c.line_point-v.result in
+    let old = c.args.lacked.now.points in
+    let now = c.loop-i.lacked.points in
+    let at = c.line_point-v.ensures.exact in
+    let inv = c.loop-i.invariant in
+    elim c.if-is_free.branch [
+      | then-is_free w ↦ rw w.lacked-is (record {
+        points = λ v. rw w.put.ensures.points (put-step old now p line c.loop-i.i q v within at (sym c.is_free.ensures ∙ w.if-is_free.true) (inv.points v));
+        kept = λ v h. w.put.ensures.kept v (inv.kept v h);
+        again = λ v h on. again-put old now c.loop-i.lacked.twice p line c.loop-i.i q v within at h (inv.points v) (inv.again v h) w.put.new.self.twice (w.put.ensures.kept v) w.put.ensures.again on;
+      })
+      | else-is_free w ↦ rw w.lacked-is (record {
+        points = λ v. skip-step old now p line c.loop-i.i q v within at (sym c.is_free.ensures ∙ w.if-is_free.false) (inv.points v);
+        kept = inv.kept;
+        again = λ v h on. again-skip old now c.loop-i.lacked.twice p line c.loop-i.i q v within at h (inv.points v) (inv.again v h) (sym c.is_free.ensures ∙ w.if-is_free.false) on;
+      })
+    ]

@@ -1,0 +1,190 @@
+//! The search for a threat line.
+ghost use Rattle.std.specs.Prelude.{◌≡◌, ◌≤◌, ◌<◌, ◌+◌, ◌*◌, ◌↔◌, ℕ, true, false, Some, IfSome, length, [], ◌∷◌, ◌==◌, ◌&&◌, if◌then◌else◌};
+ghost use Rattle.std.specs.FinSet.{contains};
+ghost use Rattle.pg_game.specs.Game.{is_over, lines_of, IsPosition};
+ghost use Rattle.pg_game.specs.Threat.{may_attack, LeadsToLine, IsAttacking};
+ghost use Rattle.pg_base.specs.Points.{IsLeastFrom};
+ghost use Rattle.pg_threat.specs.Forced.{IsAnswer};
+ghost use Rattle.pg_threat.specs.Lacking.{is_lacking, IsLackedTwice};
+ghost use Rattle.pg_threat.specs.Search.{Begins, IsAnswering, IsFound, IsTried, NoneBelow, Replied};
+
+use crate::lacking::lacking;
+use crate::line::ThreatLine;
+use pg_base::{Kind, PointSet, Side};
+use pg_board::Board;
+
+/// The attacks that are tried at a position.
+#[derive(Clone, Copy, Debug)]
+struct Attacks {
+    /// All of them.
+    all: PointSet,
+    /// At least those that may leave two points to fill a line with.
+    forks: PointSet,
+}
+
+impl Attacks {
+    /// Those that may begin a list of that depth.
+    fn of_depth(&self, depth: u8) -> &PointSet
+        ensures { result.now ≡ (if depth == 1 then self.now.forks else self.now.all) }
+    {
+        if depth == 1 { &self.forks } else { &self.all }
+    }
+}
+
+/// What is in both sets.
+fn both(one: &PointSet, other: &PointSet) -> PointSet
+    ensures { (v : ℕ) → contains result v ≡ (contains one.now v && contains other.now v) }
+{
+    one.without(&one.without(other))
+}
+
+/// The point alone, where it is an attack and the only threat.
+fn sole(attacks: &PointSet, threats: &PointSet, v: u16) -> PointSet
+    requires range { v < 1024 }
+    requires least { IsLeastFrom threats.now 0 v }
+    ensures { (w : ℕ) → contains result w ≡ true ↔ ((contains attacks.now w ≡ true) × ((u : ℕ) → contains threats.now u ≡ true → u ≡ w)) }
+{
+    let mut points = PointSet::empty();
+    if !attacks.has(v) {
+        return points;
+    }
+    if threats.first_from(v + 1).is_some() {
+        return points;
+    }
+    points.put(v);
+    points
+}
+
+/// The attacks that are tried where the side lacks more than one point of each line: the points of lines of which it
+/// lacks two. In Maker-Maker an attack must also meet each threat of the other side, so that there is at most one where
+/// there is a threat, and none where there are two.
+fn tried(b: &Board<'_>, side: Side, attacks: PointSet) -> PointSet
+    requires { (v : ℕ) → contains attacks v ≡ is_lacking b.now.game b.now.stand.position side 2 v }
+    ensures { (v : ℕ) → contains result v ≡ true ↔ IsTried b.now.game b.now.stand.position side v }
+{
+    let Some(_) = attacks.first_from(0) else {
+        return attacks;
+    };
+    if b.kind() != Kind::MakerMaker {
+        return attacks;
+    }
+    let threats = lacking(b, side.other(), 1).points;
+    match threats.first_from(0) {
+        Some(v) => sole(&attacks, &threats, v),
+        None => attacks,
+    }
+}
+
+/// The attacks that are tried, and among them those on two such lines: only they can leave two points to fill a line with.
+fn attacks_at(b: &Board<'_>, side: Side) -> Attacks
+    ensures all { (v : ℕ) → contains result.all v ≡ true ↔ IsTried b.now.game b.now.stand.position side v }
+    ensures forks { (v : ℕ) → contains result.forks v ≡ true → contains result.all v ≡ true }
+    ensures twice { (v : ℕ) → contains result.all v ≡ true → IsLackedTwice b.now.game b.now.stand.position side 2 (length (lines_of b.now.game)) v → contains result.forks v ≡ true }
+    ensures fits { (v : ℕ) → contains result.all v ≡ true → IsPosition b.now.game b.now.stand.position }
+{
+    let lacked = lacking(b, side, 2);
+    let all = tried(b, side, lacked.points);
+    Attacks {
+        all,
+        forks: both(&all, &lacked.twice),
+    }
+}
+
+/// The first list of exactly that depth that leads to a line, where none of less depth does.
+#[cycle(attacks_and_replies)]
+fn first_of_depth(
+    b: &mut Board<'_>,
+    side: Side,
+    attacks: &PointSet,
+    depth: u8,
+) -> Option<ThreatLine>
+    requires attacking { IsAttacking b.old.game b.old.stand.position side }
+    requires single { b.old.game.bias ≡ 1 }
+    requires tried { (v : ℕ) → contains attacks.now v ≡ true → IsTried b.old.game b.old.stand.position side v }
+    requires begins { Begins b.old.game b.old.stand.position side depth attacks.now }
+    requires least { NoneBelow (LeadsToLine b.old.game b.old.stand.position side) depth }
+    requires some { 1 ≤ depth }
+    requires few { depth ≤ 3 }
+    ensures found { IsFound (LeadsToLine b.old.game b.old.stand.position side) depth result }
+    ensures len { IfSome result (λ t. t.len ≡ 2 * depth + 1) }
+    ensures kept { b.new ≡ b.old }
+{
+    let mut next = attacks.first_from(0);
+    while let Some(v) = next {
+        b.play(v);
+        let found = answered(b, side, depth);
+        b.undo();
+        if let Some(line) = found {
+            return Some(line.behind(v));
+        }
+        next = attacks.first_from(v + 1);
+    }
+    None
+}
+
+/// The first list of exactly that depth that goes on after an attack, by a forced reply, where none of less depth does.
+///
+/// Its last attack needs no play: it is a second point of which the side lacks no other.
+#[cycle(attacks_and_replies)]
+fn answered(b: &mut Board<'_>, side: Side, depth: u8) -> Option<ThreatLine>
+    requires answering { IsAnswering b.old.game b.old.stand.position side }
+    requires single { b.old.game.bias ≡ 1 }
+    requires least { NoneBelow (Replied b.old.game b.old.stand.position side) depth }
+    requires some { 1 ≤ depth }
+    requires few { depth ≤ 3 }
+    ensures found { IsFound (Replied b.old.game b.old.stand.position side) depth result }
+    ensures len { IfSome result (λ t. t.len ≡ 2 * depth) }
+    ensures kept { b.new ≡ b.old }
+{
+    let replies = lacking(b, side, 1).points;
+    let Some(u) = replies.first_from(0) else {
+        return None;
+    };
+    if depth == 1 {
+        return match replies.first_from(u + 1) {
+            Some(w) => Some(ThreatLine::last(w).behind(u)),
+            None => None,
+        };
+    }
+    b.play(u);
+    let attacks = attacks_at(b, side);
+    let found = first_of_depth(b, side, attacks.of_depth(depth - 1), depth - 1);
+    b.undo();
+    match found {
+        Some(line) => Some(line.behind(u)),
+        None => None,
+    }
+}
+
+/// The threat line of least depth, and among these the first in the order of lists. None comes exactly where there is
+/// none of at most that depth. The board is afterwards as before; it takes no memory.
+///
+/// Where the side lacks more than two points of each line without a point of the other side, the board's counts tell so,
+/// and it answers at once. Else depths are tried from the least on, and at each position only the points of lines of which
+/// the side lacks two are tried as attacks.
+///
+/// The depth is the number of forced replies. The side is the one to move, in a game that isn't over and in which each side
+/// claims one point a turn: X in Maker-Breaker, either in Maker-Maker.
+pub fn forced(b: &mut Board<'_>, side: Side, depth: u8) -> Option<ThreatLine>
+    requires few { depth ≤ 3 }
+    requires turn { b.old.stand.position.turn ≡ side }
+    requires going { is_over b.old.game b.old.stand.position ≡ false }
+    requires single { b.old.game.bias ≡ 1 }
+    requires may { may_attack b.old.game.kind side ≡ true }
+    ensures answer { IsAnswer b.old.game b.old.stand.position side depth result }
+    ensures kept { b.new ≡ b.old }
+{
+    if let Some(v) = lacking(b, side, 1).points.first_from(0) {
+        return Some(ThreatLine::last(v));
+    }
+    let attacks = attacks_at(b, side);
+    let Some(_) = attacks.all.first_from(0) else {
+        return None;
+    };
+    for least in 1..depth + 1 {
+        if let Some(line) = first_of_depth(b, side, attacks.of_depth(least), least) {
+            return Some(line);
+        }
+    }
+    None
+}

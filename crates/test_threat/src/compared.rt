@@ -1,0 +1,113 @@
+//! What both searches find at the positions of small games.
+ghost use Rattle.std.specs.Prelude.{◌≡◌, ◌≢◌, ◌≤◌};
+ghost use Rattle.pg_base.specs.declared.kind.Kind.TheVariants.{Switching};
+ghost use Rattle.pg_game.specs.Threat.{may_attack};
+
+use crate::plain::first_line;
+use pg_base::{Kind, Memory, Side};
+use pg_board::Board;
+use pg_game::Game;
+use pg_threat::{ThreatLine, forced};
+use std::alloc::Global;
+
+/// What was found.
+#[derive(Clone, Copy, Debug, PartialEq, Eq)]
+pub struct Tally {
+    /// At how many positions the shortest threat line forces no reply, one, two, and three, and at how many there is none.
+    pub found: [u32; 5],
+    /// How often the two searches differ, or the board is left in another way.
+    pub faults: u32,
+}
+
+/// Whether the side to move may attack.
+fn may_attack(kind: Kind, side: Side) -> bool
+    ensures { result ≡ may_attack kind side }
+{
+    match kind {
+        Kind::MakerBreaker => matches!(side, Side::X),
+        Kind::MakerMaker => true,
+        Kind::AvoiderEnforcer | Kind::Switching => false,
+    }
+}
+
+/// The line that the search finds to a depth at the game's marks, where the side to move may attack there.
+///
+/// # Errors
+///
+/// `Memory` where no memory is found.
+pub fn line_at_start(alloc: Global, g: &Game, depth: u8) -> Result<Option<ThreatLine>, Memory>
+    requires lines { g.now.kind ≢ Switching }
+    requires few { depth ≤ 3 }
+{
+    let mut b = Board::open(alloc, g, &g.start())?;
+    if b.is_over() || g.bias != 1 || !may_attack(g.kind, g.turn) {
+        return Ok(None);
+    }
+    Ok(forced(&mut b, g.turn, depth))
+}
+
+/// Whether both are none, or lines of the same points.
+fn is_same(found: Option<ThreatLine>, expected: Option<ThreatLine>) -> bool {
+    let Some(line) = found else {
+        return expected.is_none();
+    };
+    let Some(other) = expected else {
+        return false;
+    };
+    let mut same = line.len == other.len;
+    for i in 0..7usize {
+        same = same && (i >= usize::from(line.len) || line.points[i] == other.points[i]);
+    }
+    same
+}
+
+/// The line, where it forces so many replies at most.
+fn to_depth(line: Option<ThreatLine>, depth: u8) -> Option<ThreatLine> {
+    match line {
+        Some(line) if line.len / 2 <= depth => Some(line),
+        _ => None,
+    }
+}
+
+impl Tally {
+    /// The tally before any position.
+    pub fn none() -> Tally {
+        Tally {
+            found: [0; 5],
+            faults: 0,
+        }
+    }
+
+    /// Adds a position with its shortest line.
+    fn add(&mut self, line: Option<ThreatLine>) {
+        let depth = match line {
+            Some(line) if line.len < 8 => usize::from(line.len / 2),
+            _ => 4,
+        };
+        self.found[depth] = self.found[depth].saturating_add(1);
+    }
+
+    /// Compares the two searches at the game's marks, to each depth, where the side to move may attack.
+    ///
+    /// # Errors
+    ///
+    /// `Memory` where no memory is found.
+    pub fn compare(&mut self, alloc: Global, g: &Game) -> Result<(), Memory>
+        requires { g.now.kind ≢ Switching }
+    {
+        let p = g.start();
+        let mut b = Board::open(alloc, g, &p)?;
+        if b.is_over() || g.bias != 1 || !may_attack(g.kind, g.turn) {
+            return Ok(());
+        }
+        let shortest = first_line(g, &p, g.turn);
+        self.add(shortest);
+        for depth in 0..4u8 {
+            let found = forced(&mut b, g.turn, depth);
+            if !is_same(found, to_depth(shortest, depth)) || b.position() != p || b.plays() != 0 {
+                self.faults = self.faults.saturating_add(1);
+            }
+        }
+        Ok(())
+    }
+}

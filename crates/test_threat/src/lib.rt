@@ -1,0 +1,14 @@
+//! The search for threat lines beside a plain one, on every position of small games. Nothing of the product calls it.
+//!
+//! The plain search tries all lists of free points, the shortest first and those of one length in their order, and asks of
+//! each whether it is a threat line.
+#![tactic(auto)]
+
+mod compared;
+mod plain;
+
+pub use compared::{Tally, line_at_start};
+pub use plain::first_line;
+
+#[cfg(test)]
+mod tests;
