@@ -1,0 +1,71 @@
+#!/usr/bin/env python3
+"""Makes the table of families in crates/test_match, by a program that shares nothing with the crates.
+
+Whether private pairs exist is found by trying all choices: each pair of free points of the first line, and then the rest.
+A row is POINTS:LINES:X:Y:ANSWER, a position of Maker-Breaker: lines with a point of Y aren't wanted, and points of
+neither side are free. Families are of 2 to 7 lines on 4 to 12 points. Half have no private pairs, and most of these pass both counts (enough free points for all, two for each line);
+half of the others block a matcher that keeps its first choices.
+"""
+import itertools
+import random
+
+ROWS = 52
+
+
+def exist(lines, free):
+    """Whether each line can have two of the points of its own."""
+    if not lines:
+        return True
+    pairs = itertools.combinations(sorted(set(lines[0]) & free), 2)
+    return any(exist(lines[1:], free - set(pair)) for pair in pairs)
+
+
+def blocks(lines, free):
+    """Whether some line is left without two points where each takes the lowest two that are left."""
+    for line in lines:
+        left = sorted(set(line) & free)
+        if len(left) < 2:
+            return True
+        free = free - set(left[:2])
+    return False
+
+
+def passes_counts(lines, free):
+    return 2 * len(lines) <= len(free) and all(len(set(line) & free) >= 2 for line in lines)
+
+
+def family(draw):
+    points = draw.randint(4, 12)
+    lines = [sorted(draw.sample(range(points), draw.randint(2, min(points, 4)))) for _ in range(draw.randint(2, 7))]
+    own = set(draw.sample(range(points), 1)) if draw.random() < 0.25 else set()
+    taken = {v for v in range(points) if v not in own and draw.random() < 0.05}
+    return points, lines, taken, own
+
+
+def kind_of(points, lines, taken, own):
+    wanted = [line for line in lines if not own & set(line)]
+    free = set(range(points)) - taken - own
+    if len(wanted) < 2:
+        return None
+    if exist(wanted, free):
+        return "blocked" if blocks(wanted, free) else "plain"
+    return "short" if passes_counts(wanted, free) else "few"
+
+
+def words(numbers):
+    return " ".join(map(str, sorted(numbers)))
+
+
+def main():
+    draw = random.Random(1935)
+    due = {"plain": ROWS // 4, "blocked": ROWS // 4, "short": ROWS // 2 - 4, "few": 4}
+    while any(due.values()):
+        points, lines, taken, own = family(draw)
+        kind = kind_of(points, lines, taken, own)
+        if due.get(kind, 0) > 0 and (len(lines) > 2 or draw.random() < 0.3):
+            due[kind] -= 1
+            answer = "yes" if kind in ("plain", "blocked") else "no"
+            print(f"{points}:{','.join(map(words, lines))}:{words(taken)}:{words(own)}:{answer};\\")
+
+
+main()

@@ -1,0 +1,106 @@
+//! Reads the lines of a game on 256 points from the file that its first word names, a line of numbers for each, and asks for
+//! private pairs for all of them as often as the second word says, through a cache where a third word stands: what
+//! `bench/asking.py` measures.
+#![tactic(auto)]
+
+ghost use Rattle.std.specs.Prelude.{◌<◌, ◌≤◌, IfSome, length};
+ghost use Rattle.std.specs.List.{All};
+
+use pg_base::{Kind, Line, Lines, Memory, PointSet, Side};
+use pg_game::{Field, Game, LineField};
+use pg_match::{Matching, PairCache, free_points, lines_without, private_pairs};
+use std::alloc::Global;
+use std::{env, fs, io};
+
+/// The line of a row of numbers; None where a word is no number, a number stands twice or memory is wanting.
+fn line_of(alloc: Global, row: &str) -> Option<Line> {
+    let mut points = Vec::new(alloc);
+    for word in row.split_whitespace() {
+        points.push(word.parse::<u16>().ok()?).ok()?;
+    }
+    Line::new(alloc, &points).ok()
+}
+
+/// Maker-Breaker on 256 points with the lines of a text.
+fn game_of(alloc: Global, text: &str) -> Option<Game> {
+    let mut lines = Vec::new(alloc);
+    for row in text.lines() {
+        lines.push(line_of(alloc, row)?).ok()?;
+    }
+    let field = Field::Lines(LineField {
+        points: 256,
+        grid: None,
+        lines: Lines::from_vec(lines),
+    });
+    let none = PointSet::empty();
+    Game::new(Kind::MakerBreaker, field, none, none, Side::X, 1).ok()
+}
+
+/// The lines of a game on lines.
+fn lines_of(g: &Game) -> Option<&Lines>
+    ensures few { IfSome result (λ lines. length lines.now ≤ 20000) }
+    ensures range { IfSome result (λ lines. All (All (λ v. v < 1024)) lines.now) }
+{
+    match &g.field {
+        Field::Lines(field) => Some(&field.lines),
+        Field::Graph(_) => None,
+    }
+}
+
+/// How many pairs the last of so many asks gives; 0 where lines are short.
+fn asked(alloc: Global, g: &Game, asks: u32) -> Result<usize, Memory> {
+    let Some(lines) = lines_of(g) else {
+        return Ok(0);
+    };
+    let start = g.start();
+    let wanted = lines_without(alloc, lines, &start.y)?;
+    let free = free_points(g, &start);
+    let mut found = 0;
+    for _ in 0..asks {
+        found = match private_pairs(alloc, lines, &wanted, &free)? {
+            Matching::Pairs(pairs) => pairs.len(),
+            Matching::Short(_) => 0,
+        };
+    }
+    Ok(found)
+}
+
+/// How many of so many asks a new cache has the answer to.
+fn cached(alloc: Global, g: &Game, asks: u32) -> Result<u64, Memory> {
+    let Some(lines) = lines_of(g) else {
+        return Ok(0);
+    };
+    let start = g.start();
+    let wanted = lines_without(alloc, lines, &start.y)?;
+    let free = free_points(g, &start);
+    let mut cache = PairCache::new(alloc, 1024)?;
+    for ask in 0..asks {
+        let _answer = cache.ask(alloc, lines, &wanted, &free)?;
+    }
+    Ok(cache.hits())
+}
+
+fn main(rt: HostRuntime) -> io::Result<()> {
+    let mut words = env::args(&rt)?.skip(1);
+    let (Some(name), Some(count)) = (words.next(), words.next()) else {
+        return Ok(());
+    };
+    let bytes = fs::read(&rt, name.as_str())?;
+    let Ok(text) = str::from_utf8(&bytes) else {
+        return rt.println("no text");
+    };
+    let Some(game) = game_of(rt.alloc(), text) else {
+        return rt.println("no game");
+    };
+    let asks = count.parse::<u32>().unwrap_or(0);
+    if words.next().is_some() {
+        let Ok(hits) = cached(rt.alloc(), &game, asks) else {
+            return rt.println("no memory");
+        };
+        return println!(rt; "{hits} hits");
+    }
+    let Ok(pairs) = asked(rt.alloc(), &game, asks) else {
+        return rt.println("no memory");
+    };
+    println!(rt; "{pairs} pairs")
+}

@@ -1,0 +1,79 @@
+//! Rows worked by hand.
+use crate::reading::{game, lines_of, part};
+use pg_base::Kind;
+use pg_game::Game;
+use pg_match::{Matching, PairCache, free_points, lines_without, private_pairs, with_rest};
+use std::alloc::Global;
+use std::test::Fail;
+
+/// Rows with `;` between them: what matching answers. Three lines on three points are short, and so are lines of which two
+/// hold three points alone; in the third row points are passed on.
+const ROWS: &str = "\
+6:0 1,2 3,4 5::: 0-1 2-3 4-5;\
+3:0 1,0 2,1 2:::short 0 1;\
+6:0 1 2 3,0 1,2 3 4 5::: 2-3 0-1 4-5;\
+8:3 4,0 1 2,0 1 2,3 5 6 7:::short 2 1;\
+6:0 1,2 3,4 5::2: 0-1 4-5;\
+8:0 1,2 3,4 5:2::short 1";
+
+/// The answer as text.
+fn told(alloc: Global, found: &Matching) -> Result<String, Fail> {
+    let mut text = String::new(alloc);
+    match found {
+        Matching::Pairs(pairs) => {
+            for s in pairs {
+                text.push_str(&format!(in alloc; " {}-{}", s.a, s.b)?)?;
+            }
+        }
+        Matching::Short(family) => {
+            text.push_str("short")?;
+            for j in family {
+                text.push_str(&format!(in alloc; " {j}")?)?;
+            }
+        }
+    }
+    Ok(text)
+}
+
+/// Whether a new cache gives this answer at the first ask, and again at the second, which alone is a hit.
+fn answers_twice(alloc: Global, g: &Game, answer: &str) -> Result<bool, Fail> {
+    let Some(lines) = lines_of(g) else {
+        return Ok(false);
+    };
+    let start = g.start();
+    let wanted = lines_without(alloc, lines, &start.y)?;
+    let free = free_points(g, &start);
+    let mut cache = PairCache::new(alloc, 1024)?;
+    let first = told(alloc, &cache.ask(alloc, lines, &wanted, &free)?)?;
+    let hits_before = cache.hits();
+    let second = told(alloc, &cache.ask(alloc, lines, &wanted, &free)?)?;
+    let same = first.as_str() == answer && second.as_str() == answer;
+    Ok(same && hits_before == 0 && cache.hits() == 1)
+}
+
+#[test]
+fn rows_are_answered_twice(rt: HostRuntime) -> Result<(), Fail> {
+    for row in ROWS.split(';') {
+        let g = game(rt.alloc(), Kind::MakerBreaker, row)?;
+        assert!(rt; answers_twice(rt.alloc(), &g, part(row, 4))?, "{row}");
+    }
+    Ok(())
+}
+
+/// The pairs that Avoider has at the start, with those of the rest.
+fn with_others(alloc: Global, g: &Game) -> Result<String, Fail> {
+    let lines = lines_of(g).ok_or("no lines")?;
+    let start = g.start();
+    let wanted = lines_without(alloc, lines, &start.y)?;
+    match private_pairs(alloc, lines, &wanted, &free_points(g, &start))? {
+        Matching::Pairs(pairs) => told(alloc, &Matching::Pairs(with_rest(g, &start, pairs)?)),
+        short => told(alloc, &short),
+    }
+}
+
+#[test]
+fn the_rest_is_paired_upwards(rt: HostRuntime) -> Result<(), Fail> {
+    let g = game(rt.alloc(), Kind::AvoiderEnforcer, "7:1 4::")?;
+    assert_eq!(rt; with_others(rt.alloc(), &g)?.as_str(), " 1-4 0-2 3-5");
+    Ok(())
+}
