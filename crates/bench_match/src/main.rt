@@ -8,7 +8,7 @@ ghost use Rattle.std.specs.List.{All};
 
 use pg_base::{Kind, Line, Lines, Memory, PointSet, Side};
 use pg_game::{Field, Game, LineField};
-use pg_match::{Matching, PairCache, free_points, lines_without, private_pairs};
+use pg_match::{Matching, PairCache, lines_without, private_pairs};
 use std::alloc::Global;
 use std::{env, fs, io};
 
@@ -54,7 +54,7 @@ fn asked(alloc: Global, g: &Game, asks: u32) -> Result<usize, Memory> {
     };
     let start = g.start();
     let wanted = lines_without(alloc, lines, &start.y)?;
-    let free = free_points(g, &start);
+    let free = g.free_points(&start);
     let mut found = 0;
     for _ in 0..asks {
         found = match private_pairs(alloc, lines, &wanted, &free)? {
@@ -72,7 +72,7 @@ fn cached(alloc: Global, g: &Game, asks: u32) -> Result<u64, Memory> {
     };
     let start = g.start();
     let wanted = lines_without(alloc, lines, &start.y)?;
-    let free = free_points(g, &start);
+    let free = g.free_points(&start);
     let mut cache = PairCache::new(alloc, 1024)?;
     for ask in 0..asks {
         let _answer = cache.ask(alloc, lines, &wanted, &free)?;

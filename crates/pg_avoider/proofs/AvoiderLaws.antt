@@ -20,13 +20,13 @@ use Rattle.pg_game.specs.Avoider.{x_takes_last, avoider_ends, avoider_total, avo
 use Rattle.pg_game.specs.Strategy.{Keeps}
 use Rattle.pg_game.specs.Value.{reaches, Forces}
 use Rattle.pg_game.proofs.FreePoints.{length-free_points-after, first_free}
-use Rattle.pg_game.proofs.Moves.{points_of-mover, points_of-waiter, turn-stays, left-falls, turn-passes, left-passes, turn-after_x, free-was, AreDisjoint-after, IsPosition-after}
+use Rattle.pg_game.proofs.Moves.{points_of-mover, points_of-waiter, turn-stays, left-falls, turn-passes, left-passes, turn-after_x, free-was, ShareNone-after, IsPosition-after}
 use Rattle.pg_game.proofs.Strategy.{Forces-from_keeps, free_point}
 use Rattle.pg_game.proofs.LineSums.{weight-le-total}
 use Rattle.pg_game.proofs.Unfilled.{unfilled-avoider}
-use Rattle.pg_potential.proofs.LineWeights.{total-grown, total-taken, weight-rises, unfilled-below}
+use Rattle.pg_game.proofs.LineWeights.{stand_once, total-grown, total-taken, weight-rises, unfilled-below}
 use Rattle.pg_game.proofs.Greatest.{free-member, member-free, member-within}
-use Rattle.pg_potential.proofs.PotentialLaws.{stand_once, find-some}
+use Rattle.pg_game.proofs.Lowest.{find-some}
 use Rattle.pg_game.proofs.LastPoint.{last-within_turn, last-after_y, last-after_x, last-only}
 use Rattle.pg_avoider.proofs.Least.{least-le, least-at, least-same}
 use Rattle.pg_game.proofs.Lowest.{find_same}
@@ -155,7 +155,7 @@ module _ (g : Game) where
         let point = first_free g p some in
         let taken = total-y p point.0 m.yours point.2 in
         let least_of = m.each point.0 point.1 point.2 in
-        sym (same-x p point.0 m.yours) ∙ unfilled-below 2 g Y (after g p point.0) (AreDisjoint-after g p point.0 is.disjoint point.2) (omega (arith, taken, least_of, m.sum, m.below))
+        sym (same-x p point.0 m.yours) ∙ unfilled-below 2 g Y (after g p point.0) (ShareNone-after g p point.0 is.disjoint point.2) (omega (arith, taken, least_of, m.sum, m.below))
   ]
 
   unfilled : (p : Position) → Safe p → has_filled g p X ≡ false

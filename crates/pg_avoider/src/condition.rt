@@ -1,34 +1,20 @@
 //! Whether Avoider's potential holds.
-ghost use Rattle.std.specs.Prelude.{◌≡◌, ◌↔◌, ◌≤◌, IsTrue, length};
-ghost use Rattle.pg_game.specs.Game.{free_points, IsPosition};
+ghost use Rattle.std.specs.Prelude.{◌≡◌, ◌↔◌, ◌≤◌, IsTrue};
+ghost use Rattle.pg_game.specs.Game.{IsPosition};
 ghost use Rattle.pg_game.specs.Avoider.{x_takes_last, avoider_ends, AvoiderHolds};
 
 use pg_base::Side;
-use pg_game::{Game, Position};
-use pg_potential::{full_weight, weigh};
+use pg_game::{Game, MAX_BIAS, Position, full_weight, weigh};
 
 /// Whether X takes the last of so many free points, where a side is to move and still claims so many in its turn.
 fn x_takes_last(bias: u16, turn: Side, left: u16, free: u16) -> bool
-    requires { bias ≤ 7 }
+    requires { bias ≤ MAX_BIAS }
     ensures { result ≡ x_takes_last bias turn left free }
 {
     match turn {
         Side::X => 0 < free && (free - 1) % (bias + 1) == 0,
         Side::Y => left < free && (free - left - 1) % (bias + 1) == 0,
     }
-}
-
-/// How many points are free.
-fn count_free(g: &Game, p: &Position) -> u16
-    ensures { result ≡ length (free_points g.now p.now) }
-{
-    let mut free = 0;
-    for v in 0..g.points() {
-        if p.is_free(v) {
-            free += 1;
-        }
-    }
-    free
 }
 
 /// Whether Avoider takes the last free point.
@@ -39,7 +25,7 @@ fn avoider_ends(g: &Game, p: &Position) -> bool
         u16::from(g.bias),
         p.turn,
         u16::from(p.left),
-        count_free(g, p),
+        g.free_points(p).len() as u16,
     )
 }
 

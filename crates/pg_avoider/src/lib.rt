@@ -1,12 +1,9 @@
 //! Avoider's potential: the test, what it forces, and the answer.
 #![tactic(auto)]
 
+mod answers;
 mod condition;
 pub mod laws;
-mod reply;
 
+pub use answers::answer;
 pub use condition::holds;
-pub use reply::answer;
-
-#[cfg(test)]
-mod tests;

@@ -1,5 +1,5 @@
 -- The sides.
-use Rattle.std.specs.Prelude.{ℕ, List, codes, Option, Some, None, if◌then◌else◌}
+use Rattle.std.specs.Prelude.{ℕ, Bool, true, false, List, codes, Option, Some, None, if◌then◌else◌}
 use Rattle.std.specs.Str.{bytes_eq}
 use Rattle.pg_base.specs.declared.side.Side.{Side}
 use Rattle.pg_base.specs.declared.side.Side.TheVariants.{X, Y}
@@ -8,6 +8,13 @@ use Rattle.pg_base.specs.declared.side.Side.TheVariants.{X, Y}
 abbrev pub other : Side → Side
 other X = Y
 other Y = X
+
+-- whether the two sides are one
+abbrev pub is_same_side : Side → Side → Bool
+is_same_side X X = true
+is_same_side X Y = false
+is_same_side Y X = false
+is_same_side Y Y = true
 
 -- how files and texts name a side
 abbrev pub side_word : Side → List ℕ

@@ -4,6 +4,7 @@
 mod goal;
 mod grid;
 mod kind;
+mod limits;
 mod line;
 mod memory;
 mod pair;
@@ -11,12 +12,11 @@ mod point_set;
 mod points;
 mod score;
 mod side;
-#[cfg(test)]
-mod tests;
 
 pub use goal::Goal;
 pub use grid::Grid;
 pub use kind::Kind;
+pub use limits::{MAX_EDGES, MAX_MEMBERS};
 pub use line::{Line, LineFault, Lines};
 pub use memory::Memory;
 pub use pair::{Pair, Pairs};

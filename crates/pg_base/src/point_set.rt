@@ -1,12 +1,14 @@
 //! A set of points below 1,024, a bit for each.
-ghost use Rattle.std.specs.Prelude.{◌≡◌, ℕ, ◌<◌, ◌≤◌, ◌+◌, ◌*◌, true, false, not, ◌&&◌, ◌||◌, IfSome, IfNone, IsTrue, ◌↔◌};
+ghost use Rattle.std.specs.Prelude.{◌≡◌, ℕ, ◌<◌, ◌≤◌, ◌+◌, ◌*◌, ◌==◌, nat_lt, true, false, not, ◌&&◌, ◌||◌, IfSome, IfNone, IsTrue, ◌↔◌};
+ghost use Rattle.std.specs.List.{All, list_any, list_all};
 ghost use Rattle.std.specs.FinSet as set;
 ghost use Rattle.pg_base.specs.Points.{IsLeastFrom, AreBelow, ShareNone, AreWithin};
 
+use crate::limits::MAX_MEMBERS;
 use std::hash::{Hash, Hasher};
 use std::marker::Model;
 
-/// A set of points below 1,024.
+/// A set of points, which are numbers below `MAX_MEMBERS`.
 #[derive(Clone, Copy, Debug)]
 pub struct PointSet {
     words: [u64; 16],
@@ -71,17 +73,65 @@ impl PointSet {
         PointSet { words: [0; 16] }
     }
 
+    /// The set of the points, which may come in any order and more than once.
+    pub fn from_points(points: &[u16]) -> PointSet
+        requires { All (λ v. v < MAX_MEMBERS) points.now }
+        ensures set { result ≡ set.from_list points.now }
+        ensures members { (v : ℕ) → set.contains result v ≡ list_any (λ q. q == v) points.now }
+    {
+        let mut set = PointSet::empty();
+        for v in points {
+            set.put(*v);
+        }
+        set
+    }
+
+    /// The set of all points below the limit.
+    pub fn all_below(limit: u16) -> PointSet
+        requires { limit ≤ MAX_MEMBERS }
+        ensures { (v : ℕ) → set.contains result v ≡ nat_lt v limit }
+    {
+        let mut set = PointSet::empty();
+        for v in 0..limit {
+            set.put(v);
+        }
+        set
+    }
+
+    /// Whether the set has no point.
+    pub fn is_empty(&self) -> bool
+        ensures { IsTrue result ↔ ((v : ℕ) → set.contains self.now v ≡ false) }
+    {
+        self.first_from(0).is_none()
+    }
+
     /// Whether the point is in the set.
     pub fn has(&self, p: u16) -> bool
-        requires { p < 1024 }
+        requires { p < MAX_MEMBERS }
         ensures { result ≡ set.contains self.now p }
     {
         self.words[(p / 64) as usize] >> (p % 64) & 1 == 1
     }
 
+    /// Whether one of the points is in the set.
+    pub fn meets(&self, points: &[u16]) -> bool
+        requires { All (λ v. v < MAX_MEMBERS) points.now }
+        ensures { result ≡ list_any (set.contains self.now) points.now }
+    {
+        points.iter().any(|v| self.has(*v))
+    }
+
+    /// Whether each of the points is in the set.
+    pub fn has_all(&self, points: &[u16]) -> bool
+        requires { All (λ v. v < MAX_MEMBERS) points.now }
+        ensures { result ≡ list_all (set.contains self.now) points.now }
+    {
+        points.iter().all(|v| self.has(*v))
+    }
+
     /// Puts the point into the set.
     pub fn put(&mut self, p: u16)
-        requires { p < 1024 }
+        requires { p < MAX_MEMBERS }
         ensures { self.new ≡ set.insert self.old p }
     {
         self.words[(p / 64) as usize] |= 1 << (p % 64);
@@ -89,16 +139,16 @@ impl PointSet {
 
     /// Takes the point out of the set.
     pub fn take(&mut self, p: u16)
-        requires { p < 1024 }
+        requires { p < MAX_MEMBERS }
         ensures { self.new ≡ set.remove self.old p }
     {
         self.words[(p / 64) as usize] &= !(1 << (p % 64));
     }
 
-    /// How many points the set has, 1,024 at most.
+    /// How many points the set has.
     pub fn len(&self) -> u32
         ensures exact { result ≡ set.len self.now }
-        ensures few { result ≤ 1024 }
+        ensures few { result ≤ MAX_MEMBERS }
     {
         let mut points = 0;
         for word in &self.words {
@@ -108,11 +158,11 @@ impl PointSet {
     }
 
     /// The least point of the set that is not below `p`; none exactly where each point is below it. Each point
-    /// of a set is below 1,024.
+    /// of a set is below `MAX_MEMBERS`.
     pub fn first_from(&self, p: u16) -> Option<u16>
         ensures found { IfSome result (λ v. IsLeastFrom self.now p v) }
-        ensures range { IfSome result (λ v. v < 1024) }
-        ensures limit { AreBelow self.now 1024 }
+        ensures range { IfSome result (λ v. v < MAX_MEMBERS) }
+        ensures limit { AreBelow self.now MAX_MEMBERS }
         ensures none { IfNone result ((q : ℕ) → p ≤ q → set.contains self.now q ≡ false) }
     {
         let _words = &self.words;
@@ -130,7 +180,7 @@ impl PointSet {
         requires row { row < 16 }
         requires column { column < 64 }
         ensures found { IfSome result (λ v. IsLeastFrom self.now (64 * row + column) v) }
-        ensures range { IfSome result (λ v. v < 1024) }
+        ensures range { IfSome result (λ v. v < MAX_MEMBERS) }
         ensures none { IfNone result ((q : ℕ) → 64 * row + column ≤ q → q < 64 * (row + 1) → set.contains self.now q ≡ false) }
     {
         let word = self.words[row as usize] >> column;

@@ -1,6 +1,6 @@
 //! The two sides.
 ghost use Rattle.std.specs.Prelude.{◌≡◌};
-ghost use Rattle.pg_base.specs.Side.{other, side_of, side_word};
+ghost use Rattle.pg_base.specs.Side.{other, is_same_side, side_of, side_word};
 
 use std::fmt::{self, Display, Formatter, Write};
 
@@ -21,6 +21,16 @@ impl Side {
         match self {
             Side::X => Side::Y,
             Side::Y => Side::X,
+        }
+    }
+
+    /// Whether the two sides are one, as `==` says.
+    pub fn is_same(self, side: Side) -> bool
+        ensures { result ≡ is_same_side self side }
+    {
+        match self {
+            Side::X => side == Side::X,
+            Side::Y => side == Side::Y,
         }
     }
 

@@ -6,7 +6,7 @@ use Rattle.pg_base.specs.declared.side.Side.{Side}
 use Rattle.pg_base.specs.declared.side.Side.TheVariants.{X, Y}
 use Rattle.pg_base.specs.Side.{other}
 use Rattle.pg_base.specs.Sets.{one_if}
-use Rattle.pg_game.specs.Potential.{is_turn_of}
+use Rattle.pg_base.specs.Side.{is_same_side}
 use Rattle.std.proofs.Common.{[]}
 use Rattle.pg_board.specs.Shape.{IsShape, Shape, line_in, count_cell, free_cell, cell_count}
 use Rattle.pg_board.specs.Counts.{AreCounted, IsCountedMore, IsMoved, lines_in, count_in, lines_with, has_free, free_by}
@@ -18,11 +18,11 @@ pub sides-sum : (s : Shape) (c : Side → ℕ → ℕ) (side : Side) (i : ℕ) �
 sides-sum s c X i = refl
 sides-sum s c Y i = omega arith
 
-pub is_own : (side : Side) → is_turn_of side side ≡ true
+pub is_own : (side : Side) → is_same_side side side ≡ true
 is_own X = refl
 is_own Y = refl
 
-pub is_others : (side : Side) → is_turn_of (other side) side ≡ false
+pub is_others : (side : Side) → is_same_side (other side) side ≡ false
 is_others X = refl
 is_others Y = refl
 

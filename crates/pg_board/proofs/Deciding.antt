@@ -6,14 +6,15 @@ use Rattle.std.specs.Prelude.{slice_get}
 use Rattle.std.specs.Option.{is_some}
 use Rattle.std.specs.List.{count_by, filter, range_with_len, list_all, list_any}
 use Rattle.std.specs.FinSet.{contains}
+use Rattle.pg_base.specs.Points.{ShareNone}
 use Rattle.pg_base.specs.Sets.{one_if}
 use Rattle.pg_base.specs.declared.side.Side.{Side}
 use Rattle.pg_base.specs.declared.side.Side.TheVariants.{X, Y}
 use Rattle.pg_base.specs.Side.{other}
 use Rattle.pg_game.specs.declared.position.Position.{Position}
-use Rattle.pg_game.specs.Position.{is_free, points_of, AreDisjoint}
+use Rattle.pg_game.specs.Position.{is_free, points_of}
 use Rattle.pg_game.specs.Game.{is_touched, is_filled, is_empty}
-use Rattle.pg_game.specs.Potential.{is_turn_of}
+use Rattle.pg_base.specs.Side.{is_same_side}
 use Rattle.pg_game.specs.Avoider.{x_takes_last}
 use Rattle.pg_board.specs.Shape.{Shape, turn_cell, line_in}
 use Rattle.pg_board.specs.Fits.{Rules, position_of, turn_of, left_of, live_lines_in, free_points_in}
@@ -42,10 +43,10 @@ unfolding left_of
 left-few zero bias some few = some
 left-few (suc k) bias some few = few
 
-pub times-own : (r : Rules) (p : Position) (side : Side) (n : ℕ) → is_turn_of side p.turn ≡ true → n ≡ r.bias - p.left → n ≡ times_in r p side
+pub times-own : (r : Rules) (p : Position) (side : Side) (n : ℕ) → is_same_side side p.turn ≡ true → n ≡ r.bias - p.left → n ≡ times_in r p side
 times-own r p side n own is = is ∙ sym (ap (λ (b : Bool). if b then r.bias - p.left else r.bias) own)
 
-pub times-theirs : (r : Rules) (p : Position) (side : Side) (n : ℕ) → is_turn_of side p.turn ≡ false → n ≡ r.bias → n ≡ times_in r p side
+pub times-theirs : (r : Rules) (p : Position) (side : Side) (n : ℕ) → is_same_side side p.turn ≡ false → n ≡ r.bias → n ≡ times_in r p side
 times-theirs r p side n theirs is = is ∙ sym (ap (λ (b : Bool). if b then r.bias - p.left else r.bias) theirs)
 
 -- ---- the potential
@@ -117,7 +118,7 @@ covered a b t apart rest (v ∷ line) =
       ]
     ]
 
-pub filled-live : (p : Position) (side : Side) → AreDisjoint p → (line : List ℕ) → is_filled (points_of p side) line ≡ is_live_with p (other side) 0 line
+pub filled-live : (p : Position) (side : Side) → ShareNone p.x p.y → (line : List ℕ) → is_filled (points_of p side) line ≡ is_live_with p (other side) 0 line
 filled-live p X apart line = covered (contains p.x) (contains p.y) (is_free p) apart (λ q. refl) line
 filled-live p Y apart line = covered (contains p.y) (contains p.x) (is_free p) back turned line
   where

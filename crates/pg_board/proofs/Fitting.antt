@@ -7,9 +7,9 @@ use Rattle.std.specs.FinSet.{contains}
 use Rattle.pg_base.specs.Sets.{one_if}
 use Rattle.pg_base.specs.declared.side.Side.{Side}
 use Rattle.pg_base.specs.declared.side.Side.TheVariants.{X, Y}
-use Rattle.pg_base.specs.Side.{other}
+use Rattle.pg_base.specs.Side.{other, is_same_side}
 use Rattle.pg_game.specs.Position.{is_free, points_of, after_with}
-use Rattle.pg_game.specs.Potential.{is_on, is_turn_of}
+use Rattle.pg_game.specs.Potential.{is_on}
 use Rattle.pg_links.specs.Ring.{present, without}
 use Rattle.pg_trail.specs.Trail.{Cells, with_set, back_to}
 use Rattle.pg_trail.specs.Extends.{Extends}
@@ -125,8 +125,8 @@ module _ (r : Rules) (t t2 now : Cells) (x y free x2 y2 free2 : List (List ℕ))
   counts-now : count_in r.shape now.cells ≡ count_in r.shape h.between.cells
   counts-now = same-counts r.shape h.between.cells now.cells beyond
 
-  count-is : (k : Side) (i : ℕ) → i < length r.shape.lines → count_in r.shape now.cells k i ≡ count_in r.shape t.cells k i + one_if (is_turn_of k side && is_on v (line_in r.shape i))
-  count-is k i i_low = ap (λ (c : Side → ℕ → ℕ). c k i) counts-now ∙ (h.lines.claimed.counts k i i_low ∙ ap (λ b. count_in r.shape t.cells k i + one_if (is_turn_of k side && b)) (through-any r.shape v i i_low))
+  count-is : (k : Side) (i : ℕ) → i < length r.shape.lines → count_in r.shape now.cells k i ≡ count_in r.shape t.cells k i + one_if (is_same_side k side && is_on v (line_in r.shape i))
+  count-is k i i_low = ap (λ (c : Side → ℕ → ℕ). c k i) counts-now ∙ (h.lines.claimed.counts k i i_low ∙ ap (λ b. count_in r.shape t.cells k i + one_if (is_same_side k side && b)) (through-any r.shape v i i_low))
 
   turn-few : next_turn r.bias (get_or t.cells turn_cell 0) ≤ r.bias
   turn-few = few r.bias (get_or t.cells turn_cell 0) fits.turn
@@ -167,7 +167,7 @@ module _ (r : Rules) (t t2 now : Cells) (x y free x2 y2 free2 : List (List ℕ))
             let line = fits.shape.lines i [] i_low in
             let off : contains (points_of p k) v ≡ false = has-points r.shape t.cells k v ∙ and_right _ _ (no_mark r.shape t.cells v low is k) in
             let after = count-after r.bias p k v (line_in r.shape i) line.ascending off in
-            let same : (is_turn_of k side && is_on v (line_in r.shape i)) ≡ (is_turn_of k p.turn && is_on v (line_in r.shape i)) = ap (λ m. is_turn_of k m && is_on v (line_in r.shape i)) (mover ∙ sym (turn-of r.shape t.cells)) in
+            let same : (is_same_side k side && is_on v (line_in r.shape i)) ≡ (is_same_side k p.turn && is_on v (line_in r.shape i)) = ap (λ m. is_same_side k m && is_on v (line_in r.shape i)) (mover ∙ sym (turn-of r.shape t.cells)) in
             count-is k i i_low ∙ ((λ j. fits.counts k i i_low j + one_if (same j)) ∙ (sym after ∙ ap (λ q. held_in r.shape q k i) (sym position-now)));
         live = live-now;
         free_is = ap present h.unlinked ∙ (present-push free _ ∙ (ap (without v) fits.free_is ∙ (free-without r.shape r.bias p v ∙ ap (free_points_in r.shape) (sym position-now))));

@@ -10,7 +10,7 @@ use Rattle.pg_base.specs.declared.side.Side.TheVariants.{X, Y}
 use Rattle.pg_base.specs.Side.{other}
 use Rattle.pg_game.specs.declared.position.Position.{Position}
 use Rattle.pg_game.specs.Position.{is_free, points_of, after_with}
-use Rattle.pg_game.specs.Potential.{is_turn_of}
+use Rattle.pg_base.specs.Side.{is_same_side}
 use Rattle.pg_trail.specs.Trail.{Cells, with_set}
 use Rattle.pg_board.specs.Shape.{Shape, line_in, turn_cell, mark_cell}
 use Rattle.pg_board.specs.Counts.{is_clear, clear_lines}
@@ -135,7 +135,7 @@ opens-more r p side v t x y free now x2 y2 free2 opens low own theirs leads =
       marks = λ k q.
           let after = ap (λ (z : Position). contains (points_of z k) q) leads.position ∙ points-after r.bias was k v q in
           let before = ap (λ (z : FinSet nat_cmp). contains z q) (turned-points r.shape t.cells n k) ∙ opens.marks k q in
-          after ∙ (ap (λ b. (is_turn_of k was.turn && eqb q v) || b) before ∙ (ap (λ m. (is_turn_of k m && eqb q v) || (contains (points_of p k) q && ltb q v)) mover
+          after ∙ (ap (λ b. (is_same_side k was.turn && eqb q v) || b) before ∙ (ap (λ m. (is_same_side k m && eqb q v) || (contains (points_of p k) q && ltb q v)) mover
           ∙ (elim (same_side side k) [
             | inl e ↦ rw (e, is_own side) (own-mark _ (eqb q v) (ltb q v) (λ on. ap (contains (points_of p side)) (eqb-true q v on) ∙ own))
             | inr e ↦ rw (e, is_others side) (other-mark _ (eqb q v) (ltb q v) (λ on. ap (contains (points_of p (other side))) (eqb-true q v on) ∙ theirs))

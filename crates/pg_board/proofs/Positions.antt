@@ -6,6 +6,7 @@ use Rattle.std.specs.List.{count_by, range_with_len, Contains}
 use Rattle.std.specs.List.Sorted.{IsStrictlyIncreasing}
 use Rattle.std.specs.FinSet.{FinSet, contains}
 use Rattle.std.specs.Ordering.{nat_cmp}
+use Rattle.pg_base.specs.Side.{is_same_side}
 use Rattle.pg_base.specs.WordLemmas.{in_insert}
 use Rattle.pg_base.specs.Sets.{one_if}
 use Rattle.pg_base.specs.declared.side.Side.{Side}
@@ -13,7 +14,7 @@ use Rattle.pg_base.specs.declared.side.Side.TheVariants.{X, Y}
 use Rattle.pg_base.proofs.LineLemmas.{count-ascending}
 use Rattle.pg_game.specs.declared.position.Position.{Position}
 use Rattle.pg_game.specs.Position.{is_free, points_of, after_with, x_after, y_after}
-use Rattle.pg_game.specs.Potential.{is_on, is_turn_of}
+use Rattle.pg_game.specs.Potential.{is_on}
 use Rattle.pg_links.specs.Ring.{without}
 use Rattle.pg_board.specs.Shape.{Shape}
 use Rattle.pg_board.specs.Fits.{summed, free_points_in}
@@ -163,18 +164,18 @@ three-few a b v (x ∷ line) apart a_off b_off =
 
 -- ---- a side's points in a line after a play
 
-pub points-after : (bias : ℕ) (p : Position) (k : Side) (v q : ℕ) → contains (points_of (after_with bias p v) k) q ≡ ((is_turn_of k p.turn && eqb q v) || contains (points_of p k) q)
+pub points-after : (bias : ℕ) (p : Position) (k : Side) (v q : ℕ) → contains (points_of (after_with bias p v) k) q ≡ ((is_same_side k p.turn && eqb q v) || contains (points_of p k) q)
 points-after bias p k v q = by_turn k p.turn p.x p.y v q
   where
-    by_turn : (k turn : Side) (x y : FinSet nat_cmp) (v q : ℕ) → contains (points_of (let r : Position = record { x = x_after turn x v; y = y_after turn y v; turn = turn; left = 0 } in r) k) q ≡ ((is_turn_of k turn && eqb q v) || contains (points_of (let r : Position = record { x = x; y = y; turn = turn; left = 0 } in r) k) q)
+    by_turn : (k turn : Side) (x y : FinSet nat_cmp) (v q : ℕ) → contains (points_of (let r : Position = record { x = x_after turn x v; y = y_after turn y v; turn = turn; left = 0 } in r) k) q ≡ ((is_same_side k turn && eqb q v) || contains (points_of (let r : Position = record { x = x; y = y; turn = turn; left = 0 } in r) k) q)
     by_turn X X x y v q = in_insert x v q
     by_turn X Y x y v q = refl
     by_turn Y X x y v q = refl
     by_turn Y Y x y v q = in_insert y v q
 
 pub count-after : (bias : ℕ) (p : Position) (k : Side) (v : ℕ) (line : List ℕ) → IsStrictlyIncreasing line → contains (points_of p k) v ≡ false
-    → count_by (contains (points_of (after_with bias p v) k)) line ≡ count_by (contains (points_of p k)) line + one_if (is_turn_of k p.turn && is_on v line)
-count-after bias p k v line up off = elim (cases_Bool (is_turn_of k p.turn)) [
+    → count_by (contains (points_of (after_with bias p v) k)) line ≡ count_by (contains (points_of p k)) line + one_if (is_same_side k p.turn && is_on v line)
+count-after bias p k v line up off = elim (cases_Bool (is_same_side k p.turn)) [
   | inl mine ↦
       let more = count-insert (contains (points_of p k)) (contains (points_of (after_with bias p v) k)) v line (λ q. points-after bias p k v q ∙ rw mine refl) off in
       let one = once v line up in

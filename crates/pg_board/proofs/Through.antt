@@ -21,7 +21,7 @@ use Rattle.std.proofs.lemmas.List.Elements.{filter-append}
 use Rattle.std.proofs.lemmas.List.Sums.{length-filter}
 use Rattle.pg_base.specs.Sets.{one_if}
 use Rattle.pg_base.specs.declared.side.Side.TheVariants.{X, Y}
-use Rattle.pg_game.specs.Potential.{is_turn_of}
+use Rattle.pg_base.specs.Side.{is_same_side}
 use Rattle.pg_trail.specs.Trail.{Cells}
 use Rattle.pg_board.specs.Lines.{Claims}
 use Rattle.pg_board.proofs.Ranges.{not_before}
@@ -119,7 +119,7 @@ ready s side v j t now a b h low free room =
     let x = get_or xs j 0 in
     let range = through-below s v j low in
     let first : list_any (λ q. eqb q x) (take j xs) ≡ false = not_before xs j (through-ascends s v) low in
-    let none : (k : Side) → one_if (is_turn_of k side && list_any (λ q. eqb q x) (take j xs)) ≡ 0 = λ k. ap one_if (and_right (is_turn_of k side) _ first) in
+    let none : (k : Side) → one_if (is_same_side k side && list_any (λ q. eqb q x) (take j xs)) ≡ 0 = λ k. ap one_if (and_right (is_same_side k side) _ first) in
     let one = h.claimed.counts X x range in
     let two = h.claimed.counts Y x range in
     let none_x = none X in

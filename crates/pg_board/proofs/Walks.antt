@@ -3,11 +3,12 @@ use Rattle.std.proofs.Common.{◌≡◌, ℕ, zero, suc, ◌+◌, ◌<◌, ◌�
 use Rattle.std.proofs.lemmas.Bool.{cases_Bool, cases_eq, eqb-true, and_parts, and_right, and_cases, or_cases, false≢true, not-false, ltb-true}
 use Rattle.std.specs.List.{find, range_with_len, list_any, list_all, Contains}
 use Rattle.std.specs.FinSet.{contains}
+use Rattle.pg_base.specs.Points.{ShareNone}
 use Rattle.pg_base.specs.declared.side.Side.{Side}
 use Rattle.pg_base.specs.declared.side.Side.TheVariants.{X, Y}
 use Rattle.pg_base.specs.Side.{other}
 use Rattle.pg_game.specs.declared.position.Position.{Position}
-use Rattle.pg_game.specs.Position.{is_free, points_of, AreDisjoint}
+use Rattle.pg_game.specs.Position.{is_free, points_of}
 use Rattle.pg_game.specs.Game.{lines_of, is_touched}
 use Rattle.pg_game.specs.Threat.{is_near}
 use Rattle.pg_game.specs.Potential.{is_on}
@@ -21,7 +22,7 @@ use Rattle.pg_board.specs.Near.{WalksNear, place_of}
 use Rattle.pg_board.proofs.Ranges.{in_filtered}
 use Rattle.pg_board.proofs.Decoding.{has-points, one_mark}
 
-pub disjoint-is : (s : Shape) (cells : List ℕ) → AreDisjoint (position_of s cells)
+pub disjoint-is : (s : Shape) (cells : List ℕ) → ShareNone (position_of s cells).x (position_of s cells).y
 disjoint-is s cells = λ v on. has-points s cells Y v ∙ and_right _ _ (one_mark cells v (and_parts _ _ (sym (has-points s cells X v) ∙ on)).1)
 
 -- ---- the first in a range
@@ -57,11 +58,11 @@ both-at a b (x ∷ xs) any all =
       | inr there ↦ both-at a b xs there parts.1
     ]
 
-apart-sides : (p : Position) (side : Side) (q : ℕ) → AreDisjoint p → contains (points_of p (other side)) q ≡ true → contains (points_of p side) q ≡ true → ⊥
+apart-sides : (p : Position) (side : Side) (q : ℕ) → ShareNone p.x p.y → contains (points_of p (other side)) q ≡ true → contains (points_of p side) q ≡ true → ⊥
 apart-sides p X q disjoint theirs own = false≢true (sym (disjoint q own) ∙ theirs)
 apart-sides p Y q disjoint theirs own = false≢true (sym (disjoint q theirs) ∙ own)
 
-touched-far : (p : Position) (side : Side) (line : List ℕ) (u : ℕ) → AreDisjoint p → is_touched (points_of p (other side)) line ≡ true → is_near p side line u ≡ false
+touched-far : (p : Position) (side : Side) (line : List ℕ) (u : ℕ) → ShareNone p.x p.y → is_touched (points_of p (other side)) line ≡ true → is_near p side line u ≡ false
 touched-far p side line u disjoint touched = elim (cases_Bool (is_near p side line u)) [
   | inr off ↦ off
   | inl near ↦
@@ -76,14 +77,14 @@ touched-far p side line u disjoint touched = elim (cases_Bool (is_near p side li
 
 -- ---- the walk
 
-by_test : (g : Game) (p : Position) (side : Side) (t : ℕ → Bool) (j u : ℕ) → AreDisjoint p → ((u : ℕ) → t j ≡ false → is_near p side (line_at g j) u ≡ false)
+by_test : (g : Game) (p : Position) (side : Side) (t : ℕ → Bool) (j u : ℕ) → ShareNone p.x p.y → ((u : ℕ) → t j ≡ false → is_near p side (line_at g j) u ≡ false)
     → (not (is_touched (points_of p (other side)) (line_at g j)) && t j) ≡ false → is_near p side (line_at g j) u ≡ false
 by_test g p side t j u disjoint known off = elim (and_cases (not (is_touched (points_of p (other side)) (line_at g j))) (t j) off) [
   | inl dead ↦ touched-far p side (line_at g j) u disjoint (not-false _ dead)
   | inr early ↦ known u early
 ]
 
-pub walked : (g : Game) (p : Position) (side : Side) (t : ℕ → Bool) (o : Option ℕ) → AreDisjoint p → o ≡ find t (live_lines g p (other side))
+pub walked : (g : Game) (p : Position) (side : Side) (t : ℕ → Bool) (o : Option ℕ) → ShareNone p.x p.y → o ≡ find t (live_lines g p (other side))
     → ((j u : ℕ) → j < length (lines_of g) → t j ≡ false → is_near p side (line_at g j) u ≡ false) → WalksNear g p side o
 unfolding live_lines
 walked g p side t None disjoint is known =

@@ -5,12 +5,13 @@ use Rattle.std.proofs.lemmas.List.Sums.{sum_by-le, sum_by_more_le}
 use Rattle.std.proofs.Math.Nat.{pow-le-pow_right}
 use Rattle.std.specs.List.{All, count_by, sum_by, filter, range_with_len}
 use Rattle.std.specs.FinSet.{contains}
+use Rattle.pg_base.specs.Points.{ShareNone}
 use Rattle.pg_base.specs.Sets.{one_if}
 use Rattle.pg_base.specs.declared.side.Side.{Side}
 use Rattle.pg_base.specs.declared.side.Side.TheVariants.{X, Y}
 use Rattle.pg_base.specs.Side.{other}
 use Rattle.pg_game.specs.declared.position.Position.{Position}
-use Rattle.pg_game.specs.Position.{is_free, points_of, AreDisjoint}
+use Rattle.pg_game.specs.Position.{is_free, points_of}
 use Rattle.pg_game.specs.Game.{is_touched}
 use Rattle.pg_game.specs.Potential.{is_on, line_weight, greatest}
 use Rattle.pg_game.proofs.LineSums.{points-le}
@@ -29,7 +30,7 @@ use Rattle.pg_board.proofs.Digits.{in_base-next, in_base-same, in_base-rise, sum
 -- ---- free points of a line
 
 -- each point is one side's or free
-pub free-rest : (p : Position) (line : List ℕ) → AreDisjoint p → count_by (contains p.x) line + count_by (contains p.y) line + count_by (is_free p) line ≡ length line
+pub free-rest : (p : Position) (line : List ℕ) → ShareNone p.x p.y → count_by (contains p.x) line + count_by (contains p.y) line + count_by (is_free p) line ≡ length line
 free-rest p [] apart = refl
 free-rest p (v ∷ line) apart =
     let rest = free-rest p line apart in

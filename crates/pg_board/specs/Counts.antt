@@ -5,7 +5,7 @@ use Rattle.pg_base.specs.declared.side.Side.{Side}
 use Rattle.pg_base.specs.declared.side.Side.TheVariants.{X, Y}
 use Rattle.pg_base.specs.Sets.{one_if}
 use Rattle.pg_base.specs.Side.{other}
-use Rattle.pg_game.specs.Potential.{is_turn_of}
+use Rattle.pg_base.specs.Side.{is_same_side}
 use Rattle.pg_board.specs.Shape.{Shape, line_in, count_cell, free_cell, cell_count}
 
 -- how many points of the line the cells say that the side has
@@ -46,7 +46,7 @@ pub record AreCounted (s : Shape) (cells : List ℕ) : Type 0 where
 
 -- the counts with one more point of the side in one line
 pub record IsCountedMore (s : Shape) (side : Side) (i : ℕ) (cells now : List ℕ) : Type 0 where
-  pub counts : (k : Side) (j : ℕ) → j < length s.lines → count_in s now k j ≡ count_in s cells k j + one_if (is_turn_of k side && (j == i))
+  pub counts : (k : Side) (j : ℕ) → j < length s.lines → count_in s now k j ≡ count_in s cells k j + one_if (is_same_side k side && (j == i))
   pub marks : (k : ℕ) → k ≤ s.points → get_or now k 0 ≡ get_or cells k 0
 
 -- the numbers of the side's lines fall by `less` and rise by `more`, and all other cells stay

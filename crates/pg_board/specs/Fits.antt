@@ -3,6 +3,7 @@ use Rattle.std.specs.Prelude.{◌≡◌, ◌≢◌, ℕ, zero, suc, ◌+◌, ◌
 use Rattle.std.specs.List.{count_by, filter, range_with_len}
 use Rattle.std.specs.FinSet.{FinSet, empty, insert, contains}
 use Rattle.std.specs.Ordering.{nat_cmp}
+use Rattle.pg_game.specs.declared.bounds.TheConstants.{MAX_LINE_POINTS}
 use Rattle.pg_base.specs.declared.kind.Kind.TheVariants.{Switching}
 use Rattle.pg_base.specs.declared.side.Side.{Side}
 use Rattle.pg_base.specs.declared.side.Side.TheVariants.{X, Y}
@@ -10,7 +11,7 @@ use Rattle.pg_game.specs.declared.game.Game.{Game}
 use Rattle.pg_game.specs.declared.position.Position.{Position}
 use Rattle.pg_game.specs.Position.{is_free, points_of, after_with}
 use Rattle.pg_game.specs.Game.{is_touched}
-use Rattle.pg_game.specs.Potential.{is_turn_of}
+use Rattle.pg_base.specs.Side.{is_same_side}
 use Rattle.pg_links.specs.Ring.{present}
 use Rattle.pg_trail.specs.Trail.{Cells, back_to}
 use Rattle.pg_board.specs.Board.{Stand}
@@ -106,7 +107,7 @@ pub record Fits (r : Rules) (t : Cells) (x y free : List (List ℕ)) : Type 0 wh
   pub shape : IsShape r.shape
   pub some_bias : 1 ≤ r.bias
   pub few_bias : r.bias ≤ 7
-  pub few_weights : (1 + r.bias) ^ r.shape.longest ≤ 2 ^ 100
+  pub few_weights : (1 + r.bias) ^ r.shape.longest ≤ 2 ^ MAX_LINE_POINTS
   pub turn : get_or t.cells turn_cell 0 ≤ r.bias
   pub counted : AreCounted r.shape t.cells
   pub counts : (k : Side) (i : ℕ) → i < length r.shape.lines → count_in r.shape t.cells k i ≡ held_in r.shape (position_of r.shape t.cells) k i
@@ -118,7 +119,7 @@ pub record Fits (r : Rules) (t : Cells) (x y free : List (List ℕ)) : Type 0 wh
 
 -- how many lines left the side's ring when the side to move took the point
 unfoldable pub left_by : Shape → List ℕ → Side → ℕ → ℕ
-left_by s cells k v = if is_turn_of k (turn_of (get_or cells turn_cell 0)) then clear_in s cells k (lines_through s v) else 0
+left_by s cells k v = if is_same_side k (turn_of (get_or cells turn_cell 0)) then clear_in s cells k (lines_through s v) else 0
 
 -- the lists without the last k
 abbrev pub fewer : ℕ → List (List ℕ) → List (List ℕ)

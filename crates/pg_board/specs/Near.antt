@@ -1,10 +1,10 @@
 -- Lines that lack one point.
 use Rattle.std.specs.Prelude.{◌≡◌, ℕ, ◌<◌, Bool, true, false, not, ◌&&◌, List, length, Option, Some, None, IfSome}
 use Rattle.std.specs.List.{Contains}
+use Rattle.pg_base.specs.Points.{ShareNone}
 use Rattle.pg_base.specs.Side.{other}
 use Rattle.pg_base.specs.declared.side.Side.{Side}
 use Rattle.pg_game.specs.declared.position.Position.{Position}
-use Rattle.pg_game.specs.Position.{AreDisjoint}
 use Rattle.pg_game.specs.Threat.{is_near}
 use Rattle.pg_base.specs.declared.side.Side.TheVariants.{X, Y}
 use Rattle.pg_game.specs.declared.game.Game.{Game}
@@ -33,6 +33,6 @@ place_of n None = n
 
 -- a walk over the lines without a point of the other side has come to such a line, or to the end, and no line before it is near
 pub record WalksNear (g : Game) (p : Position) (side : Side) (next : Option ℕ) : Type 0 where
-  pub disjoint : AreDisjoint p
+  pub disjoint : ShareNone p.x p.y
   pub live : IfSome next (Contains (live_lines g p (other side)))
   pub none : NoneNear g p side (place_of (length (lines_of g)) next)

@@ -2,6 +2,7 @@
 use Rattle.std.specs.Prelude.{◌≡◌, ℕ, ◌+◌, ◌<◌, ◌≤◌, List, [], length, get_or}
 use Rattle.std.specs.List.{All, filter, range_with_len}
 use Rattle.std.specs.List.Sorted.{IsStrictlyIncreasing}
+use Rattle.pg_game.specs.declared.bounds.TheConstants.{MAX_POINTS, MAX_LINES, MAX_LINE_POINTS}
 use Rattle.pg_base.specs.declared.side.Side.{Side}
 use Rattle.pg_base.specs.declared.side.Side.TheVariants.{X, Y}
 use Rattle.pg_game.specs.declared.game.Game.{Game}
@@ -42,9 +43,9 @@ pub record IsShapeLine (s : Shape) (line : List ℕ) : Type 0 where
 
 -- the lines are within the limits of games
 pub record IsShape (s : Shape) : Type 0 where
-  pub few_points : s.points ≤ 256
-  pub few_lines : length s.lines ≤ 20000
-  pub few_long : s.longest ≤ 100
+  pub few_points : s.points ≤ MAX_POINTS
+  pub few_lines : length s.lines ≤ MAX_LINES
+  pub few_long : s.longest ≤ MAX_LINE_POINTS
   pub lines : All (IsShapeLine s) s.lines
 
 -- the lines are within the limits, and the rows are the lines through each point

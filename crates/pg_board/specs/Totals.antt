@@ -1,11 +1,13 @@
 -- The numbers of a board's live lines, and the weights of its lines and points.
 use Rattle.std.specs.Prelude.{◌≡◌, ℕ, zero, suc, ◌+◌, ◌*◌, ◌^◌, ◌<◌, ◌≤◌, Bool, not, ◌&&◌, ◌==◌, nat_lt, List, length, map, ◌-◌, if◌then◌else◌}
 use Rattle.std.specs.List.{count_by, sum_by}
+use Rattle.pg_game.specs.declared.bounds.TheConstants.{MAX_LINE_POINTS}
+use Rattle.pg_base.specs.Side.{is_same_side}
 use Rattle.pg_base.specs.declared.side.Side.{Side}
 use Rattle.pg_base.specs.declared.side.Side.TheVariants.{Y}
 use Rattle.pg_game.specs.declared.position.Position.{Position}
 use Rattle.pg_game.specs.Position.{is_free, points_of}
-use Rattle.pg_game.specs.Potential.{is_on, line_weight, greatest, is_turn_of}
+use Rattle.pg_game.specs.Potential.{is_on, line_weight, greatest}
 use Rattle.pg_game.specs.Avoider.{x_takes_last}
 use Rattle.pg_board.specs.Board.{is_live_with}
 use Rattle.pg_board.specs.Shape.{Shape, IsShape}
@@ -41,7 +43,7 @@ greatest_in base s p side = greatest (map (weight_in base s p side) (free_points
 
 -- how often the greatest weight counts
 abbrev pub times_in : Rules → Position → Side → ℕ
-times_in r p side = if is_turn_of side p.turn then r.bias - p.left else r.bias
+times_in r p side = if is_same_side side p.turn then r.bias - p.left else r.bias
 
 -- whether the potential is low enough for the side
 unfoldable pub potential_in : Rules → Position → Side → Bool
@@ -66,4 +68,4 @@ pub record Agree (s : Shape) (cells : List ℕ) : Type 0 where
 -- a base for which no weight is too great
 pub record IsBase (base : ℕ) (s : Shape) : Type 0 where
   pub some : 1 ≤ base
-  pub few : base ^ s.longest ≤ 2 ^ 100
+  pub few : base ^ s.longest ≤ 2 ^ MAX_LINE_POINTS

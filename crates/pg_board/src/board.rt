@@ -1,9 +1,10 @@
 //! Boards.
 ghost use Rattle.std.specs.Prelude.{◌≡◌, ◌≢◌, ◌<◌, ◌≤◌, ◌+◌, ◌*◌, ◌++◌, ◌∷◌, [], true, length, get_or, nat_lt, ℕ, false, IfOk, IfSome, IfNone};
 ghost use Rattle.std.specs.List.{Contains, find, slice_get};
+ghost use Rattle.pg_base.specs.Points.{ShareNone};
 ghost use Rattle.pg_base.specs.Side.{other};
 ghost use Rattle.pg_base.specs.declared.kind.Kind.TheVariants.{Switching};
-ghost use Rattle.pg_game.specs.Position.{is_free, AreDisjoint};
+ghost use Rattle.pg_game.specs.Position.{is_free};
 ghost use Rattle.pg_game.specs.Game.{point_count, lines_of, free_points, after, IsPosition, is_over, outcome};
 ghost use Rattle.pg_game.specs.Threat.{is_near};
 ghost use Rattle.pg_game.specs.Potential.{total, weight, greatest_weight, potential_holds};
@@ -240,7 +241,7 @@ impl<'a> Board<'a> {
     /// The first line without a point of the side, and None where there is none.
     pub fn first_live(&self, side: Side) -> Option<u32>
         ensures line { result ≡ slice_get (live_lines self.now.game self.now.stand.position side) 0 }
-        ensures disjoint { AreDisjoint self.now.stand.position }
+        ensures disjoint { ShareNone self.now.stand.position.x self.now.stand.position.y }
     {
         match side {
             Side::X => self.live_x.first(),

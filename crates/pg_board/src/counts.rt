@@ -4,13 +4,14 @@ ghost use Rattle.pg_base.specs.declared.side.Side.{Side};
 ghost use Rattle.pg_base.specs.declared.side.Side.TheVariants.{X, Y};
 ghost use Rattle.pg_base.specs.Side.{other};
 ghost use Rattle.pg_base.specs.Sets.{one_if};
-ghost use Rattle.pg_game.specs.Potential.{is_turn_of};
+ghost use Rattle.pg_base.specs.Side.{is_same_side};
 ghost use Rattle.pg_trail.specs.Extends.{Extends};
 ghost use Rattle.pg_board.specs.Shape.{line_in, count_cell, free_cell, cell_count};
 ghost use Rattle.pg_board.specs.Counts.{AreCounted, IsCountedMore, IsMoved, count_in, lines_in};
 
 use crate::layout::Layout;
 use pg_base::Side;
+use pg_game::MAX_LINES;
 use pg_trail::Trail;
 
 /// Where the line has none of the side's points: one line fewer of the side's with so many free points.
@@ -35,7 +36,7 @@ fn narrow(layout: &Layout, trail: &mut Trail, side: Side, own: u32, free: u32)
     requires short { free ≤ layout.now.longest }
     requires more { 1 ≤ free }
     requires some { own ≡ 0 → 1 ≤ lines_in layout.now trail.old.cells side free }
-    requires few { (f : ℕ) → f ≤ layout.now.longest → lines_in layout.now trail.old.cells side f ≤ 20000 }
+    requires few { (f : ℕ) → f ≤ layout.now.longest → lines_in layout.now trail.old.cells side f ≤ MAX_LINES }
     requires room { 2 ≤ trail.old.spare }
     ensures lines { IsMoved layout.now side (λ f. one_if ((own == 0) && (free == f))) (λ f. one_if ((own == 0) && (free == f + 1))) trail.old.cells trail.new.cells }
     ensures trail { Extends 2 trail.old trail.new }

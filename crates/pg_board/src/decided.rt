@@ -4,7 +4,7 @@ ghost use Rattle.std.specs.List.{list_any};
 ghost use Rattle.pg_base.specs.declared.kind.Kind.TheVariants.{MakerMaker, Switching};
 ghost use Rattle.pg_game.specs.Position.{points_of};
 ghost use Rattle.pg_game.specs.Game.{is_filled, is_over_by, outcome_by};
-ghost use Rattle.pg_game.specs.Potential.{is_turn_of};
+ghost use Rattle.pg_base.specs.Side.{is_same_side};
 ghost use Rattle.pg_game.specs.Avoider.{x_takes_last};
 ghost use Rattle.pg_game.specs.Decided.{at_least, defender};
 ghost use Rattle.pg_board.specs.Shape.{turn_cell};
@@ -17,16 +17,6 @@ use crate::totals::{greatest_weight, live_with, total};
 use pg_base::{Kind, Score, Side};
 use pg_trail::Trail;
 
-/// Whether it is the side's turn.
-fn is_turn_of(side: Side, turn: Side) -> bool
-    ensures { result ≡ is_turn_of side turn }
-{
-    match side {
-        Side::X => turn == Side::X,
-        Side::Y => turn == Side::Y,
-    }
-}
-
 /// How often the greatest weight counts for the side.
 fn times_counted(layout: &Layout, trail: &Trail, bias: u8, side: Side) -> u8
     requires agrees { Agree layout.now trail.now.cells }
@@ -34,7 +24,7 @@ fn times_counted(layout: &Layout, trail: &Trail, bias: u8, side: Side) -> u8
     requires turn { get_or trail.now.cells turn_cell 0 ≤ bias }
     ensures { result ≡ times_in (record { bias = bias; shape = layout.now }) (position_of layout.now trail.now.cells) side }
 {
-    if is_turn_of(side, turn(trail)) {
+    if side.is_same(turn(trail)) {
         bias - left(trail)
     } else {
         bias

@@ -3,14 +3,12 @@ ghost use Rattle.std.specs.Prelude.{◌≡◌, ◌≢◌, ◌<◌, ◌≤◌, �
 ghost use Rattle.std.specs.List.{All, range_with_len};
 ghost use Rattle.std.specs.List.Sorted.{IsStrictlyIncreasing};
 ghost use Rattle.pg_board.specs.Gathered.{AreGathered};
-ghost use Rattle.pg_game.specs.Game.{lines_of};
-ghost use Rattle.pg_game.specs.Potential.{greatest_length};
 ghost use Rattle.pg_base.specs.declared.kind.Kind.TheVariants.{Switching};
 ghost use Rattle.pg_board.specs.Shape.{IsShape, shape_of, line_in, lines_through, mark_cell, count_cell, free_cell, cell_count, lines_holding};
 
 use crate::rows::{Row, Rows};
 use pg_base::{Line, Memory, Side};
-use pg_game::{Field, Game};
+use pg_game::{Game, MAX_LINES, greatest_length};
 use std::alloc::Global;
 use std::marker::Model;
 
@@ -41,7 +39,7 @@ impl Layout {
         requires { g.now.kind ≢ Switching }
         ensures { IfOk result (λ layout. layout ≡ shape_of g.now) }
     {
-        let lines = lines_of(g);
+        let lines = g.lines();
         let rows = line_rows(alloc, lines)?;
         let through = point_rows(alloc, g.points(), lines)?;
         Ok(Layout {
@@ -133,31 +131,6 @@ impl Layout {
     }
 }
 
-/// The lines, none on a graph.
-fn lines_of(g: &Game) -> &[Line]
-    ensures lines { result.now ≡ lines_of g.now }
-    ensures few { length result.now ≤ 20000 }
-{
-    match &g.field {
-        Field::Lines(field) => field.lines.as_slice(),
-        Field::Graph(_) => &[],
-    }
-}
-
-/// The greatest length of a line, and 0 where there is none.
-fn greatest_length(lines: &[Line]) -> usize
-    ensures { result ≡ greatest_length lines.now }
-{
-    let mut longest = 0;
-    for line in lines {
-        let len = line.len();
-        if len > longest {
-            longest = len;
-        }
-    }
-    longest
-}
-
 /// The same numbers, wider.
 fn widened(alloc: Global, points: &[u16]) -> Result<Vec<u32>, Memory>
     ensures { IfOk result (λ row. row.items ≡ points.now) }
@@ -194,7 +167,7 @@ fn no_rows(alloc: Global, points: u16) -> Result<Vec<Row>, Memory>
 
 /// Writes the number of a line into the rows of its points.
 fn add_line(rows: &mut [Row], lines: &[Line], i: usize) -> Result<(), Memory>
-    requires few { length lines.now ≤ 20000 }
+    requires few { length lines.now ≤ MAX_LINES }
     requires low { i < length lines.now }
     requires ascending { All IsStrictlyIncreasing lines.now }
     requires range { All (λ line. All (λ v. v < length rows.old) line) lines.now }
@@ -221,7 +194,7 @@ fn joined(alloc: Global, rows: &[Row]) -> Result<Rows, Memory>
 
 /// The rows of the points once the number of each line is written into those of its points.
 fn gathered(alloc: Global, rows: &mut [Row], lines: &[Line]) -> Result<Rows, Memory>
-    requires few { length lines.now ≤ 20000 }
+    requires few { length lines.now ≤ MAX_LINES }
     requires ascending { All IsStrictlyIncreasing lines.now }
     requires range { All (λ line. All (λ v. v < length rows.old) line) lines.now }
     requires before { AreGathered lines.now 0 rows.old }
@@ -236,7 +209,7 @@ fn gathered(alloc: Global, rows: &mut [Row], lines: &[Line]) -> Result<Rows, Mem
 
 /// A row for each point, of the lines that hold it. Each line is walked once.
 fn point_rows(alloc: Global, points: u16, lines: &[Line]) -> Result<Rows, Memory>
-    requires few { length lines.now ≤ 20000 }
+    requires few { length lines.now ≤ MAX_LINES }
     requires ascending { All IsStrictlyIncreasing lines.now }
     requires range { All (λ line. All (λ v. v < points) line) lines.now }
     ensures { IfOk result (λ rows. rows ≡ map (lines_holding lines.now) (range_with_len 0 points)) }

@@ -14,6 +14,7 @@ ghost use Rattle.pg_board.specs.Fits.{turn_of, left_of, mark_of, has_mark, set_b
 use crate::layout::Layout;
 use crate::lines::claim_lines;
 use pg_base::{PointSet, Side};
+use pg_game::MAX_POINTS;
 use pg_links::Ring;
 use pg_trail::Trail;
 
@@ -38,7 +39,7 @@ pub(crate) fn left(trail: &Trail) -> u8
 /// The points with the side's mark.
 pub(crate) fn marked(layout: &Layout, trail: &Trail, side: Side) -> PointSet
     requires width { length trail.now.cells ≡ cell_count layout.now }
-    requires few { layout.now.points ≤ 256 }
+    requires few { layout.now.points ≤ MAX_POINTS }
     ensures { result ≡ set_below (has_mark trail.now.cells side) layout.now.points }
 {
     let mark = mark_of(side);

@@ -190,25 +190,30 @@ module _ (g : Game) (c : Claim) where
   body k p (Threat points) before allowed position earlier follow turn takes ends pairs potential trees cuts threat =
       threat_at g.kind g.bias c.side c.goal g p points refl allowed position threat
 
-  sound : (k : ℕ) (n : Node) → ForcedBefore k → IsNode n → IsSound g c k n → Forces g (position_of n) c.side c.goal
-  sound k n before limits h =
+  sound : (k : ℕ) (n : Node) → ForcedBefore k → IsPosition g (position_of n) → IsSound g c k n → Forces g (position_of n) c.side c.goal
+  sound k n before position h =
       let allowed = h faults.Body in
       let marks = h faults.Marks in
       let owed : IsOwed g c n = record { allowed = allowed; in_game = marks.0 } in
-      body k (position_of n) n.body before allowed (position-of g n limits marks.0)
+      body k (position_of n) n.body before allowed position
       (h faults.Child) marks.1 (h faults.Turn owed) (h faults.Moves owed) (h faults.End owed)
       (h faults.Pairs owed) (h faults.Potential owed) (h faults.Trees owed) (h faults.Cuts owed) (h faults.Threat owed)
 
-  forced-before : IsClaim c → IsValidClaim g c → (k : ℕ) → ForcedBefore k
+  forced-before : ((k : ℕ) (n : Node) → slice_get c.nodes k ≡ Some n → IsPosition g (position_of n)) → IsValidClaim g c → (k : ℕ) → ForcedBefore k
   unfolding ForcedBefore
-  forced-before limits valid zero j n lt at = absurd (omega arith)
-  forced-before limits valid (suc k) j n lt at =
-      sound j n (λ i m below here. forced-before limits valid k i m (omega arith) here) (node_limits limits j n at) (valid j n at)
+  forced-before stands valid zero j n lt at = absurd (omega arith)
+  forced-before stands valid (suc k) j n lt at =
+      sound j n (λ i m below here. forced-before stands valid k i m (omega arith) here) (stands j n at) (valid j n at)
 
-  -- every node of a valid claim is forced
-  pub Forces-node : IsClaim c → IsValidClaim g c → (k : ℕ) (n : Node) → slice_get c.nodes k ≡ Some n → Forces g (position_of n) c.side c.goal
+  -- every node of a valid claim is forced, where the nodes stand on positions of the game, at any bias
+  pub Forces-standing : ((k : ℕ) (n : Node) → slice_get c.nodes k ≡ Some n → IsPosition g (position_of n)) → IsValidClaim g c
+      → (k : ℕ) (n : Node) → slice_get c.nodes k ≡ Some n → Forces g (position_of n) c.side c.goal
   unfolding ForcedBefore
-  Forces-node limits valid k n at = forced-before limits valid (suc k) k n (omega arith) at
+  Forces-standing stands valid k n at = forced-before stands valid (suc k) k n (omega arith) at
+
+  -- the nodes of a claim within the limits do
+  pub Forces-node : IsClaim c → IsValidClaim g c → (k : ℕ) (n : Node) → slice_get c.nodes k ≡ Some n → Forces g (position_of n) c.side c.goal
+  Forces-node limits valid = Forces-standing (λ k n at. position-of g n (node_limits limits k n at) (valid k n at faults.Marks).0) valid
 
   -- so its claim is forced from the game's marks
   pub Forces-claim : IsClaim c → IsValidClaim g c → Forces g (with_turn g c.turn) c.side c.goal

@@ -9,40 +9,21 @@ ghost use Rattle.pg_game.specs.Potential.{is_on};
 ghost use Rattle.pg_game.specs.Threat.{is_near, threatens, has_threat, IsAttack, Forcing, Filling, LeadsToLine, IsThreatLine};
 ghost use Rattle.pg_check.specs.Lacked.{filled_but};
 
-use pg_base::{Kind, Line, PointSet, Side};
-use pg_game::{Field, Game, Judge, Position};
-
-/// The lines of a game, and none on a graph.
-fn lines_of(g: &Game) -> &[Line]
-    ensures lines { result.now ≡ lines_of g.now }
-    ensures range { All (All (λ v. v < 1024)) result.now }
-{
-    match &g.field {
-        Field::Lines(field) => field.lines.as_slice(),
-        Field::Graph(_) => &[],
-    }
-}
-
-/// Whether each point of the line is in the set.
-fn is_filled(points: &PointSet, line: &Line) -> bool
-    requires { All (λ v. v < 1024) line.now }
-    ensures { result ≡ is_filled points.now line.now }
-{
-    line.as_slice().iter().all(|v| points.has(*v))
-}
+use pg_base::{Kind, Line, MAX_MEMBERS, PointSet, Side};
+use pg_game::{Game, Judge, Position};
 
 /// Whether the set has all points of some line.
 fn fills_some(g: &Game, points: &PointSet) -> bool
     ensures { result ≡ list_any (is_filled points.now) (lines_of g.now) }
 {
-    lines_of(g).iter().any(|line| is_filled(points, line))
+    g.lines().iter().any(|line| points.has_all(line.as_slice()))
 }
 
 /// The point of the line that isn't in the set, where there is just one.
 fn only_lacked(points: &PointSet, line: &Line) -> Option<u16>
-    requires { All (λ v. v < 1024) line.now }
+    requires { All (λ v. v < MAX_MEMBERS) line.now }
     ensures one { IfSome result (λ u. (is_on u line.now ≡ true) × (contains points.now u ≡ false) × (filled_but points.now u line.now ≡ true)) }
-    ensures few { IfSome result (λ u. u < 1024) }
+    ensures few { IfSome result (λ u. u < MAX_MEMBERS) }
     ensures none { IfNone result ((u : ℕ) → is_on u line.now ≡ true → contains points.now u ≡ false → filled_but points.now u line.now ≡ true → ⊥) }
 {
     let mut lacked = None;
@@ -60,7 +41,7 @@ fn only_lacked(points: &PointSet, line: &Line) -> Option<u16>
 
 /// Whether the side lacks only one free point to fill the line.
 fn is_nearly_filled(p: &Position, side: Side, line: &Line) -> bool
-    requires { All (λ v. v < 1024) line.now }
+    requires { All (λ v. v < MAX_MEMBERS) line.now }
     ensures { result ≡ list_any (is_near p.now side line.now) line.now }
 {
     match only_lacked(p.points_of(side), line) {
@@ -73,15 +54,13 @@ fn is_nearly_filled(p: &Position, side: Side, line: &Line) -> bool
 fn has_threat(g: &Game, p: &Position, side: Side) -> bool
     ensures { result ≡ has_threat g.now p.now side }
 {
-    lines_of(g)
-        .iter()
-        .any(|line| is_nearly_filled(p, side, line))
+    g.lines().iter().any(|line| is_nearly_filled(p, side, line))
 }
 
 /// Whether the point is a free point of the game.
 fn is_attack(g: &Game, p: &Position, v: u16) -> bool
     ensures attack { IsTrue result ↔ IsAttack g.now p.now v }
-    ensures few { IsTrue result → v < 1024 }
+    ensures few { IsTrue result → v < MAX_MEMBERS }
 {
     v < g.points() && p.is_free(v)
 }
@@ -97,7 +76,7 @@ fn has_filled(g: &Game, p: &Position, side: Side) -> bool
 fn threatens(g: &Game, p: &Position, side: Side, u: u16) -> bool
     requires { has_filled g.now p.now side ≡ false }
     ensures threat { result ≡ threatens g.now p.now side u }
-    ensures few { IsTrue result → u < 1024 }
+    ensures few { IsTrue result → u < MAX_MEMBERS }
 {
     if !is_attack(g, p, u) {
         return false;
@@ -110,7 +89,7 @@ fn threatens(g: &Game, p: &Position, side: Side, u: u16) -> bool
 /// Whether taking v is an attack that fills no line, and after which the other side must take u.
 fn is_forcing(g: &Game, p: &Position, side: Side, v: u16, u: u16) -> bool
     ensures forcing { IsTrue result ↔ Forcing g.now p.now side v u }
-    ensures few { IsTrue result → (v < 1024) × (u < 1024) }
+    ensures few { IsTrue result → (v < MAX_MEMBERS) × (u < MAX_MEMBERS) }
 {
     if !is_attack(g, p, v) {
         return false;

@@ -1,4 +1,5 @@
 use Rattle.std.specs.Prelude.{◌≡◌, ℕ, ◌+◌, ◌<◌, ◌≤◌, ◌==◌, Bool, true, false, not, ◌&&◌, nat_lt, if◌then◌else◌, List, slice_index, slice_index_or, suc, ◌⊎◌}
+use Rattle.pg_base.specs.declared.limits.TheConstants.{MAX_MEMBERS}
 use Rattle.pg_base.specs.Sets.{IsWithin, either, both, outside, count, one_if}
 use Rattle.pg_exchange.specs.Matroid.{Matroid}
 use Rattle.pg_graph.specs.Span.{IsBase, circuit}
@@ -66,7 +67,7 @@ lower done order limit z = done z && nat_lt (order z) limit
 -- an element at is the end of a chain from a followed element, whose links are still those of the bases b and c
 pub record IsShifted (m : Matroid) (b c b' c' from done : ℕ → Bool) (order up : ℕ → ℕ) (y at left : ℕ) : Type 0 where
   pub limit : ℕ
-  pub few : count (lower done order limit) 1024 ≤ left
+  pub few : count (lower done order limit) MAX_MEMBERS ≤ left
   pub below : from at ≡ false → order (up at) < limit
   pub same_first : (f : ℕ) → done f ≡ true → order f < limit → (z : ℕ) → links m b' f z ≡ links m b f z
   pub same_second : (f : ℕ) → done f ≡ true → order f < limit → (z : ℕ) → links m c' f z ≡ links m c f z
@@ -119,7 +120,7 @@ pub record IsClosed (m : Matroid) (b c from to : ℕ → Bool) : Type 0 where
 
 -- the two bases have as few common elements as any two
 abbrev pub IsLeast : Matroid → (ℕ → Bool) → (ℕ → Bool) → Type 0
-IsLeast m b c = (p q : ℕ → Bool) → IsBase m.spans m.elements p → IsBase m.spans m.elements q → count (both b c) 1024 ≤ count (both p q) 1024
+IsLeast m b c = (p q : ℕ → Bool) → IsBase m.spans m.elements p → IsBase m.spans m.elements q → count (both b c) MAX_MEMBERS ≤ count (both p q) MAX_MEMBERS
 
 -- x is in one more of two bases than before, y in one fewer, and every other element in as many
 abbrev pub IsMoved : (ℕ → Bool) → (ℕ → Bool) → (ℕ → Bool) → (ℕ → Bool) → ℕ → ℕ → Type 0

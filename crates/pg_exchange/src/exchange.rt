@@ -10,7 +10,7 @@ ghost use Rattle.pg_exchange.specs.Chain.{base_of, LeadsFrom, SomeTree, IsClosed
 
 use crate::ground::Ground;
 use crate::search::{explore, follow, members, shared, take_next};
-use pg_base::PointSet;
+use pg_base::{MAX_MEMBERS, PointSet};
 
 /// Two bases of one ground.
 #[derive(Drop)]
@@ -118,8 +118,8 @@ impl<G: Ground> Exchange<G> {
     /// Swaps along the chain that ends in y, from its end, and gives its beginning.
     fn exchange(&mut self, from: &PointSet, up: &[u16], second: &[bool], y: u16) -> u16
         requires tree { SomeTree (G.matroid self.old.first) (G.base self.old.first) (G.base self.old.second) (contains from.now) (reads_up up.now) (reads_test second.now) y }
-        requires up { length up.now ≡ 1024 }
-        requires second { length second.now ≡ 1024 }
+        requires up { length up.now ≡ MAX_MEMBERS }
+        requires second { length second.now ≡ MAX_MEMBERS }
         ensures begins { contains from.now result ≡ true }
         ensures kept { G.matroid self.new.first ≡ G.matroid self.old.first }
         ensures kept_second { G.matroid self.new.second ≡ G.matroid self.old.second }

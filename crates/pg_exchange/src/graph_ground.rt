@@ -1,8 +1,9 @@
 //! Spanning forests of a graph as bases.
-ghost use Rattle.std.specs.Prelude.{◌≡◌, ℕ, Bool, suc, IfOk, vec_len};
+ghost use Rattle.std.specs.Prelude.{◌≡◌, ◌<◌, ◌≤◌, ℕ, Bool, suc, IfOk, vec_len};
 ghost use Rattle.std.specs.FinSet.{contains};
 ghost use Rattle.pg_base.specs.Points.{AreBelow, ShareNone};
 ghost use Rattle.pg_base.specs.Sets.{either, below};
+ghost use Rattle.pg_base.specs.declared.limits.TheConstants.{MAX_MEMBERS};
 ghost use Rattle.pg_graph.specs.Graph.{IsGraph, edge_count, spans_in};
 ghost use Rattle.pg_graph.specs.Joiner.{IsMadeFor, AreEdges};
 ghost use Rattle.pg_graph.specs.Labels.{AreLabels};
@@ -12,7 +13,7 @@ ghost use Rattle.pg_exchange.specs.Forest.{graph_matroid, elements_of, IsApart, 
 use crate::ground::Ground;
 use crate::path::path;
 use crate::search::shared;
-use pg_base::{Memory, PointSet};
+use pg_base::{MAX_MEMBERS, Memory, PointSet};
 use pg_graph::{Ends, Graph, Joiner, labels};
 use std::alloc::Global;
 
@@ -29,6 +30,7 @@ pub struct GraphGround {
     elements: PointSet,
     base: PointSet,
     ghost fits: { IsGraph graph },
+    ghost few: { graph.vertices ≤ MAX_MEMBERS },
     ghost labelled: { AreLabels graph (contains x) names.items },
     ghost above_size: { vec_len above ≡ graph.vertices },
     ghost via_size: { vec_len via ≡ graph.vertices },
@@ -48,6 +50,7 @@ impl GraphGround {
         with_e: bool,
     ) -> Result<GraphGround, Memory>
         requires graph { IsGraph g.now }
+        requires few { g.now.vertices ≤ MAX_MEMBERS }
         requires x { AreBelow x.now (edge_count g.now) }
         requires y { AreBelow y.now (edge_count g.now) }
         requires apart { ShareNone x.now y.now }
@@ -69,6 +72,7 @@ impl GraphGround {
         avoided: &PointSet,
     ) -> Result<GraphGround, Memory>
         requires graph { IsGraph g.now }
+        requires few { g.now.vertices ≤ MAX_MEMBERS }
         requires x { AreBelow x.now (edge_count g.now) }
         requires y { AreBelow y.now (edge_count g.now) }
         requires apart { ShareNone x.now y.now }
@@ -169,7 +173,7 @@ impl Ground for GraphGround {
     }
 
     fn member(&self, f: u16) -> bool {
-        f < 1024 && self.base.has(f)
+        f < MAX_MEMBERS && self.base.has(f)
     }
 
     fn circuit(&mut self, f: u16) -> PointSet {

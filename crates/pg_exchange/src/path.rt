@@ -11,7 +11,7 @@ ghost use Rattle.pg_graph.specs.Walks.{IsJoined};
 ghost use Rattle.pg_exchange.specs.Chain.{reads_up};
 ghost use Rattle.pg_exchange.specs.Path.{first_label, second_label, HasEnds, IsReachedBoth, IsSpread, IsStep, IsFound, IsPath, any};
 
-use pg_base::PointSet;
+use pg_base::{MAX_MEMBERS, PointSet};
 use pg_graph::Graph;
 
 /// The members of the base that lead from one label to another. Each edge joins the labels of its ends.
@@ -28,6 +28,7 @@ pub(crate) fn path(
     to: u16,
 ) -> PointSet
     requires graph { IsGraph g.now }
+    requires few { g.now.vertices ≤ MAX_MEMBERS }
     requires above { length above.old ≡ g.now.vertices }
     requires via { length via.old ≡ g.now.vertices }
     requires depth { length depth.old ≡ g.now.vertices }
@@ -113,10 +114,10 @@ fn fits(
     requires base { AreEdges g.now (contains base.now) }
     requires here { here < g.now.vertices }
     ensures step { result ≡ true → IsStep (first_label g.now names.now) (second_label g.now names.now) (contains base.now) any (reads_up above.now) (reads_up via.now) (reads_up depth.now) here }
-    ensures range { result ≡ true → (slice_index above.now here < g.now.vertices) × (slice_index via.now here < 1024) }
+    ensures range { result ≡ true → (slice_index above.now here < g.now.vertices) × (slice_index via.now here < MAX_MEMBERS) }
 {
     let (next, k) = (above[here as usize], via[here as usize]);
-    if k >= 1024 || !base.has(k) {
+    if k >= MAX_MEMBERS || !base.has(k) {
         return false;
     }
     let (u, v) = g.ends_of(k);
@@ -144,6 +145,7 @@ fn find(
     to: u16,
 )
     requires graph { IsGraph g.now }
+    requires few { g.now.vertices ≤ MAX_MEMBERS }
     requires above { length above.old ≡ g.now.vertices }
     requires via { length via.old ≡ g.now.vertices }
     requires depth { length depth.old ≡ g.now.vertices }
@@ -175,6 +177,7 @@ fn finish(
     reached: &mut PointSet,
 )
     requires graph { IsGraph g.now }
+    requires few { g.now.vertices ≤ MAX_MEMBERS }
     requires above { length above.old ≡ g.now.vertices }
     requires via { length via.old ≡ g.now.vertices }
     requires depth { length depth.old ≡ g.now.vertices }
@@ -186,7 +189,7 @@ fn finish(
     ensures more { IsWithin (contains reached.old) (contains reached.new) }
     ensures small { IsBelow (contains reached.new) g.now.vertices }
 {
-    let mut size = 1025;
+    let mut size = u32::from(MAX_MEMBERS) + 1;
     while left.len() < size {
         size = left.len();
         sweep(above, via, depth, names, g, left, reached);
@@ -205,6 +208,7 @@ fn sweep(
     reached: &mut PointSet,
 )
     requires graph { IsGraph g.now }
+    requires few { g.now.vertices ≤ MAX_MEMBERS }
     requires above { length above.old ≡ g.now.vertices }
     requires via { length via.old ≡ g.now.vertices }
     requires depth { length depth.old ≡ g.now.vertices }
@@ -247,7 +251,7 @@ fn cross(
     p: u16,
     q: u16,
 ) -> bool
-    requires above { length above.old ≤ 500 }
+    requires above { length above.old ≤ MAX_MEMBERS }
     requires via { length via.old ≡ length above.old }
     requires depth { length depth.old ≡ length above.old }
     requires p { p < length above.old }
@@ -282,7 +286,7 @@ fn attach(
     p: u16,
     q: u16,
 )
-    requires above { length above.old ≤ 500 }
+    requires above { length above.old ≤ MAX_MEMBERS }
     requires via { length via.old ≡ length above.old }
     requires depth { length depth.old ≡ length above.old }
     requires p { p < length above.old }

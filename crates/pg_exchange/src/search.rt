@@ -5,7 +5,7 @@ ghost use Rattle.pg_base.specs.Sets.{both, either, minus, outside};
 ghost use Rattle.pg_exchange.specs.Chain.{links, reads_up, reads_test, IsRolled, IsNext};
 
 use crate::ground::Ground;
-use pg_base::PointSet;
+use pg_base::{MAX_MEMBERS, PointSet};
 
 /// Adds what f links to by one base, and to those left to follow what is new of it.
 pub(crate) fn follow<G: Ground>(ground: &mut G, f: u16, seen: &mut PointSet, todo: &mut PointSet)
@@ -25,8 +25,8 @@ pub(crate) fn follow<G: Ground>(ground: &mut G, f: u16, seen: &mut PointSet, tod
 
 /// Writes f, and which base, at each member of the set.
 fn note(up: &mut [u16], second: &mut [bool], fresh: &PointSet, f: u16, by_second: bool)
-    requires up { length up.old ≡ 1024 }
-    requires second { length second.old ≡ 1024 }
+    requires up { length up.old ≡ MAX_MEMBERS }
+    requires second { length second.old ≡ MAX_MEMBERS }
     ensures noted { (z : ℕ) → contains fresh.now z ≡ true → (reads_up up.new z ≡ f) × (reads_test second.new z ≡ by_second) }
     ensures others { (z : ℕ) → contains fresh.now z ≡ false → (reads_up up.new z ≡ reads_up up.old z) × (reads_test second.new z ≡ reads_test second.old z) }
 {
@@ -49,8 +49,8 @@ pub(crate) fn explore<G: Ground>(
     second: &mut [bool],
 )
     requires element { (G.matroid ground.old).elements f ≡ true }
-    requires up { length up.old ≡ 1024 }
-    requires second { length second.old ≡ 1024 }
+    requires up { length up.old ≡ MAX_MEMBERS }
+    requires second { length second.old ≡ MAX_MEMBERS }
     ensures seen { contains seen.new ≡ either (contains seen.old) (links (G.matroid ground.old) (G.base ground.old) f) }
     ensures todo { contains todo.new ≡ either (contains todo.old) (outside (links (G.matroid ground.old) (G.base ground.old) f) (contains seen.old)) }
     ensures kept { G.matroid ground.new ≡ G.matroid ground.old }
@@ -76,7 +76,7 @@ pub(crate) fn shared(a: &PointSet, b: &PointSet) -> PointSet
 
 /// Takes the least element of the level that is being followed, and goes to the next level where this one is done.
 pub(crate) fn take_next(level: &mut PointSet, later: &mut PointSet) -> Option<u16>
-    ensures range { IfSome result (λ f. f < 1024) }
+    ensures range { IfSome result (λ f. f < MAX_MEMBERS) }
     ensures found { IfSome result (λ f. either (contains level.old) (contains later.old) f ≡ true) }
     ensures levels { IfSome result (λ f. IsNext (contains level.old) (contains later.old) (contains level.new) (contains later.new) f) }
     ensures taken { IfSome result (λ f. either (contains level.new) (contains later.new) ≡ minus (either (contains level.old) (contains later.old)) f) }

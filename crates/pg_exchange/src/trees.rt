@@ -1,5 +1,5 @@
 //! Two spanning forests of a graph.
-ghost use Rattle.std.specs.Prelude.{◌≡◌, ◌<◌, ℕ, true, IfOk};
+ghost use Rattle.std.specs.Prelude.{◌≡◌, ◌<◌, ◌≤◌, ℕ, true, IfOk};
 ghost use Rattle.std.specs.FinSet.{contains};
 ghost use Rattle.pg_base.specs.Points.{AreBelow, ShareNone};
 ghost use Rattle.pg_graph.specs.Graph.{IsGraph, edge_count};
@@ -9,7 +9,7 @@ use crate::exchange::Exchange;
 use crate::graph_ground::GraphGround;
 use crate::ground::Ground;
 use crate::search::members;
-use pg_base::{Memory, PointSet};
+use pg_base::{MAX_MEMBERS, Memory, PointSet};
 use pg_graph::Graph;
 use std::alloc::Global;
 
@@ -21,6 +21,7 @@ impl Exchange<GraphGround> {
     /// an edge of the first only where the edges outside the first don't span as much.
     pub fn new(alloc: Global, g: &Graph, x: &PointSet, y: &PointSet) -> Result<Trees, Memory>
         requires graph { IsGraph g.now }
+        requires few { g.now.vertices ≤ MAX_MEMBERS }
         requires x { AreBelow x.now (edge_count g.now) }
         requires y { AreBelow y.now (edge_count g.now) }
         requires apart { ShareNone x.now y.now }

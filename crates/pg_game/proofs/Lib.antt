@@ -15,8 +15,11 @@ pub mod LineSums
 pub mod Greatest
 pub mod Lowest
 pub mod FreeCounts
+pub mod FreeSets
 pub mod LastPoint
 pub mod Unfilled
 pub mod RowLines
 pub mod ThreatLaws
 pub mod ThreatSearch
+pub mod LineWeights
+pub mod WeightWalks

@@ -28,7 +28,7 @@ few_points kind (OnGraph h) bias fits = (fits.on_graph h refl).few_edges
 
 -- a game has at most a thousand points
 pub point_count-le : (g : Game) → point_count g ≤ 1000
-point_count-le g = few_points g.kind g.field g.bias (record { kind_fits = g.fits.kind_fits; on_lines = g.fits.on_lines; on_graph = g.fits.on_graph })
+point_count-le g = few_points g.kind g.field g.bias g.fits.within
 
 field_lines-fit : (kind : Kind) (field : Field) (bias : ℕ) → FieldFits kind field bias → All (IsLineOf (field_points field) bias) (field_lines field)
 field_lines-fit kind (Lines f) bias fits = (fits.on_lines f refl).lines
@@ -36,7 +36,7 @@ field_lines-fit kind (OnGraph h) bias fits = λ k d h. absurd (omega arith)
 
 -- the lines of a game are ascending points of it, at least one and not too many
 pub lines-fit : (g : Game) → All (IsLineOf (point_count g) g.bias) (lines_of g)
-lines-fit g = field_lines-fit g.kind g.field g.bias (record { kind_fits = g.fits.kind_fits; on_lines = g.fits.on_lines; on_graph = g.fits.on_graph })
+lines-fit g = field_lines-fit g.kind g.field g.bias g.fits.within
 
 -- the points of lines are points of the game
 pub lines-range : (g : Game) → All (All (λ v. v < point_count g)) (lines_of g)

@@ -1,7 +1,7 @@
 -- The first element, the lowest number and the lowest free point that pass a test.
-use Rattle.std.proofs.Common.{◌≡◌, ℕ, zero, suc, ◌+◌, ◌<◌, ◌≤◌, Bool, true, false, ◌&&◌, List, [], ◌∷◌, Some, None, cond, refl, ap, ◌∙◌, inl, inr, arith}
-use Rattle.std.proofs.lemmas.Bool.{cases_Bool, cases_eq}
-use Rattle.std.specs.List.{filter, find, range_with_len, Contains}
+use Rattle.std.proofs.Common.{◌≡◌, ℕ, zero, suc, ◌+◌, ◌<◌, ◌≤◌, Bool, true, false, ◌&&◌, ◌||◌, List, [], ◌∷◌, Some, None, cond, refl, sym, ap, ◌∙◌, inl, inr, arith}
+use Rattle.std.proofs.lemmas.Bool.{cases_Bool, cases_eq, false≢true}
+use Rattle.std.specs.List.{filter, find, list_any, range_with_len, Contains}
 use Rattle.pg_game.specs.declared.game.Game.{Game}
 use Rattle.pg_game.specs.declared.position.Position.{Position}
 use Rattle.pg_game.specs.Position.{is_free}
@@ -18,6 +18,15 @@ module _ {X : Type 0} where
         | inr off ↦ rw off tail
       ]
 
+  pub any_both : (t f : X → Bool) (xs : List X) → list_any t (filter f xs) ≡ list_any (λ x. f x && t x) xs
+  any_both t f [] = refl
+  any_both t f (x ∷ xs) =
+      let tail = any_both t f xs in
+      elim (cases_Bool (f x)) [
+        | inl on ↦ rw on (ap (λ b. t x || b) tail)
+        | inr off ↦ rw off tail
+      ]
+
   -- tests that agree at the members find the same
   pub find_same : (t u : X → Bool) (xs : List X) → ((x : X) → Contains xs x → t x ≡ u x) → find t xs ≡ find u xs
   find_same t u [] agree = refl
@@ -25,6 +34,20 @@ module _ {X : Type 0} where
       let here = agree x (Contains-head x xs) in
       let rest = find_same t u xs (λ y c. agree y (Contains-tail x y xs c)) in
       λ i. cond (here i) (Some x) (rest i)
+
+-- the first that passes is a member that does
+pub find-some : (t : ℕ → Bool) (xs : List ℕ) (v : ℕ) → Contains xs v → t v ≡ true → (w : ℕ) × (find t xs ≡ Some w) × Contains xs w × (t w ≡ true)
+find-some t [] v c on = absurd (omega (arith, c.1))
+find-some t (x ∷ xs) v c on = elim (cases_Bool (t x)) [
+  | inl here ↦ rw here (x, refl, Contains-head x xs, here)
+  | inr off ↦
+      let rest = find-some t xs v (later x xs v c off on) on in
+      rw off (rest.0, rest.1, Contains-tail x rest.0 xs rest.2, rest.3)
+]
+  where
+    later : (x : ℕ) (xs : List ℕ) (v : ℕ) → Contains (x ∷ xs) v → t x ≡ false → t v ≡ true → Contains xs v
+    later x xs v (zero, lt, is) off on = absurd (false≢true (sym off ∙ ap t is ∙ on))
+    later x xs v (suc k, lt, is) off on = (k, omega arith, is)
 
 -- the first number of a range that passes
 pub first_from : (t : ℕ → Bool) (v a n : ℕ) → a ≤ v → v < a + n → t v ≡ true → ((w : ℕ) → a ≤ w → w < v → t w ≡ false) → find t (range_with_len a n) ≡ Some v

@@ -3,13 +3,14 @@ use Rattle.std.proofs.Common.{◌≡◌, ◌≢◌, ℕ, ◌+◌, ◌<◌, ◌�
 use Rattle.std.proofs.lemmas.Bool.{cases_Bool, cases_eq, cases_lt, and_parts, and_from, or_right, or_cases, not-true, not_from_false, false≢true, lt-ltb, le-ltb}
 use Rattle.std.specs.FinSet.{FinSet, contains, insert}
 use Rattle.std.specs.Ordering.{nat_cmp}
+use Rattle.pg_base.specs.Points.{ShareNone}
 use Rattle.pg_base.specs.declared.side.Side.{Side}
 use Rattle.pg_base.specs.declared.side.Side.TheVariants.{X, Y}
 use Rattle.pg_base.specs.Side.{other}
 use Rattle.pg_base.specs.WordLemmas.{in_insert}
 use Rattle.pg_game.specs.declared.game.Game.{Game}
 use Rattle.pg_game.specs.declared.position.Position.{Position}
-use Rattle.pg_game.specs.Position.{is_free, points_of, AreDisjoint, claims_in_turn, x_after, y_after}
+use Rattle.pg_game.specs.Position.{is_free, points_of, claims_in_turn, x_after, y_after}
 use Rattle.pg_game.specs.Game.{point_count, bias_of, after, with_turn, start, IsPosition}
 use Rattle.pg_game.specs.Play.{IsLegalPlay, played}
 use Rattle.pg_game.proofs.FreePoints.{is_free-after}
@@ -121,7 +122,7 @@ free-was g p v q free =
 -- ---- positions
 
 -- no point is both sides'
-pub apart : (p : Position) (side : Side) (v : ℕ) → AreDisjoint p → contains (points_of p (other side)) v ≡ true → contains (points_of p side) v ≡ false
+pub apart : (p : Position) (side : Side) (v : ℕ) → ShareNone p.x p.y → contains (points_of p (other side)) v ≡ true → contains (points_of p side) v ≡ false
 apart p X v d h = elim (cases_Bool (contains p.x v)) [ inl on ↦ absurd (false≢true (sym (d v on) ∙ h)) | inr off ↦ off ]
 apart p Y v d h = d v h
 
@@ -136,8 +137,8 @@ disjoint_after x y Y v d fx fy q h = elim (cases_eq q v) [
   | inr ne ↦ in_insert y v q ∙ ap (λ b. b || contains y q) (ne_eqb q v ne) ∙ d q h
 ]
 
-pub AreDisjoint-after : (g : Game) (p : Position) (v : ℕ) → AreDisjoint p → is_free p v ≡ true → AreDisjoint (after g p v)
-AreDisjoint-after g p v d free = disjoint_after p.x p.y p.turn v d (free-of p X v free) (free-of p Y v free)
+pub ShareNone-after : (g : Game) (p : Position) (v : ℕ) → ShareNone p.x p.y → is_free p v ≡ true → ShareNone (after g p v).x (after g p v).y
+ShareNone-after g p v d free = disjoint_after p.x p.y p.turn v d (free-of p X v free) (free-of p Y v free)
 
 -- each side claims at least one point a turn
 pub some_bias : (g : Game) (side : Side) → 1 ≤ bias_of g side
@@ -148,7 +149,7 @@ pub IsPosition-after : (g : Game) (p : Position) (v : ℕ) → IsPosition g p �
 IsPosition-after g p v is within free = record {
   x_range = λ q h. elim (points-from g p X v q h) [ inl old ↦ is.x_range q old | inr new ↦ subst (λ (n : ℕ). n < point_count g) (sym new.1) within ];
   y_range = λ q h. elim (points-from g p Y v q h) [ inl old ↦ is.y_range q old | inr new ↦ subst (λ (n : ℕ). n < point_count g) (sym new.1) within ];
-  disjoint = AreDisjoint-after g p v is.disjoint free;
+  disjoint = ShareNone-after g p v is.disjoint free;
   some_left = elim (cases_lt 1 p.left) [
     | inl more ↦ omega (arith, left-falls g p v more)
     | inr last ↦ omega (arith, left-passes g p v last, some_bias g (other p.turn))

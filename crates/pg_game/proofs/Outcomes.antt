@@ -71,7 +71,7 @@ kind-switching AvoiderEnforcer h = absurd (false≢true h)
 
 -- a game on a graph is a switching game
 pub switching-on_graph : (g : Game) (h : Graph) → g.field ≡ OnGraph h → g.kind ≡ Switching
-switching-on_graph g h e = kind-switching g.kind (sym g.fits.kind_fits ∙ ap is_graph e)
+switching-on_graph g h e = kind-switching g.kind (sym g.fits.within.kind_fits ∙ ap is_graph e)
 
 pub result-joining : (g : Game) (p : Position) (h : Graph) → g.field ≡ OnGraph h
     → joining_result (terminals_joined h (contains p.x)) (terminals_joined h (λ e. not (contains p.y e))) ≡ (if is_over g p then Some (outcome g p) else None)
@@ -82,4 +82,4 @@ result-joining g p h e =
 
 -- a graph within the limits of games is one that a joiner takes
 pub IsGraph-board : (h : Graph) → IsBoard h → IsGraph h
-IsGraph-board h board = record { few_edges = board.few_edges; few_vertices = board.few_vertices; s_range = board.s_range; t_range = board.t_range; ends_range = board.ends }
+IsGraph-board h board = record { few_edges = board.few_edges; s_range = board.s_range; t_range = board.t_range; ends_range = board.ends }

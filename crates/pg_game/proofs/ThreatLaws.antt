@@ -5,6 +5,7 @@ use Rattle.std.proofs.lemmas.List.Elements.{All-contains}
 use Rattle.std.specs.List.{All, Contains, list_all, list_any}
 use Rattle.std.specs.FinSet.{FinSet, contains, insert}
 use Rattle.std.specs.Ordering.{nat_cmp}
+use Rattle.pg_base.specs.Points.{ShareNone}
 use Rattle.pg_base.specs.WordLemmas.{in_insert}
 use Rattle.pg_base.specs.Side.{other}
 use Rattle.pg_base.specs.declared.goal.Goal.TheVariants.{Win}
@@ -14,7 +15,7 @@ use Rattle.pg_base.specs.declared.side.Side.{Side}
 use Rattle.pg_base.specs.declared.side.Side.TheVariants.{X, Y}
 use Rattle.pg_game.specs.declared.game.Game.{Game}
 use Rattle.pg_game.specs.declared.position.Position.{Position}
-use Rattle.pg_game.specs.Position.{is_free, points_of, AreDisjoint}
+use Rattle.pg_game.specs.Position.{is_free, points_of}
 use Rattle.pg_game.specs.Game.{lines_of, point_count, bias_of, has_filled, is_filled, is_touched, all_touched, is_full, short_joins, can_join, is_over, outcome, is_over_by, outcome_by, after, IsPosition}
 use Rattle.pg_game.specs.Potential.{is_on}
 use Rattle.pg_game.specs.Threat.{is_near, threatens, has_threat, may_attack, IsAttack, Forcing, Filling, LeadsToLine, IsThreatLine, IsUnfilled, IsAttacking}
@@ -73,7 +74,7 @@ on-or_filled s u (q ∷ line) h none =
     own off h = rw off at h
 
 -- the other side has no point of a line that is filled but for a free point
-pub untouched : (p : Position) (side : Side) (u : ℕ) (line : List ℕ) → AreDisjoint p → is_free p u ≡ true → filled_but (points_of p side) u line ≡ true
+pub untouched : (p : Position) (side : Side) (u : ℕ) (line : List ℕ) → ShareNone p.x p.y → is_free p u ≡ true → filled_but (points_of p side) u line ≡ true
     → is_touched (points_of p (other side)) line ≡ false
 unfolding filled_but
 untouched p side u line disjoint free h =

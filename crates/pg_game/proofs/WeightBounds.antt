@@ -74,7 +74,7 @@ few_lines-field kind (Lines f) bias fits = (fits.on_lines f refl).few_lines
 few_lines-field kind (OnGraph h) bias fits = omega arith
 
 pub few_lines : (g : Game) → length (lines_of g) ≤ 20000
-few_lines g = few_lines-field g.kind g.field g.bias (record { kind_fits = g.fits.kind_fits; on_lines = g.fits.on_lines; on_graph = g.fits.on_graph })
+few_lines g = few_lines-field g.kind g.field g.bias g.fits.within
 
 small_points-field : (kind : Kind) (field : Field) (bias : ℕ) → FieldFits kind field bias → All (All (λ v. v < 256)) (field_lines field)
 small_points-field kind (Lines f) bias fits =
@@ -84,7 +84,7 @@ small_points-field kind (OnGraph h) bias fits = λ k d h. absurd (omega arith)
 
 -- the points of lines are below 256
 pub small_points : (g : Game) → All (All (λ v. v < 256)) (lines_of g)
-small_points g = small_points-field g.kind g.field g.bias (record { kind_fits = g.fits.kind_fits; on_lines = g.fits.on_lines; on_graph = g.fits.on_graph })
+small_points g = small_points-field g.kind g.field g.bias g.fits.within
 
 -- a line weighs at most as much as one without free points
 pub line_weight-le : (base k : ℕ) (own : FinSet nat_cmp) (p : Position) (line : List ℕ) → 1 ≤ base → line_weight base k own p line ≤ base ^ k
@@ -106,7 +106,7 @@ pub few_points-lines : (g : Game) → g.kind ≢ Switching → point_count g ≤
 few_points-lines g on_lines = by g.field refl
   where
     by : (field : Field) → g.field ≡ field → point_count g ≤ 256
-    by (Lines f) is = subst (λ (h : Field). field_points h ≤ 256) (sym is) (g.fits.on_lines f is).few_points
+    by (Lines f) is = subst (λ (h : Field). field_points h ≤ 256) (sym is) (g.fits.within.on_lines f is).few_points
     by (OnGraph h) is = absurd (on_lines (switching-on_graph g h is))
 
 pub IsBaseOf-bias : (g : Game) (n : ℕ) → n ≡ g.bias → IsBaseOf (1 + n) g

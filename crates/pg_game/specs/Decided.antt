@@ -1,5 +1,5 @@
 -- Which positions are decided without search, for the question whether X reaches a score.
-use Rattle.std.specs.Prelude.{◌≡◌, ℕ, ◌%◌, Bool, true, false, not, ◌&&◌, ◌==◌, nat_lt, List, [], ◌∷◌, length, filter, Option, Some, None, if◌then◌else◌}
+use Rattle.std.specs.Prelude.{◌≡◌, ℕ, ◌%◌, Bool, true, false, not, ◌&&◌, ◌==◌, nat_lt, List, [], ◌∷◌, length, filter, Option, Some, None, option_map, if◌then◌else◌}
 use Rattle.std.specs.List.{list_any}
 use Rattle.pg_base.specs.Sets.{minus}
 use Rattle.pg_base.specs.declared.goal.Goal.{Goal}
@@ -35,11 +35,6 @@ IsQuestion kind XWins = Unit {0}
 IsQuestion MakerMaker Draw = Unit {0}
 IsQuestion _ _ = ⊥
 
--- the first answer, or the second where there is none
-abbrev pub first_known : Option Bool → Option Bool → Option Bool
-first_known (Some a) other = Some a
-first_known None other = other
-
 -- the side that claims an answer: X where it is yes
 abbrev pub claimer : Bool → Side
 claimer true = X
@@ -66,7 +61,7 @@ abbrev pub answer_for : Side → Bool
 answer_for X = true
 answer_for Y = false
 
--- the game is over: whether its outcome is at least the score
+-- where the game is over, whether its outcome is at least the score
 abbrev pub by_end : Game → Score → Position → Option Bool
 by_end g t p = if is_over g p then Some (at_least t (outcome g p)) else None
 
@@ -77,9 +72,6 @@ defends MakerMaker g t p = potential_holds g p (defender MakerMaker t)
 defends AvoiderEnforcer g t p = avoider_holds g p
 defends Switching g t p = false
 
-abbrev pub by_potential : Game → Score → Position → Option Bool
-by_potential g t p = if defends g.kind g t p then Some (answer_for (defender g.kind t)) else None
-
 -- how many replies a threat line may force that decides a position
 abbrev pub greatest_depth : ℕ
 greatest_depth = 3
@@ -87,9 +79,6 @@ greatest_depth = 3
 -- whether the side to move has a threat line that is short enough
 unfoldable pub attack_wins : Game → Position → Bool
 attack_wins g p = may_attack g.kind p.turn && has_threat_line greatest_depth g p
-
-abbrev pub by_threat : Game → Position → Option Bool
-by_threat g p = if attack_wins g p then Some (answer_for p.turn) else None
 
 -- whether each of the lists can have two different points of its own, of those that pass
 unfoldable pub has_private_pairs : List (List ℕ) → (ℕ → Bool) → Bool
@@ -119,12 +108,33 @@ has_lines _ = true
 unfoldable pub pairs_exist : Game → Position → Side → Bool
 pairs_exist g p side = has_lines g.kind && (avoider_can_pair g.kind g p && has_private_pairs (lines_meant g p side) (is_free p))
 
-abbrev pub by_pairs : Game → Score → Position → Option Bool
-by_pairs g t p = if pairs_exist g p (defender g.kind t) then Some (answer_for (defender g.kind t)) else None
+-- ---- the first that applies
 
--- The answer of the first criterion that applies: the game is over, a potential holds, the side to move has a short threat line, or private pairs exist.
+-- the criteria, in the order in which they are asked
+pub data Criterion : Type 0 where
+  ByEnd : Criterion
+  ByPotential : Criterion
+  ByThreat : Criterion
+  ByPairs : Criterion
+
+-- the first criterion that applies: the game is over, a potential holds, the side to move has a short threat line, or private pairs exist
+unfoldable pub first_criterion : Game → Score → Position → Option Criterion
+first_criterion g t p =
+    if is_over g p then Some ByEnd
+    else (if defends g.kind g t p then Some ByPotential
+    else (if attack_wins g p then Some ByThreat
+    else (if pairs_exist g p (defender g.kind t) then Some ByPairs else None)))
+
+-- what a criterion answers where it applies: the outcome's answer, or yes for the side whose criterion it is where that is X
+abbrev pub answer_by : Game → Score → Position → Criterion → Bool
+answer_by g t p ByEnd = at_least t (outcome g p)
+answer_by g t p ByPotential = answer_for (defender g.kind t)
+answer_by g t p ByThreat = answer_for p.turn
+answer_by g t p ByPairs = answer_for (defender g.kind t)
+
+-- the answer of the first criterion that applies
 unfoldable pub decided : Game → Score → Position → Option Bool
-decided g t p = first_known (by_end g t p) (first_known (by_potential g t p) (first_known (by_threat g p) (by_pairs g t p)))
+decided g t p = option_map (answer_by g t p) (first_criterion g t p)
 
 -- some criterion answers the question so
 abbrev pub IsDecided : Game → Score → Position → Bool → Type 0

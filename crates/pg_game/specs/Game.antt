@@ -1,8 +1,9 @@
 -- The rules: which points are free, what a move does, when a game is over and what its outcome is.
-use Rattle.std.specs.Prelude.{◌≡◌, ◌<◌, ◌≤◌, ℕ, Bool, true, false, not, ◌||◌, List, [], if◌then◌else◌}
+use Rattle.std.specs.Prelude.{◌≡◌, ◌<◌, ◌≤◌, ℕ, Bool, true, false, not, ◌||◌, List, [], Option, find, if◌then◌else◌}
 use Rattle.std.specs.List.{range_with_len, filter, list_all, list_any}
 use Rattle.std.specs.FinSet.{FinSet, contains}
 use Rattle.std.specs.Ordering.{nat_cmp}
+use Rattle.pg_base.specs.Points.{AreBelow, ShareNone}
 use Rattle.pg_base.specs.declared.kind.Kind.{Kind}
 use Rattle.pg_base.specs.declared.kind.Kind.TheVariants.{MakerBreaker, MakerMaker, AvoiderEnforcer, Switching}
 use Rattle.pg_base.specs.declared.score.Score.{Score}
@@ -13,7 +14,7 @@ use Rattle.pg_game.specs.declared.field.Field.{Field}
 use Rattle.pg_game.specs.declared.game.Game.{Game}
 use Rattle.pg_game.specs.declared.position.Position.{Position}
 use Rattle.pg_game.specs.Field.{field_points, field_lines, field_joins}
-use Rattle.pg_game.specs.Position.{is_free, points_of, claims_in_turn, after_with, AreDisjoint}
+use Rattle.pg_game.specs.Position.{is_free, points_of, claims_in_turn, after_with}
 
 -- ---- the game
 
@@ -50,9 +51,9 @@ start g = with_turn g g.turn
 
 -- the sides have different points of the game, and the side to move claims at least one more and no more than in a whole turn
 pub record IsPosition (g : Game) (p : Position) : Type 0 where
-  pub x_range : (v : ℕ) → contains p.x v ≡ true → v < point_count g
-  pub y_range : (v : ℕ) → contains p.y v ≡ true → v < point_count g
-  pub disjoint : AreDisjoint p
+  pub x_range : AreBelow p.x (point_count g)
+  pub y_range : AreBelow p.y (point_count g)
+  pub disjoint : ShareNone p.x p.y
   pub some_left : 1 ≤ p.left
   pub few_left : p.left ≤ bias_of g p.turn
 
@@ -63,6 +64,10 @@ after g p v = after_with g.bias p v
 -- the free points in ascending order
 unfoldable pub free_points : Game → Position → List ℕ
 free_points g p = filter (is_free p) (range_with_len 0 (point_count g))
+
+-- the lowest free point
+abbrev pub lowest_free : Game → Position → Option ℕ
+lowest_free g p = find (λ v. true) (free_points g p)
 
 -- ---- what is filled, touched and joined
 

@@ -18,3 +18,4 @@ pub mod Settled
 pub mod Threat
 pub mod Trees
 pub mod Rows
+pub mod Weights

@@ -1,6 +1,7 @@
 -- Pairs of free points of which the claimer needs one each (Hales and Jewett's pairing, at any position).
 use Rattle.std.specs.Prelude.{◌≡◌, ◌≢◌, ℕ, ◌<◌, Bool, true, false, not, ◌&&◌, ◌||◌, ◌==◌, List, [], ◌∷◌, length, Option, Some, None, find, filter, unwrap_or, if◌then◌else◌}
 use Rattle.std.specs.List.{All, Any, AllPairs, Contains, list_any}
+use Rattle.std.specs.Option.{option_or}
 use Rattle.std.specs.FinSet.{FinSet}
 use Rattle.std.specs.Ordering.{nat_cmp}
 use Rattle.pg_base.specs.declared.kind.Kind.{Kind}
@@ -11,7 +12,7 @@ use Rattle.pg_base.specs.declared.side.Side.TheVariants.{X, Y}
 use Rattle.pg_game.specs.declared.game.Game.{Game}
 use Rattle.pg_game.specs.declared.position.Position.{Position}
 use Rattle.pg_game.specs.Position.{is_free, points_of}
-use Rattle.pg_game.specs.Game.{lines_of, point_count, is_touched, free_points}
+use Rattle.pg_game.specs.Game.{lines_of, point_count, is_touched, free_points, lowest_free}
 
 -- ---- pairs
 
@@ -80,19 +81,11 @@ pub record PairsLeaveNone (g : Game) (p : Position) (pairs : List Pair) : Type 0
 
 -- The pairs are of free points, all different, every line meant holds both points of some pair, and in Avoider-Enforcer they leave no point out but as due.
 pub record PairsHold (g : Game) (p : Position) (side : Side) (pairs : List Pair) : Type 0 where
-  pub range : All (IsInGame g) pairs
-  pub free : All (λ s. is_open p s ≡ true) pairs
-  pub different : All (λ s. s.a ≢ s.b) pairs
-  pub disjoint : AllPairs SharesNone pairs
+  pub apart : AreOpenPairs g p pairs
   pub held : HoldLines g p side pairs
   pub avoider : g.kind ≡ AvoiderEnforcer → PairsLeaveNone g p pairs
 
 -- ---- the answer
-
--- the first, or the second where there is none
-abbrev pub first_some : Option ℕ → Option ℕ → Option ℕ
-first_some (Some v) other = Some v
-first_some None other = other
 
 -- the other point of a pair that has the point
 abbrev pub other_point : ℕ → Pair → Option ℕ
@@ -101,7 +94,7 @@ other_point v s = if s.a == v then Some s.b else (if s.b == v then Some s.a else
 -- the partner of a point in the first pair that has it
 abbrev pub partner : List Pair → ℕ → Option ℕ
 partner [] v = None
-partner (s ∷ pairs) v = first_some (other_point v s) (partner pairs v)
+partner (s ∷ pairs) v = option_or (other_point v s) (partner pairs v)
 
 -- a point that is free
 abbrev pub if_free : Position → Option ℕ → Option ℕ
@@ -117,10 +110,6 @@ free_partner p pairs (Some v) = if_free p (partner pairs v)
 abbrev pub is_loose : Position → List Pair → ℕ → Bool
 is_loose p pairs v = not (list_any (λ s. is_open p s && has_point v s) pairs)
 
--- the lowest free point
-abbrev pub lowest_free : Game → Position → Option ℕ
-lowest_free g p = find (λ v. true) (free_points g p)
-
 -- the free partner of the last reply, else the lowest free point in no open pair, else the lowest free point
 unfoldable pub pairs_answer : Game → Position → List Pair → Option ℕ → ℕ
-pairs_answer g p pairs last = unwrap_or (first_some (free_partner p pairs last) (first_some (find (is_loose p pairs) (free_points g p)) (lowest_free g p))) 0
+pairs_answer g p pairs last = unwrap_or (option_or (free_partner p pairs last) (option_or (find (is_loose p pairs) (free_points g p)) (lowest_free g p))) 0

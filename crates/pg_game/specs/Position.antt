@@ -16,10 +16,6 @@ abbrev pub points_of : Position → Side → FinSet nat_cmp
 points_of p X = p.x
 points_of p Y = p.y
 
--- no point is both sides'
-abbrev pub AreDisjoint : Position → Type 0
-AreDisjoint p = (v : ℕ) → contains p.x v ≡ true → contains p.y v ≡ false
-
 -- how many points a side claims in one turn of a game in which Y claims so many: X claims one
 abbrev pub claims_in_turn : ℕ → Side → ℕ
 claims_in_turn bias X = 1

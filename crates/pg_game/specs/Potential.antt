@@ -3,10 +3,11 @@ use Rattle.std.specs.Prelude.{ℕ, ◌+◌, ◌-◌, ◌*◌, ◌^◌, ◌<◌, 
 use Rattle.std.specs.List.{list_any, count_by, sum_by}
 use Rattle.std.specs.FinSet.{FinSet}
 use Rattle.std.specs.Ordering.{nat_cmp}
+use Rattle.pg_base.specs.Side.{is_same_side}
 use Rattle.pg_base.specs.declared.side.Side.{Side}
-use Rattle.pg_base.specs.declared.side.Side.TheVariants.{X, Y}
 use Rattle.pg_game.specs.declared.game.Game.{Game}
 use Rattle.pg_game.specs.declared.position.Position.{Position}
+use Rattle.pg_game.specs.declared.bounds.TheConstants.{MAX_LINE_POINTS}
 use Rattle.pg_game.specs.Position.{is_free, points_of}
 use Rattle.pg_game.specs.Game.{lines_of, is_touched, free_points}
 
@@ -40,7 +41,7 @@ full_weight base g = base ^ greatest_length (lines_of g)
 -- a base that isn't zero, for which no weight of a line is too great
 pub record IsBaseOf (base : ℕ) (g : Game) : Type 0 where
   pub some : 1 ≤ base
-  pub few : full_weight base g ≤ 2 ^ 100
+  pub few : full_weight base g ≤ 2 ^ MAX_LINE_POINTS
 
 -- the greatest of numbers, or 0 where there is none
 abbrev pub greatest : List ℕ → ℕ
@@ -65,16 +66,9 @@ limit g = full_weight (1 + g.bias) g
 abbrev pub greatest_weight : Game → Position → Side → ℕ
 greatest_weight g p side = greatest (map (weight g p side) (free_points g p))
 
--- whether it is the side's turn
-abbrev pub is_turn_of : Side → Side → Bool
-is_turn_of X X = true
-is_turn_of X Y = false
-is_turn_of Y X = false
-is_turn_of Y Y = true
-
 -- how often the greatest weight counts: q times where the other side is to move, and as often as the claimer has claimed points in its turn where it is to move
 abbrev pub times_counted : Game → Position → Side → ℕ
-times_counted g p side = if is_turn_of side p.turn then g.bias - p.left else g.bias
+times_counted g p side = if is_same_side side p.turn then g.bias - p.left else g.bias
 
 -- whether the total with so many of the greatest weight is below the limit
 unfoldable pub potential_holds : Game → Position → Side → Bool

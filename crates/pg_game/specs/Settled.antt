@@ -1,6 +1,7 @@
 -- Which positions a list of positions settles, and the lists of expanded positions that leave a question open.
 use Rattle.std.specs.Prelude.{◌≡◌, ℕ, zero, suc, ◌<◌, Bool, true, false, not, Option, Some, None, List, map, length, take, slice_get, if◌then◌else◌}
 use Rattle.std.specs.List.{list_any, list_all, Contains}
+use Rattle.std.specs.Option.{option_or}
 use Rattle.pg_base.specs.declared.score.Score.{Score}
 use Rattle.pg_base.specs.declared.side.Side.{Side}
 use Rattle.pg_base.specs.declared.side.Side.TheVariants.{X, Y}
@@ -9,7 +10,7 @@ use Rattle.pg_game.specs.declared.position.Position.{Position}
 use Rattle.pg_game.specs.PositionLemmas.{equal_positions}
 use Rattle.pg_game.specs.Position.{is_free}
 use Rattle.pg_game.specs.Game.{free_points, point_count, start, after}
-use Rattle.pg_game.specs.Decided.{decided, first_known}
+use Rattle.pg_game.specs.Decided.{decided}
 
 -- whether the answer is known to be this one
 abbrev pub is_answer : Bool → Option Bool → Bool
@@ -36,7 +37,7 @@ is_listed table p = list_any (equal_positions p) table
 unfoldable pub settled_within : ℕ → Game → Score → List Position → Position → Option Bool
 settled_within zero g t table p = decided g t p
 settled_within (suc moves) g t table p =
-    first_known (decided g t p)
+    option_or (decided g t p)
     (if is_listed table p then by_moves p.turn (map (λ v. settled_within moves g t table (after g p v)) (free_points g p)) else None)
 
 -- the answer to which the list settles the position: that of a criterion, or for a member what is known from its moves

@@ -1,8 +1,9 @@
 -- Trees for Short and cuts for Cut in the switching game, with the edge e between the terminals (Lehman 1964 and its dual, by walks alone), and the answers by them.
-use Rattle.std.specs.Prelude.{◌≡◌, ◌⊎◌, ℕ, ◌<◌, Bool, true, false, not, ◌&&◌, Option, Some, None, find, if◌then◌else◌}
+use Rattle.std.specs.Prelude.{◌≡◌, ◌⊎◌, ℕ, ◌<◌, Bool, true, false, not, ◌&&◌, Option, Some, None, find, unwrap_or, if◌then◌else◌}
 use Rattle.std.specs.List.{range_with_len}
 use Rattle.std.specs.FinSet.{FinSet, contains, remove}
 use Rattle.std.specs.Ordering.{nat_cmp}
+use Rattle.pg_base.specs.Points.{ShareNone}
 use Rattle.pg_base.specs.Sets.{minus, either, outside}
 use Rattle.pg_base.specs.declared.side.Side.{Side}
 use Rattle.pg_base.specs.declared.side.Side.TheVariants.{X, Y}
@@ -28,10 +29,6 @@ AreFreeEdges h p set = (f : ℕ) → contains set f ≡ true → IsFreeEdge h p 
 abbrev pub AreFreeWithE : Graph → Position → Side → FinSet nat_cmp → Type 0
 AreFreeWithE h p side set = (f : ℕ) → contains set f ≡ true → IsFreeEdge h p f ⊎ ((f ≡ edge_count h) × (p.turn ≡ side))
 
--- no member of the one is a member of the other
-abbrev pub AreApart : FinSet nat_cmp → FinSet nat_cmp → Type 0
-AreApart a b = (f : ℕ) → contains a f ≡ true → contains b f ≡ false
-
 -- the edges of the set join the ends of f
 abbrev pub JoinsEndsOf : Graph → (ℕ → Bool) → ℕ → Type 0
 JoinsEndsOf h set f = IsJoinedIn h set (first_end_of h f) (second_end_of h f)
@@ -46,7 +43,7 @@ with_set p a = either (contains p.x) (contains a)
 pub record AreTrees (h : Graph) (p : Position) (a1 a2 : FinSet nat_cmp) : Type 0 where
   pub first_free : AreFreeWithE h p X a1
   pub second_free : AreFreeEdges h p a2
-  pub apart : AreApart a1 a2
+  pub apart : ShareNone a1 a2
   pub first : (f : ℕ) → contains a2 f ≡ true → JoinsEndsOf h (with_set p a1) f
   pub first_joins : JoinsEndsOf h (with_set p a1) (edge_count h)
   pub second : (f : ℕ) → contains a1 f ≡ true → JoinsEndsOf h (with_set p a2) f
@@ -70,7 +67,7 @@ without_set p d = outside (λ f. not (contains p.y f)) (contains d)
 pub record AreCuts (h : Graph) (p : Position) (d1 d2 : FinSet nat_cmp) : Type 0 where
   pub first_free : AreFreeWithE h p Y d1
   pub second_free : AreFreeEdges h p d2
-  pub apart : AreApart d1 d2
+  pub apart : ShareNone d1 d2
   pub first : (f : ℕ) → contains d2 f ≡ true → IsBridge h (without_set p d1) f
   pub first_parts : contains d1 (edge_count h) ≡ false → IsBridge h (without_set p d1) (edge_count h)
   pub second : (f : ℕ) → contains d1 f ≡ true → IsBridge h (without_set p d2) f
@@ -96,14 +93,9 @@ pub record Answered : Type 0 where
 abbrev pub claimed : ℕ → ℕ → FinSet nat_cmp → FinSet nat_cmp → Answered
 claimed edge x first second = record { edge = edge; first = remove (remove first x) edge; second = remove (remove second x) edge }
 
--- the first number that there is
-abbrev pub or_edge : Option ℕ → ℕ → ℕ
-or_edge (Some edge) other = edge
-or_edge None other = other
-
 -- the lowest free edge
 abbrev pub lowest_free_edge : Graph → Position → ℕ
-lowest_free_edge h p = or_edge (find (is_free p) (range_with_len 0 (edge_count h))) 0
+lowest_free_edge h p = unwrap_or (find (is_free p) (range_with_len 0 (edge_count h))) 0
 
 -- whether exactly one of two tests holds
 abbrev pub differ : Bool → Bool → Bool
@@ -128,8 +120,8 @@ answered_edge h None = edge_count h
 -- Short's edge: where x was in the one set, the lowest of the other with exactly one end joined to the first end of x by X's edges and the rest of the one, else the lowest free edge
 abbrev pub short_edge : Graph → Position → FinSet nat_cmp → FinSet nat_cmp → ℕ → ℕ
 short_edge h p a1 a2 x =
-    if contains a1 x then or_edge (lowest_crossing h (with_set p (remove a1 x)) (first_end_of h x) a2) (lowest_free_edge h p)
-    else (if contains a2 x then or_edge (lowest_crossing h (with_set p (remove a2 x)) (first_end_of h x) a1) (lowest_free_edge h p)
+    if contains a1 x then unwrap_or (lowest_crossing h (with_set p (remove a1 x)) (first_end_of h x) a2) (lowest_free_edge h p)
+    else (if contains a2 x then unwrap_or (lowest_crossing h (with_set p (remove a2 x)) (first_end_of h x) a1) (lowest_free_edge h p)
     else lowest_free_edge h p)
 
 -- Short's answer by trees, after which x and the claimed edge have left the sets
@@ -139,8 +131,8 @@ trees_answer h p a1 a2 last = let x = answered_edge h last in claimed (short_edg
 -- Cut's edge: where x was in the one set and its ends are joined in r without that set, the lowest of the other whose removal parts them there, else the lowest free edge
 abbrev pub cut_edge : Graph → Position → FinSet nat_cmp → FinSet nat_cmp → ℕ → ℕ
 cut_edge h p d1 d2 x =
-    if contains d1 x then or_edge (lowest_parting h (without_set p d1) (first_end_of h x) (second_end_of h x) d2) (lowest_free_edge h p)
-    else (if contains d2 x then or_edge (lowest_parting h (without_set p d2) (first_end_of h x) (second_end_of h x) d1) (lowest_free_edge h p)
+    if contains d1 x then unwrap_or (lowest_parting h (without_set p d1) (first_end_of h x) (second_end_of h x) d2) (lowest_free_edge h p)
+    else (if contains d2 x then unwrap_or (lowest_parting h (without_set p d2) (first_end_of h x) (second_end_of h x) d1) (lowest_free_edge h p)
     else lowest_free_edge h p)
 
 -- Cut's answer by cuts, after which x and the claimed edge have left the sets

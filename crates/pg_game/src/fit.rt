@@ -7,30 +7,23 @@ ghost use Rattle.pg_game.specs.declared.field.Field.TheVariants.{Graph as OnGrap
 ghost use Rattle.pg_graph.specs.declared.graph.Graph.{Graph};
 ghost use Rattle.pg_game.specs.Fit.{IsFit, FieldFits, IsLineOf, AreLinesOf, IsBoard, longest, greatest_bias, is_switching};
 
+use crate::bounds::{
+    MAX_BIAS, MAX_BIASED_LINE_POINTS, MAX_LINE_POINTS, MAX_LINES, MAX_POINTS, MAX_SUMMED_POINTS,
+    MAX_VERTICES,
+};
 use crate::field::{Field, LineField};
-use pg_base::{Grid, Kind, Line, PointSet};
+use pg_base::{Grid, Kind, Line, MAX_EDGES, PointSet};
 use pg_graph::Graph;
-
-/// The most points of a field of lines.
-const MOST_POINTS: u16 = 256;
-
-/// The most lines.
-const MOST_LINES: usize = 20_000;
-
-/// The most points of all lines together.
-const MOST_SUMMED: usize = 400_000;
-
-/// The most vertices of a graph.
-const MOST_VERTICES: u16 = 500;
-
-/// The most edges of a graph.
-const MOST_EDGES: usize = 1000;
 
 /// How long a line may be.
 fn longest(bias: u8) -> usize
     ensures { result ≡ longest bias }
 {
-    if bias == 1 { 100 } else { 33 }
+    if bias == 1 {
+        MAX_LINE_POINTS
+    } else {
+        MAX_BIASED_LINE_POINTS
+    }
 }
 
 /// Whether each point of the line is below the limit.
@@ -81,16 +74,16 @@ fn is_line_field(field: &LineField, bias: u8) -> bool
     ensures { IsTrue result ↔ AreLinesOf bias field.now }
 {
     let lines = field.lines.as_slice();
-    if field.points == 0 || field.points > MOST_POINTS {
+    if field.points == 0 || usize::from(field.points) > MAX_POINTS {
         return false;
     }
     if !has_cells(field.grid, field.points) {
         return false;
     }
-    if lines.len() > MOST_LINES || !are_lines(lines, field.points, bias) {
+    if lines.len() > MAX_LINES || !are_lines(lines, field.points, bias) {
         return false;
     }
-    summed(lines) <= MOST_SUMMED
+    summed(lines) <= MAX_SUMMED_POINTS
 }
 
 /// Whether both ends of each edge are below the limit.
@@ -106,7 +99,7 @@ fn is_board(graph: &Graph) -> bool
 {
     let vertices = graph.vertices;
     let ends = graph.ends.as_slice();
-    if vertices < 2 || vertices > MOST_VERTICES || ends.len() > MOST_EDGES {
+    if vertices < 2 || vertices > MAX_VERTICES || ends.len() > usize::from(MAX_EDGES) {
         return false;
     }
     if graph.s >= vertices || graph.t >= vertices || graph.s == graph.t {
@@ -120,7 +113,7 @@ fn greatest_bias(kind: Kind) -> u8
     ensures { result ≡ greatest_bias kind }
 {
     match kind {
-        Kind::MakerBreaker | Kind::AvoiderEnforcer => 7,
+        Kind::MakerBreaker | Kind::AvoiderEnforcer => MAX_BIAS,
         Kind::MakerMaker | Kind::Switching => 1,
     }
 }

@@ -1,11 +1,15 @@
 //! Games.
-ghost use Rattle.std.specs.Prelude.{◌≡◌, ◌<◌, ◌≤◌, ◌↔◌, IsOk, IfOk};
-ghost use Rattle.pg_game.specs.Fit.{IsFit};
+ghost use Rattle.std.specs.Prelude.{◌≡◌, ℕ, ◌<◌, ◌≤◌, ◌↔◌, ◌&&◌, nat_lt, length, IsOk, IfOk};
+ghost use Rattle.std.specs.List.{All};
+ghost use Rattle.std.specs.FinSet.{contains, len};
+ghost use Rattle.pg_game.specs.Fit.{IsFit, IsLineOf};
+ghost use Rattle.pg_game.specs.Position.{is_free};
 
+use crate::bounds::{MAX_LINES, MAX_POINTS};
 use crate::field::Field;
 use crate::fit::is_fit;
 use crate::position::{Position, claims_in_turn};
-use pg_base::{Kind, PointSet, Side};
+use pg_base::{Kind, Line, MAX_EDGES, MAX_MEMBERS, PointSet, Side};
 
 /// A game with its marks and the side to move. Its type keeps that it is within the limits, that what it is played on
 /// fits its kind, that all points are in range, and that the marks of the two sides are disjoint.
@@ -31,16 +35,16 @@ pub struct Game {
 pub struct Misfit;
 
 impl Game {
-    ghost use Rattle.pg_game.specs.Game.{point_count, bias_of, start, with_turn, after, IsGameOf};
+    ghost use Rattle.pg_game.specs.Game.{point_count, lines_of, bias_of, start, with_turn, after, free_points, lowest_free, is_full, IsGameOf};
 
     /// The game of these parts, where `bias` is how many points Y claims in a turn.
     ///
     /// # Errors
     ///
-    /// `Misfit` exactly where the parts don't fit together or are beyond the limits: a field of lines has 1 to 256
-    /// points, and cells as many as its grid, at most 20,000 lines of at least one point each, none longer than 100
-    /// points, or 33 where the bias is above 1, and at most 400,000 points in all lines; a graph has 2 to 500 vertices,
-    /// at most 1,000 edges, and two different terminals; marks are points of the game and no mark is both sides'; the
+    /// `Misfit` exactly where the parts don't fit together or are beyond the limits (`MAX_POINTS` and its siblings): a field
+    /// of lines has 1 to 256 points, and cells as many as its grid, at most 20,000 lines of at least one point each, none
+    /// longer than 100 points, or 33 where the bias is above 1, and at most 400,000 points in all lines; a graph has 2 to
+    /// 500 vertices, at most 1,000 edges, and two different terminals; marks are points of the game and no mark is both sides'; the
     /// bias is 1 to 7, and 1 in Maker-Maker and switching. The field is then dropped.
     pub fn new(
         kind: Kind,
@@ -70,12 +74,55 @@ impl Game {
     /// The number of points or edges.
     pub fn points(&self) -> u16
         ensures count { result ≡ point_count self.now }
-        ensures few { result ≤ 1000 }
+        ensures few { result ≤ MAX_EDGES }
     {
         match &self.field {
             Field::Lines(field) => field.points,
             Field::Graph(graph) => graph.ends.as_slice().len() as u16,
         }
+    }
+
+    /// The lines, none on a graph.
+    pub fn lines(&self) -> &[Line]
+        ensures lines { result.now ≡ lines_of self.now }
+        ensures fit { All (IsLineOf (point_count self.now) self.now.bias) result.now }
+        ensures few { length result.now ≤ MAX_LINES }
+        ensures range { All (All (λ v. v < MAX_POINTS)) result.now }
+        ensures small { All (All (λ v. v < MAX_MEMBERS)) result.now }
+    {
+        match &self.field {
+            Field::Lines(field) => field.lines.as_slice(),
+            Field::Graph(_) => &[],
+        }
+    }
+
+    /// The free points.
+    pub fn free_points(&self, p: &Position) -> PointSet
+        ensures members { (v : ℕ) → contains result v ≡ (nat_lt v (point_count self.now) && is_free p.now v) }
+        ensures count { len result ≡ length (free_points self.now p.now) }
+    {
+        PointSet::all_below(self.points())
+            .without(&p.x)
+            .without(&p.y)
+    }
+
+    /// The lowest free point, and None exactly where no point is free.
+    pub fn lowest_free(&self, p: &Position) -> Option<u16>
+        ensures { result ≡ lowest_free self.now p.now }
+    {
+        for v in 0..self.points() {
+            if p.is_free(v) {
+                return Some(v);
+            }
+        }
+        None
+    }
+
+    /// Whether no point is free.
+    pub fn is_full(&self, p: &Position) -> bool
+        ensures { result ≡ is_full self.now p.now }
+    {
+        self.lowest_free(p).is_none()
     }
 
     /// The game's marks with the side that is to move.
@@ -106,7 +153,7 @@ impl Game {
 
     /// The position after the side to move takes the point.
     pub fn after(&self, p: &Position, v: u16) -> Position
-        requires { v < 1024 }
+        requires { v < MAX_MEMBERS }
         ensures { result ≡ after self.now p.now v }
     {
         p.after(self.bias, v)

@@ -7,9 +7,9 @@ ghost use Rattle.pg_game.specs.Judge.{IsMadeForGame, HasJoiner, judged_move, roo
 
 use crate::field::Field;
 use crate::game::Game;
-use crate::joins::joining_result;
 use crate::position::{Illegal, Position};
 use crate::rules::{filling_result, race_result};
+use crate::switching::joining_result;
 use pg_base::{Kind, Memory, Score};
 use pg_graph::Joiner;
 use std::alloc::Global;

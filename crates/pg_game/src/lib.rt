@@ -1,21 +1,25 @@
 //! Positional games of four kinds: rules, value, and the criteria that everything else cites.
 #![tactic(auto)]
 
+mod bounds;
 mod field;
 mod fit;
 mod game;
-mod joins;
 mod judge;
 pub mod laws;
 mod position;
 mod rules;
+mod switching;
 mod value;
+mod weights;
 
+pub use bounds::{
+    MAX_BIAS, MAX_BIASED_LINE_POINTS, MAX_LINE_POINTS, MAX_LINES, MAX_POINTS, MAX_SUMMED_POINTS,
+    MAX_VERTICES,
+};
 pub use field::{Field, LineField};
 pub use game::{Game, Misfit};
 pub use judge::{Judge, joiner_for};
 pub use position::{Illegal, Position};
 pub use value::reaches;
-
-#[cfg(test)]
-mod tests;
+pub use weights::{Weights, full_weight, greatest_length, lowest_with, weigh};

@@ -2,7 +2,7 @@
 ghost use Rattle.std.specs.Prelude.{◌≡◌, ◌<◌, ◌↔◌, IsTrue};
 ghost use Rattle.pg_game.specs.Position.{is_free, points_of, claims_in_turn, after_with};
 
-use pg_base::{PointSet, Side};
+use pg_base::{MAX_MEMBERS, PointSet, Side};
 
 /// The points of each side, the side to move, and how many points it still claims in its turn.
 #[derive(Clone, Copy, Debug, PartialEq, Eq, Hash)]
@@ -31,7 +31,7 @@ pub enum Illegal {
 impl Position {
     /// Whether neither side has the point.
     pub fn is_free(&self, v: u16) -> bool
-        requires { v < 1024 }
+        requires { v < MAX_MEMBERS }
         ensures { result ≡ is_free self.now v }
     {
         !self.x.has(v) && !self.y.has(v)
@@ -56,7 +56,7 @@ impl Position {
 
     /// The position after the side to move takes the point, in a game in which Y claims `bias` points a turn.
     pub fn after(&self, bias: u8, v: u16) -> Position
-        requires { v < 1024 }
+        requires { v < MAX_MEMBERS }
         ensures { result ≡ after_with bias self.now v }
     {
         let mut next = *self;

@@ -30,9 +30,9 @@ module _ (a b : ℕ → ℕ) (set : ℕ → Bool) (n : ℕ) where
   }
 
   -- the labels of the ends of edge k become one
-  pub IsLabelled-link : (k lo hi : ℕ) (r : ℕ → ℕ) → set k ≡ true → a k < n → b k < n → ((r (a k) ≡ lo) × (r (b k) ≡ hi)) ⊎ ((r (a k) ≡ hi) × (r (b k) ≡ lo))
+  pub IsLabelled-union : (k lo hi : ℕ) (r : ℕ → ℕ) → set k ≡ true → a k < n → b k < n → ((r (a k) ≡ lo) × (r (b k) ≡ hi)) ⊎ ((r (a k) ≡ hi) × (r (b k) ≡ lo))
       → IsLabelled a b set n k r → IsLabelled a b set n (k + 1) (λ w. cond (eqb (r w) hi) lo (r w))
-  IsLabelled-link k lo hi r t la lb ends l = record {
+  IsLabelled-union k lo hi r t la lb ends l = record {
     sound = λ w h. cond_both (eqb (r w) hi) lo (r w) (λ z. IsJoined a b (below set (k + 1)) w z)
         (λ e. joined_on a b (below set (k + 1)) w hi lo (subst (λ z. IsJoined a b (below set (k + 1)) w z) (eqb-true (r w) hi e) (more k w (r w) (l.sound w h))) across)
         (λ e. more k w (r w) (l.sound w h));

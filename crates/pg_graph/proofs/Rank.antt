@@ -174,7 +174,7 @@ module _ (spans : (ℕ → Bool) → ℕ → Bool) (law : IsSpan spans) where
       let all2 : count (both p q) n + count (either p q) n ≡ count p n + count q n = count_both_either p q n in
       let most1 : count (both p r) n ≤ count (both b r) n = reached_most e b p r n below pb reached.elements_only reached.first pp in
       let most2 : count (both q r) n ≤ count (both c r) n = reached_most e c q r n below pc reached.elements_only reached.second pq in
-      let up : count (either p q) n ≤ (count (both p r) n + count (both q r) n) + count (outside e r) n = count_spread e p q r n pp.within pq.within in
+      let parents : count (either p q) n ≤ (count (both p r) n + count (both q r) n) + count (outside e r) n = count_spread e p q r n pp.within pq.within in
       let down : (count (both b r) n + count (both c r) n) + count (outside e r) n ≤ count (either b c) n = count_gather e b c r n
       (λ f ef rf. true_from_ne_false _ (λ none. both_ways _ rf (reached.begins f ef
       (false_from_ne_true _ (λ t. both_ways _ none (either_left b c f t)))

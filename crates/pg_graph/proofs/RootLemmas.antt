@@ -1,118 +1,118 @@
--- Where the steps up lead after a step was shortened or two tops were linked.
+-- Where the steps to parents lead after a step was shortened or two roots were united.
 use Rattle.std.proofs.Common.{◌≡◌, ◌≢◌, ℕ, ◌<◌, ◌≤◌, eqb, cond, List, length, get_or, refl, arith, inl, inr, sym, ◌∙◌, subst, zero, suc}
 use Rattle.std.proofs.Math.ListN.{set, length-set}
 use Rattle.std.proofs.lemmas.Bool.{cases_eq, cases_Bool, eq-eqb, ne_eqb}
 use Rattle.std.proofs.lemmas.List.{get_or-set_other, get_or-set_same}
 use Rattle.pg_graph.specs.Roots.{climb, root_of, IsUpward, SameRoots}
 
-climb_top : (up : List ℕ) (n v : ℕ) → get_or up v 0 ≡ v → climb up n v ≡ v
+climb_own : (parents : List ℕ) (n v : ℕ) → get_or parents v 0 ≡ v → climb parents n v ≡ v
 unfolding climb
-climb_top up zero v e = refl
-climb_top up (suc n) v e = rw e (climb_top up n v e)
+climb_own parents zero v e = refl
+climb_own parents (suc n) v e = rw e (climb_own parents n v e)
 
 -- one more step changes nothing
-climb_more : (up : List ℕ) → IsUpward up → (n v : ℕ) → v < length up → v ≤ n → climb up (suc n) v ≡ climb up n v
+climb_more : (parents : List ℕ) → IsUpward parents → (n v : ℕ) → v < length parents → v ≤ n → climb parents (suc n) v ≡ climb parents n v
 unfolding climb
-climb_more up u zero v l h =
+climb_more parents u zero v l h =
     let z : v ≡ 0 = omega arith in
-    let s : get_or up v 0 ≤ v = u v l in
-    let t : get_or up v 0 ≡ v = omega arith in
+    let s : get_or parents v 0 ≤ v = u v l in
+    let t : get_or parents v 0 ≡ v = omega arith in
     t
-climb_more up u (suc n) v l h =
-    let s : get_or up v 0 ≤ v = u v l in
-    elim (cases_eq (get_or up v 0) v) [
-      | inl e ↦ climb_top up (suc (suc n)) v e ∙ sym (climb_top up (suc n) v e)
-      | inr d ↦ climb_more up u n (get_or up v 0) (omega arith) (omega arith)
+climb_more parents u (suc n) v l h =
+    let s : get_or parents v 0 ≤ v = u v l in
+    elim (cases_eq (get_or parents v 0) v) [
+      | inl e ↦ climb_own parents (suc (suc n)) v e ∙ sym (climb_own parents (suc n) v e)
+      | inr d ↦ climb_more parents u n (get_or parents v 0) (omega arith) (omega arith)
     ]
 
--- what is the same along each step, and is itself at each top, is the root
-climb_only : (up : List ℕ) → IsUpward up → (r : ℕ → ℕ) → ((v : ℕ) → v < length up → r (get_or up v 0) ≡ r v) → ((v : ℕ) → v < length up → get_or up v 0 ≡ v → r v ≡ v) → (n v : ℕ) → v < length up → v ≤ n → climb up n v ≡ r v
+-- what is the same along each step, and is itself at each root, is the root
+climb_only : (parents : List ℕ) → IsUpward parents → (r : ℕ → ℕ) → ((v : ℕ) → v < length parents → r (get_or parents v 0) ≡ r v) → ((v : ℕ) → v < length parents → get_or parents v 0 ≡ v → r v ≡ v) → (n v : ℕ) → v < length parents → v ≤ n → climb parents n v ≡ r v
 unfolding climb
-climb_only up u r same top zero v l h =
-    let s : get_or up v 0 ≤ v = u v l in
-    let t : get_or up v 0 ≡ v = omega arith in
+climb_only parents u r same top zero v l h =
+    let s : get_or parents v 0 ≤ v = u v l in
+    let t : get_or parents v 0 ≡ v = omega arith in
     sym (top v l t)
-climb_only up u r same top (suc n) v l h =
-    let s : get_or up v 0 ≤ v = u v l in
-    elim (cases_eq (get_or up v 0) v) [
-      | inl e ↦ climb_top up (suc n) v e ∙ sym (top v l e)
-      | inr d ↦ climb_only up u r same top n (get_or up v 0) (omega arith) (omega arith) ∙ same v l
+climb_only parents u r same top (suc n) v l h =
+    let s : get_or parents v 0 ≤ v = u v l in
+    elim (cases_eq (get_or parents v 0) v) [
+      | inl e ↦ climb_own parents (suc n) v e ∙ sym (top v l e)
+      | inr d ↦ climb_only parents u r same top n (get_or parents v 0) (omega arith) (omega arith) ∙ same v l
     ]
 
-pub root_only : (up : List ℕ) → IsUpward up → (r : ℕ → ℕ) → ((v : ℕ) → v < length up → r (get_or up v 0) ≡ r v) → ((v : ℕ) → v < length up → get_or up v 0 ≡ v → r v ≡ v) → (v : ℕ) → v < length up → root_of up v ≡ r v
+pub root_only : (parents : List ℕ) → IsUpward parents → (r : ℕ → ℕ) → ((v : ℕ) → v < length parents → r (get_or parents v 0) ≡ r v) → ((v : ℕ) → v < length parents → get_or parents v 0 ≡ v → r v ≡ v) → (v : ℕ) → v < length parents → root_of parents v ≡ r v
 unfolding root_of
-root_only up u r same top v l = climb_only up u r same top (length up) v l (omega arith)
+root_only parents u r same top v l = climb_only parents u r same top (length parents) v l (omega arith)
 
-pub root-top : (up : List ℕ) (v : ℕ) → get_or up v 0 ≡ v → root_of up v ≡ v
+pub root-own : (parents : List ℕ) (v : ℕ) → get_or parents v 0 ≡ v → root_of parents v ≡ v
 unfolding root_of
-root-top up v e = climb_top up (length up) v e
+root-own parents v e = climb_own parents (length parents) v e
 
-pub root-up : (up : List ℕ) → IsUpward up → (v : ℕ) → v < length up → root_of up (get_or up v 0) ≡ root_of up v
+pub root-parents : (parents : List ℕ) → IsUpward parents → (v : ℕ) → v < length parents → root_of parents (get_or parents v 0) ≡ root_of parents v
 unfolding root_of climb
-root-up up u v l = along (length up) refl
+root-parents parents u v l = along (length parents) refl
   where
-    along : (n : ℕ) → length up ≡ n → climb up n (get_or up v 0) ≡ climb up n v
+    along : (n : ℕ) → length parents ≡ n → climb parents n (get_or parents v 0) ≡ climb parents n v
     along zero e = absurd (omega arith)
-    along (suc n) e = let s : get_or up v 0 ≤ v = u v l in climb_more up u n (get_or up v 0) (omega arith) (omega arith)
+    along (suc n) e = let s : get_or parents v 0 ≤ v = u v l in climb_more parents u n (get_or parents v 0) (omega arith) (omega arith)
 
 -- a step may go to where two lead
-pub IsUpward-set : (up : List ℕ) (i x : ℕ) → IsUpward up → x ≤ i → IsUpward (set up i x)
-IsUpward-set up i x u h v l =
-    let e : length (set up i x) ≡ length up = length-set up i x in
+pub IsUpward-set : (parents : List ℕ) (i x : ℕ) → IsUpward parents → x ≤ i → IsUpward (set parents i x)
+IsUpward-set parents i x u h v l =
+    let e : length (set parents i x) ≡ length parents = length-set parents i x in
     elim (cases_eq v i) [
-      | inl q ↦ subst (λ k. get_or (set up i x) k 0 ≤ k) (sym q) (rw (get_or-set_same up i x 0 (omega arith)) h)
-      | inr d ↦ rw (get_or-set_other up i v x 0 d) (u v (omega arith))
+      | inl q ↦ subst (λ k. get_or (set parents i x) k 0 ≤ k) (sym q) (rw (get_or-set_same parents i x 0 (omega arith)) h)
+      | inr d ↦ rw (get_or-set_other parents i v x 0 d) (u v (omega arith))
     ]
 
-pub root-halved : (up : List ℕ) (i : ℕ) → IsUpward up → i < length up → get_or up i 0 ≢ i → SameRoots up (set up i (get_or up (get_or up i 0) 0))
-root-halved up i u l ne w lw =
-    let s : get_or up i 0 ≤ i = u i l in
-    let s2 : get_or up (get_or up i 0) 0 ≤ get_or up i 0 = u (get_or up i 0) (omega arith) in
-    let e : length (set up i (get_or up (get_or up i 0) 0)) ≡ length up = length-set up i (get_or up (get_or up i 0) 0) in
-    root_only (set up i (get_or up (get_or up i 0) 0)) (IsUpward-set up i (get_or up (get_or up i 0) 0) u (omega arith)) (root_of up)
+pub root-halved : (parents : List ℕ) (i : ℕ) → IsUpward parents → i < length parents → get_or parents i 0 ≢ i → SameRoots parents (set parents i (get_or parents (get_or parents i 0) 0))
+root-halved parents i u l ne w lw =
+    let s : get_or parents i 0 ≤ i = u i l in
+    let s2 : get_or parents (get_or parents i 0) 0 ≤ get_or parents i 0 = u (get_or parents i 0) (omega arith) in
+    let e : length (set parents i (get_or parents (get_or parents i 0) 0)) ≡ length parents = length-set parents i (get_or parents (get_or parents i 0) 0) in
+    root_only (set parents i (get_or parents (get_or parents i 0) 0)) (IsUpward-set parents i (get_or parents (get_or parents i 0) 0) u (omega arith)) (root_of parents)
     (λ v lv. elim (cases_eq v i) [
-      | inl q ↦ subst (λ k. root_of up (get_or (set up i (get_or up (get_or up i 0) 0)) k 0) ≡ root_of up k) (sym q)
-          (rw (get_or-set_same up i (get_or up (get_or up i 0) 0) 0 l) (root-up up u (get_or up i 0) (omega arith) ∙ root-up up u i l))
-      | inr d ↦ rw (get_or-set_other up i v (get_or up (get_or up i 0) 0) 0 d) (root-up up u v (omega arith))
+      | inl q ↦ subst (λ k. root_of parents (get_or (set parents i (get_or parents (get_or parents i 0) 0)) k 0) ≡ root_of parents k) (sym q)
+          (rw (get_or-set_same parents i (get_or parents (get_or parents i 0) 0) 0 l) (root-parents parents u (get_or parents i 0) (omega arith) ∙ root-parents parents u i l))
+      | inr d ↦ rw (get_or-set_other parents i v (get_or parents (get_or parents i 0) 0) 0 d) (root-parents parents u v (omega arith))
     ])
     (λ v lv t. elim (cases_eq v i) [
-      | inl q ↦ absurd (let t2 : get_or up (get_or up i 0) 0 ≡ i = sym (get_or-set_same up i (get_or up (get_or up i 0) 0) 0 l) ∙ subst (λ k. get_or (set up i (get_or up (get_or up i 0) 0)) k 0 ≡ k) q t in ne (omega arith))
-      | inr d ↦ root-top up v (sym (get_or-set_other up i v (get_or up (get_or up i 0) 0) 0 d) ∙ t)
+      | inl q ↦ absurd (let t2 : get_or parents (get_or parents i 0) 0 ≡ i = sym (get_or-set_same parents i (get_or parents (get_or parents i 0) 0) 0 l) ∙ subst (λ k. get_or (set parents i (get_or parents (get_or parents i 0) 0)) k 0 ≡ k) q t in ne (omega arith))
+      | inr d ↦ root-own parents v (sym (get_or-set_other parents i v (get_or parents (get_or parents i 0) 0) 0 d) ∙ t)
     ])
     w (omega arith)
 
--- the top hi is put below the top lo
-pub root-linked : (up : List ℕ) (lo hi : ℕ) → IsUpward up → hi < length up → lo ≤ hi → get_or up lo 0 ≡ lo → get_or up hi 0 ≡ hi → (w : ℕ) → w < length up → root_of (set up hi lo) w ≡ cond (eqb (root_of up w) hi) lo (root_of up w)
-root-linked up lo hi u l h tl th w lw =
-    let e : length (set up hi lo) ≡ length up = length-set up hi lo in
-    root_only (set up hi lo) (IsUpward-set up hi lo u h) (λ v. cond (eqb (root_of up v) hi) lo (root_of up v))
+-- the root hi is put below the root lo
+pub root-merged : (parents : List ℕ) (lo hi : ℕ) → IsUpward parents → hi < length parents → lo ≤ hi → get_or parents lo 0 ≡ lo → get_or parents hi 0 ≡ hi → (w : ℕ) → w < length parents → root_of (set parents hi lo) w ≡ cond (eqb (root_of parents w) hi) lo (root_of parents w)
+root-merged parents lo hi u l h tl th w lw =
+    let e : length (set parents hi lo) ≡ length parents = length-set parents hi lo in
+    root_only (set parents hi lo) (IsUpward-set parents hi lo u h) (λ v. cond (eqb (root_of parents v) hi) lo (root_of parents v))
     (λ v lv. elim (cases_eq v hi) [
-      | inl q ↦ subst (λ k. cond (eqb (root_of up (get_or (set up hi lo) k 0)) hi) lo (root_of up (get_or (set up hi lo) k 0)) ≡ cond (eqb (root_of up k) hi) lo (root_of up k)) (sym q)
-          (rw (get_or-set_same up hi lo 0 l, root-top up lo tl, root-top up hi th) (rw (eq-eqb hi hi refl) (elim (cases_Bool (eqb lo hi)) [ inl t ↦ rw t refl | inr f ↦ rw f refl ])))
-      | inr d ↦ rw (get_or-set_other up hi v lo 0 d, root-up up u v (omega arith)) refl
+      | inl q ↦ subst (λ k. cond (eqb (root_of parents (get_or (set parents hi lo) k 0)) hi) lo (root_of parents (get_or (set parents hi lo) k 0)) ≡ cond (eqb (root_of parents k) hi) lo (root_of parents k)) (sym q)
+          (rw (get_or-set_same parents hi lo 0 l, root-own parents lo tl, root-own parents hi th) (rw (eq-eqb hi hi refl) (elim (cases_Bool (eqb lo hi)) [ inl t ↦ rw t refl | inr f ↦ rw f refl ])))
+      | inr d ↦ rw (get_or-set_other parents hi v lo 0 d, root-parents parents u v (omega arith)) refl
     ])
     (λ v lv t. elim (cases_eq v hi) [
       | inl q ↦
-          let t2 : lo ≡ hi = sym (get_or-set_same up hi lo 0 l) ∙ subst (λ k. get_or (set up hi lo) k 0 ≡ k) q t in
-          subst (λ k. cond (eqb (root_of up k) hi) lo (root_of up k) ≡ k) (sym q) (rw (root-top up hi th, eq-eqb hi hi refl) t2)
+          let t2 : lo ≡ hi = sym (get_or-set_same parents hi lo 0 l) ∙ subst (λ k. get_or (set parents hi lo) k 0 ≡ k) q t in
+          subst (λ k. cond (eqb (root_of parents k) hi) lo (root_of parents k) ≡ k) (sym q) (rw (root-own parents hi th, eq-eqb hi hi refl) t2)
       | inr d ↦
-          let t2 : root_of up v ≡ v = root-top up v (sym (get_or-set_other up hi v lo 0 d) ∙ t) in
+          let t2 : root_of parents v ≡ v = root-own parents v (sym (get_or-set_other parents hi v lo 0 d) ∙ t) in
           rw t2 (rw (ne_eqb v hi d) refl)
     ])
     w (omega arith)
 
-climb_le : (up : List ℕ) → IsUpward up → (n v : ℕ) → v < length up → climb up n v ≤ v
+climb_le : (parents : List ℕ) → IsUpward parents → (n v : ℕ) → v < length parents → climb parents n v ≤ v
 unfolding climb
-climb_le up u zero v l = omega arith
-climb_le up u (suc n) v l =
-    let s : get_or up v 0 ≤ v = u v l in
-    let r : climb up n (get_or up v 0) ≤ get_or up v 0 = climb_le up u n (get_or up v 0) (omega arith) in
+climb_le parents u zero v l = omega arith
+climb_le parents u (suc n) v l =
+    let s : get_or parents v 0 ≤ v = u v l in
+    let r : climb parents n (get_or parents v 0) ≤ get_or parents v 0 = climb_le parents u n (get_or parents v 0) (omega arith) in
     omega arith
 
-pub top_from_root : (up : List ℕ) → IsUpward up → (v : ℕ) → v < length up → root_of up v ≡ v → get_or up v 0 ≡ v
+pub own_from_root : (parents : List ℕ) → IsUpward parents → (v : ℕ) → v < length parents → root_of parents v ≡ v → get_or parents v 0 ≡ v
 unfolding root_of
-top_from_root up u v l e =
-    let s : get_or up v 0 ≤ v = u v l in
-    let r : climb up (length up) (get_or up v 0) ≤ get_or up v 0 = climb_le up u (length up) (get_or up v 0) (omega arith) in
-    let m : climb up (length up) (get_or up v 0) ≡ climb up (length up) v = root-up up u v l in
+own_from_root parents u v l e =
+    let s : get_or parents v 0 ≤ v = u v l in
+    let r : climb parents (length parents) (get_or parents v 0) ≤ get_or parents v 0 = climb_le parents u (length parents) (get_or parents v 0) (omega arith) in
+    let m : climb parents (length parents) (get_or parents v 0) ≡ climb parents (length parents) v = root-parents parents u v l in
     omega arith

@@ -1,4 +1,4 @@
--- Edges with exactly one end among the vertices below a top.
+-- Edges with exactly one end among the vertices below a root.
 use Rattle.std.proofs.Common.{◌≡◌, ℕ, ◌<◌, ◌↔◌, Bool, not, IsTrue, eqb, List, length, refl, inl, inr, sym, ◌∙◌}
 use Rattle.std.proofs.Math.Bool.{beq}
 use Rattle.std.proofs.lemmas.Bool.{cases_eq, eq-eqb, ne_eqb}
@@ -22,17 +22,17 @@ split_test x y label =
       ]
     ]
 
-module _ (g : Graph) (set : ℕ → Bool) (up : List ℕ) (u inside : ℕ) (labelled : IsLabelling (first_end_of g) (second_end_of g) set up) (within : u < length up) (top : root_of up u ≡ inside) where
-  joined_inside : (v : ℕ) → v < length up → (root_of up v ≡ inside) ↔ IsJoinedIn g set u v
-  joined_inside v l = let q = labelled.same u v within l in (λ e. q.0 (top ∙ sym e), λ j. sym (q.1 j) ∙ top)
+module _ (g : Graph) (set : ℕ → Bool) (parents : List ℕ) (u inside : ℕ) (labelled : IsLabelling (first_end_of g) (second_end_of g) set parents) (within : u < length parents) (root : root_of parents u ≡ inside) where
+  joined_inside : (v : ℕ) → v < length parents → (root_of parents v ≡ inside) ↔ IsJoinedIn g set u v
+  joined_inside v l = let q = labelled.same u v within l in (λ e. q.0 (root ∙ sym e), λ j. sym (q.1 j) ∙ root)
 
-  pub crosses_split : (k : ℕ) → first_end_of g k < length up → second_end_of g k < length up → IsSplit (root_of up (first_end_of g k)) (root_of up (second_end_of g k)) inside → Crosses g set u k
+  pub crosses_split : (k : ℕ) → first_end_of g k < length parents → second_end_of g k < length parents → IsSplit (root_of parents (first_end_of g k)) (root_of parents (second_end_of g k)) inside → Crosses g set u k
   crosses_split k la lb s =
       let a = joined_inside (first_end_of g k) la in
       let b = joined_inside (second_end_of g k) lb in
       elim s [ inl p ↦ inl (a.0 p.0, λ j. p.1 (b.1 j)) | inr p ↦ inr (λ j. p.0 (a.1 j), b.0 p.1) ]
 
-  pub split_crosses : (k : ℕ) → first_end_of g k < length up → second_end_of g k < length up → Crosses g set u k → IsSplit (root_of up (first_end_of g k)) (root_of up (second_end_of g k)) inside
+  pub split_crosses : (k : ℕ) → first_end_of g k < length parents → second_end_of g k < length parents → Crosses g set u k → IsSplit (root_of parents (first_end_of g k)) (root_of parents (second_end_of g k)) inside
   split_crosses k la lb s =
       let a = joined_inside (first_end_of g k) la in
       let b = joined_inside (second_end_of g k) lb in

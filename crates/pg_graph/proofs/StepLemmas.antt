@@ -1,50 +1,50 @@
--- Tops that stand for joined vertices, a link at a time.
+-- Roots that stand for joined vertices, a union at a time.
 use Rattle.std.proofs.Common.{◌≡◌, ℕ, ◌<◌, ◌≤◌, ◌+◌, Bool, true, false, ◌⊎◌, eqb, cond, List, length, get_or, arith, sym, ap, ◌∙◌, subst}
 use Rattle.std.proofs.Math.ListN.{set}
 use Rattle.pg_base.specs.Sets.{IsBelow}
 use Rattle.pg_graph.specs.Labels.{IsLabelled, IsLinked, IsMerged, IsLabelling}
 use Rattle.pg_graph.specs.Roots.{root_of, IsUpward, SameRoots}
-use Rattle.pg_graph.proofs.RootLemmas.{root-linked, root-top, top_from_root}
-use Rattle.pg_graph.proofs.LabelLemmas.{IsLabelled-begin, IsLabelled-link, IsLabelled-same, IsLabelled-skip, same_label, joined_label}
+use Rattle.pg_graph.proofs.RootLemmas.{root-merged, root-own, own_from_root}
+use Rattle.pg_graph.proofs.LabelLemmas.{IsLabelled-begin, IsLabelled-union, IsLabelled-same, IsLabelled-skip, same_label, joined_label}
 
--- the top hi goes below the top lo
-pub merged : (up up2 : List ℕ) (u v lo hi : ℕ) → IsUpward up2 → length up2 ≡ length up → SameRoots up up2 → hi < length up → lo ≤ hi → root_of up lo ≡ lo → root_of up hi ≡ hi
-    → ((root_of up u ≡ lo) × (root_of up v ≡ hi)) ⊎ ((root_of up u ≡ hi) × (root_of up v ≡ lo)) → IsMerged up (set up2 hi lo) u v
-merged up up2 u v lo hi upward size same within le top_lo top_hi ends = record {
+-- the root hi goes below the root lo
+pub merged : (parents parents2 : List ℕ) (u v lo hi : ℕ) → IsUpward parents2 → length parents2 ≡ length parents → SameRoots parents parents2 → hi < length parents → lo ≤ hi → root_of parents lo ≡ lo → root_of parents hi ≡ hi
+    → ((root_of parents u ≡ lo) × (root_of parents v ≡ hi)) ⊎ ((root_of parents u ≡ hi) × (root_of parents v ≡ lo)) → IsMerged parents (set parents2 hi lo) u v
+merged parents parents2 u v lo hi upward size same within le root_lo root_hi ends = record {
   lo = lo;
   hi = hi;
   ends = ends;
   roots = λ w l.
-      let q : root_of (set up2 hi lo) w ≡ cond (eqb (root_of up2 w) hi) lo (root_of up2 w) =
-      root-linked up2 lo hi upward (omega arith) le (top_from_root up2 upward lo (omega arith) (same lo (omega arith) ∙ top_lo)) (top_from_root up2 upward hi (omega arith) (same hi within ∙ top_hi)) w (omega arith) in
+      let q : root_of (set parents2 hi lo) w ≡ cond (eqb (root_of parents2 w) hi) lo (root_of parents2 w) =
+      root-merged parents2 lo hi upward (omega arith) le (own_from_root parents2 upward lo (omega arith) (same lo (omega arith) ∙ root_lo)) (own_from_root parents2 upward hi (omega arith) (same hi within ∙ root_hi)) w (omega arith) in
       q ∙ ap (λ z. cond (eqb z hi) lo z) (same w l);
 }
 
 module _ (a b : ℕ → ℕ) (s : ℕ → Bool) where
-  pub IsLinked-begin : (up : List ℕ) → ((v : ℕ) → v < length up → get_or up v 0 ≡ v) → IsLinked a b s 0 up
-  IsLinked-begin up own = record {
-    upward = λ v l. let e : get_or up v 0 ≡ v = own v l in omega arith;
-    labels = IsLabelled-begin a b s (length up) (root_of up) (λ v l. root-top up v (own v l));
+  pub IsLinked-begin : (parents : List ℕ) → ((v : ℕ) → v < length parents → get_or parents v 0 ≡ v) → IsLinked a b s 0 parents
+  IsLinked-begin parents own = record {
+    upward = λ v l. let e : get_or parents v 0 ≡ v = own v l in omega arith;
+    labels = IsLabelled-begin a b s (length parents) (root_of parents) (λ v l. root-own parents v (own v l));
   }
 
-  pub IsLinked-skip : (k : ℕ) (up : List ℕ) → s k ≡ false → IsLinked a b s k up → IsLinked a b s (k + 1) up
-  IsLinked-skip k up out l = record { upward = l.upward; labels = IsLabelled-skip a b s (length up) k (root_of up) out l.labels }
+  pub IsLinked-skip : (k : ℕ) (parents : List ℕ) → s k ≡ false → IsLinked a b s k parents → IsLinked a b s (k + 1) parents
+  IsLinked-skip k parents out l = record { upward = l.upward; labels = IsLabelled-skip a b s (length parents) k (root_of parents) out l.labels }
 
-  pub IsLinked-merged : (k : ℕ) (up new : List ℕ) → ((j : ℕ) → s j ≡ true → (a j < length up) × (b j < length up)) → s k ≡ true → length new ≡ length up
-      → IsUpward new → IsMerged up new (a k) (b k) → IsLinked a b s k up → IsLinked a b s (k + 1) new
-  IsLinked-merged k up new small t size upward m l = record {
+  pub IsLinked-merged : (k : ℕ) (parents new : List ℕ) → ((j : ℕ) → s j ≡ true → (a j < length parents) × (b j < length parents)) → s k ≡ true → length new ≡ length parents
+      → IsUpward new → IsMerged parents new (a k) (b k) → IsLinked a b s k parents → IsLinked a b s (k + 1) new
+  IsLinked-merged k parents new small t size upward m l = record {
     upward = upward;
     labels = subst (λ n. IsLabelled a b s n (k + 1) (root_of new)) (sym size)
-        (IsLabelled-same a b s (length up) (k + 1) (λ w. cond (eqb (root_of up w) m.hi) m.lo (root_of up w)) (root_of new) (λ j _ h. small j h) m.roots
-        (IsLabelled-link a b s (length up) k m.lo m.hi (root_of up) t (small k t).0 (small k t).1 m.ends l.labels));
+        (IsLabelled-same a b s (length parents) (k + 1) (λ w. cond (eqb (root_of parents w) m.hi) m.lo (root_of parents w)) (root_of new) (λ j _ h. small j h) m.roots
+        (IsLabelled-union a b s (length parents) k m.lo m.hi (root_of parents) t (small k t).0 (small k t).1 m.ends l.labels));
   }
 
-  pub IsLabelling-all : (k : ℕ) (up : List ℕ) → IsBelow s k → IsLinked a b s k up → IsLabelling a b s up
-  IsLabelling-all k up small l = record {
+  pub IsLabelling-all : (k : ℕ) (parents : List ℕ) → IsBelow s k → IsLinked a b s k parents → IsLabelling a b s parents
+  IsLabelling-all k parents small l = record {
     upward = l.upward;
     same = λ u v lu lv. (
-      λ e. joined_label a b s (length up) k (root_of up) u v l.labels lu lv e,
-      λ p. same_label a b s (length up) k (root_of up) u v small l.labels p,
+      λ e. joined_label a b s (length parents) k (root_of parents) u v l.labels lu lv e,
+      λ p. same_label a b s (length parents) k (root_of parents) u v small l.labels p,
     );
   }
 

@@ -1,13 +1,13 @@
 -- Graphs with the edge e between their terminals, and what their edges join.
 use Rattle.std.specs.Prelude.{ℕ, ◌<◌, ◌≤◌, suc, Bool, not, List, [], ◌∷◌, ◌++◌, length, All}
 use Rattle.pg_base.specs.Sets.{minus}
+use Rattle.pg_base.specs.declared.limits.TheConstants.{MAX_EDGES}
 use Rattle.pg_graph.specs.Walks.{IsJoined, joins, edge_spans, first_end, second_end}
 use Rattle.pg_graph.specs.declared.graph.Graph.{Graph}
 
--- at most 1,000 edges and 500 vertices, with terminals and ends in range
+-- not too many edges, and terminals and ends in range
 pub record IsGraph (g : Graph) : Type 0 where
-  pub few_edges : length g.ends ≤ 1000
-  pub few_vertices : g.vertices ≤ 500
+  pub few_edges : length g.ends ≤ MAX_EDGES
   pub s_range : g.s < g.vertices
   pub t_range : g.t < g.vertices
   pub ends_range : All (λ ends. (ends.0 < g.vertices) × (ends.1 < g.vertices)) g.ends

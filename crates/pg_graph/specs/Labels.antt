@@ -11,22 +11,22 @@ pub record IsLabelled (a b : ℕ → ℕ) (set : ℕ → Bool) (n k : ℕ) (r : 
   pub sound : (w : ℕ) → w < n → IsJoined a b (below set k) w (r w)
   pub complete : (j : ℕ) → j < k → set j ≡ true → r (a j) ≡ r (b j)
 
--- the tops label the vertices for the edges of the set that are below k
-pub record IsLinked (a b : ℕ → ℕ) (set : ℕ → Bool) (k : ℕ) (up : List ℕ) : Type 0 where
-  pub upward : IsUpward up
-  pub labels : IsLabelled a b set (length up) k (root_of up)
+-- the roots label the vertices for the edges of the set that are below k
+pub record IsLinked (a b : ℕ → ℕ) (set : ℕ → Bool) (k : ℕ) (parents : List ℕ) : Type 0 where
+  pub upward : IsUpward parents
+  pub labels : IsLabelled a b set (length parents) k (root_of parents)
 
--- the tops of u and v, one of them hi and the other lo, are now both lo, and the other tops stay
+-- the roots of u and v, one of them hi and the other lo, are now both lo, and the other roots stay
 pub record IsMerged (old new : List ℕ) (u v : ℕ) : Type 0 where
   pub lo : ℕ
   pub hi : ℕ
   pub ends : ((root_of old u ≡ lo) × (root_of old v ≡ hi)) ⊎ ((root_of old u ≡ hi) × (root_of old v ≡ lo))
   pub roots : (w : ℕ) → w < length old → root_of new w ≡ cond (root_of old w == hi) lo (root_of old w)
 
--- two vertices have one top just where the edges of the set join them
-pub record IsLabelling (a b : ℕ → ℕ) (set : ℕ → Bool) (up : List ℕ) : Type 0 where
-  pub upward : IsUpward up
-  pub same : (u v : ℕ) → u < length up → v < length up → (root_of up u ≡ root_of up v) ↔ IsJoined a b set u v
+-- two vertices have one root just where the edges of the set join them
+pub record IsLabelling (a b : ℕ → ℕ) (set : ℕ → Bool) (parents : List ℕ) : Type 0 where
+  pub upward : IsUpward parents
+  pub same : (u v : ℕ) → u < length parents → v < length parents → (root_of parents u ≡ root_of parents v) ↔ IsJoined a b set u v
 
 -- exactly one of two labels is this one
 abbrev pub IsSplit : ℕ → ℕ → ℕ → Type 0

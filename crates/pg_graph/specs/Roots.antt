@@ -1,19 +1,19 @@
--- Trees of vertices: each vertex has a step up, and a top leads to itself.
+-- Trees of vertices: each vertex has a parent, and a root is its own parent.
 use Rattle.std.specs.Prelude.{◌≡◌, ℕ, ◌<◌, ◌≤◌, zero, suc, List, slice_index, length}
 
--- where n steps up lead from v
+-- where n steps to parents lead from v
 unfoldable pub climb : List ℕ → ℕ → ℕ → ℕ
-climb up zero v = v
-climb up (suc n) v = climb up n (slice_index up v)
+climb parents zero v = v
+climb parents (suc n) v = climb parents n (slice_index parents v)
 
--- the top above v
+-- the root above v
 unfoldable pub root_of : List ℕ → ℕ → ℕ
-root_of up v = climb up (length up) v
+root_of parents v = climb parents (length parents) v
 
--- no step goes to a greater number
+-- no parent is a greater number
 abbrev pub IsUpward : List ℕ → Type 0
-IsUpward up = (v : ℕ) → v < length up → slice_index up v ≤ v
+IsUpward parents = (v : ℕ) → v < length parents → slice_index parents v ≤ v
 
--- the tops are the same
+-- the roots are the same
 abbrev pub SameRoots : List ℕ → List ℕ → Type 0
 SameRoots old new = (w : ℕ) → w < length old → root_of new w ≡ root_of old w

@@ -1,8 +1,8 @@
--- What sets of elements span, bases, circuits, and pairs of sets that span or bridge each other's members.
+-- What sets of elements span, bases, fundamental circuits, and pairs of sets that span or bridge each other's members.
 use Rattle.std.specs.Prelude.{◌≡◌, ℕ, Bool, true, false, not, ◌&&◌}
 use Rattle.pg_base.specs.Sets.{plus, minus, either, outside, IsWithin}
 
--- the three laws of spanning: a set spans its members, spanning goes through spanned sets, and elements trade places
+-- A matroid by its closure: a set spans its members, spanning goes through spanned sets, and elements trade places (Oxley, Matroid Theory, section 1.4).
 pub record IsSpan (spans : (ℕ → Bool) → ℕ → Bool) : Type 0 where
   pub holds : (a : ℕ → Bool) (f : ℕ) → a f ≡ true → spans a f ≡ true
   pub closed : (a b : ℕ → Bool) (f : ℕ) → ((g : ℕ) → b g ≡ true → spans a g ≡ true) → spans b f ≡ true → spans a f ≡ true
@@ -18,11 +18,11 @@ pub record IsBase (spans : (ℕ → Bool) → ℕ → Bool) (elements base : ℕ
 unfoldable pub swapped : (ℕ → Bool) → ℕ → ℕ → ℕ → Bool
 swapped b y x = plus (minus b y) x
 
--- the members without which the rest of the base doesn't span f
+-- the fundamental circuit of f, but for f itself: the members without which the rest of the base doesn't span f
 unfoldable pub circuit : ((ℕ → Bool) → ℕ → Bool) → (ℕ → Bool) → ℕ → ℕ → Bool
 circuit spans b f y = b y && not (spans (minus b y) f)
 
--- what is reached from the elements in neither base: their circuits stay inside, and no member is in both
+-- what is reached from the elements in neither base: their fundamental circuits stay inside, and no member is in both
 pub record IsReached (spans : (ℕ → Bool) → ℕ → Bool) (elements b c r : ℕ → Bool) : Type 0 where
   pub elements_only : IsWithin r elements
   pub begins : (f : ℕ) → elements f ≡ true → b f ≡ false → c f ≡ false → r f ≡ true

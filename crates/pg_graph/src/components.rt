@@ -1,5 +1,6 @@
-//! Labels for the vertices of a graph, by union and find with path halving (Tarjan and van Leeuwen 1984).
-ghost use Rattle.std.specs.Prelude.{◌≡◌, ℕ, ◌<◌, ◌≤◌, IfOk, length, slice_index};
+//! Labels for the vertices of a graph, by union and find with path halving (Tarjan and van Leeuwen 1984): a label is the
+//! root of a tree in which each vertex has a parent, and a root is its own.
+ghost use Rattle.std.specs.Prelude.{◌≡◌, ℕ, ◌^◌, ◌<◌, ◌≤◌, IfOk, length, slice_index};
 ghost use Rattle.std.specs.FinSet.{contains};
 ghost use Rattle.pg_graph.specs.Graph.{IsGraph, first_end_of, second_end_of};
 ghost use Rattle.pg_graph.specs.Joiner.{AreEdges};
@@ -17,83 +18,83 @@ pub fn labels(alloc: Global, g: &Graph, set: &PointSet) -> Result<Vec<u16>, Memo
     requires set { AreEdges g.now (contains set.now) }
     ensures { IfOk result (λ names. AreLabels g.now (contains set.now) names.items) }
 {
-    let mut up = vec![in alloc; 0; g.vertices as usize]?;
+    let mut parents = vec![in alloc; 0; g.vertices as usize]?;
     let mut names = vec![in alloc; 0; g.vertices as usize]?;
-    label(&mut up, g, set);
-    read_tops(&mut up, &mut names);
+    label(&mut parents, g, set);
+    read_roots(&mut parents, &mut names);
     Ok(names)
 }
 
-/// Writes the top above each vertex.
-fn read_tops(up: &mut [u16], names: &mut [u16])
-    requires upward { IsUpward up.old }
-    requires size { length names.old ≡ length up.old }
-    requires few { length up.old ≤ 500 }
-    ensures { (v : ℕ) → v < length up.old → (slice_index names.new v ≡ root_of up.old v) × (slice_index names.new v < length up.old) }
+/// Writes the root above each vertex.
+fn read_roots(parents: &mut [u16], names: &mut [u16])
+    requires upward { IsUpward parents.old }
+    requires size { length names.old ≡ length parents.old }
+    requires few { length parents.old ≤ 2 ^ 16 }
+    ensures { (v : ℕ) → v < length parents.old → (slice_index names.new v ≡ root_of parents.old v) × (slice_index names.new v < length parents.old) }
 {
-    for v in 0..up.len() {
-        names[v] = top(up, v as u16);
+    for v in 0..parents.len() {
+        names[v] = find(parents, v as u16);
     }
 }
 
-/// Gives two vertices one top just where edges of the set join them.
-pub(crate) fn label(up: &mut [u16], g: &Graph, set: &PointSet)
+/// Gives two vertices one root just where edges of the set join them.
+pub(crate) fn label(parents: &mut [u16], g: &Graph, set: &PointSet)
     requires graph { IsGraph g.now }
-    requires size { length up.old ≡ g.now.vertices }
+    requires size { length parents.old ≡ g.now.vertices }
     requires set { AreEdges g.now (contains set.now) }
-    ensures { IsLabelling (first_end_of g.now) (second_end_of g.now) (contains set.now) up.new }
+    ensures { IsLabelling (first_end_of g.now) (second_end_of g.now) (contains set.now) parents.new }
 {
-    part_all(up);
+    part_all(parents);
     for k in 0..g.edge_count() + 1 {
         if set.has(k) {
             let (a, b) = g.ends_of(k);
-            link(up, a, b);
+            union(parents, a, b);
         }
     }
 }
 
-/// Makes each vertex its own top.
-fn part_all(up: &mut [u16])
-    requires { length up.old ≤ 500 }
-    ensures { (v : ℕ) → v < length up.old → slice_index up.new v ≡ v }
+/// Makes each vertex its own parent.
+fn part_all(parents: &mut [u16])
+    requires { length parents.old ≤ 2 ^ 16 }
+    ensures { (v : ℕ) → v < length parents.old → slice_index parents.new v ≡ v }
 {
-    for v in 0..up.len() {
-        up[v] = v as u16;
+    for v in 0..parents.len() {
+        parents[v] = v as u16;
     }
 }
 
-/// Gives the vertices below the tops of u and v one top, the lesser of these two.
-fn link(up: &mut [u16], u: u16, v: u16)
-    requires upward { IsUpward up.old }
-    requires u { u < length up.old }
-    requires v { v < length up.old }
-    ensures upward { IsUpward up.new }
-    ensures merged { IsMerged up.old up.new u v }
+/// Gives the vertices below the roots of u and v one root, the lesser of these two.
+fn union(parents: &mut [u16], u: u16, v: u16)
+    requires upward { IsUpward parents.old }
+    requires u { u < length parents.old }
+    requires v { v < length parents.old }
+    ensures upward { IsUpward parents.new }
+    ensures merged { IsMerged parents.old parents.new u v }
 {
-    let a = top(up, u);
-    let b = top(up, v);
+    let a = find(parents, u);
+    let b = find(parents, v);
     if a < b {
-        up[b as usize] = a;
+        parents[b as usize] = a;
     } else {
-        up[a as usize] = b;
+        parents[a as usize] = b;
     }
 }
 
-/// The top above v. The way there gets shorter.
-pub(crate) fn top(up: &mut [u16], v: u16) -> u16
-    requires upward { IsUpward up.old }
-    requires within { v < length up.old }
-    ensures value { result ≡ root_of up.old v }
-    ensures within { result < length up.old }
-    ensures own { slice_index up.new result ≡ result }
-    ensures upward { IsUpward up.new }
-    ensures same { SameRoots up.old up.new }
+/// The root above v. The way there gets shorter.
+pub(crate) fn find(parents: &mut [u16], v: u16) -> u16
+    requires upward { IsUpward parents.old }
+    requires within { v < length parents.old }
+    ensures value { result ≡ root_of parents.old v }
+    ensures within { result < length parents.old }
+    ensures own { slice_index parents.new result ≡ result }
+    ensures upward { IsUpward parents.new }
+    ensures same { SameRoots parents.old parents.new }
 {
     let mut here = v;
-    while up[here as usize] != here {
-        let next = up[here as usize];
-        let over = up[next as usize];
-        up[here as usize] = over;
+    while parents[here as usize] != here {
+        let next = parents[here as usize];
+        let over = parents[next as usize];
+        parents[here as usize] = over;
         here = over;
     }
     here

@@ -2,6 +2,7 @@
 ghost use Rattle.std.specs.Prelude.{◌≡◌, ◌<◌, ◌≤◌, length};
 ghost use Rattle.pg_graph.specs.Graph.{IsGraph, edge_count, first_end_of, second_end_of};
 
+use pg_base::MAX_EDGES;
 use std::marker::Model;
 
 /// A multigraph with two terminals. Loops and parallel edges are allowed.
@@ -23,7 +24,7 @@ pub struct Graph {
 impl Graph {
     /// How many edges there are, which is the number that stands for `e`.
     pub fn edge_count(&self) -> u16
-        requires { length self.now.ends ≤ 1000 }
+        requires { length self.now.ends ≤ MAX_EDGES }
         ensures { result ≡ edge_count self.now }
     {
         self.ends.as_slice().len() as u16

@@ -15,7 +15,7 @@ use std::marker::Model;
 /// Only `new` takes memory. The calls write their labels over the earlier ones and leave the two numbers as they are.
 #[derive(Debug, Drop)]
 pub struct Joiner {
-    up: Vec<u16>,
+    parents: Vec<u16>,
     edges: u16,
 }
 
@@ -26,7 +26,7 @@ impl Model for Joiner {
 
     ghost Value = { Room };
 
-    ghost view = { λ a. record { vertices = length a.up.items; edges = a.edges } };
+    ghost view = { λ a. record { vertices = length a.parents.items; edges = a.edges } };
 }
 
 impl Joiner {
@@ -35,9 +35,9 @@ impl Joiner {
         requires graph { IsGraph g.now }
         ensures { IfOk result (λ joiner. IsMadeFor joiner g.now) }
     {
-        let up = vec![in alloc; 0; g.vertices as usize]?;
+        let parents = vec![in alloc; 0; g.vertices as usize]?;
         Ok(Joiner {
-            up,
+            parents,
             edges: g.edge_count(),
         })
     }
@@ -52,7 +52,7 @@ impl Joiner {
         ensures joined { IsTrue result ↔ IsJoinedIn g.now (contains set.now) u v }
         ensures kept { self.new ≡ self.old }
     {
-        joins::joined(&mut self.up, g, set, u, v)
+        joins::joined(&mut self.parents, g, set, u, v)
     }
 
     /// The lowest candidate with exactly one end joined to u in the set, and None exactly where there is none.
@@ -72,7 +72,7 @@ impl Joiner {
         ensures none { IfNone result ((k : ℕ) → contains candidates.now k ≡ true → Crosses g.now (contains set.now) u k → ⊥) }
         ensures kept { self.new ≡ self.old }
     {
-        joins::crossing(&mut self.up, g, set, u, candidates)
+        joins::crossing(&mut self.parents, g, set, u, candidates)
     }
 
     /// The lowest candidate in the set without which u and v aren't joined, where they are joined in the set.
@@ -97,7 +97,7 @@ impl Joiner {
         ensures none { IfNone result ((k : ℕ) → contains candidates.now k ≡ true → Parts g.now (contains set.now) u v k → ⊥) }
         ensures kept { self.new ≡ self.old }
     {
-        joins::parting(&mut self.up, g, set, u, v, candidates)
+        joins::parting(&mut self.parents, g, set, u, v, candidates)
     }
 
     /// Whether the ends of f aren't joined in the set without f.
@@ -109,6 +109,6 @@ impl Joiner {
         ensures bridge { IsTrue result ↔ IsBridge g.now (contains set.now) f }
         ensures kept { self.new ≡ self.old }
     {
-        joins::bridge(&mut self.up, g, set, f)
+        joins::bridge(&mut self.parents, g, set, f)
     }
 }

@@ -7,27 +7,27 @@ ghost use Rattle.pg_graph.specs.Joiner.{AreEdges, Crosses, Parts, IsLowest};
 ghost use Rattle.pg_graph.specs.Labels.{IsSplit};
 ghost use Rattle.pg_graph.specs.Roots.{root_of, IsUpward, SameRoots};
 
-use crate::components::{label, top};
+use crate::components::{find, label};
 use crate::graph::Graph;
 use pg_base::PointSet;
 
 /// Whether a walk of edges of the set leads from u to v.
-pub(crate) fn joined(up: &mut [u16], g: &Graph, set: &PointSet, u: u16, v: u16) -> bool
+pub(crate) fn joined(parents: &mut [u16], g: &Graph, set: &PointSet, u: u16, v: u16) -> bool
     requires graph { IsGraph g.now }
-    requires size { length up.old ≡ g.now.vertices }
+    requires size { length parents.old ≡ g.now.vertices }
     requires set { AreEdges g.now (contains set.now) }
     requires u { u < g.now.vertices }
     requires v { v < g.now.vertices }
     ensures { IsTrue result ↔ IsJoinedIn g.now (contains set.now) u v }
 {
-    label(up, g, set);
-    top(up, u) == top(up, v)
+    label(parents, g, set);
+    find(parents, u) == find(parents, v)
 }
 
 /// Whether a walk of edges of the set other than k leads from u to v.
-fn joined_without(up: &mut [u16], g: &Graph, set: &PointSet, k: u16, u: u16, v: u16) -> bool
+fn joined_without(parents: &mut [u16], g: &Graph, set: &PointSet, k: u16, u: u16, v: u16) -> bool
     requires graph { IsGraph g.now }
-    requires size { length up.old ≡ g.now.vertices }
+    requires size { length parents.old ≡ g.now.vertices }
     requires set { AreEdges g.now (contains set.now) }
     requires edge { k ≤ edge_count g.now }
     requires u { u < g.now.vertices }
@@ -36,30 +36,30 @@ fn joined_without(up: &mut [u16], g: &Graph, set: &PointSet, k: u16, u: u16, v: 
 {
     let mut others = *set;
     others.take(k);
-    joined(up, g, &others, u, v)
+    joined(parents, g, &others, u, v)
 }
 
 /// The lowest candidate with exactly one end joined to u by edges of the set.
 pub(crate) fn crossing(
-    up: &mut [u16],
+    parents: &mut [u16],
     g: &Graph,
     set: &PointSet,
     u: u16,
     candidates: &PointSet,
 ) -> Option<u16>
     requires graph { IsGraph g.now }
-    requires size { length up.old ≡ g.now.vertices }
+    requires size { length parents.old ≡ g.now.vertices }
     requires set { AreEdges g.now (contains set.now) }
     requires u { u < g.now.vertices }
     requires candidates { AreEdges g.now (contains candidates.now) }
     ensures lowest { IfSome result (λ k. IsLowest (contains candidates.now) (Crosses g.now (contains set.now) u) k) }
     ensures none { IfNone result ((k : ℕ) → contains candidates.now k ≡ true → Crosses g.now (contains set.now) u k → ⊥) }
 {
-    label(up, g, set);
-    let inside = top(up, u);
+    label(parents, g, set);
+    let inside = find(parents, u);
     for k in 0..g.edge_count() + 1 {
         if candidates.has(k) {
-            if is_split(up, g, inside, k) {
+            if is_split(parents, g, inside, k) {
                 return Some(k);
             }
         }
@@ -67,25 +67,25 @@ pub(crate) fn crossing(
     None
 }
 
-/// Whether exactly one end of edge k has this top.
-fn is_split(up: &mut [u16], g: &Graph, inside: u16, k: u16) -> bool
+/// Whether exactly one end of edge k has this root.
+fn is_split(parents: &mut [u16], g: &Graph, inside: u16, k: u16) -> bool
     requires graph { IsGraph g.now }
-    requires size { length up.old ≡ g.now.vertices }
-    requires upward { IsUpward up.old }
+    requires size { length parents.old ≡ g.now.vertices }
+    requires upward { IsUpward parents.old }
     requires edge { k ≤ edge_count g.now }
-    ensures split { IsTrue result ↔ IsSplit (root_of up.old (first_end_of g.now k)) (root_of up.old (second_end_of g.now k)) inside }
-    ensures upward { IsUpward up.new }
-    ensures same { SameRoots up.old up.new }
+    ensures split { IsTrue result ↔ IsSplit (root_of parents.old (first_end_of g.now k)) (root_of parents.old (second_end_of g.now k)) inside }
+    ensures upward { IsUpward parents.new }
+    ensures same { SameRoots parents.old parents.new }
 {
     let (a, b) = g.ends_of(k);
-    let first = top(up, a) == inside;
-    let second = top(up, b) == inside;
+    let first = find(parents, a) == inside;
+    let second = find(parents, b) == inside;
     first != second
 }
 
 /// The lowest candidate in the set without which u and v aren't joined, where the set joins them.
 pub(crate) fn parting(
-    up: &mut [u16],
+    parents: &mut [u16],
     g: &Graph,
     set: &PointSet,
     u: u16,
@@ -93,7 +93,7 @@ pub(crate) fn parting(
     candidates: &PointSet,
 ) -> Option<u16>
     requires graph { IsGraph g.now }
-    requires size { length up.old ≡ g.now.vertices }
+    requires size { length parents.old ≡ g.now.vertices }
     requires set { AreEdges g.now (contains set.now) }
     requires u { u < g.now.vertices }
     requires v { v < g.now.vertices }
@@ -101,12 +101,12 @@ pub(crate) fn parting(
     ensures lowest { IfSome result (λ k. IsLowest (contains candidates.now) (Parts g.now (contains set.now) u v) k) }
     ensures none { IfNone result ((k : ℕ) → contains candidates.now k ≡ true → Parts g.now (contains set.now) u v k → ⊥) }
 {
-    if !joined(up, g, set, u, v) {
+    if !joined(parents, g, set, u, v) {
         return None;
     }
     for k in 0..g.edge_count() + 1 {
         if candidates.has(k) && set.has(k) {
-            if !joined_without(up, g, set, k, u, v) {
+            if !joined_without(parents, g, set, k, u, v) {
                 return Some(k);
             }
         }
@@ -115,13 +115,13 @@ pub(crate) fn parting(
 }
 
 /// Whether the ends of f aren't joined in the set without f.
-pub(crate) fn bridge(up: &mut [u16], g: &Graph, set: &PointSet, f: u16) -> bool
+pub(crate) fn bridge(parents: &mut [u16], g: &Graph, set: &PointSet, f: u16) -> bool
     requires graph { IsGraph g.now }
-    requires size { length up.old ≡ g.now.vertices }
+    requires size { length parents.old ≡ g.now.vertices }
     requires set { AreEdges g.now (contains set.now) }
     requires edge { f ≤ edge_count g.now }
     ensures { IsTrue result ↔ IsBridge g.now (contains set.now) f }
 {
     let (a, b) = g.ends_of(f);
-    !joined_without(up, g, set, f, a, b)
+    !joined_without(parents, g, set, f, a, b)
 }

@@ -9,6 +9,3 @@ mod joins;
 pub use components::labels;
 pub use graph::{Ends, Graph};
 pub use joiner::Joiner;
-
-#[cfg(test)]
-mod tests;

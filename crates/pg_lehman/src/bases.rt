@@ -7,7 +7,7 @@ ghost use Rattle.pg_exchange.specs.Chain.{IsLeast, IsSettled, LeadsFrom};
 ghost use Rattle.pg_lehman.specs.Taken.{IsTaken, IsPlaced, ReachesCommon, in_neither, only};
 
 use crate::class::Class;
-use pg_base::PointSet;
+use pg_base::{MAX_MEMBERS, PointSet};
 use pg_exchange::{Exchange, Ground};
 
 /// The points of both sets.
@@ -19,7 +19,7 @@ fn common_points(a: &PointSet, b: &PointSet) -> PointSet
 
 /// The set of one point.
 fn single(v: u16) -> PointSet
-    requires { v < 1024 }
+    requires { v < MAX_MEMBERS }
     ensures { contains result ≡ only v }
 {
     let mut set = PointSet::empty();

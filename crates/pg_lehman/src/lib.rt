@@ -10,6 +10,3 @@ mod game;
 pub use bases::decide;
 pub use class::Class;
 pub use game::classify;
-
-#[cfg(test)]
-mod tests;

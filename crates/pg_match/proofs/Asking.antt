@@ -63,30 +63,13 @@ numbers-all test lines j wanted end h = h.passing ∙ ap (filter test) (take_all
 pub numbers-can : (test : List ℕ → Bool) (lines : List (List ℕ)) (j : ℕ) (wanted : List ℕ) → j ≡ length lines → All (All (λ v. v < 1024)) lines → AreNumbers test lines j wanted → CanMatch lines wanted
 numbers-can test lines j wanted end points h = record { range = All-weaker (λ i. i < j) (λ i. i < length lines) (λ i lt. omega (arith, end)) wanted h.below; different = λ i k d before inside e. let lt = h.ascending i k d before inside in omega (arith, e); points = points }
 
--- ---- free points one after the other
-
-and-lt-more : (q v : ℕ) (b : Bool) → q ≢ v → (ltb q (v + 1) && b) ≡ (ltb q v && b)
-and-lt-more q v b ne = let same : ltb q (v + 1) ≡ ltb q v = grind (arith, nat_tests) in ap (λ t. t && b) same
-
-pub free-with : (p : Position) (free : FinSet nat_cmp) (v : ℕ) → is_free p v ≡ true → ((q : ℕ) → contains free q ≡ (ltb q v && is_free p q)) → (q : ℕ) → contains (insert free v) q ≡ (ltb q (v + 1) && is_free p q)
-free-with p free v on before q = elim (cases_eq q v) [
-  | inl e ↦ subst (λ (u : ℕ). contains (insert free v) u ≡ (ltb u (v + 1) && is_free p u)) (sym e)
-      (insert-self free v ∙ sym (ap (λ (t : Bool). t && is_free p v) (lt-ltb v (v + 1) (omega arith)) ∙ on))
-  | inr ne ↦ insert-other free v q ne ∙ before q ∙ sym (and-lt-more q v (is_free p q) ne)
-]
-
-and_off : (t b : Bool) → b ≡ false → (t && b) ≡ false
-and_off true b off = off
-and_off false b off = refl
-
-pub free-without : (p : Position) (free : FinSet nat_cmp) (v : ℕ) → is_free p v ≡ false → ((q : ℕ) → contains free q ≡ (ltb q v && is_free p q)) → (q : ℕ) → contains free q ≡ (ltb q (v + 1) && is_free p q)
-free-without p free v off before q = elim (cases_eq q v) [
-  | inl e ↦ let none : is_free p q ≡ false = ap (is_free p) e ∙ off in before q ∙ and_off (ltb q v) (is_free p q) none ∙ sym (and_off (ltb q (v + 1)) (is_free p q) none)
-  | inr ne ↦ before q ∙ sym (and-lt-more q v (is_free p q) ne)
-]
+-- ---- free points
 
 pub free-all : (p : Position) (free : FinSet nat_cmp) (n v : ℕ) → ((q : ℕ) → contains free q ≡ (ltb q n && is_free p q)) → v < n → contains free v ≡ is_free p v
 free-all p free n v all lt = all v ∙ ap (λ (t : Bool). t && is_free p v) (lt-ltb v n lt)
+
+pub free-in_game : (g : Game) (p : Position) (free : FinSet nat_cmp) → ((v : ℕ) → contains free v ≡ (ltb v (point_count g) && is_free p v)) → AreFree g p free
+free-in_game g p free each v lt = free-all p free (point_count g) v each lt
 
 -- ---- pairs of points, one after the other
 
@@ -171,9 +154,6 @@ paired-more pairs i points mid new within before first second v =
     ∙ or_assoc (contains points v) (eqb s.a v) (eqb s.b v) ∙ ap (λ (t : Bool). t || (eqb s.a v || eqb s.b v)) (before v)
     ∙ sym (list_any_more (has_point v) pairs i (record { a = 0; b = 0 }) within)
 
-pub free-none : (p : Position) (free : FinSet nat_cmp) → free ≡ empty → (q : ℕ) → contains free q ≡ (ltb q 0 && is_free p q)
-free-none p free none q = ap (λ (s : FinSet nat_cmp). contains s q) none ∙ contains-empty nat_cmp q ∙ sym (ap (λ (t : Bool). t && is_free p q) (let off : ltb q 0 ≡ false = grind (arith, nat_tests) in off))
-
 -- the same after a step of the loop
 pub pairs_on-passing_to : (t : ℕ → Bool) (v : ℕ) (old mid new last : List Pair) (waiting next last_waiting : Option ℕ) → t v ≡ true → PairsOn (passing_below t v) old mid waiting → PairsOn (option_to_list waiting ++ v ∷ []) mid new next
     → last ≡ new → last_waiting ≡ next → PairsOn (passing_below t (v + 1)) old last last_waiting
@@ -183,12 +163,3 @@ pairs_on-passing_to t v old mid new last waiting next last_waiting on a b pairs_
 pub pairs_on-skipped_to : (t : ℕ → Bool) (v : ℕ) (old new last : List Pair) (waiting last_waiting : Option ℕ) → t v ≡ false → PairsOn (passing_below t v) old new waiting → last ≡ new → last_waiting ≡ waiting → PairsOn (passing_below t (v + 1)) old last last_waiting
 pairs_on-skipped_to t v old new last waiting last_waiting off a pairs_are waiting_is =
     subst₂ (λ (ps : List Pair) (w : Option ℕ). PairsOn (passing_below t (v + 1)) old ps w) (sym pairs_are) (sym waiting_is) (pairs_on-skipped t v old new waiting off a)
-
-pub free-below : (p : Position) (free : FinSet nat_cmp) (n v : ℕ) {m : ℕ} → ((q : ℕ) → contains free q ≡ (ltb q n && is_free p q)) → n ≤ m → contains free v ≡ true → v < m
-free-below p free n v all few on = let lt = ltb-true v n (and_parts (ltb v n) (is_free p v) (sym (all v) ∙ on)).0 in omega (arith, lt, few)
-
--- the set of the free points has as many as there are
-pub free-count : (g : Game) (p : Position) (free : FinSet nat_cmp) → AreFree g p free → AreBelow free (point_count g) → len free ≡ length (free_points g p)
-unfolding free_points
-free-count g p free is below =
-    len-count free (point_count g) below ∙ count_same (contains free) (is_free p) (point_count g) (λ v lt. is v lt) ∙ sym (length-passed (is_free p) (point_count g))

@@ -7,7 +7,7 @@ ghost use Rattle.pg_match.specs.declared.seats.Step.{Step};
 ghost use Rattle.pg_match.specs.Chains.{may_have, place_of, IsSeated, IsTaken, CanShift, Meets, IsSearch, Grows, AreScannedAt, AreScanned};
 
 use crate::seats::{Seats, Step};
-use pg_base::{Line, Memory, PointSet};
+use pg_base::{Line, MAX_MEMBERS, Memory, PointSet};
 use std::alloc::Global;
 
 /// The seats that were reached from the next one, in order, and the places of their lines among the wanted ones.
@@ -44,7 +44,7 @@ impl Chain {
 
     /// Forgets all steps and starts from the seat.
     fn start(&mut self, seat: u16) -> Result<(), Memory>
-        requires { seat < 1024 }
+        requires { seat < MAX_MEMBERS }
         ensures steps { OnOk result (self.new.steps.items ≡ record { seat = seat; parent = 0 } ∷ []) }
         ensures entered { OnOk result (self.new.entered ≡ set.insert set.empty (seat / 2)) }
     {
@@ -55,7 +55,7 @@ impl Chain {
 
     /// Adds a step to the seat, unless its line was entered before.
     fn enter(&mut self, seat: u16, parent: usize) -> Result<(), Memory>
-        requires { seat < 1024 }
+        requires { seat < MAX_MEMBERS }
         ensures steps { OnOk result (self.new.steps.items ≡ (if set.contains self.old.entered (seat / 2) then self.old.steps.items else self.old.steps.items ++ record { seat = seat; parent = parent } ∷ [])) }
         ensures entered { OnOk result (self.new.entered ≡ (if set.contains self.old.entered (seat / 2) then self.old.entered else set.insert self.old.entered (seat / 2))) }
     {
@@ -73,7 +73,7 @@ impl Chain {
     /// holds it.
     fn meet(&mut self, seats: &Seats, at: usize, v: u16) -> Result<bool, Memory>
         requires point { v < length seats.now.seat_of.items }
-        requires seats { (s : ℕ) → slice_get seats.now.seat_of.items v ≡ Some (Some s) → s < 1024 }
+        requires seats { (s : ℕ) → slice_get seats.now.seat_of.items v ≡ Some (Some s) → s < MAX_MEMBERS }
         ensures vacant { IfOk result (λ ends. IsTrue ends → slice_get seats.now.seat_of.items v ≡ Some None) }
         ensures taken { IfOk result (λ ends. ends ≡ false → IsTaken seats.now.seat_of.items self.new.entered v) }
         ensures grows { OnOk result (Meets seats.now.seat_of.items at v self.old self.new) }

@@ -12,9 +12,9 @@ ghost use Rattle.pg_match.specs.Cache.{Fits, IsAfterLeaf};
 
 use crate::cache::PairCache;
 use crate::matching::{Matching, short_by_count};
-use crate::meant::{free_points, lines_without};
+use crate::meant::lines_without;
 use crate::rest::with_rest;
-use pg_base::{Kind, Memory, Pair, PointSet, Side};
+use pg_base::{Kind, MAX_MEMBERS, Memory, Pair, PointSet, Side};
 use pg_game::{Field, Game, Position};
 use std::alloc::Global;
 
@@ -72,7 +72,7 @@ pub fn pairs_leaf(
     let Field::Lines(field) = &g.field else {
         return Ok(None);
     };
-    let free = free_points(g, p);
+    let free = g.free_points(p);
     if !avoider_can_pair(g, p, &free) {
         return Ok(None);
     }
@@ -88,7 +88,7 @@ pub fn pairs_leaf(
 
 /// In Avoider-Enforcer with pairs of the rest.
 fn completed(g: &Game, p: &Position, pairs: Vec<Pair>) -> Result<Vec<Pair>, Memory>
-    requires { All (λ s. (s.a < 1024) × (s.b < 1024)) pairs.items }
+    requires { All (λ s. (s.a < MAX_MEMBERS) × (s.b < MAX_MEMBERS)) pairs.items }
     ensures avoider { IfOk result (λ all. g.now.kind ≡ AvoiderEnforcer → (rest : List Pair) × (all.items ≡ pairs.items ++ rest) × PairUp (unpaired g.now p.now pairs.items) rest) }
     ensures others { IfOk result (λ all. (g.now.kind ≢ AvoiderEnforcer) → all.items ≡ pairs.items) }
 {

@@ -13,5 +13,5 @@ mod seats;
 pub use cache::PairCache;
 pub use leaf::pairs_leaf;
 pub use matching::{Matching, private_pairs};
-pub use meant::{free_points, lines_without};
+pub use meant::lines_without;
 pub use rest::with_rest;

@@ -7,7 +7,7 @@ ghost use Rattle.pg_match.specs.Pairing.{ordered, seat_pairs};
 
 use crate::chain::Chain;
 use crate::seats::Seats;
-use pg_base::{Line, Lines, Memory, Pair, PointSet};
+use pg_base::{Line, Lines, MAX_MEMBERS, Memory, Pair, PointSet};
 use std::alloc::Global;
 
 /// Private pairs, or lines that have none. Exactly one of the two can be, by Hall's theorem (1935) with two points a line.
@@ -43,7 +43,7 @@ fn pairs_of(alloc: Global, held: &[u16]) -> Result<Vec<Pair>, Memory>
 
 /// How many free points the line has.
 fn count_free(line: &Line, free: &PointSet) -> usize
-    requires { All (λ v. v < 1024) line.now }
+    requires { All (λ v. v < MAX_MEMBERS) line.now }
     ensures { result ≡ length (filter (set.contains free.now) line.now) }
 {
     line.as_slice().iter().filter(|v| free.has(**v)).count()

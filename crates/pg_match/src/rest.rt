@@ -7,12 +7,12 @@ ghost use Rattle.pg_game.specs.Position.{is_free};
 ghost use Rattle.pg_game.specs.Pairs.{is_paired, unpaired};
 ghost use Rattle.pg_match.specs.Meant.{PairUp, PairsOn};
 
-use pg_base::{Memory, Pair, PointSet};
+use pg_base::{MAX_MEMBERS, Memory, Pair, PointSet};
 use pg_game::{Game, Position};
 
 /// The points of the pairs.
 fn points_of(pairs: &[Pair]) -> PointSet
-    requires { All (λ s. (s.a < 1024) × (s.b < 1024)) pairs.now }
+    requires { All (λ s. (s.a < MAX_MEMBERS) × (s.b < MAX_MEMBERS)) pairs.now }
     ensures { (v : ℕ) → set.contains result v ≡ is_paired pairs.now v }
 {
     let mut points = PointSet::empty();
@@ -36,7 +36,7 @@ fn pair_on(pairs: &mut Vec<Pair>, waiting: Option<u16>, v: u16) -> Result<Option
 
 /// Whether the point is free and not in the set.
 fn is_left_over(p: &Position, paired: &PointSet, v: u16) -> bool
-    requires { v < 1024 }
+    requires { v < MAX_MEMBERS }
     ensures { result ≡ (is_free p.now v && not (set.contains paired.now v)) }
 {
     p.is_free(v) && !paired.has(v)
@@ -49,7 +49,7 @@ fn is_left_over(p: &Position, paired: &PointSet, v: u16) -> bool
 ///
 /// `Memory` where no memory is found.
 pub fn with_rest(g: &Game, p: &Position, pairs: Vec<Pair>) -> Result<Vec<Pair>, Memory>
-    requires { All (λ s. (s.a < 1024) × (s.b < 1024)) pairs.items }
+    requires { All (λ s. (s.a < MAX_MEMBERS) × (s.b < MAX_MEMBERS)) pairs.items }
     ensures { IfOk result (λ all. (rest : List Pair) × (all.items ≡ pairs.items ++ rest) × PairUp (unpaired g.now p.now pairs.items) rest) }
 {
     let paired = points_of(&pairs);

@@ -4,6 +4,7 @@ use Rattle.std.proofs.lemmas.Bool.{cases_Bool, and_parts, and_from, or_from, not
 use Rattle.std.proofs.lemmas.List.Elements.{All-contains}
 use Rattle.std.proofs.lemmas.Option.{same_Some, none-some}
 use Rattle.std.specs.List.{find, Contains, All}
+use Rattle.std.specs.Option.{option_or}
 use Rattle.pg_base.specs.declared.kind.Kind.{Kind}
 use Rattle.pg_base.specs.declared.kind.Kind.TheVariants.{MakerBreaker, MakerMaker, AvoiderEnforcer, Switching}
 use Rattle.pg_base.specs.declared.pair.Pair.{Pair}
@@ -13,8 +14,8 @@ use Rattle.pg_base.specs.Side.{other}
 use Rattle.pg_game.specs.declared.game.Game.{Game}
 use Rattle.pg_game.specs.declared.position.Position.{Position}
 use Rattle.pg_game.specs.Position.{is_free}
-use Rattle.pg_game.specs.Game.{point_count, free_points, is_full, after, IsPosition}
-use Rattle.pg_game.specs.Pairs.{is_open, has_point, is_paired, is_loose, IsInGame, PairsHold, unpaired_due, first_some, partner, if_free, free_partner, lowest_free, pairs_answer}
+use Rattle.pg_game.specs.Game.{point_count, free_points, is_full, after, IsPosition, lowest_free}
+use Rattle.pg_game.specs.Pairs.{is_open, has_point, is_paired, is_loose, IsInGame, PairsHold, unpaired_due, partner, if_free, free_partner, pairs_answer}
 use Rattle.pg_game.proofs.Members.{Contains-head, Contains-tail, list_any-none, list_any-one, Contains-filter}
 use Rattle.pg_game.proofs.Moves.{free-stays, free-was, turn-after_x}
 use Rattle.pg_game.proofs.FreePoints.{any-free_points, first_free}
@@ -93,9 +94,9 @@ avoider_or_not Switching = inr (λ e. cc)
 -- ---- where the answer comes from
 
 -- the first of three that is there
-picked : (a b c : Option ℕ) → ((x : ℕ) × (a ≡ Some x) × (unwrap_or (first_some a (first_some b c)) 0 ≡ x))
-    ⊎ ((a ≡ None) × (((x : ℕ) × (b ≡ Some x) × (unwrap_or (first_some a (first_some b c)) 0 ≡ x))
-    ⊎ ((b ≡ None) × (((x : ℕ) × (c ≡ Some x) × (unwrap_or (first_some a (first_some b c)) 0 ≡ x)) ⊎ (c ≡ None)))))
+picked : (a b c : Option ℕ) → ((x : ℕ) × (a ≡ Some x) × (unwrap_or (option_or a (option_or b c)) 0 ≡ x))
+    ⊎ ((a ≡ None) × (((x : ℕ) × (b ≡ Some x) × (unwrap_or (option_or a (option_or b c)) 0 ≡ x))
+    ⊎ ((b ≡ None) × (((x : ℕ) × (c ≡ Some x) × (unwrap_or (option_or a (option_or b c)) 0 ≡ x)) ⊎ (c ≡ None)))))
 picked (Some x) b c = inl (x, refl, refl)
 picked None (Some x) c = inr (refl, inl (x, refl, refl))
 picked None None (Some x) = inr (refl, inr (refl, inl (x, refl, refl)))
@@ -164,17 +165,17 @@ module _ (g : Game) where
   -- the three cases of the answer
   pub answer-partner : (p : Position) (pairs : List Pair) (last : Option ℕ) (b : ℕ) → free_partner p pairs last ≡ Some b → pairs_answer g p pairs last ≡ b
   unfolding pairs_answer
-  answer-partner p pairs last b e = ap (λ o. unwrap_or (first_some o (first_some (find (is_loose p pairs) (free_points g p)) (lowest_free g p))) 0) e
+  answer-partner p pairs last b e = ap (λ o. unwrap_or (option_or o (option_or (find (is_loose p pairs) (free_points g p)) (lowest_free g p))) 0) e
 
   pub answer-loose : (p : Position) (pairs : List Pair) (last : Option ℕ) (v : ℕ) → free_partner p pairs last ≡ None → find (is_loose p pairs) (free_points g p) ≡ Some v
       → pairs_answer g p pairs last ≡ v
   unfolding pairs_answer
-  answer-loose p pairs last v none e = λ i. unwrap_or (first_some (none i) (first_some (e i) (lowest_free g p))) 0
+  answer-loose p pairs last v none e = λ i. unwrap_or (option_or (none i) (option_or (e i) (lowest_free g p))) 0
 
   pub answer-lowest : (p : Position) (pairs : List Pair) (last : Option ℕ) → free_partner p pairs last ≡ None → find (is_loose p pairs) (free_points g p) ≡ None
       → pairs_answer g p pairs last ≡ unwrap_or (lowest_free g p) 0
   unfolding pairs_answer
-  answer-lowest p pairs last none no_loose = λ i. unwrap_or (first_some (none i) (first_some (no_loose i) (lowest_free g p))) 0
+  answer-lowest p pairs last none no_loose = λ i. unwrap_or (option_or (none i) (option_or (no_loose i) (lowest_free g p))) 0
 
   -- without a free partner the reply is in no pair that was open before it
   unpaired-reply : (q : Position) (v : ℕ) (pairs : List Pair) → ArePairsOf g pairs → is_free q v ≡ true → free_partner (after g q v) pairs (Some v) ≡ None → is_paired (rest q pairs) v ≡ false

@@ -28,15 +28,6 @@ module _ {X : Type 0} where
             rw off (rw out tail)
       ]
 
-  pub any_both : (t f : X → Bool) (xs : List X) → list_any t (filter f xs) ≡ list_any (λ x. f x && t x) xs
-  any_both t f [] = refl
-  any_both t f (x ∷ xs) =
-      let tail = any_both t f xs in
-      elim (cases_Bool (f x)) [
-        | inl on ↦ rw on (ap (λ b. t x || b) tail)
-        | inr off ↦ rw off tail
-      ]
-
   -- what is kept is a member that passes
   pub filter_member : (t : X → Bool) (xs : List X) (x : X) → Contains (filter t xs) x → Contains xs x × (t x ≡ true)
   filter_member t xs x c =

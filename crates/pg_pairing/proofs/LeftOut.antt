@@ -15,7 +15,8 @@ use Rattle.pg_game.proofs.Members.{filter_both, Contains-head, list_any-none, li
 use Rattle.pg_game.proofs.Moves.{free-stays, free-was}
 use Rattle.pg_game.proofs.FreePoints.{is_free-after}
 use Rattle.pg_pairing.specs.Rest.{rest}
-use Rattle.pg_pairing.proofs.Filters.{filter_all, any_both, filter_member, filter_agree-range, in_range, below_range, one_equal, one_without, some_length}
+use Rattle.pg_game.proofs.Lowest.{any_both}
+use Rattle.pg_pairing.proofs.Filters.{filter_all, filter_member, filter_agree-range, in_range, below_range, one_equal, one_without, some_length}
 use Rattle.pg_pairing.proofs.OpenPairs.{Joins, joins, has_joined, joined_turned, one_of_joined, joined_free, joined_apart, outside_pair, same_pair, open_stays, open-of}
 
 -- whether the point is free and in no pair
@@ -125,11 +126,11 @@ module _ (g : Game) (side : Side) where
       b_free = (joined_free p found.0 v b joined.1 open_before).1
 
       apart : v ≢ b
-      apart = joined_apart found.0 v b joined.1 (All-contains (λ s. s.a ≢ s.b) pairs found.0 h.different found.1)
+      apart = joined_apart found.0 v b joined.1 (All-contains (λ s. s.a ≢ s.b) pairs found.0 h.apart.different found.1)
 
       b_within : b < point_count g
       b_within =
-          let range = All-contains (IsInGame g) pairs found.0 h.range found.1 in
+          let range = All-contains (IsInGame g) pairs found.0 h.apart.range found.1 in
           elim joined.1 [
             | inl ab ↦ subst (λ (n : ℕ). n < point_count g) ab.1 range.1
             | inr ba ↦ subst (λ (n : ℕ). n < point_count g) ba.0 range.0
@@ -146,7 +147,7 @@ module _ (g : Game) (side : Side) where
       b_unpaired = list_any-none (has_point b) (rest q pairs) (λ t c. elim (cases_Bool (has_point b t)) [
         | inl on ↦
             let both = filter_member (is_open q) pairs t c in
-            let same = same_pair pairs found.0 t b h.disjoint found.1 both.0 (has_joined found.0 b v (joined_turned found.0 v b joined.1)) on in
+            let same = same_pair pairs found.0 t b h.apart.disjoint found.1 both.0 (has_joined found.0 b v (joined_turned found.0 v b joined.1)) on in
             absurd (false≢true (sym closed ∙ ap (is_open q) same ∙ both.1))
         | inr off ↦ off
       ])
@@ -159,7 +160,7 @@ module _ (g : Game) (side : Side) where
           let t = at.0 in
           let off : has_point v t ≡ false = elim (cases_Bool (has_point v t)) [
             | inl on ↦
-                let same = same_pair pairs t found.0 v h.disjoint at.1 found.1 on found.2 in
+                let same = same_pair pairs t found.0 v h.apart.disjoint at.1 found.1 on found.2 in
                 absurd (elim (one_of_joined found.0 v b w joined.1 (ap (has_point w) (sym same) ∙ at.2)) [ inl is_v ↦ was.1 is_v | inr is_b ↦ ne is_b ])
             | inr off ↦ off
           ] in

@@ -6,6 +6,7 @@ use Rattle.std.proofs.lemmas.List.Kept.{AllPairs-filter}
 use Rattle.std.specs.List.{filter, Contains, Any, AllPairs}
 use Rattle.std.specs.FinSet.{FinSet, contains}
 use Rattle.std.specs.Ordering.{nat_cmp}
+use Rattle.pg_base.specs.Points.{ShareNone}
 use Rattle.pg_base.specs.declared.kind.Kind.{Kind}
 use Rattle.pg_base.specs.declared.kind.Kind.TheVariants.{MakerBreaker, MakerMaker, AvoiderEnforcer, Switching}
 use Rattle.pg_base.specs.declared.pair.Pair.{Pair}
@@ -14,7 +15,7 @@ use Rattle.pg_base.specs.declared.side.Side.TheVariants.{Y}
 use Rattle.pg_base.specs.Side.{other}
 use Rattle.pg_game.specs.declared.game.Game.{Game}
 use Rattle.pg_game.specs.declared.position.Position.{Position}
-use Rattle.pg_game.specs.Position.{is_free, points_of, AreDisjoint}
+use Rattle.pg_game.specs.Position.{is_free, points_of}
 use Rattle.pg_game.specs.Game.{is_touched, is_filled, has_filled, lines_of, after}
 use Rattle.pg_game.specs.Pairs.{is_open, has_point, is_paired, IsInGame, SharesNone, HoldsPair, PairsHold, PairsLeaveNone, breaker_of}
 use Rattle.pg_game.proofs.Members.{true-at, false-at, list_any-none, Contains-filter, All-from_members, apart-or_same}
@@ -119,13 +120,13 @@ rest-after g p v pairs = filter_narrower (is_open (after g p v)) (is_open p) (op
 
 -- where all pairs are open the rest is all of them
 pub rest_all : (g : Game) (p : Position) (side : Side) (pairs : List Pair) → PairsHold g p side pairs → rest p pairs ≡ pairs
-rest_all g p side pairs h = filter_all (is_open p) pairs h.free
+rest_all g p side pairs h = filter_all (is_open p) pairs h.apart.free
 
 pub RestHolds-from : (g : Game) (p : Position) (side : Side) (pairs : List Pair) → PairsHold g p side pairs → RestHolds g p side pairs
 RestHolds-from g p side pairs h = subst (λ (ss : List Pair). PairsHold g p side ss) (sym (rest_all g p side pairs h)) h
 
 pub ArePairsOf-from : (g : Game) (p : Position) (side : Side) (pairs : List Pair) → PairsHold g p side pairs → ArePairsOf g pairs
-ArePairsOf-from g p side pairs h = record { range = h.range; different = h.different; disjoint = h.disjoint }
+ArePairsOf-from g p side pairs h = record { range = h.apart.range; different = h.apart.different; disjoint = h.apart.disjoint }
 
 -- ---- who makes lines harmless
 
@@ -160,10 +161,12 @@ module _ (g : Game) (side : Side) where
       → (g.kind ≡ AvoiderEnforcer → PairsLeaveNone g p (rest p pairs))
       → RestHolds g p side pairs
   PairsHold-kept q p pairs h grows still leaves = record {
-    range = All-filter (is_open p) (IsInGame g) pairs h.range;
-    free = filter_passes (is_open p) pairs;
-    different = All-filter (is_open p) (λ s. s.a ≢ s.b) pairs h.different;
-    disjoint = AllPairs-filter SharesNone (is_open p) pairs h.disjoint;
+    apart = record {
+      range = All-filter (is_open p) (IsInGame g) pairs h.apart.range;
+      free = filter_passes (is_open p) pairs;
+      different = All-filter (is_open p) (λ s. s.a ≢ s.b) pairs h.apart.different;
+      disjoint = AllPairs-filter SharesNone (is_open p) pairs h.apart.disjoint;
+    };
     held = All-from_members (λ l. is_touched (points_of p guard) l ≡ false → Any (HoldsPair l) (filter (is_open p) pairs)) (lines_of g) (λ line c untouched.
         let found = All-contains (λ l. is_touched (points_of q guard) l ≡ false → Any (HoldsPair l) pairs) (lines_of g) line h.held c (untouched-before q p grows line untouched) in
         let s = found.1 in
@@ -178,7 +181,7 @@ module _ (g : Game) (side : Side) where
   not-own p line v q untouched own c e = false≢true (sym (false-at _ line q untouched c) ∙ ap (contains (points_of p guard)) (sym e) ∙ own)
 
   pub open-of : (p : Position) (pairs : List Pair) (s : Pair) → PairsHold g p side pairs → Contains pairs s → is_open p s ≡ true
-  open-of p pairs s h c = All-contains (λ t. is_open p t ≡ true) pairs s h.free c
+  open-of p pairs s h c = All-contains (λ t. is_open p t ≡ true) pairs s h.apart.free c
 
   -- after any move of the guard
   pub PairsHold-guard : (p : Position) (pairs : List Pair) (w : ℕ) → PairsHold g p side pairs → p.turn ≡ guard
@@ -205,7 +208,7 @@ module _ (g : Game) (side : Side) where
       let off : has_point b t ≡ false = or_from (eqb t.a b) (eqb t.b b) (ne_eqb t.a b (λ e. na (sym e))) (ne_eqb t.b b (λ e. nb (sym e))) in
       let v_off : has_point v t ≡ false = elim (cases_Bool (has_point v t)) [
         | inl on ↦
-            let same = same_pair pairs s t v h.disjoint c ct (has_joined s v b is) on in
+            let same = same_pair pairs s t v h.apart.disjoint c ct (has_joined s v b is) on in
             absurd (false≢true (sym off ∙ subst (λ (u : Pair). has_point b u ≡ true) same (has_joined s b v (joined_turned s v b is))))
         | inr out ↦ out
       ] in
@@ -215,7 +218,7 @@ module _ (g : Game) (side : Side) where
   -- ---- the side that may not fill a line fills none
 
   -- a line of which the guard's opponent has every point has none of the guard's
-  filled-untouched : (p : Position) → AreDisjoint p → (line : List ℕ) → is_filled (points_of p (other guard)) line ≡ true → is_touched (points_of p guard) line ≡ false
+  filled-untouched : (p : Position) → ShareNone p.x p.y → (line : List ℕ) → is_filled (points_of p (other guard)) line ≡ true → is_touched (points_of p guard) line ≡ false
   filled-untouched p d line filled = list_any-none (contains (points_of p guard)) line (λ v c. apart p guard v d (true-at (contains (points_of p (other guard))) line v filled c))
 
   -- a free point is on no line that is filled
@@ -227,7 +230,7 @@ module _ (g : Game) (side : Side) where
       let found = All-contains (λ l. is_touched (points_of p guard) l ≡ false → Any (HoldsPair l) pairs) (lines_of g) line h.held c untouched in
       (found.1, (found.0, found.2, found.3), found.4)
 
-  pub unfilled-held : (p : Position) → AreDisjoint p → (pairs : List Pair) → PairsHold g p side pairs → has_filled g p (other guard) ≡ false
+  pub unfilled-held : (p : Position) → ShareNone p.x p.y → (pairs : List Pair) → PairsHold g p side pairs → has_filled g p (other guard) ≡ false
   unfilled-held p d pairs h = list_any-none (is_filled (points_of p (other guard))) (lines_of g) (λ line c. elim (cases_Bool (is_filled (points_of p (other guard)) line)) [
     | inl filled ↦
         let found = held-at p pairs h line c (filled-untouched p d line filled) in
@@ -236,7 +239,7 @@ module _ (g : Game) (side : Side) where
   ])
 
   -- nor by one move from a position where pairs hold
-  pub unfilled-replied : (q : Position) (v : ℕ) (pairs : List Pair) → q.turn ≡ other guard → AreDisjoint (after g q v) → PairsHold g q side pairs → has_filled g (after g q v) (other guard) ≡ false
+  pub unfilled-replied : (q : Position) (v : ℕ) (pairs : List Pair) → q.turn ≡ other guard → ShareNone (after g q v).x (after g q v).y → PairsHold g q side pairs → has_filled g (after g q v) (other guard) ≡ false
   unfilled-replied q v pairs turn d h = list_any-none (is_filled (points_of (after g q v) (other guard))) (lines_of g) (λ line c. elim (cases_Bool (is_filled (points_of (after g q v) (other guard)) line)) [
     | inl filled ↦
         let untouched = filled-untouched (after g q v) d line filled in
@@ -247,6 +250,6 @@ module _ (g : Game) (side : Side) where
           | inl e ↦ e
           | inr ne ↦ absurd (filled-no_free (after g q v) line b filled on (free-stays g q v b ne still))
         ] in
-        absurd (All-contains (λ s. s.a ≢ s.b) pairs found.0 h.different found.1 (sym (at found.0.a found.2.0 both.0) ∙ at found.0.b found.2.1 both.1))
+        absurd (All-contains (λ s. s.a ≢ s.b) pairs found.0 h.apart.different found.1 (sym (at found.0.a found.2.0 both.0) ∙ at found.0.b found.2.1 both.1))
     | inr off ↦ off
   ])

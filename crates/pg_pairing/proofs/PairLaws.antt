@@ -1,5 +1,6 @@
 -- Pairs that hold force the claim: a win for Breaker and for Avoider, and a draw at least for either side of Maker-Maker.
 use Rattle.std.proofs.Common.{◌≡◌, ◌≢◌, ℕ, ◌<◌, ◌≤◌, true, false, List, Option, Some, None, refl, sym, ap, ◌∙◌, subst, inl, inr, ◌⊎◌, arith}
+use Rattle.pg_base.specs.Points.{ShareNone}
 use Rattle.pg_base.specs.declared.goal.Goal.{Goal}
 use Rattle.pg_base.specs.declared.goal.Goal.TheVariants.{Win, Draw as AtLeastDraw}
 use Rattle.pg_base.specs.declared.kind.Kind.{Kind}
@@ -10,7 +11,7 @@ use Rattle.pg_base.specs.declared.side.Side.TheVariants.{X, Y}
 use Rattle.pg_base.specs.Side.{other}
 use Rattle.pg_game.specs.declared.game.Game.{Game}
 use Rattle.pg_game.specs.declared.position.Position.{Position}
-use Rattle.pg_game.specs.Position.{is_free, AreDisjoint, claims_in_turn}
+use Rattle.pg_game.specs.Position.{is_free, claims_in_turn}
 use Rattle.pg_game.specs.Game.{point_count, bias_of, has_filled, is_over, outcome, after, IsPosition}
 use Rattle.pg_game.specs.Pairs.{PairsHold, breaker_of, pairs_answer}
 use Rattle.pg_game.specs.Strategy.{Keeps}
@@ -43,7 +44,7 @@ module _ (g : Game) (side : Side) (claims : MayClaim g.kind side) (single : Clai
 
   -- ---- where the game is over
 
-  unfilled-after : (q : Position) (v : ℕ) (pairs : List Pair) → q.turn ≡ other side → (after g q v).turn ≡ side → v < point_count g → is_free q v ≡ true → AreDisjoint (after g q v)
+  unfilled-after : (q : Position) (v : ℕ) (pairs : List Pair) → q.turn ≡ other side → (after g q v).turn ≡ side → v < point_count g → is_free q v ≡ true → ShareNone (after g q v).x (after g q v).y
       → RestHolds g q side pairs → has_filled g (after g q v) (other (breaker_of g.kind side)) ≡ false
   unfilled-after q v pairs theirs mine within free disjoint h = elim (avoider_or_not g.kind) [
     | inl kind ↦
@@ -58,7 +59,7 @@ module _ (g : Game) (side : Side) (claims : MayClaim g.kind side) (single : Clai
     | inl h ↦ unfilled-held g side p i.position.disjoint (rest p i.pairs) h
     | inr r ↦
         let b = r.held in
-        let P : Position → Type 0 = λ q. q.turn ≡ side → AreDisjoint q → has_filled g q (other (breaker_of g.kind side)) ≡ false in
+        let P : Position → Type 0 = λ q. q.turn ≡ side → ShareNone q.x q.y → has_filled g q (other (breaker_of g.kind side)) ≡ false in
         subst P (sym b.leads) (λ mine disjoint. unfilled-after b.before b.reply i.pairs b.theirs mine b.within b.free disjoint b.held) r.mine i.position.disjoint
   ]
 

@@ -145,10 +145,10 @@ AreOpenPairs-all g p xs i h pairs = subst (λ (ys : List Pair). AreOpenPairs g p
 
 -- all the facts of the condition
 pub PairsHold-from : (g : Game) (p : Position) (side : Side) (pairs : List Pair) → AreOpenPairs g p pairs → HoldLines g p side pairs → (g.kind ≡ AvoiderEnforcer → PairsLeaveNone g p pairs) → PairsHold g p side pairs
-PairsHold-from g p side pairs open_pairs lines leaves = record { range = open_pairs.range; free = open_pairs.free; different = open_pairs.different; disjoint = open_pairs.disjoint; held = lines; avoider = leaves }
+PairsHold-from g p side pairs open_pairs lines leaves = record { apart = open_pairs; held = lines; avoider = leaves }
 
 pub AreOpenPairs-of : (g : Game) (p : Position) (side : Side) (pairs : List Pair) → PairsHold g p side pairs → AreOpenPairs g p pairs
-AreOpenPairs-of g p side pairs h = record { range = h.range; free = h.free; different = h.different; disjoint = h.disjoint }
+AreOpenPairs-of g p side pairs h = h.apart
 
 -- ---- the count of the points left out
 
@@ -201,21 +201,6 @@ holds-iff points line pairs r is result = (
       result ∙ list_any-one (λ t. contains points t.a && contains points t.b) pairs s member
       (and_from _ _ (is s.a ∙ any-Contains line s.a held.4.0) (is s.b ∙ any-Contains line s.b held.4.1)),
 )
-
--- the points of a line, one more
-pub on_line-more : (line : List ℕ) (i d : ℕ) (points next : FinSet nat_cmp) → i < length line → ((q : ℕ) → contains points q ≡ list_any (λ v. eqb v q) (take i line))
-    → next ≡ insert points (get_or line i d) → (q : ℕ) → contains next q ≡ list_any (λ v. eqb v q) (take (i + 1) line)
-on_line-more line i d points next h is next_is q =
-    ap (λ s. contains s q) next_is ∙ in_insert points (get_or line i d) q ∙ ap (λ b. eqb q (get_or line i d) || b) (is q)
-    ∙ or_turned (eqb q (get_or line i d)) (list_any (λ v. eqb v q) (take i line))
-    ∙ ap (λ b. list_any (λ v. eqb v q) (take i line) || b) (same_eq q (get_or line i d))
-    ∙ sym (list_any_more (λ v. eqb v q) line i d h)
-  where
-    or_turned : (a b : Bool) → (a || b) ≡ (b || a)
-    or_turned true true = refl
-    or_turned true false = refl
-    or_turned false true = refl
-    or_turned false false = refl
 
 -- the points of pairs of the game are below 1,024
 pub pairs-few : (g : Game) (pairs : List Pair) → All (IsInGame g) pairs → All (λ s. (s.a < 1024) × (s.b < 1024)) pairs

@@ -5,36 +5,17 @@ ghost use Rattle.std.specs.FinSet as set;
 ghost use Rattle.pg_base.specs.declared.goal.Goal.TheVariants.{Win, Draw};
 ghost use Rattle.pg_base.specs.declared.kind.Kind.TheVariants.{AvoiderEnforcer};
 ghost use Rattle.pg_game.specs.Position.{is_free};
-ghost use Rattle.pg_game.specs.Game.{lines_of, is_touched, free_points, IsPosition};
+ghost use Rattle.pg_game.specs.Game.{free_points, IsPosition};
 ghost use Rattle.pg_game.specs.Pairs.{PairsHold, PairsLeaveNone, AreOpenPairs, HoldLines, IsSafe, has_point, is_paired, breaker_of, unpaired_due};
 ghost use Rattle.pg_game.specs.Value.{Forces};
 ghost use Rattle.pg_pairing.specs.Taking.{CanTake};
 
-use pg_base::{Kind, Line, Pair, PointSet, Side};
-use pg_game::{Field, Game, Position};
-
-/// Whether some point of the line is in the set.
-fn touches(points: &PointSet, line: &Line) -> bool
-    requires { All (λ v. v < 1024) line.now }
-    ensures { result ≡ is_touched points.now line.now }
-{
-    line.as_slice().iter().any(|v| points.has(*v))
-}
-
-/// The lines, none on a graph.
-fn lines_of(g: &Game) -> &[Line]
-    ensures lines { result.now ≡ lines_of g.now }
-    ensures range { All (All (λ v. v < 1024)) result.now }
-{
-    match &g.field {
-        Field::Lines(field) => field.lines.as_slice(),
-        Field::Graph(_) => &[],
-    }
-}
+use pg_base::{Kind, Line, MAX_MEMBERS, Pair, PointSet, Side};
+use pg_game::{Game, Position};
 
 /// Puts a free point of the game that isn't taken to those that are, and tells whether it could.
 fn take(points: u16, p: &Position, taken: &mut PointSet, v: u16) -> bool
-    requires { points ≤ 1024 }
+    requires { points ≤ MAX_MEMBERS }
     ensures free { result ≡ (nat_lt v points && (is_free p.now v && not (set.contains taken.old v))) }
     ensures taken { taken.new ≡ (if result then set.insert taken.old v else taken.old) }
 {
@@ -48,7 +29,7 @@ fn take(points: u16, p: &Position, taken: &mut PointSet, v: u16) -> bool
 
 /// Puts both points of the pair to those that are taken, and tells whether it could.
 fn take_pair(points: u16, p: &Position, taken: &mut PointSet, s: Pair) -> bool
-    requires { points ≤ 1024 }
+    requires { points ≤ MAX_MEMBERS }
     ensures fits { IsTrue result ↔ CanTake points p.now taken.old s }
     ensures taken { IsTrue result → (q : ℕ) → set.contains taken.new q ≡ (has_point q s || set.contains taken.old q) }
 {
@@ -72,7 +53,7 @@ pub(crate) fn paired_points(g: &Game, p: &Position, pairs: &[Pair]) -> Option<Po
 
 /// Whether the point is free and not in the set.
 pub(crate) fn is_outside(p: &Position, points: &PointSet, v: u16) -> bool
-    requires { v < 1024 }
+    requires { v < MAX_MEMBERS }
     ensures { result ≡ (is_free p.now v && not (set.contains points.now v)) }
 {
     p.is_free(v) && !points.has(v)
@@ -116,21 +97,9 @@ fn leave_none(g: &Game, p: &Position, pairs: &[Pair], paired: &PointSet) -> bool
     count_outside(g, p, paired) == unpaired_due(p.turn)
 }
 
-/// The points of the line.
-fn points_on(line: &Line) -> PointSet
-    requires { All (λ v. v < 1024) line.now }
-    ensures { (q : ℕ) → set.contains result q ≡ list_any (λ v. v == q) line.now }
-{
-    let mut points = PointSet::empty();
-    for v in line.as_slice() {
-        points.put(*v);
-    }
-    points
-}
-
 /// Whether both points of some pair are in the set.
 fn has_both(points: &PointSet, pairs: &[Pair]) -> bool
-    requires { All (λ s. (s.a < 1024) × (s.b < 1024)) pairs.now }
+    requires { All (λ s. (s.a < MAX_MEMBERS) × (s.b < MAX_MEMBERS)) pairs.now }
     ensures { result ≡ list_any (λ s. set.contains points.now s.a && set.contains points.now s.b) pairs.now }
 {
     pairs.iter().any(|s| points.has(s.a) && points.has(s.b))
@@ -138,11 +107,11 @@ fn has_both(points: &PointSet, pairs: &[Pair]) -> bool
 
 /// Whether the line has one of the points, or holds both points of some pair.
 fn is_safe(own: &PointSet, line: &Line, pairs: &[Pair]) -> bool
-    requires line_range { All (λ v. v < 1024) line.now }
-    requires pairs_range { All (λ s. (s.a < 1024) × (s.b < 1024)) pairs.now }
+    requires line_range { All (λ v. v < MAX_MEMBERS) line.now }
+    requires pairs_range { All (λ s. (s.a < MAX_MEMBERS) × (s.b < MAX_MEMBERS)) pairs.now }
     ensures { IsTrue result ↔ IsSafe own.now pairs.now line.now }
 {
-    touches(own, line) || has_both(&points_on(line), pairs)
+    own.meets(line.as_slice()) || has_both(&PointSet::from_points(line.as_slice()), pairs)
 }
 
 /// The side whose points make a line harmless to the claimer.
@@ -157,11 +126,11 @@ fn breaker_of(kind: Kind, side: Side) -> Side
 
 /// Whether every line meant holds both points of some pair.
 fn hold_lines(g: &Game, p: &Position, side: Side, pairs: &[Pair]) -> bool
-    requires { All (λ s. (s.a < 1024) × (s.b < 1024)) pairs.now }
+    requires { All (λ s. (s.a < MAX_MEMBERS) × (s.b < MAX_MEMBERS)) pairs.now }
     ensures { IsTrue result ↔ HoldLines g.now p.now side pairs.now }
 {
     let own = p.points_of(breaker_of(g.kind, side));
-    lines_of(g).iter().all(|line| is_safe(own, line, pairs))
+    g.lines().iter().all(|line| is_safe(own, line, pairs))
 }
 
 /// Whether the pairs are of free points, all different, and every line without a point of the side that makes lines

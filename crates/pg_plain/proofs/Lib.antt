@@ -1,7 +1,7 @@
 pub mod BestPlay
 pub mod ClassLaws
 pub mod LeafLaws
-pub mod Reached
-pub mod EdgeConditions
 pub mod NearLines
 pub mod ThreatSearches
+pub mod PairSearches
+pub mod CriteriaLaws

@@ -64,7 +64,7 @@ leads-nowhere g side none (v ∷ (u ∷ others)) p leads = leads-nowhere g side 
 found-going : (g : Game) (p : Position) (depth : ℕ) → has_threat_line depth g p ≡ true → IsGoing g p
 found-going g p depth h =
     let list = line-within g depth p h in
-    let lines : g.kind ≢ Switching = λ e. leads-nowhere g p.turn (no-lines g.kind g.field g.fits.kind_fits e) list.0 p list.2.leads in
+    let lines : g.kind ≢ Switching = λ e. leads-nowhere g p.turn (no-lines g.kind g.field g.fits.within.kind_fits e) list.0 p list.2.leads in
     record { single = list.2.single; going = list.2.going; lines = lines }
 
 -- so none is found where it doesn't

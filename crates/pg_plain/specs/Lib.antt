@@ -1,5 +1,3 @@
 pub mod Classes
-pub mod EdgeSets
-pub mod PairParts
-pub mod Reach
 pub mod Attacks
+pub mod PairSearch

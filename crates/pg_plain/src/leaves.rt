@@ -2,31 +2,11 @@
 ghost use Rattle.std.specs.Prelude.{◌≡◌, ◌+◌, ◌^◌, ◌<◌, ◌≤◌, length, if◌then◌else◌};
 ghost use Rattle.std.specs.List.{All, count_by};
 ghost use Rattle.pg_game.specs.Avoider.{x_takes_last, avoider_ends, avoider_risk, avoider_holds};
-ghost use Rattle.pg_game.specs.Game.{free_points, lines_of, is_touched};
 ghost use Rattle.pg_game.specs.Position.{is_free};
-ghost use Rattle.pg_game.specs.Potential.{greatest_length, is_on, line_weight, total_weight, point_weight, full_weight, total, weight, limit, greatest_weight, is_turn_of, times_counted, potential_holds, IsBaseOf};
+ghost use Rattle.pg_game.specs.Potential.{is_on, line_weight, total_weight, point_weight, full_weight, total, weight, limit, greatest_weight, times_counted, potential_holds, IsBaseOf};
 
-use pg_base::{Line, PointSet, Side};
-use pg_game::{Field, Game, Position};
-
-/// The lines, none on a graph.
-pub(crate) fn lines_of(g: &Game) -> &[Line]
-    ensures lines { result.now ≡ lines_of g.now }
-    ensures range { All (All (λ v. v < 256)) result.now }
-{
-    match &g.field {
-        Field::Lines(field) => field.lines.as_slice(),
-        Field::Graph(_) => &[],
-    }
-}
-
-/// Whether some point of the line is in the set.
-pub(crate) fn is_touched(points: &PointSet, line: &Line) -> bool
-    requires { All (λ v. v < 256) line.now }
-    ensures { result ≡ is_touched points.now line.now }
-{
-    line.as_slice().iter().any(|v| points.has(*v))
-}
+use pg_base::{Line, MAX_MEMBERS, PointSet, Side};
+use pg_game::{Game, MAX_BIAS, MAX_LINE_POINTS, MAX_POINTS, Position, greatest_length};
 
 /// Whether the line holds the point.
 pub(crate) fn is_on(v: u16, line: &Line) -> bool
@@ -37,36 +17,22 @@ pub(crate) fn is_on(v: u16, line: &Line) -> bool
 
 /// How many points of the line are free.
 fn free_count(p: &Position, line: &Line) -> usize
-    requires { All (λ v. v < 256) line.now }
+    requires { All (λ v. v < MAX_POINTS) line.now }
     ensures { result ≡ count_by (is_free p.now) line.now }
 {
     line.as_slice().iter().filter(|v| p.is_free(**v)).count()
 }
 
-/// The greatest length of a line, and 0 where there is none.
-fn greatest_length(lines: &[Line]) -> usize
-    ensures { result ≡ greatest_length lines.now }
-{
-    let mut longest = 0;
-    for line in lines {
-        let len = line.len();
-        if len > longest {
-            longest = len;
-        }
-    }
-    longest
-}
-
 /// The weight of a line: 0 where it has one of the points, else the base to the power of `longest` less its free points.
 fn line_weight(base: u128, longest: usize, own: &PointSet, p: &Position, line: &Line) -> u128
-    requires range { All (λ v. v < 256) line.now }
+    requires range { All (λ v. v < MAX_POINTS) line.now }
     requires some { 1 ≤ base }
-    requires few { longest ≤ 100 }
+    requires few { longest ≤ MAX_LINE_POINTS }
     requires short { length line.now ≤ longest }
-    requires fits { base ^ longest ≤ 2 ^ 100 }
+    requires fits { base ^ longest ≤ 2 ^ MAX_LINE_POINTS }
     ensures { result ≡ line_weight base longest own.now p.now line.now }
 {
-    if is_touched(own, line) {
+    if own.meets(line.as_slice()) {
         0
     } else {
         base.pow((longest - free_count(p, line)) as u32)
@@ -78,7 +44,7 @@ fn total_weight(base: u128, g: &Game, own: &PointSet, p: &Position) -> u128
     requires { IsBaseOf base g.now }
     ensures { result ≡ total_weight base g.now own.now p.now }
 {
-    let lines = lines_of(g);
+    let lines = g.lines();
     let longest = greatest_length(lines);
     let mut total = 0;
     for line in lines {
@@ -92,7 +58,7 @@ fn point_weight(base: u128, g: &Game, own: &PointSet, p: &Position, v: u16) -> u
     requires { IsBaseOf base g.now }
     ensures { result ≡ point_weight base g.now own.now p.now v }
 {
-    let lines = lines_of(g);
+    let lines = g.lines();
     let longest = greatest_length(lines);
     let mut sum = 0;
     for line in lines {
@@ -108,7 +74,7 @@ fn full_weight(base: u128, g: &Game) -> u128
     requires { IsBaseOf base g.now }
     ensures { result ≡ full_weight base g.now }
 {
-    base.pow(greatest_length(lines_of(g)) as u32)
+    base.pow(greatest_length(g.lines()) as u32)
 }
 
 /// Breaker's base: one more than the points that Y claims in a turn.
@@ -120,21 +86,21 @@ fn breaker_base(g: &Game) -> u128
 }
 
 /// The sum of the weights of the lines without a point of the side.
-pub fn total(g: &Game, p: &Position, side: Side) -> u128
+fn total(g: &Game, p: &Position, side: Side) -> u128
     ensures { result ≡ total g.now p.now side }
 {
     total_weight(breaker_base(g), g, p.points_of(side), p)
 }
 
 /// The sum of the weights of those lines through a point.
-pub fn weight(g: &Game, p: &Position, side: Side, v: u16) -> u128
+fn weight(g: &Game, p: &Position, side: Side, v: u16) -> u128
     ensures { result ≡ weight g.now p.now side v }
 {
     point_weight(breaker_base(g), g, p.points_of(side), p, v)
 }
 
 /// What the total must stay below.
-pub fn limit(g: &Game) -> u128
+fn limit(g: &Game) -> u128
     ensures { result ≡ limit g.now }
 {
     full_weight(breaker_base(g), g)
@@ -142,7 +108,7 @@ pub fn limit(g: &Game) -> u128
 
 /// What a point weighs where it is free, and 0 where it isn't.
 fn free_weight(g: &Game, p: &Position, side: Side, v: u16) -> u128
-    requires { v < 1024 }
+    requires { v < MAX_MEMBERS }
     ensures { result ≡ (if is_free p.now v then weight g.now p.now side v else 0) }
 {
     if p.is_free(v) {
@@ -153,7 +119,7 @@ fn free_weight(g: &Game, p: &Position, side: Side, v: u16) -> u128
 }
 
 /// The greatest weight of a free point, and 0 where none is free.
-pub fn greatest_weight(g: &Game, p: &Position, side: Side) -> u128
+fn greatest_weight(g: &Game, p: &Position, side: Side) -> u128
     ensures { result ≡ greatest_weight g.now p.now side }
 {
     let mut greatest = 0;
@@ -166,22 +132,12 @@ pub fn greatest_weight(g: &Game, p: &Position, side: Side) -> u128
     greatest
 }
 
-/// Whether it is the side's turn.
-fn is_turn_of(side: Side, turn: Side) -> bool
-    ensures { result ≡ is_turn_of side turn }
-{
-    match side {
-        Side::X => turn == Side::X,
-        Side::Y => turn == Side::Y,
-    }
-}
-
 /// How often the greatest weight counts.
 fn times_counted(g: &Game, p: &Position, side: Side) -> u8
     ensures times { result ≡ times_counted g.now p.now side }
-    ensures few { result ≤ 7 }
+    ensures few { result ≤ MAX_BIAS }
 {
-    if is_turn_of(side, p.turn) {
+    if side.is_same(p.turn) {
         g.bias.saturating_sub(p.left)
     } else {
         g.bias
@@ -191,7 +147,7 @@ fn times_counted(g: &Game, p: &Position, side: Side) -> u8
 /// Whether the total, with the greatest weight of a free point as often as it counts, is below the limit.
 ///
 /// Erdős and Selfridge, On a combinatorial game (1973).
-pub fn potential_holds(g: &Game, p: &Position, side: Side) -> bool
+pub(crate) fn potential_holds(g: &Game, p: &Position, side: Side) -> bool
     ensures { result ≡ potential_holds g.now p.now side }
 {
     let times = u128::from(times_counted(g, p, side));
@@ -200,26 +156,13 @@ pub fn potential_holds(g: &Game, p: &Position, side: Side) -> bool
 
 /// Whether X takes the last of so many free points, where a side is to move and still claims so many in its turn.
 fn x_takes_last(bias: u16, turn: Side, left: u16, free: u16) -> bool
-    requires { bias ≤ 7 }
+    requires { bias ≤ MAX_BIAS }
     ensures { result ≡ x_takes_last bias turn left free }
 {
     match turn {
         Side::X => 0 < free && (free - 1) % (bias + 1) == 0,
         Side::Y => left < free && (free - left - 1) % (bias + 1) == 0,
     }
-}
-
-/// How many points are free.
-fn free_points(g: &Game, p: &Position) -> u16
-    ensures { result ≡ length (free_points g.now p.now) }
-{
-    let mut free = 0;
-    for v in 0..g.points() {
-        if p.is_free(v) {
-            free += 1;
-        }
-    }
-    free
 }
 
 /// Whether Avoider takes the last free point.
@@ -230,7 +173,7 @@ fn avoider_ends(g: &Game, p: &Position) -> bool
         u16::from(g.bias),
         p.turn,
         u16::from(p.left),
-        free_points(g, p),
+        g.free_points(p).len() as u16,
     )
 }
 
@@ -244,7 +187,7 @@ fn avoider_risk(g: &Game, p: &Position) -> u128
 
 /// Whether the sum of the weights of the lines without a point of Enforcer, twice where Avoider takes the last free
 /// point, is below the limit.
-pub fn avoider_holds(g: &Game, p: &Position) -> bool
+pub(crate) fn avoider_holds(g: &Game, p: &Position) -> bool
     ensures { result ≡ avoider_holds g.now p.now }
 {
     avoider_risk(g, p) < full_weight(2, g)

@@ -2,47 +2,27 @@
 ghost use Rattle.std.specs.Prelude.{◌≡◌, ◌≢◌, ◌==◌, ◌||◌, ◌<◌, ◌↔◌, true, IsTrue};
 ghost use Rattle.std.specs.List.{All, list_all, list_any};
 ghost use Rattle.std.specs.FinSet.{contains};
-ghost use Rattle.pg_game.specs.Game.{has_filled, all_touched, is_filled, is_full, is_over};
+ghost use Rattle.pg_game.specs.Game.{has_filled, all_touched, is_over};
 ghost use Rattle.pg_game.specs.Threat.{is_near, threatens, has_threat, IsAttack, Forcing, Filling, LeadsToLine, IsThreatLine};
 ghost use Rattle.pg_plain.specs.Attacks.{IsGoing};
 
-use crate::leaves::{is_on, is_touched, lines_of};
-use pg_base::{Kind, Line, PointSet, Side};
-use pg_game::{Game, Position};
-
-/// Whether each point of the line is in the set.
-fn is_filled(points: &PointSet, line: &Line) -> bool
-    requires { All (λ v. v < 256) line.now }
-    ensures { result ≡ is_filled points.now line.now }
-{
-    line.as_slice().iter().all(|v| points.has(*v))
-}
+use crate::leaves::is_on;
+use pg_base::{Kind, Line, MAX_MEMBERS, PointSet, Side};
+use pg_game::{Game, MAX_POINTS, Position};
 
 /// Whether the side has filled a line.
 fn has_filled(g: &Game, p: &Position, side: Side) -> bool
     ensures { result ≡ has_filled g.now p.now side }
 {
     let own = p.points_of(side);
-    lines_of(g).iter().any(|line| is_filled(own, line))
+    g.lines().iter().any(|line| own.has_all(line.as_slice()))
 }
 
 /// Whether every line has a point of Y.
 fn all_touched(g: &Game, p: &Position) -> bool
     ensures { result ≡ all_touched g.now p.now }
 {
-    lines_of(g).iter().all(|line| is_touched(&p.y, line))
-}
-
-/// Whether no point is free.
-fn is_full(g: &Game, p: &Position) -> bool
-    ensures { result ≡ is_full g.now p.now }
-{
-    for v in 0..g.points() {
-        if p.is_free(v) {
-            return false;
-        }
-    }
-    true
+    g.lines().iter().all(|line| p.y.meets(line.as_slice()))
 }
 
 /// Whether a game on lines is over.
@@ -53,15 +33,15 @@ fn is_over(g: &Game, p: &Position) -> bool
 {
     let filled = has_filled(g, p, Side::X);
     match g.kind {
-        Kind::MakerBreaker | Kind::AvoiderEnforcer => filled || all_touched(g, p) || is_full(g, p),
-        Kind::MakerMaker => filled || has_filled(g, p, Side::Y) || is_full(g, p),
+        Kind::MakerBreaker | Kind::AvoiderEnforcer => filled || all_touched(g, p) || g.is_full(p),
+        Kind::MakerMaker => filled || has_filled(g, p, Side::Y) || g.is_full(p),
         Kind::Switching => unreachable!(),
     }
 }
 
 /// Whether each point of the line but u is in the set.
 fn is_filled_but(points: &PointSet, line: &Line, u: u16) -> bool
-    requires { All (λ v. v < 256) line.now }
+    requires { All (λ v. v < MAX_POINTS) line.now }
     ensures { result ≡ list_all (λ q. q == u || contains points.now q) line.now }
 {
     line.as_slice().iter().all(|q| *q == u || points.has(*q))
@@ -69,7 +49,7 @@ fn is_filled_but(points: &PointSet, line: &Line, u: u16) -> bool
 
 /// Whether all points of the line are the side's but u, which is on it and free.
 fn is_near(p: &Position, side: Side, line: &Line, u: u16) -> bool
-    requires { All (λ v. v < 256) line.now }
+    requires { All (λ v. v < MAX_POINTS) line.now }
     ensures { result ≡ is_near p.now side line.now u }
 {
     if !is_on(u, line) {
@@ -82,12 +62,12 @@ fn is_near(p: &Position, side: Side, line: &Line, u: u16) -> bool
 fn threatens(g: &Game, p: &Position, side: Side, u: u16) -> bool
     ensures { result ≡ threatens g.now p.now side u }
 {
-    lines_of(g).iter().any(|line| is_near(p, side, line, u))
+    g.lines().iter().any(|line| is_near(p, side, line, u))
 }
 
 /// Whether the side lacks only one free point to fill the line.
 fn is_nearly_filled(p: &Position, side: Side, line: &Line) -> bool
-    requires { All (λ v. v < 256) line.now }
+    requires { All (λ v. v < MAX_POINTS) line.now }
     ensures { result ≡ list_any (is_near p.now side line.now) line.now }
 {
     line.as_slice().iter().any(|u| is_near(p, side, line, *u))
@@ -97,15 +77,13 @@ fn is_nearly_filled(p: &Position, side: Side, line: &Line) -> bool
 fn has_threat(g: &Game, p: &Position, side: Side) -> bool
     ensures { result ≡ has_threat g.now p.now side }
 {
-    lines_of(g)
-        .iter()
-        .any(|line| is_nearly_filled(p, side, line))
+    g.lines().iter().any(|line| is_nearly_filled(p, side, line))
 }
 
 /// Whether the point is a free point of the game.
 fn is_attack(g: &Game, p: &Position, v: u16) -> bool
     ensures attack { IsTrue result ↔ IsAttack g.now p.now v }
-    ensures few { IsTrue result → v < 1024 }
+    ensures few { IsTrue result → v < MAX_MEMBERS }
 {
     v < g.points() && p.is_free(v)
 }
@@ -113,7 +91,7 @@ fn is_attack(g: &Game, p: &Position, v: u16) -> bool
 /// Whether taking v is an attack that fills no line, and after which the other side must take u.
 pub(crate) fn is_forcing(g: &Game, p: &Position, side: Side, v: u16, u: u16) -> bool
     ensures forcing { IsTrue result ↔ Forcing g.now p.now side v u }
-    ensures few { IsTrue result → (v < 1024) × (u < 1024) }
+    ensures few { IsTrue result → (v < MAX_MEMBERS) × (u < MAX_MEMBERS) }
 {
     if !is_attack(g, p, v) {
         return false;

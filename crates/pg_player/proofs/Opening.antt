@@ -4,6 +4,8 @@ use Rattle.std.proofs.Math.Logic.{∥∥₁_elim, ∥∥₁_map}
 use Rattle.std.proofs.Math.Bridge.{le_prop}
 use Rattle.std.proofs.lemmas.Bool.{cases_Bool, and_parts, false≢true}
 use Rattle.std.proofs.lemmas.Option.{slice_get-get_or, slice_get_read, slice_get_within}
+use Rattle.std.specs.Option.{option_or}
+use Rattle.pg_base.specs.Side.{is_same_side}
 use Rattle.pg_base.specs.declared.score.Score.{Score}
 use Rattle.pg_base.specs.declared.side.Side.{Side}
 use Rattle.pg_base.specs.declared.side.Side.TheVariants.{X, Y}
@@ -21,7 +23,7 @@ use Rattle.pg_cert.specs.Limits.{IsClaim, IsWithinLimits}
 use Rattle.pg_cert.specs.OwnMove.{Standing, arrives}
 use Rattle.pg_cert.specs.Valid.{IsNodeOf, IsValid}
 use Rattle.pg_player.specs.InPlay.{InPlay, IsSoundClaim}
-use Rattle.pg_player.specs.Player.{is_same_side, is_claim_of, is_win_of, is_win, first_claim, chosen_claim}
+use Rattle.pg_player.specs.Player.{is_claim_of, is_win_of, is_win, chosen_claim}
 use Rattle.pg_player.proofs.Plays.{reached-start}
 use Rattle.pg_player.proofs.Arriving.{arrived}
 use Rattle.pg_player.proofs.Stable.{valid_claim}
@@ -55,7 +57,7 @@ pub chosen-is : (g : Game) (cert : Cert) (side : Side) (claim : Claim) → chose
 unfolding chosen_claim
 chosen-is g cert side claim h = by_first (find (is_win_of side g.turn) cert.claims) refl h
   where
-    by_first : (o : Option Claim) → find (is_win_of side g.turn) cert.claims ≡ o → first_claim o (find (is_claim_of side g.turn) cert.claims) ≡ Some claim → IsChosen g cert side claim
+    by_first : (o : Option Claim) → find (is_win_of side g.turn) cert.claims ≡ o → option_or o (find (is_claim_of side g.turn) cert.claims) ≡ Some claim → IsChosen g cert side claim
     by_first (Some first) e is =
         let same : first ≡ claim = cc in
         let member = find_member (is_win_of side g.turn) cert.claims claim (e ∙ is) in

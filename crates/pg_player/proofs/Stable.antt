@@ -97,14 +97,16 @@ some_pair line pairs t =
 
 pairs-hold : (g : Game) (p : Position) (side : Side) (pairs : List Pair) → ∥ PairsHold g p side pairs ∥₁ → PairsHold g p side pairs
 pairs-hold g p side pairs t = record {
-  range = λ k d lt. (less _ _ (∥∥₁_map t (λ h. (h.range k d lt).0)), less _ _ (∥∥₁_map t (λ h. (h.range k d lt).1)));
-  free = λ k d lt. same_bool _ _ (∥∥₁_map t (λ h. h.free k d lt));
-  different = λ k d lt e. never (∥∥₁_map t (λ h. h.different k d lt e));
-  disjoint = λ i j d low high. record {
-    aa = λ e. never (∥∥₁_map t (λ h. (h.disjoint i j d low high).aa e));
-    ab = λ e. never (∥∥₁_map t (λ h. (h.disjoint i j d low high).ab e));
-    ba = λ e. never (∥∥₁_map t (λ h. (h.disjoint i j d low high).ba e));
-    bb = λ e. never (∥∥₁_map t (λ h. (h.disjoint i j d low high).bb e));
+  apart = record {
+    range = λ k d lt. (less _ _ (∥∥₁_map t (λ h. (h.apart.range k d lt).0)), less _ _ (∥∥₁_map t (λ h. (h.apart.range k d lt).1)));
+    free = λ k d lt. same_bool _ _ (∥∥₁_map t (λ h. h.apart.free k d lt));
+    different = λ k d lt e. never (∥∥₁_map t (λ h. h.apart.different k d lt e));
+    disjoint = λ i j d low high. record {
+      aa = λ e. never (∥∥₁_map t (λ h. (h.apart.disjoint i j d low high).aa e));
+      ab = λ e. never (∥∥₁_map t (λ h. (h.apart.disjoint i j d low high).ab e));
+      ba = λ e. never (∥∥₁_map t (λ h. (h.apart.disjoint i j d low high).ba e));
+      bb = λ e. never (∥∥₁_map t (λ h. (h.apart.disjoint i j d low high).bb e));
+    };
   };
   held = λ k d lt untouched. some_pair _ pairs (∥∥₁_map t (λ h. h.held k d lt untouched));
   avoider = λ kind. record {

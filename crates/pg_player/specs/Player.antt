@@ -1,10 +1,10 @@
 -- What is seen of a player: the game, the claim that it plays, the position, and where it stands.
 use Rattle.std.specs.Prelude.{◌≡◌, ◌⊎◌, ℕ, ◌<◌, Bool, true, false, ◌&&◌, Option, Some, None, Ok, find}
-use Rattle.pg_base.specs.Side.{other}
+use Rattle.std.specs.Option.{option_or}
+use Rattle.pg_base.specs.Side.{other, is_same_side}
 use Rattle.pg_base.specs.declared.goal.Goal.{Goal}
 use Rattle.pg_base.specs.declared.goal.Goal.TheVariants.{Win, Draw as AtLeastDraw}
 use Rattle.pg_base.specs.declared.side.Side.{Side}
-use Rattle.pg_base.specs.declared.side.Side.TheVariants.{X, Y}
 use Rattle.pg_game.specs.declared.game.Game.{Game}
 use Rattle.pg_game.specs.declared.position.Position.{Position}
 use Rattle.pg_game.specs.Position.{is_free}
@@ -23,13 +23,6 @@ pub record Play : Type 0 where
 
 -- ---- the claim that is played
 
--- whether the two are one side
-abbrev pub is_same_side : Side → Side → Bool
-is_same_side X X = true
-is_same_side X Y = false
-is_same_side Y X = false
-is_same_side Y Y = true
-
 -- whether the goal is to win
 abbrev pub is_win : Goal → Bool
 is_win Win = true
@@ -43,14 +36,9 @@ is_claim_of side turn claim = is_same_side claim.side side && is_same_side claim
 abbrev pub is_win_of : Side → Side → Claim → Bool
 is_win_of side turn claim = is_claim_of side turn claim && is_win claim.goal
 
--- the first claim, or the second where there is none
-abbrev pub first_claim : Option Claim → Option Claim → Option Claim
-first_claim (Some claim) other = Some claim
-first_claim None other = other
-
 -- the claim that a side plays: the first of that side and the game's turn with goal win, else the first of that side and turn
 unfoldable pub chosen_claim : Game → Cert → Side → Option Claim
-chosen_claim g cert side = first_claim (find (is_win_of side g.turn) cert.claims) (find (is_claim_of side g.turn) cert.claims)
+chosen_claim g cert side = option_or (find (is_win_of side g.turn) cert.claims) (find (is_claim_of side g.turn) cert.claims)
 
 -- ---- moves and replies
 

@@ -10,7 +10,7 @@ ghost use Rattle.pg_player.specs.Player.{Moves, Answers, MakesMove, TakesReply, 
 use crate::choice::chosen_claim;
 use crate::moves::own_move;
 use crate::standing::{Stand, replied, root};
-use pg_base::{Goal, Memory, Score, Side};
+use pg_base::{Goal, Kind, Memory, Score, Side};
 use pg_cert::Claim;
 use pg_check::Checked;
 use pg_game::{Game, Illegal, Judge, Position, joiner_for};
@@ -119,6 +119,13 @@ impl<'a> Player<'a> {
         ensures { result ≡ self.now.claim.side }
     {
         self.claim.side
+    }
+
+    /// The kind of the game that is played.
+    pub fn kind(&self) -> Kind
+        ensures { result ≡ self.now.game.kind }
+    {
+        self.game.kind
     }
 
     /// The position, which is one after a legal play from the game's marks.

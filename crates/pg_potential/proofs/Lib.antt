@@ -1,4 +1,2 @@
-pub mod LineWeights
-pub mod Walks
 pub mod GreatestWeight
 pub mod PotentialLaws

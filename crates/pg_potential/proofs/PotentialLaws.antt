@@ -10,26 +10,21 @@ use Rattle.pg_base.specs.declared.goal.Goal.TheVariants.{Win, Draw as AtLeastDra
 use Rattle.pg_base.specs.declared.kind.Kind.TheVariants.{MakerBreaker, MakerMaker}
 use Rattle.pg_base.specs.declared.side.Side.{Side}
 use Rattle.pg_base.specs.declared.side.Side.TheVariants.{X, Y}
-use Rattle.pg_base.specs.Side.{other}
-use Rattle.pg_base.proofs.LineLemmas.{count-ascending}
+use Rattle.pg_base.specs.Side.{other, is_same_side}
 use Rattle.pg_game.specs.declared.game.Game.{Game}
 use Rattle.pg_game.specs.declared.position.Position.{Position}
 use Rattle.pg_game.specs.Position.{is_free, points_of}
 use Rattle.pg_game.specs.Game.{point_count, bias_of, free_points, has_filled, outcome, after, lines_of, IsPosition}
-use Rattle.pg_game.specs.Potential.{total, weight, limit, greatest, greatest_weight, is_turn_of, times_counted, PotentialHolds, total_weight, point_weight, potential_answer}
+use Rattle.pg_game.specs.Potential.{total, weight, limit, greatest, greatest_weight, times_counted, PotentialHolds, total_weight, point_weight, potential_answer}
 use Rattle.pg_game.specs.Strategy.{Keeps}
 use Rattle.pg_game.specs.Value.{reaches, Forces}
 use Rattle.pg_game.proofs.Members.{Contains-head, Contains-tail}
 use Rattle.pg_game.proofs.Moves.{points_of-mover, points_of-waiter, turn-stays, left-falls, turn-passes, left-passes, turn-replied, free-was, other_other, IsPosition-after}
 use Rattle.pg_game.proofs.Strategy.{Forces-from_keeps, free_point}
 use Rattle.pg_game.proofs.Unfilled.{unfilled-breaker, unfilled-draw, maker_bias, claims_one}
-use Rattle.pg_potential.proofs.LineWeights.{StandOnce, total-grown, total-taken, weight-falls, unfilled-below}
+use Rattle.pg_game.proofs.LineWeights.{stand_once, total-grown, total-taken, weight-falls, unfilled-below}
 use Rattle.pg_game.proofs.Greatest.{free-member, member-free, member-within, greatest-le, greatest-ge, greatest-at}
-use Rattle.pg_game.proofs.WeightBounds.{line-fit}
-
--- the lines of a game ascend, so that each point stands once in them
-pub stand_once : (g : Game) (line : List ℕ) → Contains (lines_of g) line → StandOnce line
-stand_once g line c v = count-ascending v line (line-fit g line c).ascending
+use Rattle.pg_game.proofs.Lowest.{find-some}
 
 -- ---- sums
 
@@ -46,7 +41,7 @@ step-theirs q t after w most L grown le below =
 
 -- ---- whose turn it is
 
-turn_of-own : (side turn : Side) → turn ≡ side → is_turn_of side turn ≡ true
+turn_of-own : (side turn : Side) → turn ≡ side → is_same_side side turn ≡ true
 turn_of-own X X e = refl
 turn_of-own Y Y e = refl
 turn_of-own X Y e = absurd (y≢x e)
@@ -58,7 +53,7 @@ turn_of-own Y X e = absurd (x≢y e)
     x≢y : X ≢ Y
     x≢y e = cc
 
-turn_of-other : (side : Side) → is_turn_of side (other side) ≡ false
+turn_of-other : (side : Side) → is_same_side side (other side) ≡ false
 turn_of-other X = refl
 turn_of-other Y = refl
 
@@ -66,23 +61,9 @@ times-own : (g : Game) (p : Position) (side : Side) → p.turn ≡ side → time
 times-own g p side mine = ap (λ (b : Bool). if b then g.bias - p.left else g.bias) (turn_of-own side p.turn mine)
 
 times-theirs : (g : Game) (p : Position) (side : Side) → p.turn ≡ other side → times_counted g p side ≡ g.bias
-times-theirs g p side yours = ap (λ (b : Bool). if b then g.bias - p.left else g.bias) (ap (is_turn_of side) yours ∙ turn_of-other side)
+times-theirs g p side yours = ap (λ (b : Bool). if b then g.bias - p.left else g.bias) (ap (is_same_side side) yours ∙ turn_of-other side)
 
 -- ---- the answer
-
--- the first that passes is a member that does
-pub find-some : (t : ℕ → Bool) (xs : List ℕ) (v : ℕ) → Contains xs v → t v ≡ true → (w : ℕ) × (find t xs ≡ Some w) × Contains xs w × (t w ≡ true)
-find-some t [] v c on = absurd (omega (arith, c.1))
-find-some t (x ∷ xs) v c on = elim (cases_Bool (t x)) [
-  | inl here ↦ rw here (x, refl, Contains-head x xs, here)
-  | inr off ↦
-      let rest = find-some t xs v (later x xs v c off on) on in
-      rw off (rest.0, rest.1, Contains-tail x rest.0 xs rest.2, rest.3)
-]
-  where
-    later : (x : ℕ) (xs : List ℕ) (v : ℕ) → Contains (x ∷ xs) v → t x ≡ false → t v ≡ true → Contains xs v
-    later x xs v (zero, lt, is) off on = absurd (false≢true (sym off ∙ ap t is ∙ on))
-    later x xs v (suc k, lt, is) off on = (k, omega arith, is)
 
 -- where a point is free, the answer is free and of greatest weight
 pub answer-heaviest : (g : Game) (p : Position) (side : Side) (v : ℕ) → v < point_count g → is_free p v ≡ true

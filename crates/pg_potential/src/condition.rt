@@ -4,20 +4,18 @@ ghost use Rattle.pg_base.specs.declared.goal.Goal.TheVariants.{Win, Draw};
 ghost use Rattle.pg_base.specs.declared.kind.Kind.TheVariants.{Switching};
 ghost use Rattle.pg_game.specs.Position.{is_free};
 ghost use Rattle.pg_game.specs.Game.{point_count, free_points, IsPosition};
-ghost use Rattle.pg_game.specs.Potential.{total, weight, limit, greatest, greatest_weight, is_turn_of, times_counted, PotentialHolds};
+ghost use Rattle.pg_game.specs.Potential.{total, weight, limit, greatest, greatest_weight, times_counted, PotentialHolds};
 ghost use Rattle.pg_game.specs.Value.{Forces};
-ghost use Rattle.pg_potential.specs.Weights.{AreWeights};
 
-use crate::weights::{Weights, full_weight, weigh};
 use pg_base::{Kind, Side};
-use pg_game::{Game, Position};
+use pg_game::{Game, MAX_BIAS, MAX_POINTS, Position, Weights, full_weight, weigh};
 
 /// The weights for a claimer.
 pub(crate) fn weights_for(g: &Game, p: &Position, side: Side) -> Weights
     ensures total { result.total ≡ total g.now p.now side }
     ensures few { result.total ≤ 2 ^ 115 }
-    ensures count { length result.points ≡ 256 }
-    ensures points { (v : ℕ) → v < 256 → get_or result.points v 0 ≡ weight g.now p.now side v }
+    ensures count { length result.points ≡ MAX_POINTS }
+    ensures points { (v : ℕ) → v < MAX_POINTS → get_or result.points v 0 ≡ weight g.now p.now side v }
 {
     weigh(g, 1 + u128::from(g.bias), p.points_of(side), p)
 }
@@ -51,9 +49,9 @@ pub fn limit(g: &Game) -> u128
 }
 
 /// What a point weighs where it is free, and 0 where it isn't.
-fn free_weight(p: &Position, points: &[u128; 256], v: u16) -> u128
-    requires count { length points.now ≡ 256 }
-    requires small { v < 256 }
+fn free_weight(p: &Position, points: &[u128; MAX_POINTS], v: u16) -> u128
+    requires count { length points.now ≡ MAX_POINTS }
+    requires small { v < MAX_POINTS }
     ensures { result ≡ (if is_free p.now v then get_or points.now v 0 else 0) }
 {
     if p.is_free(v) {
@@ -64,9 +62,9 @@ fn free_weight(p: &Position, points: &[u128; 256], v: u16) -> u128
 }
 
 /// The greatest weight of a free point, and 0 where none is free.
-pub(crate) fn greatest_free(g: &Game, p: &Position, points: &[u128; 256]) -> u128
+pub(crate) fn greatest_free(g: &Game, p: &Position, points: &[u128; MAX_POINTS]) -> u128
     requires lines { g.now.kind ≢ Switching }
-    requires count { length points.now ≡ 256 }
+    requires count { length points.now ≡ MAX_POINTS }
     ensures { result ≡ greatest (map (λ v. get_or points.now v 0) (free_points g.now p.now)) }
 {
     let mut greatest = 0;
@@ -79,24 +77,14 @@ pub(crate) fn greatest_free(g: &Game, p: &Position, points: &[u128; 256]) -> u12
     greatest
 }
 
-/// Whether it is the side's turn.
-fn is_turn_of(side: Side, turn: Side) -> bool
-    ensures { result ≡ is_turn_of side turn }
-{
-    match side {
-        Side::X => turn == Side::X,
-        Side::Y => turn == Side::Y,
-    }
-}
-
 /// How often the greatest weight counts: as often as the other side may still claim a point before the side's next
 /// whole turn, or as often as the side has claimed one in its turn.
 fn times_counted(g: &Game, p: &Position, side: Side) -> u8
     requires { IsPosition g.now p.now }
     ensures times { result ≡ times_counted g.now p.now side }
-    ensures few { result ≤ 7 }
+    ensures few { result ≤ MAX_BIAS }
 {
-    if is_turn_of(side, p.turn) {
+    if side.is_same(p.turn) {
         g.bias - p.left
     } else {
         g.bias

@@ -3,6 +3,7 @@ use Rattle.std.proofs.Common.{◌≡◌, ◌≢◌, ℕ, ◌<◌, ◌≤◌, suc
 use Rattle.std.proofs.lemmas.Bool.{cases_Bool, cases_eq, both_ways, false_from_ne_true}
 use Rattle.std.specs.FinSet.{FinSet, contains, remove}
 use Rattle.std.specs.Ordering.{nat_cmp}
+use Rattle.std.specs.Prelude.{unwrap_or}
 use Rattle.pg_base.specs.Sets.{plus, minus, either, outside}
 use Rattle.pg_base.specs.declared.side.Side.{Side}
 use Rattle.pg_base.specs.declared.side.Side.TheVariants.{X, Y}
@@ -25,7 +26,7 @@ use Rattle.pg_game.specs.declared.position.Position.{Position}
 use Rattle.pg_game.specs.Field.{field_points}
 use Rattle.pg_game.specs.Fit.{AreBelow}
 use Rattle.pg_game.specs.Game.{point_count, is_over, after, IsPosition}
-use Rattle.pg_game.specs.Trees.{IsFreeEdge, AreFreeEdges, AreFreeWithE, AreTrees, AreCuts, TreesHold, TreesHoldOn, CutsHold, CutsHoldOn, with_set, without_set, or_edge, lowest_free_edge, answered_edge, short_edge, cut_edge}
+use Rattle.pg_game.specs.Trees.{IsFreeEdge, AreFreeEdges, AreFreeWithE, AreTrees, AreCuts, TreesHold, TreesHoldOn, CutsHold, CutsHoldOn, with_set, without_set, lowest_free_edge, answered_edge, short_edge, cut_edge}
 use Rattle.pg_game.proofs.Moves.{side≢other, free-stays}
 use Rattle.pg_game.proofs.Strategy.{free_point}
 use Rattle.pg_switch.specs.Replies.{short_reply, cut_reply, HeldUntil}
@@ -114,7 +115,7 @@ short-first h p a1 a2 x z small d ax fz =
     elim (crossing-cases h set (first_end_of h x) a2 (with_set-edges h p (remove a1 x) small edges_left)) [
       | inl found ↦
           let y = found.0 in
-          let y_is : short_reply h p a1 a2 x ≡ y = ap (λ (r : Option ℕ). or_edge r (lowest_free_edge h p)) found.4 in
+          let y_is : short_reply h p a1 a2 x ≡ y = ap (λ (r : Option ℕ). unwrap_or r (lowest_free_edge h p)) found.4 in
           let crosses = subst (λ (a : ℕ → Bool). Crosses h a (first_end_of h x) y) is_set found.3 in
           let y_free = d.left.second y found.2 (λ e. both_ways _ not2 (subst (λ (w : ℕ). contains a2 w ≡ true) e found.2)) in
           let not1 : contains a1 y ≡ false = false_from_ne_true _ (λ k. both_ways _ (d.trees.apart y k) found.2) in
@@ -125,7 +126,7 @@ short-first h p a1 a2 x z small d ax fz =
           })
       | inr none ↦
           let y = lowest_free_edge h p in
-          let y_is : short_reply h p a1 a2 x ≡ y = ap (λ (r : Option ℕ). or_edge r (lowest_free_edge h p)) none.1 in
+          let y_is : short_reply h p a1 a2 x ≡ y = ap (λ (r : Option ℕ). unwrap_or r (lowest_free_edge h p)) none.1 in
           let uncrossed = IsTrees-uncrossed h s (contains a1) (contains a2) x d.trees ax (λ v k. let low = small v k in omega arith) edges1
           (λ v k c. none.0 v (d.left.second v k (λ e. both_ways _ not2 (subst (λ (w : ℕ). contains a2 w ≡ true) e k))).0 k (subst (λ (a : ℕ → Bool). Crosses h a (first_end_of h x) v) (sym is_set) c)) in
           subst (λ (w : ℕ). IsShortEdge h p a1 a2 x w) (sym y_is) (record {
@@ -230,7 +231,7 @@ cut-first h p d1 d2 x z d dx fz =
           elim (parting-cases h wide u v d2 on) [
             | inl found ↦
                 let y = found.0 in
-                let y_is : cut_reply h p d1 d2 x ≡ y = ap (λ (q : Option ℕ). or_edge q (lowest_free_edge h p)) found.4 in
+                let y_is : cut_reply h p d1 d2 x ≡ y = ap (λ (q : Option ℕ). unwrap_or q (lowest_free_edge h p)) found.4 in
                 let y_free = free2 y found.2 in
                 let not1 : contains d1 y ≡ false = false_from_ne_true _ (λ k. both_ways _ (d.cuts.apart y k) found.2) in
                 let kept = IsCuts-answered (spans_in h) (IsSpan-graph h) m r (contains d1) (contains d2) x y d.cuts dx found.2 (not_e h p y y_free) (sym (test-spans_minus h p d1 x y) ∙ found.3) in
@@ -244,7 +245,7 @@ cut-first h p d1 d2 x z d dx fz =
           ]
       | inr off ↦
           let y = lowest_free_edge h p in
-          let y_is : cut_reply h p d1 d2 x ≡ y = ap (λ (q : Option ℕ). or_edge q (lowest_free_edge h p)) (parting-apart h wide u v d2 off) in
+          let y_is : cut_reply h p d1 d2 x ≡ y = ap (λ (q : Option ℕ). unwrap_or q (lowest_free_edge h p)) (parting-apart h wide u v d2 off) in
           let y_free = lowest_free-free h p z fz in
           let dropped = IsCuts-dropped (spans_in h) (IsSpan-graph h) m r (contains d1) (contains d2) x d.cuts (sym (test-spans h p d1 x) ∙ off) in
           subst (λ (w : ℕ). IsCutEdge h p d1 d2 x w) (sym y_is) (record {

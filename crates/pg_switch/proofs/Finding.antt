@@ -1,6 +1,6 @@
 -- The lowest edges that pass a test, as they are found and as they are said.
 use Rattle.std.proofs.Common.{◌≡◌, ℕ, ◌<◌, ◌≤◌, ◌+◌, zero, suc, Bool, true, false, not, ◌&&◌, ◌||◌, ◌⊎◌, Option, Some, None, inl, inr, refl, sym, ap, ◌∙◌, subst, arith}
-use Rattle.std.specs.Prelude.{IfSome, IfNone}
+use Rattle.std.specs.Prelude.{IfSome, IfNone, unwrap_or}
 use Rattle.std.proofs.lemmas.Bool.{cases_Bool, cases_eq, both_ways, and_parts, and_from, false_from_ne_true, true_from_ne_false, not-true, not_from_false}
 use Rattle.std.specs.List.{find, range_with_len}
 use Rattle.std.specs.FinSet.{FinSet, contains, remove}
@@ -16,7 +16,7 @@ use Rattle.pg_graph.specs.Walks.{joins}
 use Rattle.pg_graph.proofs.GraphLemmas.{joins_same, joins_in-complete}
 use Rattle.pg_game.specs.declared.position.Position.{Position}
 use Rattle.pg_game.specs.Position.{is_free}
-use Rattle.pg_game.specs.Trees.{IsFreeEdge, differ, or_edge, lowest_crossing, lowest_parting, lowest_free_edge}
+use Rattle.pg_game.specs.Trees.{IsFreeEdge, differ, lowest_crossing, lowest_parting, lowest_free_edge}
 use Rattle.pg_game.proofs.Lowest.{first_from, none_from}
 use Rattle.pg_switch.proofs.EdgeSets.{minus-agree}
 
@@ -54,15 +54,15 @@ find_below-cases t n = elim (find_from t 0 n) [
 -- ---- free edges
 
 pub lowest_free-first : (h : Graph) (p : Position) (v : ℕ) → v < edge_count h → is_free p v ≡ true → ((w : ℕ) → w < v → is_free p w ≡ false) → lowest_free_edge h p ≡ v
-lowest_free-first h p v low free none = ap (λ (r : Option ℕ). or_edge r 0) (first_below (is_free p) v (edge_count h) low free none)
+lowest_free-first h p v low free none = ap (λ (r : Option ℕ). unwrap_or r 0) (first_below (is_free p) v (edge_count h) low free none)
 
 pub lowest_free-none : (h : Graph) (p : Position) → ((w : ℕ) → w < edge_count h → is_free p w ≡ false) → lowest_free_edge h p ≡ 0
-lowest_free-none h p none = ap (λ (r : Option ℕ). or_edge r 0) (none_below (is_free p) (edge_count h) none)
+lowest_free-none h p none = ap (λ (r : Option ℕ). unwrap_or r 0) (none_below (is_free p) (edge_count h) none)
 
 -- where some edge is free, the lowest is one
 pub lowest_free-free : (h : Graph) (p : Position) (z : ℕ) → IsFreeEdge h p z → IsFreeEdge h p (lowest_free_edge h p)
 lowest_free-free h p z free = elim (find_below-cases (is_free p) (edge_count h)) [
-  | inl found ↦ let e : found.number ≡ lowest_free_edge h p = sym (ap (λ (r : Option ℕ). or_edge r 0) found.is) in subst (λ (v : ℕ). IsFreeEdge h p v) e (found.low, found.passes)
+  | inl found ↦ let e : found.number ≡ lowest_free_edge h p = sym (ap (λ (r : Option ℕ). unwrap_or r 0) found.is) in subst (λ (v : ℕ). IsFreeEdge h p v) e (found.low, found.passes)
   | inr none ↦ absurd (both_ways _ (none.0 z free.0) free.1)
 ]
 

@@ -24,7 +24,7 @@ pub record IsClaim (g : Game) (p : Position) (y : ℕ) : Type 0 where
 claim-from : (g : Game) (h : Graph) (p : Position) (y : ℕ) → g.field ≡ OnGraph h → IsFreeEdge h p y → IsClaim g p y
 claim-from g h p y on free =
     let low = free.0 in
-    let few = (g.fits.on_graph h on).few_edges in
+    let few = (g.fits.within.on_graph h on).few_edges in
     record { few = omega arith; within = subst (λ (n : ℕ). y < n) (sym (ap field_points on)) low; free = free.1 }
 
 answer-record : (a1 a2 f s : FinSet nat_cmp) (x y z : ℕ) → y ≡ z → f ≡ remove (remove a1 x) y → s ≡ remove (remove a2 x) y → ◌≡◌ {A = Answered} (record { edge = y; first = f; second = s }) (claimed z x a1 a2)

@@ -1,6 +1,6 @@
 -- The replies that the code finds are those of the definitions.
 use Rattle.std.proofs.Common.{◌≡◌, ℕ, Bool, true, Option, Some, None, refl, sym, ap, ap₂, ◌∙◌, subst}
-use Rattle.std.specs.Prelude.{IfSome, IfNone}
+use Rattle.std.specs.Prelude.{IfSome, IfNone, unwrap_or}
 use Rattle.std.specs.FinSet.{FinSet, contains, remove, union}
 use Rattle.std.specs.Ordering.{nat_cmp}
 use Rattle.pg_base.specs.Sets.{outside}
@@ -10,7 +10,7 @@ use Rattle.pg_graph.specs.Graph.{edge_count, first_end_of, second_end_of}
 use Rattle.pg_graph.specs.Joiner.{AreEdges, Crosses, Parts, IsLowest}
 use Rattle.pg_game.specs.declared.position.Position.{Position}
 use Rattle.pg_game.specs.Fit.{AreBelow}
-use Rattle.pg_game.specs.Trees.{or_edge, lowest_crossing, lowest_parting, with_set, without_set}
+use Rattle.pg_game.specs.Trees.{lowest_crossing, lowest_parting, with_set, without_set}
 use Rattle.pg_switch.proofs.EdgeSets.{left_edges, with_set-edges, without-agree}
 use Rattle.pg_switch.proofs.Finding.{crossing-found, parting-found}
 
@@ -42,8 +42,8 @@ cut-found h p one another left others x u v r small edges is_left is_others is_u
     ∙ ap₂ (λ a b. lowest_parting h (without_set p one) a b another) is_u is_v
 
 -- an edge that is found is the reply, and where none is it is the lowest free one
-pub reply-some : (r s : Option ℕ) (k z : ℕ) → r ≡ s → r ≡ Some k → k ≡ or_edge s z
-reply-some r s k z e is = ap (λ (q : Option ℕ). or_edge q z) (sym is ∙ e)
+pub reply-some : (r s : Option ℕ) (k z : ℕ) → r ≡ s → r ≡ Some k → k ≡ unwrap_or s z
+reply-some r s k z e is = ap (λ (q : Option ℕ). unwrap_or q z) (sym is ∙ e)
 
-pub reply-none : (r s : Option ℕ) (k z : ℕ) → r ≡ s → r ≡ None → k ≡ z → k ≡ or_edge s z
-reply-none r s k z e is same = same ∙ ap (λ (q : Option ℕ). or_edge q z) (sym is ∙ e)
+pub reply-none : (r s : Option ℕ) (k z : ℕ) → r ≡ s → r ≡ None → k ≡ z → k ≡ unwrap_or s z
+reply-none r s k z e is same = same ∙ ap (λ (q : Option ℕ). unwrap_or q z) (sym is ∙ e)

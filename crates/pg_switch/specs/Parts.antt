@@ -2,17 +2,18 @@
 use Rattle.std.specs.Prelude.{◌≡◌, ℕ, true, false}
 use Rattle.std.specs.FinSet.{FinSet, contains}
 use Rattle.std.specs.Ordering.{nat_cmp}
+use Rattle.pg_base.specs.Points.{ShareNone}
 use Rattle.pg_base.specs.declared.side.Side.{Side}
 use Rattle.pg_graph.specs.declared.graph.Graph.{Graph}
 use Rattle.pg_graph.specs.Graph.{edge_count, IsBridge}
 use Rattle.pg_game.specs.declared.position.Position.{Position}
-use Rattle.pg_game.specs.Trees.{AreFreeWithE, AreFreeEdges, AreApart, JoinsEndsOf, with_set, without_set}
+use Rattle.pg_game.specs.Trees.{AreFreeWithE, AreFreeEdges, JoinsEndsOf, with_set, without_set}
 
 -- disjoint sets of free edges, the first perhaps with e where the side is to move
 pub record AreFreePair (h : Graph) (p : Position) (side : Side) (first second : FinSet nat_cmp) : Type 0 where
   pub first_free : AreFreeWithE h p side first
   pub second_free : AreFreeEdges h p second
-  pub apart : AreApart first second
+  pub apart : ShareNone first second
 
 -- X's edges with the one set join the terminals, and the ends of each member of the other
 pub record JoinsOther (h : Graph) (p : Position) (one other : FinSet nat_cmp) : Type 0 where

@@ -1,5 +1,5 @@
 -- Replies to the loss of an edge, and when a plan may be asked.
-use Rattle.std.specs.Prelude.{◌≡◌, ℕ, ◌<◌, true, Option, Some, None}
+use Rattle.std.specs.Prelude.{◌≡◌, ℕ, ◌<◌, true, Option, Some, None, unwrap_or}
 use Rattle.std.specs.FinSet.{FinSet, remove}
 use Rattle.std.specs.Ordering.{nat_cmp}
 use Rattle.pg_base.specs.Side.{other}
@@ -11,15 +11,15 @@ use Rattle.pg_game.specs.declared.game.Game.{Game}
 use Rattle.pg_game.specs.declared.position.Position.{Position}
 use Rattle.pg_game.specs.Game.{point_count, after}
 use Rattle.pg_game.specs.Position.{is_free}
-use Rattle.pg_game.specs.Trees.{Answered, or_edge, lowest_free_edge, lowest_crossing, lowest_parting, with_set, without_set, trees_answer, cuts_answer}
+use Rattle.pg_game.specs.Trees.{Answered, lowest_free_edge, lowest_crossing, lowest_parting, with_set, without_set, trees_answer, cuts_answer}
 
 -- the lowest edge of the other set that crosses what is left of the one, else the lowest free edge
 abbrev pub short_reply : Graph → Position → FinSet nat_cmp → FinSet nat_cmp → ℕ → ℕ
-short_reply h p one another x = or_edge (lowest_crossing h (with_set p (remove one x)) (first_end_of h x) another) (lowest_free_edge h p)
+short_reply h p one another x = unwrap_or (lowest_crossing h (with_set p (remove one x)) (first_end_of h x) another) (lowest_free_edge h p)
 
 -- the lowest edge of the other set that parts the ends of x, else the lowest free edge
 abbrev pub cut_reply : Graph → Position → FinSet nat_cmp → FinSet nat_cmp → ℕ → ℕ
-cut_reply h p one another x = or_edge (lowest_parting h (without_set p one) (first_end_of h x) (second_end_of h x) another) (lowest_free_edge h p)
+cut_reply h p one another x = unwrap_or (lowest_parting h (without_set p one) (first_end_of h x) (second_end_of h x) another) (lowest_free_edge h p)
 
 -- the other side has just taken x, and before that the fact held
 pub record HeldBefore (g : Game) (p : Position) (Held : Position → Type 0) (x : ℕ) : Type 0 where

@@ -4,13 +4,10 @@
 //! edge of one of two sets, an edge of the other set is claimed that makes good for it.
 #![tactic(auto)]
 
+mod answers;
 mod condition;
 pub mod laws;
 mod plan;
-mod reply;
 
 pub use condition::{cuts_hold, trees_hold};
 pub use plan::{CutPlan, ShortPlan};
-
-#[cfg(test)]
-mod tests;

@@ -12,8 +12,8 @@ ghost use Rattle.pg_game.specs.Judge.{IsMadeForGame};
 ghost use Rattle.pg_game.specs.Trees.{short_edge, cut_edge, answered_edge, TreesHold, CutsHold};
 ghost use Rattle.pg_switch.specs.Replies.{HeldUntil, IsTreesAnswer, IsCutsAnswer};
 
-use crate::reply::{cut_edge, short_edge};
-use pg_base::PointSet;
+use crate::answers::{cut_edge, short_edge};
+use pg_base::{MAX_MEMBERS, PointSet};
 use pg_game::{Field, Game, Position};
 use pg_graph::{Graph, Joiner};
 
@@ -37,8 +37,8 @@ pub struct CutPlan {
 
 /// Takes the lost and the claimed edge out of the set.
 fn take_both(set: &mut PointSet, lost: u16, claimed: u16)
-    requires lost { lost < 1024 }
-    requires claimed { claimed < 1024 }
+    requires lost { lost < MAX_MEMBERS }
+    requires claimed { claimed < MAX_MEMBERS }
     ensures { set.new ≡ remove (remove set.old lost) claimed }
 {
     set.take(lost);

@@ -8,18 +8,18 @@ use Rattle.std.specs.List.{Contains, list_any}
 use Rattle.std.specs.FinSet.{FinSet, contains, insert, empty, contains-empty}
 use Rattle.std.specs.Ordering.{nat_cmp}
 use Rattle.pg_base.specs.WordLemmas.{in_insert}
-use Rattle.pg_base.specs.Points.{IsLeastFrom}
+use Rattle.pg_base.specs.Points.{IsLeastFrom, ShareNone}
 use Rattle.pg_base.specs.Side.{other}
 use Rattle.pg_base.specs.declared.kind.Kind.TheVariants.{MakerMaker}
 use Rattle.pg_base.specs.declared.side.Side.{Side}
 use Rattle.pg_game.specs.declared.game.Game.{Game}
 use Rattle.pg_game.specs.declared.position.Position.{Position}
-use Rattle.pg_game.specs.Position.{is_free, points_of, AreDisjoint}
+use Rattle.pg_game.specs.Position.{is_free, points_of}
 use Rattle.pg_game.specs.Game.{lines_of, point_count, has_filled, is_touched, after}
 use Rattle.pg_game.specs.Potential.{is_on}
 use Rattle.pg_game.specs.Threat.{is_near, has_threat, depth_of, IsAttack, Forcing, Filling, LeadsToLine, IsAttacking}
 use Rattle.pg_game.proofs.Members.{member-from_any, true-at}
-use Rattle.pg_game.proofs.Moves.{other_other, free-of, points_of-mover, points_of-waiter, turn-alternates, free-was, IsPosition-after, AreDisjoint-after}
+use Rattle.pg_game.proofs.Moves.{other_other, free-of, points_of-mover, points_of-waiter, turn-alternates, free-was, IsPosition-after, ShareNone-after}
 use Rattle.pg_game.proofs.ThreatLaws.{Near, near-from, near-threat, near-filled, near-filling, near-stays, filled-waits, filled_but, untouched}
 use Rattle.pg_board.specs.Board.{line_at}
 use Rattle.pg_threat.specs.Lacking.{lacks_at, is_lacking, IsLackedTwice}
@@ -51,7 +51,7 @@ off-line s v u (q ∷ line) h off =
           and_from _ _ (sym (ap (λ b. q == u || b) same) ∙ parts.0) (off-line s v u line parts.1 (sym (ap (λ b. b || is_on v line) apart) ∙ off))
     ]
 
-module _ (g : Game) (side : Side) (p : Position) (turn : p.turn ≡ side) (disjoint : AreDisjoint p) (none : (v : ℕ) → Near g p side v → ⊥) where
+module _ (g : Game) (side : Side) (p : Position) (turn : p.turn ≡ side) (disjoint : ShareNone p.x p.y) (none : (v : ℕ) → Near g p side v → ⊥) where
   -- a line that lacks one point after an attack lacked two before it
   pub near-lacks : (v u : ℕ) → IsAttack g p v → (n : Near g (after g p v) side u) → lacks_at p side 2 v n.line ≡ true
   unfolding filled_but
@@ -61,7 +61,7 @@ module _ (g : Game) (side : Side) (p : Position) (turn : p.turn ≡ side) (disjo
       let rest : filled_but (insert (points_of p side) v) u n.line ≡ true = subst (λ (s : FinSet nat_cmp). filled_but s u n.line ≡ true) own n.rest in
       let clear : is_touched (points_of p (other side)) n.line ≡ false =
       subst (λ (s : FinSet nat_cmp). is_touched s n.line ≡ false) (points_of-waiter g p (other side) v (turn ∙ sym (other_other side)))
-      (untouched (after g p v) side u n.line (AreDisjoint-after g p v disjoint at.free) n.free n.rest) in
+      (untouched (after g p v) side u n.line (ShareNone-after g p v disjoint at.free) n.free n.rest) in
       elim (cases_Bool (is_on v n.line)) [
         | inl on ↦ two-lacked g p side disjoint v u n.line n.listed at.free was.0 was.1 on n.on rest clear
         | inr off ↦ absurd (none u (record { line = n.line; listed = n.listed; free = was.0; on = n.on; rest = off-line (points_of p side) v u n.line rest off }))
@@ -186,7 +186,7 @@ replied-leads g p side v (u ∷ others) range free answering h =
     (record { attack = record { range = range; free = free }; fills_none = answering.unfilled.mine; threat = h.0; safe = answering.safe }, h.1)
 
 -- a list with a reply begins with an attack that is tried
-pub leads-tried : (g : Game) (p : Position) (side : Side) (v : ℕ) (points : List ℕ) → p.turn ≡ side → AreDisjoint p → has_filled g p side ≡ false → ((w : ℕ) → Near g p side w → ⊥) → LeadsToLine g p side (v ∷ points)
+pub leads-tried : (g : Game) (p : Position) (side : Side) (v : ℕ) (points : List ℕ) → p.turn ≡ side → ShareNone p.x p.y → has_filled g p side ≡ false → ((w : ℕ) → Near g p side w → ⊥) → LeadsToLine g p side (v ∷ points)
     → IsTried g p side v × Replied g (after g p v) side points
 leads-tried g p side v [] turn disjoint mine none h = absurd (none v (filling-near g p side v turn mine h))
 leads-tried g p side v (u ∷ others) turn disjoint mine none h = (forcing-tried g side p turn disjoint none v u h.0, (h.0.threat, h.1))

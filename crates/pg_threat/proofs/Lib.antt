@@ -1,5 +1,5 @@
 mod Walks
-mod Boards
+pub mod Boards
 mod LineCounts
 mod Scans
 mod Attacks

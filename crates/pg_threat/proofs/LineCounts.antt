@@ -5,13 +5,14 @@ use Rattle.std.proofs.lemmas.List.Sums.{sum_by-cons, count_by-le-length, get_or-
 use Rattle.std.specs.List.{Contains, count_by, list_all, list_any}
 use Rattle.std.specs.FinSet.{FinSet, contains, insert}
 use Rattle.std.specs.Ordering.{nat_cmp}
+use Rattle.pg_base.specs.Points.{ShareNone}
 use Rattle.pg_base.specs.WordLemmas.{in_insert}
 use Rattle.pg_base.specs.Side.{other}
 use Rattle.pg_base.specs.declared.side.Side.{Side}
 use Rattle.pg_base.specs.declared.side.Side.TheVariants.{X, Y}
 use Rattle.pg_game.specs.declared.game.Game.{Game}
 use Rattle.pg_game.specs.declared.position.Position.{Position}
-use Rattle.pg_game.specs.Position.{is_free, points_of, AreDisjoint}
+use Rattle.pg_game.specs.Position.{is_free, points_of}
 use Rattle.pg_game.specs.Game.{lines_of, is_touched, point_count}
 use Rattle.pg_game.specs.Potential.{is_on}
 use Rattle.pg_game.proofs.Members.{member-from_any, list_any-one, list_any-none}
@@ -99,7 +100,7 @@ pub lacks-to : (p : Position) (side : Side) (missing : ℕ) (line : List ℕ) �
 unfolding lacks
 lacks-to p side missing line clear count = and_from _ _ (not_from_false _ clear) (eq-eqb _ _ count)
 
-module _ (g : Game) (p : Position) (side : Side) (disjoint : AreDisjoint p) where
+module _ (g : Game) (p : Position) (side : Side) (disjoint : ShareNone p.x p.y) where
   -- a line that lacks one point lacks it by its count
   pub one-lacked : (u : ℕ) → Near g p side u → is_lacking g p side 1 u ≡ true
   unfolding is_lacking

@@ -4,11 +4,11 @@ use Rattle.std.proofs.Common.{◌≡◌, ◌≢◌, ℕ, ◌+◌, ◌-◌, ◌*�
 use Rattle.std.proofs.lemmas.Bool.{cases_Bool, cases_eq, cases_lt, false≢true}
 use Rattle.std.specs.FinSet.{FinSet, contains}
 use Rattle.std.specs.Ordering.{nat_cmp}
-use Rattle.pg_base.specs.Points.{IsLeastFrom}
+use Rattle.pg_base.specs.Points.{IsLeastFrom, ShareNone}
 use Rattle.pg_base.specs.declared.side.Side.{Side}
 use Rattle.pg_game.specs.declared.game.Game.{Game}
 use Rattle.pg_game.specs.declared.position.Position.{Position}
-use Rattle.pg_game.specs.Position.{is_free, AreDisjoint}
+use Rattle.pg_game.specs.Position.{is_free}
 use Rattle.pg_game.specs.Game.{lines_of, point_count, after, is_over, IsPosition}
 use Rattle.pg_game.specs.Threat.{depth_of, may_attack, ComesFirst, LeadsToLine, IsAttacking, IsThreatLine, AreDeeper}
 use Rattle.pg_game.proofs.Limits.{point_count-le}
@@ -273,7 +273,7 @@ tried-depth g p side depth all forks attacks is tried some v member = (tried v).
 -- ---- the whole search
 
 -- where the side lacks more than one point of each line and no attack is tried, there is no threat line
-pub forced-none : (g : Game) (p : Position) (side : Side) (depth : ℕ) → may_attack g.kind side ≡ true → AreDisjoint p → is_over g p ≡ false → p.turn ≡ side
+pub forced-none : (g : Game) (p : Position) (side : Side) (depth : ℕ) → may_attack g.kind side ≡ true → ShareNone p.x p.y → is_over g p ≡ false → p.turn ≡ side
     → (wins : FinSet nat_cmp) → ((u : ℕ) → contains wins u ≡ is_lacking g p side 1 u) → ((v : ℕ) → 0 ≤ v → contains wins v ≡ false)
     → (all : FinSet nat_cmp) → ((v : ℕ) → (contains all v ≡ true) ↔ IsTried g p side v) → ((v : ℕ) → 0 ≤ v → contains all v ≡ false) → AreDeeper g p side depth
 forced-none g p side depth may disjoint going turn wins is none all tried empty points line = absurd (no-list points line.leads)

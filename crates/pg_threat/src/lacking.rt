@@ -1,12 +1,12 @@
 //! The free points of lines of which a side lacks few points.
 ghost use Rattle.std.specs.Prelude.{◌≡◌, ◌<◌, ◌≤◌, ◌||◌, ℕ, true, length};
 ghost use Rattle.std.specs.FinSet.{contains, insert};
+ghost use Rattle.pg_base.specs.Points.{ShareNone};
 ghost use Rattle.pg_game.specs.Game.{lines_of, IsPosition};
-ghost use Rattle.pg_game.specs.Position.{AreDisjoint};
 ghost use Rattle.pg_board.specs.Board.{line_at};
 ghost use Rattle.pg_threat.specs.Lacking.{is_open_on, is_lacking, IsLackedTwice};
 
-use pg_base::{PointSet, Side};
+use pg_base::{MAX_MEMBERS, PointSet, Side};
 use pg_board::Board;
 use pg_game::Position;
 
@@ -22,7 +22,7 @@ pub(crate) struct Lacked {
 impl Lacked {
     /// Puts a point to them that is lacked on one more line.
     fn put(&mut self, v: u16)
-        requires { v < 1024 }
+        requires { v < MAX_MEMBERS }
         ensures points { self.new.points ≡ insert self.old.points v }
         ensures kept { (q : ℕ) → contains self.old.twice q ≡ true → contains self.new.twice q ≡ true }
         ensures again { contains self.old.points v ≡ true → contains self.new.twice v ≡ true }
@@ -57,7 +57,7 @@ pub(crate) fn lacking(b: &Board<'_>, side: Side, missing: u16) -> Lacked
     requires { missing ≤ 2 }
     ensures points { (v : ℕ) → contains result.points v ≡ is_lacking b.now.game b.now.stand.position side missing v }
     ensures twice { (v : ℕ) → IsLackedTwice b.now.game b.now.stand.position side missing (length (lines_of b.now.game)) v → contains result.twice v ≡ true }
-    ensures disjoint { AreDisjoint b.now.stand.position }
+    ensures disjoint { ShareNone b.now.stand.position.x b.now.stand.position.y }
     ensures fits { (v : ℕ) → contains result.points v ≡ true → IsPosition b.now.game b.now.stand.position }
 {
     let mut lacked = Lacked {

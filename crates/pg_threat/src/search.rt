@@ -10,7 +10,7 @@ ghost use Rattle.pg_threat.specs.Search.{Begins, IsAnswering, IsFound, IsTried, 
 
 use crate::lacking::lacking;
 use crate::line::ThreatLine;
-use pg_base::{Kind, PointSet, Side};
+use pg_base::{Kind, MAX_MEMBERS, PointSet, Side};
 use pg_board::Board;
 
 /// The attacks that are tried at a position.
@@ -40,7 +40,7 @@ fn both(one: &PointSet, other: &PointSet) -> PointSet
 
 /// The point alone, where it is an attack and the only threat.
 fn sole(attacks: &PointSet, threats: &PointSet, v: u16) -> PointSet
-    requires range { v < 1024 }
+    requires range { v < MAX_MEMBERS }
     requires least { IsLeastFrom threats.now 0 v }
     ensures { (w : ℕ) → contains result w ≡ true ↔ ((contains attacks.now w ≡ true) × ((u : ℕ) → contains threats.now u ≡ true → u ≡ w)) }
 {

@@ -7,4 +7,6 @@ mod small_games;
 pub use small_games::{Tally, tally_games};
 
 #[cfg(test)]
+mod class_rows;
+#[cfg(test)]
 mod tests;

@@ -3,7 +3,7 @@ use crate::checks::{are_private, is_short};
 use crate::reading::{game, lines_of, part};
 use pg_base::{Kind, Side};
 use pg_game::Game;
-use pg_match::{Matching, PairCache, free_points, lines_without, pairs_leaf, private_pairs};
+use pg_match::{Matching, PairCache, lines_without, pairs_leaf, private_pairs};
 use std::alloc::Global;
 use std::test::Fail;
 
@@ -70,7 +70,7 @@ fn matches(alloc: Global, g: &Game, exist: bool) -> Result<bool, Fail> {
     };
     let start = g.start();
     let wanted = lines_without(alloc, lines, &start.y)?;
-    let free = free_points(g, &start);
+    let free = g.free_points(&start);
     Ok(match private_pairs(alloc, lines, &wanted, &free)? {
         Matching::Pairs(pairs) => exist && are_private(lines.as_slice(), &wanted, &free, &pairs),
         Matching::Short(family) => !exist && is_short(lines.as_slice(), &wanted, &free, &family),

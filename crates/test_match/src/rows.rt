@@ -2,7 +2,7 @@
 use crate::reading::{game, lines_of, part};
 use pg_base::Kind;
 use pg_game::Game;
-use pg_match::{Matching, PairCache, free_points, lines_without, private_pairs, with_rest};
+use pg_match::{Matching, PairCache, lines_without, private_pairs, with_rest};
 use std::alloc::Global;
 use std::test::Fail;
 
@@ -42,7 +42,7 @@ fn answers_twice(alloc: Global, g: &Game, answer: &str) -> Result<bool, Fail> {
     };
     let start = g.start();
     let wanted = lines_without(alloc, lines, &start.y)?;
-    let free = free_points(g, &start);
+    let free = g.free_points(&start);
     let mut cache = PairCache::new(alloc, 1024)?;
     let first = told(alloc, &cache.ask(alloc, lines, &wanted, &free)?)?;
     let hits_before = cache.hits();
@@ -65,7 +65,7 @@ fn with_others(alloc: Global, g: &Game) -> Result<String, Fail> {
     let lines = lines_of(g).ok_or("no lines")?;
     let start = g.start();
     let wanted = lines_without(alloc, lines, &start.y)?;
-    match private_pairs(alloc, lines, &wanted, &free_points(g, &start))? {
+    match private_pairs(alloc, lines, &wanted, &g.free_points(&start))? {
         Matching::Pairs(pairs) => told(alloc, &Matching::Pairs(with_rest(g, &start, pairs)?)),
         short => told(alloc, &short),
     }

@@ -1,5 +1,5 @@
 use Rattle.std.proofs.Common.{◌≡◌, ◌-◌, ◌∙◌, true, false, sym, ap, arith}
-use Rattle.pg_game.specs.Potential.{is_turn_of}
+use Rattle.pg_base.specs.Side.{is_same_side}
 use Rattle.pg_board.specs.Fits.{position_of}
 use Rattle.pg_board.proofs.Deciding.{some-cell, turn-is, left-is, left-few, times-own, times-theirs}
 use Rattle.pg_board.proofs.decided.times_counted.Goals as goal
@@ -13,18 +13,18 @@ left-requires-clause-width c = some-cell c.args.layout.now c.args.trail.now.cell
 pub overflow_sub-result : goal.overflow_sub-result
 overflow_sub-result c = omega (arith, c.left.ensures, left-few _ c.args.bias c.requires.some c.requires.turn)
 
-pub returns-then-is_turn_of : goal.returns-then-is_turn_of
-returns-then-is_turn_of c =
+pub returns-then-is_same : goal.returns-then-is_same
+returns-then-is_same c =
     let s = c.args.layout.now in
     let p = position_of s c.args.trail.now.cells in
     let turn = c.turn.ensures ∙ turn-is s c.args.trail.now.cells in
-    let own : is_turn_of c.args.side p.turn ≡ true = ap (is_turn_of c.args.side) (sym turn) ∙ (sym c.is_turn_of.ensures ∙ c.if-is_turn_of.true) in
+    let own : is_same_side c.args.side p.turn ≡ true = ap (is_same_side c.args.side) (sym turn) ∙ (sym c.is_same.ensures ∙ c.if-is_same.true) in
     times-own (record { bias = c.args.bias; shape = s }) p c.args.side _ own (ap (λ n. c.args.bias - n) (c.left.ensures ∙ left-is s c.args.trail.now.cells))
 
-pub returns-else-is_turn_of : goal.returns-else-is_turn_of
-returns-else-is_turn_of c =
+pub returns-else-is_same : goal.returns-else-is_same
+returns-else-is_same c =
     let s = c.args.layout.now in
     let p = position_of s c.args.trail.now.cells in
     let turn = c.turn.ensures ∙ turn-is s c.args.trail.now.cells in
-    let theirs : is_turn_of c.args.side p.turn ≡ false = ap (is_turn_of c.args.side) (sym turn) ∙ (sym c.is_turn_of.ensures ∙ c.if-is_turn_of.false) in
+    let theirs : is_same_side c.args.side p.turn ≡ false = ap (is_same_side c.args.side) (sym turn) ∙ (sym c.is_same.ensures ∙ c.if-is_same.false) in
     times-theirs (record { bias = c.args.bias; shape = s }) p c.args.side c.args.bias theirs (λ i. c.args.bias)

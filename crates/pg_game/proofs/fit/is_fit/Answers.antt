@@ -13,9 +13,7 @@ returns c =
       λ apart. record {
         some_bias = omega arith;
         few_bias = omega (arith, c.greatest_bias.ensures);
-        kind_fits = field.kind_fits;
-        on_lines = field.on_lines;
-        on_graph = field.on_graph;
+        within = field;
         x_range = subst (AreBelow c.args.x.now) c.points_of-points.ensures below_x;
         y_range = subst (AreBelow c.args.y.now) c.points_of-points.ensures below_y;
         disjoint = c.shares_none.ensures.0 apart;

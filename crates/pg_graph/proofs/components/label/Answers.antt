@@ -13,7 +13,7 @@ small_ends : (g : Graph) (set : ℕ → Bool) → IsGraph g → IsBelow set (suc
 small_ends g set h small j t = let l : j < suc (edge_count g) = small j t in ends_in_range g j h (omega arith)
 
 pub loop-k-init : goal.loop-k-init
-loop-k-init c = IsLinked-begin (first_end_of c.args.g.now) (second_end_of c.args.g.now) (contains c.args.set.now) c.part_all.new.up (λ v l. c.part_all.ensures v (omega arith))
+loop-k-init c = IsLinked-begin (first_end_of c.args.g.now) (second_end_of c.args.g.now) (contains c.args.set.now) c.part_all.new.parents (λ v l. c.part_all.ensures v (omega arith))
 
 pub loop-k-preserved : goal.loop-k-preserved
 loop-k-preserved c =
@@ -21,22 +21,22 @@ loop-k-preserved c =
     let a = first_end_of g in
     let b = second_end_of g in
     let set = contains c.args.set.now in
-    let up = c.loop-k.up in
+    let parents = c.loop-k.parents in
     let k = c.loop-k.k in
     elim c.if-has.branch [
       | then-has w ↦
-          let size : length up ≡ g.vertices = omega arith in
+          let size : length parents ≡ g.vertices = omega arith in
           let first : w.ends_of-a.result.0 ≡ a k = ap (λ p. p.0) w.ends_of-a.ensures.ends in
           let second : w.ends_of-a.result.1 ≡ b k = ap (λ p. p.1) w.ends_of-a.ensures.ends in
-          subst (λ new. IsLinked a b set (k + 1) new) (sym w.up-is)
-          (IsLinked-merged a b set k up w.link.new.up
+          subst (λ new. IsLinked a b set (k + 1) new) (sym w.parents-is)
+          (IsLinked-merged a b set k parents w.union.new.parents
           (subst (λ n. (j : ℕ) → set j ≡ true → (a j < n) × (b j < n)) (sym size) (small_ends g set c.requires.graph c.requires.set))
-          (cc) (omega arith) w.link.ensures.upward (subst (λ v. IsMerged up w.link.new.up (a k) v) second (subst (λ u. IsMerged up w.link.new.up u w.ends_of-a.result.1) first w.link.ensures.merged)) c.loop-k.invariant)
-      | else-has w ↦ subst (λ new. IsLinked a b set (k + 1) new) (sym w.up-is) (IsLinked-skip a b set k up (cc) c.loop-k.invariant)
+          (cc) (omega arith) w.union.ensures.upward (subst (λ v. IsMerged parents w.union.new.parents (a k) v) second (subst (λ u. IsMerged parents w.union.new.parents u w.ends_of-a.result.1) first w.union.ensures.merged)) c.loop-k.invariant)
+      | else-has w ↦ subst (λ new. IsLinked a b set (k + 1) new) (sym w.parents-is) (IsLinked-skip a b set k parents (cc) c.loop-k.invariant)
     ]
 
 pub returns : goal.returns
 returns c =
     let g = c.args.g.now in
     let k : c.loop-k.k ≡ suc (edge_count g) = omega arith in
-    IsLabelling-all (first_end_of g) (second_end_of g) (contains c.args.set.now) c.loop-k.k c.loop-k.up (subst (λ n. IsBelow (contains c.args.set.now) n) (sym k) c.requires.set) c.loop-k.invariant
+    IsLabelling-all (first_end_of g) (second_end_of g) (contains c.args.set.now) c.loop-k.k c.loop-k.parents (subst (λ n. IsBelow (contains c.args.set.now) n) (sym k) c.requires.set) c.loop-k.invariant

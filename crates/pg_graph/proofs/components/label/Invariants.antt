@@ -4,4 +4,4 @@ use Rattle.pg_graph.specs.Labels.{IsLinked}
 use Rattle.pg_graph.proofs.components.label.Given as goal
 
 abbrev pub invariant-loop-k : goal.invariant-loop-k
-invariant-loop-k l = IsLinked (first_end_of l.g) (second_end_of l.g) (contains l.set) l.k l.up
+invariant-loop-k l = IsLinked (first_end_of l.g) (second_end_of l.g) (contains l.set) l.k l.parents

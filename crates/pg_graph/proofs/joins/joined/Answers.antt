@@ -5,8 +5,8 @@ use Rattle.pg_graph.proofs.joins.joined.Goals as goal
 
 pub returns : goal.returns
 returns c =
-    let up = c.label.new.up in
-    let u : c.top.result ≡ root_of up c.args.u = c.top.ensures.value in
-    let v : c.top-2.result ≡ root_of up c.args.v = c.top-2.ensures.value ∙ c.top.ensures.same c.args.v (omega arith) in
+    let parents = c.label.new.parents in
+    let u : c.find.result ≡ root_of parents c.args.u = c.find.ensures.value in
+    let v : c.find-2.result ≡ root_of parents c.args.v = c.find-2.ensures.value ∙ c.find.ensures.same c.args.v (omega arith) in
     let q = c.label.ensures.same c.args.u c.args.v (omega arith) (omega arith) in
     (λ h. q.0 (sym u ∙ (eqb-true _ _ h ∙ v)), λ p. eq-eqb _ _ (u ∙ (q.1 p ∙ sym v)))

@@ -1,4 +1,4 @@
-use Rattle.std.proofs.Common.{◌≡◌, ℕ, Bool, true, ap, subst, sym, ◌∙◌, Some}
+use Rattle.std.proofs.Common.{arith, ◌≡◌, ℕ, Bool, true, ap, subst, sym, ◌∙◌, Some}
 use Rattle.std.specs.FinSet.{contains}
 use Rattle.pg_graph.specs.Graph.{edge_count}
 use Rattle.pg_exchange.specs.Matroid.{Matroid}
@@ -9,7 +9,10 @@ use Rattle.pg_lehman.proofs.ClassLemmas.{elements-e, SetsHold-decided, class-set
 use Rattle.pg_lehman.proofs.game.classify.Goals as goal
 
 pub new-requires-clause-graph : goal.new-requires-clause-graph
-new-requires-clause-graph c = IsGraph-board c.in-Graph.graph (c.args.g.now.fits.on_graph c.in-Graph.graph c.in-Graph.is)
+new-requires-clause-graph c = IsGraph-board c.in-Graph.graph (c.args.g.now.fits.within.on_graph c.in-Graph.graph c.in-Graph.is)
+
+pub new-requires-clause-few : goal.new-requires-clause-few
+new-requires-clause-few c = omega (arith, (c.args.g.now.fits.within.on_graph c.in-Graph.graph c.in-Graph.is).few_vertices)
 
 pub decide-requires : goal.decide-requires
 decide-requires c =

@@ -1,5 +1,7 @@
 use Rattle.std.proofs.Common.{◌-◌, ◌^◌, ap, sym, ◌∙◌, arith}
 use Rattle.std.proofs.Math.Nat.{pow-le-pow_right}
+use Rattle.std.specs.List.{list_any}
+use Rattle.std.specs.FinSet.{contains}
 use Rattle.pg_game.proofs.LineSums.{line_weight-touched, line_weight-clear}
 use Rattle.pg_plain.proofs.leaves.line_weight.Goals as goal
 
@@ -8,10 +10,10 @@ pow-requires c =
     let le = pow-le-pow_right {n = c.args.base} c.requires.some {i = c.args.longest - c.free_count.result} {j = c.args.longest} (omega arith) in
     omega (arith, le, c.requires.fits)
 
-pub returns-then-is_touched : goal.returns-then-is_touched
-returns-then-is_touched c = sym (line_weight-touched c.args.base c.args.longest c.args.own.now c.args.p.now c.args.line.now (sym c.is_touched.ensures ∙ c.if-is_touched.true))
+pub returns-then-meets : goal.returns-then-meets
+returns-then-meets c = sym (line_weight-touched c.args.base c.args.longest c.args.own.now c.args.p.now c.args.line.now (sym (c.meets.ensures ∙ ap (list_any (contains c.args.own.now)) c.as_slice.ensures) ∙ c.if-meets.true))
 
-pub returns-else-is_touched : goal.returns-else-is_touched
-returns-else-is_touched c =
+pub returns-else-meets : goal.returns-else-meets
+returns-else-meets c =
     c.pow.ensures ∙ ap (λ n. c.args.base ^ (c.args.longest - n)) c.free_count.ensures
-    ∙ sym (line_weight-clear c.args.base c.args.longest c.args.own.now c.args.p.now c.args.line.now (sym c.is_touched.ensures ∙ c.if-is_touched.false))
+    ∙ sym (line_weight-clear c.args.base c.args.longest c.args.own.now c.args.p.now c.args.line.now (sym (c.meets.ensures ∙ ap (list_any (contains c.args.own.now)) c.as_slice.ensures) ∙ c.if-meets.false))

@@ -1,4 +1,4 @@
-use Rattle.std.proofs.Common.{◌≡◌, ◌<◌, suc, ℕ, Bool, true, false, arith, ap, ◌∙◌, sym, subst, inl, inr, List}
+use Rattle.std.proofs.Common.{◌≡◌, ◌<◌, ◌≤◌, suc, ℕ, Bool, true, false, arith, ap, ◌∙◌, sym, subst, inl, inr, List}
 use Rattle.std.proofs.lemmas.Bool.{both_ways}
 use Rattle.std.specs.FinSet.{contains}
 use Rattle.pg_base.specs.Sets.{below, either, outside, IsWithin}
@@ -67,6 +67,7 @@ invariant_of-result c =
     let base = IsBase-apart spans (IsSpan-graph_matroid g x x) elements avoided none others (contains c.grown-base.result) n edges (emptied c.empty-none.result c.empty-none.ensures) first second in
     record {
       fits = subst (λ (h : Graph). IsGraph h) (sym own) c.requires.graph;
+      few = subst (λ (h : Graph). h.vertices ≤ 1024) (sym own) c.requires.few;
       labelled = subst (λ (h : Graph). AreLabels h x c.in_ok-names.names.items) (sym own) c.in_ok-names.ensures;
       above_size = c.in_ok-above.ensures.len;
       via_size = c.in_ok-via.ensures.len;

@@ -32,6 +32,7 @@ invariant_of-self c =
     cc (with_point c.take.new.self c.put.new.self c.args.into c.put.ensures, without_point c.args.self.now.base c.take.new.self c.args.out c.take.ensures) in
     record {
       fits = s.fits;
+      few = s.few;
       labelled = s.labelled;
       above_size = s.above_size;
       depth_size = c.args.self.now.depth_size;

@@ -1,0 +1,61 @@
+//! The answer by Avoider's potential.
+ghost use Rattle.std.specs.Prelude.{◌≡◌, ◌≢◌, ◌<◌, ◌≤◌, ◌^◌, ◌-◌, ℕ, length, get_or, map, false, true, if◌then◌else◌};
+ghost use Rattle.pg_base.specs.declared.kind.Kind.TheVariants.{AvoiderEnforcer, Switching};
+ghost use Rattle.pg_base.specs.declared.score.Score.TheVariants.{XWins};
+ghost use Rattle.pg_base.specs.declared.side.Side.TheVariants.{X};
+ghost use Rattle.pg_game.specs.Position.{is_free};
+ghost use Rattle.pg_game.specs.Game.{point_count, free_points, is_full, is_over, outcome, after, IsPosition};
+ghost use Rattle.pg_game.specs.Avoider.{least, avoider_answer, AvoiderHolds};
+
+use pg_game::{Game, MAX_POINTS, Position, lowest_with, weigh};
+
+/// What a point weighs where it is free, and the greatest number where it isn't.
+fn weight_if_free(p: &Position, points: &[u128; MAX_POINTS], v: u16) -> u128
+    requires count { length points.now ≡ MAX_POINTS }
+    requires small { v < MAX_POINTS }
+    ensures { result ≡ (if is_free p.now v then get_or points.now v 0 else 2 ^ 128 - 1) }
+{
+    if p.is_free(v) {
+        points[usize::from(v)]
+    } else {
+        u128::MAX
+    }
+}
+
+/// The least weight of a free point.
+fn least_free(g: &Game, p: &Position, points: &[u128; MAX_POINTS]) -> u128
+    requires lines { g.now.kind ≢ Switching }
+    requires count { length points.now ≡ MAX_POINTS }
+    requires fit { (v : ℕ) → get_or points.now v 0 < 2 ^ 128 }
+    requires some_free { is_full g.now p.now ≡ false }
+    ensures { result ≡ least (map (λ v. get_or points.now v 0) (free_points g.now p.now)) }
+{
+    let mut least = u128::MAX;
+    for v in 0..g.points() {
+        let weight = weight_if_free(p, points, v);
+        if weight < least {
+            least = weight;
+        }
+    }
+    least
+}
+
+/// The answer by Avoider's potential: the lowest free point of least weight.
+///
+/// Where the potential holds with Avoider to move, the game is won for Avoider if it is over after the answer, and else
+/// the potential holds again after Enforcer's next point, whichever it is. Between the two it may fail. The game is one
+/// on lines, and some point is free. The time is linear in the points of all lines; it takes no memory.
+pub fn answer(g: &Game, p: &Position) -> u16
+    requires lines { g.now.kind ≢ Switching }
+    requires position { IsPosition g.now p.now }
+    requires some_free { is_full g.now p.now ≡ false }
+    ensures rule { result ≡ avoider_answer g.now p.now }
+    ensures within { result < point_count g.now }
+    ensures free { is_free p.now result ≡ true }
+    ensures wins { g.now.kind ≡ AvoiderEnforcer → p.now.turn ≡ X → AvoiderHolds g.now p.now → is_over g.now (after g.now p.now result) ≡ true → outcome g.now (after g.now p.now result) ≡ XWins }
+    ensures keeps { p.now.turn ≡ X → AvoiderHolds g.now p.now → (u : ℕ) → u < point_count g.now → is_free (after g.now p.now result) u ≡ true → AvoiderHolds g.now (after g.now (after g.now p.now result) u) }
+{
+    let weights = weigh(g, 2, &p.y, p);
+    let least = least_free(g, p, &weights.points);
+    lowest_with(g, p, &weights.points, least)
+}

@@ -1,6 +1,0 @@
-use Rattle.std.proofs.Common.{◌≡◌, max, drop}
-use Rattle.pg_game.specs.Potential.{greatest_length}
-use Rattle.pg_plain.proofs.leaves.greatest_length.Given as goal
-
-abbrev pub invariant-loop-line : goal.invariant-loop-line
-invariant-loop-line l = max l.longest (greatest_length (drop l.line-index l.lines)) ≡ greatest_length l.lines

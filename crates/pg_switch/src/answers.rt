@@ -1,0 +1,143 @@
+//! The edge that answers a reply.
+ghost use Rattle.std.specs.Prelude.{◌≡◌, ◌<◌, ◌≤◌, suc};
+ghost use Rattle.std.specs.FinSet.{contains, remove};
+ghost use Rattle.pg_base.specs.Points.{AreBelow};
+ghost use Rattle.pg_graph.specs.Graph.{IsGraph, edge_count, first_end_of};
+ghost use Rattle.pg_graph.specs.Joiner.{IsMadeFor, AreEdges};
+ghost use Rattle.pg_game.specs.Trees.{short_edge, cut_edge, lowest_free_edge};
+ghost use Rattle.pg_switch.specs.Replies.{short_reply, cut_reply};
+
+use crate::condition::edges_left;
+use pg_base::{MAX_MEMBERS, PointSet};
+use pg_game::Position;
+use pg_graph::{Graph, Joiner};
+
+/// The lowest free edge, else 0.
+fn lowest_free(graph: &Graph, p: &Position) -> u16
+    requires { IsGraph graph.now }
+    ensures { result ≡ lowest_free_edge graph.now p.now }
+{
+    for v in 0..graph.edge_count() {
+        if p.is_free(v) {
+            return v;
+        }
+    }
+    0
+}
+
+/// The set without x.
+fn without(set: &PointSet, x: u16) -> PointSet
+    requires { x < MAX_MEMBERS }
+    ensures { result ≡ remove set.now x }
+{
+    let mut others = *set;
+    others.take(x);
+    others
+}
+
+/// The lowest edge of the other set that crosses what X's edges and the rest of the one set join to the first end of x,
+/// else the lowest free edge.
+fn short_reply(
+    graph: &Graph,
+    j: &mut Joiner,
+    p: &Position,
+    one: &PointSet,
+    other: &PointSet,
+    x: u16,
+) -> u16
+    requires graph { IsGraph graph.now }
+    requires made { IsMadeFor j.old graph.now }
+    requires x_range { AreBelow p.now.x (edge_count graph.now) }
+    requires one { AreEdges graph.now (contains one.now) }
+    requires other { AreEdges graph.now (contains other.now) }
+    requires edge { x ≤ edge_count graph.now }
+    ensures reply { result ≡ short_reply graph.now p.now one.now other.now x }
+    ensures kept { j.new ≡ j.old }
+{
+    let joined = p.x.union(&without(one, x));
+    let candidates = without(other, graph.edge_count());
+    let (u, _) = graph.ends_of(x);
+    match j.crossing(graph, &joined, u, &candidates) {
+        Some(k) => k,
+        None => lowest_free(graph, p),
+    }
+}
+
+/// The lowest edge of the other set that parts the ends of x in what is left without the one set, else the lowest free
+/// edge.
+fn cut_reply(
+    graph: &Graph,
+    j: &mut Joiner,
+    p: &Position,
+    one: &PointSet,
+    other: &PointSet,
+    x: u16,
+) -> u16
+    requires graph { IsGraph graph.now }
+    requires made { IsMadeFor j.old graph.now }
+    requires other { AreEdges graph.now (contains other.now) }
+    requires edge { x ≤ edge_count graph.now }
+    ensures reply { result ≡ cut_reply graph.now p.now one.now other.now x }
+    ensures kept { j.new ≡ j.old }
+{
+    let left = edges_left(graph, &p.y).without(one);
+    let candidates = without(other, graph.edge_count());
+    let (u, v) = graph.ends_of(x);
+    match j.parting(graph, &left, u, v, &candidates) {
+        Some(k) => k,
+        None => lowest_free(graph, p),
+    }
+}
+
+/// Short's edge where x is lost.
+pub(crate) fn short_edge(
+    graph: &Graph,
+    j: &mut Joiner,
+    p: &Position,
+    a1: &PointSet,
+    a2: &PointSet,
+    x: u16,
+) -> u16
+    requires graph { IsGraph graph.now }
+    requires made { IsMadeFor j.old graph.now }
+    requires x_range { AreBelow p.now.x (edge_count graph.now) }
+    requires first { AreEdges graph.now (contains a1.now) }
+    requires second { AreEdges graph.now (contains a2.now) }
+    requires edge { x ≤ edge_count graph.now }
+    ensures edge { result ≡ short_edge graph.now p.now a1.now a2.now x }
+    ensures kept { j.new ≡ j.old }
+{
+    if a1.has(x) {
+        short_reply(graph, j, p, a1, a2, x)
+    } else if a2.has(x) {
+        short_reply(graph, j, p, a2, a1, x)
+    } else {
+        lowest_free(graph, p)
+    }
+}
+
+/// Cut's edge where x is lost.
+pub(crate) fn cut_edge(
+    graph: &Graph,
+    j: &mut Joiner,
+    p: &Position,
+    d1: &PointSet,
+    d2: &PointSet,
+    x: u16,
+) -> u16
+    requires graph { IsGraph graph.now }
+    requires made { IsMadeFor j.old graph.now }
+    requires first { AreEdges graph.now (contains d1.now) }
+    requires second { AreEdges graph.now (contains d2.now) }
+    requires edge { x ≤ edge_count graph.now }
+    ensures edge { result ≡ cut_edge graph.now p.now d1.now d2.now x }
+    ensures kept { j.new ≡ j.old }
+{
+    if d1.has(x) {
+        cut_reply(graph, j, p, d1, d2, x)
+    } else if d2.has(x) {
+        cut_reply(graph, j, p, d2, d1, x)
+    } else {
+        lowest_free(graph, p)
+    }
+}
