@@ -8,7 +8,7 @@ ghost use Rattle.pg_gen.specs.Scatter.{AreDrawn, IsDrawn, IsScatterGame, has_sca
 
 use crate::fault::GenFault;
 use pg_base::{Kind, Line, LineFault, Lines, Memory, PointSet, Side};
-use pg_game::{Field, Game, LineField};
+use pg_game::{Field, Game, LineField, MAX_LINE_POINTS, MAX_LINES, MAX_POINTS, MAX_SUMMED_POINTS};
 use std::alloc::Global;
 
 /// The state after a draw.
@@ -66,7 +66,7 @@ fn draw(alloc: Global, n: u16, k: usize, state: u32) -> Result<(Line, u32), Memo
     requires small { state < 2 ^ 31 }
     requires some { 1 ≤ k }
     requires few { k ≤ n }
-    requires short { k ≤ 100 }
+    requires short { k ≤ MAX_LINE_POINTS }
     ensures { IfOk result (λ drawn. IsDrawn n k state drawn.0 drawn.1) }
 {
     let mut points = first_points(alloc, n)?;
@@ -80,7 +80,7 @@ fn drawn_lines(alloc: Global, seed: u32, n: u16, m: u32, k: usize) -> Result<Vec
     requires small { seed < 2 ^ 31 }
     requires some { 1 ≤ k }
     requires few { k ≤ n }
-    requires short { k ≤ 100 }
+    requires short { k ≤ MAX_LINE_POINTS }
     ensures { IfOk result (λ lines. AreDrawn seed n m k lines.items) }
 {
     let mut state = seed;
@@ -98,10 +98,10 @@ fn has_scatter(seed: u32, n: u32, m: u32, k: u32) -> bool
     ensures { result ≡ has_scatter seed n m k }
 {
     seed <= 2_147_483_647
-        && (1..=256).contains(&n)
-        && m <= 20_000
-        && (1..=n.min(100)).contains(&k)
-        && m * k <= 400_000
+        && (1..=MAX_POINTS as u32).contains(&n)
+        && m <= MAX_LINES as u32
+        && (1..=n.min(MAX_LINE_POINTS as u32)).contains(&k)
+        && m * k <= MAX_SUMMED_POINTS as u32
 }
 
 /// Maker-Breaker on n points and m lines of k points each, which are drawn by the seed, with X to move.

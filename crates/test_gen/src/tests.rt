@@ -1,7 +1,6 @@
 //! Small generated games, and the ends of the ranges.
-use crate::drawn::next_state;
-use crate::{GenFault, bridge, rows, scatter};
 use pg_game::{Field, Game};
+use pg_gen::{GenFault, bridge, rows, scatter};
 use std::alloc::Global;
 use std::test::Fail;
 
@@ -53,18 +52,30 @@ fn small_games(rt: HostRuntime) -> Result<(), Fail> {
     Ok(())
 }
 
-/// The first draws from seed 1.
-const DRAWS: [u32; 20] = [
+/// The first draws from seed 1, as any C library prints them that has the example generator of the language's standard.
+const DRAWS: [u16; 20] = [
     16838, 5758, 10113, 17515, 31051, 5627, 23010, 7419, 16212, 4086, 2749, 12767, 9084, 12060,
     32225, 17543, 25089, 21183, 25137, 25566,
 ];
 
+/// The lines of one point each, of n, that the draws give.
+fn drawn_text(alloc: Global, n: u16) -> Result<String, Fail> {
+    let mut text = format!(in alloc; "{n}")?;
+    for draw in DRAWS {
+        if n > 0 {
+            text.push_str(&format!(in alloc; ",[{}]", draw % n)?)?;
+        }
+    }
+    Ok(text)
+}
+
+/// Draws are below 32,768 and so known by their remainders by 251 and by 256.
 #[test]
 fn draws(rt: HostRuntime) -> Result<(), Fail> {
-    let mut state = 1;
-    for draw in DRAWS {
-        state = next_state(state % 2_147_483_648);
-        assert_eq!(rt; state / 65_536, draw);
+    let alloc = rt.alloc();
+    for n in [251u16, 256] {
+        let made = told(alloc, scatter(alloc, 1, u32::from(n), 20, 1))?;
+        assert_eq!(rt; made.as_str(), drawn_text(alloc, n)?.as_str());
     }
     Ok(())
 }
