@@ -5,6 +5,7 @@ ghost use Rattle.std.specs.FinSet.{contains};
 ghost use Rattle.std.specs.Fmt.{decimal};
 ghost use Rattle.std.specs.List.{flat_map};
 ghost use Rattle.pg_base.specs.Points.{one_where};
+ghost use Rattle.pg_base.specs.declared.limits.TheConstants.{MAX_MEMBERS};
 ghost use Rattle.pg_text.specs.Text.{spaced, behind_spaces};
 ghost use Rattle.pg_cert.specs.Limits.{IsNode, IsWithinLimits};
 ghost use Rattle.pg_cert.specs.Print.{separated, set_words, reply_word, pair_word, e_words, edge_words, body_name, body_words, body_text, node_text, claim_text, printed_certificate};
@@ -12,13 +13,13 @@ ghost use Rattle.pg_cert.specs.Print.{separated, set_words, reply_word, pair_wor
 use crate::cert::{Cert, Claim};
 use crate::node::{Body, Node};
 use crate::reply::Reply;
-use pg_base::{Memory, Pair, PointSet};
+use pg_base::{MAX_MEMBERS, Memory, Pair, PointSet};
 use std::alloc::{AllocError, Global};
 use std::fmt::Write;
 
 /// Puts a point where it is in the set, behind a space unless it is the first; tells whether a point was put.
 fn put_next(out: &mut String, set: &PointSet, p: u16, begun: bool) -> Result<bool, AllocError>
-    requires { p < 1024 }
+    requires { p < MAX_MEMBERS }
     ensures text { OnOk result (string_bytes out.new ≡ string_bytes out.old ++ separated begun (one_where (contains set.now p) p)) }
     ensures begun { IfOk result (λ now. now ≡ (begun || contains set.now p)) }
 {
@@ -38,7 +39,7 @@ fn put_field(out: &mut String, set: &PointSet) -> Result<(), AllocError>
     ensures { OnOk result (string_bytes out.new ≡ string_bytes out.old ++ spaced (set_words set.now)) }
 {
     let mut begun = false;
-    for p in 0..1024 {
+    for p in 0..MAX_MEMBERS {
         begun = put_next(out, set, p, begun)?;
     }
     Ok(())
@@ -46,7 +47,7 @@ fn put_field(out: &mut String, set: &PointSet) -> Result<(), AllocError>
 
 /// Puts a point behind a space where it is in the set.
 fn put_member(out: &mut String, set: &PointSet, p: u16) -> Result<(), AllocError>
-    requires { p < 1024 }
+    requires { p < MAX_MEMBERS }
     ensures { OnOk result (string_bytes out.new ≡ string_bytes out.old ++ separated true (one_where (contains set.now p) p)) }
 {
     if !set.has(p) {
@@ -60,7 +61,7 @@ fn put_member(out: &mut String, set: &PointSet, p: u16) -> Result<(), AllocError
 fn put_set(out: &mut String, set: &PointSet) -> Result<(), AllocError>
     ensures { OnOk result (string_bytes out.new ≡ string_bytes out.old ++ behind_spaces (set_words set.now)) }
 {
-    for p in 0..1024 {
+    for p in 0..MAX_MEMBERS {
         put_member(out, set, p)?;
     }
     Ok(())

@@ -21,9 +21,9 @@ use Rattle.pg_base.specs.Goal.{goal_word}
 use Rattle.pg_cert.specs.Print.{node_text, claim_words, count_words, claim_text, header, printed_certificate}
 use Rattle.pg_cert_files.specs.Reader.{told}
 use Rattle.pg_cert_files.specs.declared.fault.Fault.{Fault}
-use Rattle.pg_cert_files.specs.declared.part.Head.{Head}
-use Rattle.pg_cert_files.specs.declared.part.Part.{Part}
-use Rattle.pg_cert_files.specs.declared.part.Part.TheVariants as parts
+use Rattle.pg_cert_files.specs.declared.head.Head.{Head}
+use Rattle.pg_cert.specs.declared.part.Part.{Part}
+use Rattle.pg_cert.specs.declared.part.Part.TheVariants as parts
 use Rattle.pg_cert_files.specs.declared.progress.Due.TheVariants as due
 use Rattle.pg_cert_files.specs.declared.progress.Progress.{Progress}
 use Rattle.pg_cert.specs.declared.node.Node.{Node}
@@ -35,7 +35,7 @@ use Rattle.pg_cert_files.proofs.Stands.{after_none, at_feed}
 use Rattle.pg_cert_files.proofs.WholeFile.{gathered_more, gathered_none, fits_file, cert_of}
 use Rattle.pg_cert_files.proofs.CertLimits.{behind_more}
 use Rattle.pg_text.proofs.Decimals.{number_decimal}
-use Rattle.pg_text.proofs.Words.{IsWord, decimal_is_word, lacks_space, spaced_quiet, quiet_lacks_feed}
+use Rattle.pg_text.proofs.PlainWords.{IsWord, decimal_is_word, lacks_space, spaced_quiet, quiet_lacks_feed}
 use Rattle.pg_cert_files.proofs.NodeBack.{side_is_word, node_line_text, node_back, node_lacks_feed}
 
 -- a text of whole lines without a fault, and what they have said
@@ -103,7 +103,7 @@ count_back n small =
     let two : two_parts 32 (spaced (count_words n)) ≡ Some (codes "nodes", decimal n) = just_two 32 (spaced (count_words n)) (codes "nodes") (decimal n) line (lacks_space (codes "nodes") nodes_word) (lacks_space (decimal n) (decimal_is_word n wide)) in
     ap count_of_two two
 
-count_step_back : (p : Progress) (head : Head) (n : ℕ) → p.due ≡ due.Count head → 0 < n → n ≤ 100000 → p.nodes + n ≤ 200000 → step p (spaced (count_words n)) ≡ Ok (record p { due = due.Node (n - 1); nodes = p.nodes + n }, Some (parts.Claim head n))
+count_step_back : (p : Progress) (head : Head) (n : ℕ) → p.due ≡ due.Count head → 0 < n → n ≤ 100000 → p.nodes + n ≤ 200000 → step p (spaced (count_words n)) ≡ Ok (record p { due = due.Node (n - 1); nodes = p.nodes + n }, Some (parts.Claim head.turn head.side head.goal n))
 unfolding step
 count_step_back p head n e some few room =
     let word = count_back n (omega arith) in
@@ -163,7 +163,7 @@ claim_read text p g c at e few room h =
     let p1 : Progress = record p { due = due.Count (head_is c); claims = p.claims + 1 } in
     let p2 : Progress = record p1 { due = due.Node (n - 1); nodes = p.nodes + n } in
     let told1 = line_read text (spaced (claim_words c)) p p1 None g at (quiet_lacks_feed (spaced (claim_words c)) (spaced_quiet (claim_words c) (five_word, (side_is_word c.turn, (side_is_word c.side, (goal_is_word c.goal, tt)))))) (claim_step_back p c e few) in
-    let told2 = line_read (text ++ first) (spaced (count_words n)) p1 p2 (Some (parts.Claim (head_is c) n)) g told1 (quiet_lacks_feed (spaced (count_words n)) (spaced_quiet (count_words n) (nodes_word, (decimal_is_word n (omega (arith, h.few)), tt)))) (count_step_back p1 (head_is c) n refl h.some h.few room) in
+    let told2 = line_read (text ++ first) (spaced (count_words n)) p1 p2 (Some (parts.Claim c.turn c.side c.goal n)) g told1 (quiet_lacks_feed (spaced (count_words n)) (spaced_quiet (count_words n) (nodes_word, (decimal_is_word n (omega (arith, h.few)), tt)))) (count_step_back p1 (head_is c) n refl h.some h.few room) in
     let told3 = some_nodes c.nodes ((text ++ first) ++ second) p2 (record { whole = closed g; head = Some (head_is c); nodes = [] }) h.some told2 refl (recursion_from_All IsNode c.nodes h.nodes) in
     let all : ((text ++ first) ++ second) ++ flat_map node_text c.nodes ≡ text ++ (spaced (claim_words c) ++ 10 ∷ (spaced (count_words n) ++ 10 ∷ flat_map node_text c.nodes)) = joined text (spaced (claim_words c)) (spaced (count_words n)) (flat_map node_text c.nodes) in
     subst (λ (t : Bytes). IsAt t (record p2 { due = due.Claim }) (record { whole = closed g; head = Some (head_is c); nodes = c.nodes })) all told3

@@ -16,9 +16,9 @@ use Rattle.pg_cert_files.specs.CertFile.{Step, header_step, claimed, claim_step,
 use Rattle.pg_cert.specs.Limits.{IsNode, IsClaim, IsWithinLimits, node_count}
 use Rattle.pg_cert_files.specs.declared.fault.Fault.{Fault}
 use Rattle.pg_cert_files.specs.declared.fault.Fault.TheVariants as faults
-use Rattle.pg_cert_files.specs.declared.part.Head.{Head}
-use Rattle.pg_cert_files.specs.declared.part.Part.{Part}
-use Rattle.pg_cert_files.specs.declared.part.Part.TheVariants as parts
+use Rattle.pg_cert_files.specs.declared.head.Head.{Head}
+use Rattle.pg_cert.specs.declared.part.Part.{Part}
+use Rattle.pg_cert.specs.declared.part.Part.TheVariants as parts
 use Rattle.pg_cert_files.specs.declared.progress.Due.{Due}
 use Rattle.pg_cert_files.specs.declared.progress.Due.TheVariants as due
 use Rattle.pg_cert_files.specs.declared.progress.Progress.{Progress}
@@ -89,7 +89,7 @@ sound_claim p g line next sound e = elim (chosen (has_bar line) (Err faults.Plac
 sound_numbered : (head : Head) (p : Progress) (g : Gathered) (n : Option ℕ) (next : Next) → IsSound (due.Count head) p g → numbered head p n ≡ Ok next → IsKept g next
 sound_numbered head p g None next sound e = absurd cc
 sound_numbered head p g (Some n) next sound e =
-    let made : Next = (record p { due = due.Node (n - 1); nodes = p.nodes + n }, Some (parts.Claim head n)) in
+    let made : Next = (record p { due = due.Node (n - 1); nodes = p.nodes + n }, Some (parts.Claim head.turn head.side head.goal n)) in
     elim (chosen (n == 0) (Err faults.Number) (cond (nat_lt 100000 n || nat_lt 200000 (p.nodes + n)) (Err faults.Limit) (done made)) (Ok next) e) [
       | inl h ↦ err_not faults.Number next (IsKept g next) h.1
       | inr h ↦ elim (chosen (nat_lt 100000 n || nat_lt 200000 (p.nodes + n)) (Err faults.Limit) (done made) (Ok next) h.1) [

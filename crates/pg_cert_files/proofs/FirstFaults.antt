@@ -7,7 +7,7 @@ use Rattle.pg_cert_files.specs.CertFile.{Step, Seen, nothing, taken, after, seen
 use Rattle.pg_cert_files.specs.FirstFault.{IsFaultOfLine, IsFaultOfEnd, IsFirstFault}
 use Rattle.pg_cert_files.specs.declared.fault.Fault.{Fault}
 use Rattle.pg_cert_files.specs.declared.fault.Fault.TheVariants as faults
-use Rattle.pg_cert_files.specs.declared.part.Part.{Part}
+use Rattle.pg_cert.specs.declared.part.Part.{Part}
 use Rattle.pg_cert.specs.declared.cert.Cert.{Cert}
 use Rattle.pg_cert_files.proofs.NodeLimits.{chosen}
 use Rattle.pg_cert_files.proofs.Stands.{after_none, after_some}
@@ -90,7 +90,7 @@ line_is : (text : Bytes) (fault : Fault) (number : ℕ) → (seen (lines text)).
 unfolding seen
 line_is text fault number e =
     let h = stops (lines text) nothing fault number refl e in
-    record { before = h.before; line = h.line; behind = h.behind; cut = h.cut; place = omega (arith, h.place); sound = h.sound; here = h.here; least = step_first (seen h.before).progress h.line fault h.here }
+    record { before = h.before; line = h.line; behind = h.behind; cut = h.cut; place = omega (arith, h.place); sound = h.sound; here = h.here; is_least = step_first (seen h.before).progress h.line fault h.here }
 
 numbered_is : (n m : ℕ) (o : Option Fault) (fault : Fault) → at_number n o ≡ Some (fault, m) → (o ≡ Some fault) × (m ≡ n)
 numbered_is n m None fault e = absurd cc

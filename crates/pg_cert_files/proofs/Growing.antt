@@ -6,7 +6,7 @@ use Rattle.std.proofs.lemmas.List.Splits.{length-slice_split, slice_split-cons_y
 use Rattle.std.proofs.lemmas.List.{append-nil}
 use Rattle.std.proofs.lemmas.List.Sums.{fold-append}
 use Rattle.pg_text.specs.Text.{Bytes, Lacks}
-use Rattle.pg_text.proofs.Lines.{is_feed}
+use Rattle.pg_text.proofs.FirstLine.{is_feed}
 use Rattle.pg_cert_files.specs.Lines.{Cut, with_byte, cut}
 use Rattle.pg_cert_files.specs.CertFile.{Seen, nothing, after, seen}
 use Rattle.pg_cert_files.specs.Reader.{told}

@@ -4,23 +4,23 @@ use Rattle.std.specs.Prelude.{◌==◌, nat_lt, nat_le, not, codes, is_none, is_
 use Rattle.std.specs.FinSet.{from_list}
 use Rattle.std.specs.Str.{bytes_eq}
 use Rattle.std.proofs.lemmas.Bool.{cases_Bool}
+use Rattle.pg_text.specs.Faults.{and_then, each_of, onto, least}
 use Rattle.pg_text.specs.Text.{Bytes, pair_of, two_parts, number}
-use Rattle.pg_cert.specs.Limits.{ascend_from}
+use Rattle.pg_text.specs.Text.{ascend_from}
 use Rattle.pg_cert.specs.declared.node.Body.{Body}
 use Rattle.pg_cert.specs.declared.node.Body.TheVariants as bodies
 use Rattle.pg_cert.specs.declared.node.Node.{Node}
 use Rattle.pg_cert_files.specs.Form.{has_bar, Shape, shape_of}
-use Rattle.pg_cert_files.specs.NodeLine.{below, point_of, child_of, onto, each_of, both_of, if_ascending, ascending_of, field_words, reply_of, points_pair, move_of, word_reply, word_pair, replies_of, begins_with_e, after_e, before_slash, after_slash, edges_with, edges_of, body_of, meets, node_with, node_of, formed, node_line}
+use Rattle.pg_cert_files.specs.NodeLine.{below, point_of, child_of, both_of, if_ascending, ascending_of, field_words, reply_of, points_pair, move_of, word_reply, word_pair, replies_of, begins_with_e, after_e, before_slash, after_slash, edges_with, edges_of, body_of, meets, node_with, node_of, formed, node_line}
 use Rattle.pg_cert_files.specs.Lines.{head_of, count_of}
 use Rattle.pg_cert_files.specs.CertFile.{header_step, claimed, claim_step, numbered, counted, behind, step_due, step}
-use Rattle.pg_cert_files.specs.FirstFault.{counted_number, is_no_count, is_too_many, has_wrong_number, line_faults, first_of}
-use Rattle.pg_cert_files.specs.Views.{and_then}
+use Rattle.pg_cert_files.specs.FirstFault.{counted_number, is_no_count, is_too_many, has_wrong_number, line_faults}
 use Rattle.pg_cert_files.specs.declared.fault.Fault.{Fault}
 use Rattle.pg_cert_files.specs.declared.fault.Fault.TheVariants as faults
 use Rattle.pg_cert_files.specs.declared.form.Form.{Form}
 use Rattle.pg_cert_files.specs.declared.form.Form.TheVariants as forms
-use Rattle.pg_cert_files.specs.declared.part.Head.{Head}
-use Rattle.pg_cert_files.specs.declared.part.Part.TheVariants as parts
+use Rattle.pg_cert_files.specs.declared.head.Head.{Head}
+use Rattle.pg_cert.specs.declared.part.Part.TheVariants as parts
 use Rattle.pg_cert_files.specs.declared.progress.Due.{Due}
 use Rattle.pg_cert_files.specs.declared.progress.Due.TheVariants as due
 use Rattle.pg_cert_files.specs.declared.progress.Progress.{Progress}
@@ -100,32 +100,32 @@ only_node shape = only_then (ascending_of (field_words shape.x)) _ (only_points 
 
 -- ---- each line
 
-abbrev applies : Fault → Option (Fault × Bool)
-applies fault = Some (fault, true)
+abbrev applies : Fault → Option Fault
+applies fault = Some fault
 
 same : {A : Type 0} (f g : Fault) → ◌≡◌ {A = Result A Fault} (Err f) (Err g) → applies f ≡ applies g
 same f g e = let is : f ≡ g = cc in ap applies is
 
-header_first : (p : Progress) (line : Bytes) (fault : Fault) → header_step p line ≡ Err fault → first_of (line_faults due.Header p line) ≡ Some (fault, true)
+header_first : (p : Progress) (line : Bytes) (fault : Fault) → header_step p line ≡ Err fault → least (line_faults due.Header p line) ≡ Some fault
 header_first p line fault e = elim (chosen (bytes_eq line (codes "posgame-cert 1")) (Ok (record p { due = due.Claim }, None)) (Err faults.Header) (Err fault) e) [
   | inl h ↦ absurd (cc h.1)
   | inr h ↦ rw h.0 (same faults.Header fault h.1)
 ]
 
-claimed_first : (p : Progress) (head : Option Head) (fault : Fault) → claimed p head ≡ Err fault → first_of ((faults.Form, is_none head) ∷ (faults.Limit, nat_le 8 p.claims) ∷ []) ≡ Some (fault, true)
+claimed_first : (p : Progress) (head : Option Head) (fault : Fault) → claimed p head ≡ Err fault → least ((faults.Form, is_none head) ∷ (faults.Limit, nat_le 8 p.claims) ∷ []) ≡ Some fault
 claimed_first p None fault e = same faults.Form fault e
 claimed_first p (Some head) fault e = elim (chosen (nat_le 8 p.claims) (Err faults.Limit) (Ok (record p { due = due.Count head; claims = p.claims + 1 }, None)) (Err fault) e) [
   | inl h ↦ rw h.0 (same faults.Limit fault h.1)
   | inr h ↦ absurd (cc h.1)
 ]
 
-claim_first : (p : Progress) (line : Bytes) (fault : Fault) → claim_step p line ≡ Err fault → first_of (line_faults due.Claim p line) ≡ Some (fault, true)
+claim_first : (p : Progress) (line : Bytes) (fault : Fault) → claim_step p line ≡ Err fault → least (line_faults due.Claim p line) ≡ Some fault
 claim_first p line fault e = elim (chosen (has_bar line) (Err faults.Place) (claimed p (head_of line)) (Err fault) e) [
   | inl h ↦ rw h.0 (same faults.Place fault h.1)
   | inr h ↦ rw h.0 (claimed_first p (head_of line) fault h.1)
 ]
 
-numbered_first : (head : Head) (p : Progress) (n : Option ℕ) (fault : Fault) → numbered head p n ≡ Err fault → first_of ((faults.Number, is_no_count n) ∷ (faults.Limit, is_too_many p n) ∷ []) ≡ Some (fault, true)
+numbered_first : (head : Head) (p : Progress) (n : Option ℕ) (fault : Fault) → numbered head p n ≡ Err fault → least ((faults.Number, is_no_count n) ∷ (faults.Limit, is_too_many p n) ∷ []) ≡ Some fault
 numbered_first head p None fault e = same faults.Number fault e
 numbered_first head p (Some n) fault e = elim (chosen (n == 0) (Err faults.Number) _ (Err fault) e) [
   | inl h ↦ rw h.0 (same faults.Number fault h.1)
@@ -135,19 +135,19 @@ numbered_first head p (Some n) fault e = elim (chosen (n == 0) (Err faults.Numbe
   ]
 ]
 
-counted_first : (head : Head) (p : Progress) (word : Option Bytes) (fault : Fault) → counted head p word ≡ Err fault → first_of ((faults.Form, is_none word) ∷ (faults.Number, is_no_count (counted_number word)) ∷ (faults.Limit, is_too_many p (counted_number word)) ∷ []) ≡ Some (fault, true)
+counted_first : (head : Head) (p : Progress) (word : Option Bytes) (fault : Fault) → counted head p word ≡ Err fault → least ((faults.Form, is_none word) ∷ (faults.Number, is_no_count (counted_number word)) ∷ (faults.Limit, is_too_many p (counted_number word)) ∷ []) ≡ Some fault
 counted_first head p None fault e = same faults.Form fault e
 counted_first head p (Some word) fault e = numbered_first head p (number word) fault e
 
-node_first : (r : Result Node Fault) (fault : Fault) → OnlyNumber r → r ≡ Err fault → first_of ((faults.Number, is_err r) ∷ []) ≡ Some (fault, true)
+node_first : (r : Result Node Fault) (fault : Fault) → OnlyNumber r → r ≡ Err fault → least ((faults.Number, is_err r) ∷ []) ≡ Some fault
 node_first (Ok node) fault only e = absurd (cc e)
 node_first (Err found) fault only e = ap applies (sym only) ∙ same found fault e
 
-formed_first : (shape : Option Shape) (fault : Fault) → formed shape ≡ Err fault → first_of ((faults.Form, is_none shape) ∷ (faults.Number, has_wrong_number shape) ∷ []) ≡ Some (fault, true)
+formed_first : (shape : Option Shape) (fault : Fault) → formed shape ≡ Err fault → least ((faults.Form, is_none shape) ∷ (faults.Number, has_wrong_number shape) ∷ []) ≡ Some fault
 formed_first None fault e = same faults.Form fault e
 formed_first (Some shape) fault e = node_first (node_of shape) fault (only_node shape) e
 
-node_line_first : (p : Progress) (others : ℕ) (line : Bytes) (fault : Fault) → node_line line ≡ Err fault → first_of (line_faults (due.Node others) p line) ≡ Some (fault, true)
+node_line_first : (p : Progress) (others : ℕ) (line : Bytes) (fault : Fault) → node_line line ≡ Err fault → least (line_faults (due.Node others) p line) ≡ Some fault
 unfolding node_line
 node_line_first p others line fault e = elim (chosen (not (has_bar line)) (Err faults.Place) (formed (shape_of line)) (Err fault) e) [
   | inl h ↦ rw h.0 (same faults.Place fault h.1)
@@ -158,12 +158,12 @@ then_err : {A B : Type 0} (r : Result A Fault) (next : A → Result B Fault) (fa
 then_err (Ok a) next fault works e = let on : is_err (next a) ≡ true = ap is_err e in absurd (cc (works a))
 then_err (Err found) next fault works e = let is : found ≡ fault = cc in ap (λ (k : Fault). Err k) is
 
-due_first : (d : Due) (p : Progress) (line : Bytes) (fault : Fault) → step_due d p line ≡ Err fault → first_of (line_faults d p line) ≡ Some (fault, true)
+due_first : (d : Due) (p : Progress) (line : Bytes) (fault : Fault) → step_due d p line ≡ Err fault → least (line_faults d p line) ≡ Some fault
 due_first due.Header p line fault e = header_first p line fault e
 due_first due.Claim p line fault e = claim_first p line fault e
 due_first (due.Count head) p line fault e = counted_first head p (count_of line) fault e
 due_first (due.Node others) p line fault e = node_line_first p others line fault (then_err (node_line line) (λ node. Ok (record p { due = behind others }, Some (parts.Node node))) fault (λ node. refl) e)
 
-pub step_first : (p : Progress) (line : Bytes) (fault : Fault) → step p line ≡ Err fault → first_of (line_faults p.due p line) ≡ Some (fault, true)
+pub step_first : (p : Progress) (line : Bytes) (fault : Fault) → step p line ≡ Err fault → least (line_faults p.due p line) ≡ Some fault
 unfolding step
 step_first p line fault e = due_first p.due p line fault e

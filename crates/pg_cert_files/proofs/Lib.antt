@@ -1,6 +1,4 @@
 pub mod Odd
-pub mod Following
-pub mod SetLists
 pub mod Growing
 pub mod Stands
 pub mod WholeFile
@@ -11,3 +9,4 @@ pub mod FirstFaults
 pub mod Words
 pub mod NodeBack
 pub mod Back
+pub mod Within

@@ -11,6 +11,7 @@ use Rattle.std.proofs.lemmas.Bool.Decides.{nat_tests}
 use Rattle.std.proofs.lemmas.List.{length-map, length-append}
 use Rattle.std.proofs.lemmas.Fmt.{decimal_is_IsNumeral}
 use Rattle.std.proofs.lemmas.List.Elements.{All-from_recursion, recursion_from_All}
+use Rattle.pg_text.specs.Faults.{and_then}
 use Rattle.pg_base.specs.declared.side.Side.{Side}
 use Rattle.pg_base.specs.declared.side.Side.TheVariants as sides
 use Rattle.pg_base.specs.declared.pair.Pair.{Pair}
@@ -19,10 +20,10 @@ use Rattle.pg_base.proofs.MemberLemmas.{points_below-each, points_below-small, p
 use Rattle.pg_text.specs.Text.{Bytes, Lacks, parts, two_parts, four_parts, spaced, behind_spaces}
 use Rattle.pg_cert_files.specs.Form.{form_of, are_odd, each_has_one, is_slash, has_one_slash, fits, Shape, with_fields, shape_of}
 use Rattle.pg_cert_files.specs.NodeLine.{ascending_of, field_words, reply_of, points_pair, word_reply, word_pair, is_e, begins_with_e, after_e, before_slash, after_slash, edges_with, edges_of, body_of, meets, node_of, node_line}
-use Rattle.pg_cert.specs.Limits.{ArePoints, IsReply, IsPair, IsBody, IsNode, ascend_from}
+use Rattle.pg_cert.specs.Limits.{ArePoints, IsReply, IsPair, IsBody, IsNode}
+use Rattle.pg_text.specs.Text.{ascend_from}
 use Rattle.pg_base.specs.Side.{side_word, side_of}
 use Rattle.pg_cert.specs.Print.{set_words, reply_word, pair_word, edge_words, body_name, body_words, body_text}
-use Rattle.pg_cert_files.specs.Views.{and_then}
 use Rattle.pg_cert_files.specs.declared.fault.Fault.{Fault}
 use Rattle.pg_cert_files.specs.declared.form.Form.{Form}
 use Rattle.pg_cert_files.specs.declared.form.Form.TheVariants as forms
@@ -33,8 +34,8 @@ use Rattle.pg_cert.specs.declared.reply.Reply.{Reply}
 use Rattle.pg_cert_files.specs.declared.values.Edges.{Edges}
 use Rattle.pg_text.proofs.Cuts.{just_two, four_three}
 use Rattle.pg_cert_files.proofs.NodeLimits.{odd_len, set_from}
-use Rattle.pg_text.proofs.Decimals.{all_append, all_of, all_map, decimal_not, two_decimals}
-use Rattle.pg_text.proofs.Words.{IsPlain, IsQuiet, IsWord, decimal_is_word, word_quiet, spaced_quiet, words_spaced, quiet_text}
+use Rattle.pg_text.proofs.Decimals.{all_append, all_map, decimal_not, two_decimals}
+use Rattle.pg_text.proofs.PlainWords.{IsPlain, IsQuiet, IsWord, decimal_is_word, word_quiet, spaced_quiet, words_spaced, quiet_text}
 use Rattle.pg_cert_files.proofs.Words.{lacks_bar, point_decimal, child_decimal, each_back, points_back}
 
 -- ---- sets

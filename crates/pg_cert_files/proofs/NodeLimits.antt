@@ -1,20 +1,23 @@
 -- A node that is read is within the limits.
 use Rattle.std.proofs.Common.{◌≡◌, ℕ, suc, ◌%◌, ◌<◌, Bool, true, false, cond, ◌⊎◌, inl, inr, List, [], ◌∷◌, length, map, arith, refl, sym, ap, subst, ◌∙◌, Option, Some, None, Result, Ok, Err}
-use Rattle.std.specs.Prelude.{nat_lt, nat_eq, not}
+use Rattle.std.specs.Prelude.{IfOk, nat_lt, nat_eq, not}
 use Rattle.std.specs.FinSet.{FinSet, contains, from_list, contains-from_list_nat}
 use Rattle.std.specs.List.{list_any, All, AllByRecursion}
 use Rattle.std.specs.Ordering.{nat_cmp}
 use Rattle.std.proofs.lemmas.Bool.{cases_Bool, ltb-true, or_cases, or_parts, false≢true}
 use Rattle.std.proofs.lemmas.Bool.Decides.{nat_tests}
 use Rattle.std.proofs.lemmas.List.Elements.{All-from_recursion}
+use Rattle.std.specs.Global.{Vec}
+use Rattle.pg_text.specs.declared.error.LineError.{LineError}
+use Rattle.pg_text.specs.Faults.{Gives, and_then, each_of, onto}
 use Rattle.pg_base.specs.declared.side.Side.{Side}
 use Rattle.pg_base.specs.declared.pair.Pair.{Pair}
 use Rattle.pg_text.specs.Text.{Bytes, Four, parts, pair_of, two_parts, four_parts, number}
 use Rattle.pg_base.specs.Side.{side_of}
 use Rattle.pg_cert_files.specs.Form.{form_of, are_odd, fits, Shape, with_form, with_body, with_fields, shape_of, has_bar}
-use Rattle.pg_cert_files.specs.NodeLine.{below, point_of, child_of, onto, each_of, both_of, if_ascending, ascending_of, field_words, reply_of, points_pair, move_of, word_reply, word_pair, replies_of, begins_with_e, after_e, before_slash, after_slash, edges_of, body_of, meets, node_with, node_of, formed, node_line}
-use Rattle.pg_cert.specs.Limits.{ArePoints, IsReply, IsPair, IsBody, IsNode, ascend_from}
-use Rattle.pg_cert_files.specs.Views.{and_then}
+use Rattle.pg_cert_files.specs.NodeLine.{below, point_of, child_of, both_of, if_ascending, ascending_of, field_words, reply_of, points_pair, move_of, word_reply, word_pair, replies_of, begins_with_e, after_e, before_slash, after_slash, edges_of, body_of, meets, node_with, node_of, formed, node_line}
+use Rattle.pg_cert.specs.Limits.{ArePoints, IsReply, IsPair, IsBody, IsNode}
+use Rattle.pg_text.specs.Text.{ascend_from}
 use Rattle.pg_cert_files.specs.declared.fault.Fault.{Fault}
 use Rattle.pg_cert_files.specs.declared.fault.Fault.TheVariants as faults
 use Rattle.pg_cert_files.specs.declared.form.Form.{Form}
@@ -74,6 +77,11 @@ below_ok limit (Some m) n e = elim (chosen (nat_lt m limit) (done m) (Err faults
 
 points_ok : (ws : List Bytes) (ps : List ℕ) → each_of point_of ws ≡ Ok ps → AllByRecursion (λ p. p < 1024) ps
 points_ok ws ps e = each_ok point_of (λ p. p < 1024) (λ w p f. below_ok 1024 (number w) p f) ws ps e
+
+-- the points that code reads
+pub small_points : (r : Result (Vec ℕ) (LineError Fault)) (ws : List Bytes) → Gives (λ (v : Vec ℕ). v.items) r (each_of point_of ws) → IfOk r (λ v. All (λ p. p < 1024) v.items)
+small_points (Ok v) ws h = All-from_recursion (λ p. p < 1024) v.items (points_ok ws v.items h)
+small_points (Err e) ws h = tt
 
 ascending_is : {A : Type 0} (ps : List ℕ) (a b : A) → if_ascending ps a ≡ Ok b → (ascend_from 0 ps ≡ true) × (a ≡ b)
 ascending_is ps a b e = elim (chosen (ascend_from 0 ps) (done a) (Err faults.Number) (Ok b) e) [

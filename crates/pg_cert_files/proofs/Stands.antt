@@ -10,10 +10,10 @@ use Rattle.pg_cert_files.specs.CertFile.{Seen, nothing, step, taken, after, seen
 use Rattle.pg_cert_files.specs.Reader.{StandsFor, told, IsBad}
 use Rattle.pg_cert_files.specs.Views.{number_of}
 use Rattle.pg_cert_files.specs.declared.fault.Fault.{Fault}
-use Rattle.pg_cert_files.specs.declared.part.Part.{Part}
+use Rattle.pg_cert.specs.declared.part.Part.{Part}
 use Rattle.pg_cert_files.specs.declared.progress.Progress.{Progress}
-use Rattle.pg_cert_files.specs.declared.reader.CertReader.{CertReader}
-use Rattle.pg_text.proofs.Lines.{without_empty_end-append, one_line}
+use Rattle.pg_cert_files.specs.declared.reader.LineReader.{LineReader}
+use Rattle.pg_text.proofs.FirstLine.{without_empty_end-append, one_line}
 use Rattle.pg_cert_files.proofs.Growing.{cut_add, cut_feed, told_add, told_feed, told_line, rest_line, cut_is_split}
 
 pub stands_new : (v : Vec ℕ) → v.items ≡ [] → StandsFor (record { pending = v; progress = nothing.progress; count = 0; fault = None }) []
@@ -49,7 +49,7 @@ progress_stays None a b p e h = ap (λ (s : Seen). s.progress) e ∙ h
 progress_stays (Some f) a b p e h = tt
 
 -- bytes without a line feed
-pub adds : (r : CertReader) (v : Vec ℕ) (text bs : Bytes) → Lacks 10 bs → StandsFor r text → IfNone r.fault (v.items ≡ r.pending.items ++ bs) → StandsFor (record r { pending = v }) (text ++ bs) × (told (text ++ bs) ≡ told text)
+pub adds : (r : LineReader) (v : Vec ℕ) (text bs : Bytes) → Lacks 10 bs → StandsFor r text → IfNone r.fault (v.items ≡ r.pending.items ++ bs) → StandsFor (record r { pending = v }) (text ++ bs) × (told (text ++ bs) ≡ told text)
 adds r v text bs h stands grown =
     let same = told_add text bs h in (
       record {
@@ -69,14 +69,14 @@ pub after_some : (s : Seen) (line : Bytes) (f : Fault × ℕ) → s.fault ≡ So
 unfolding after
 after_some s line f e = rw e refl
 
-step_is : (r : CertReader) (text last : Bytes) → StandsFor r text → r.fault ≡ None → step (told text).progress ((cut text).rest ++ last) ≡ step r.progress (r.pending.items ++ last)
+step_is : (r : LineReader) (text last : Bytes) → StandsFor r text → r.fault ≡ None → step (told text).progress ((cut text).rest ++ last) ≡ step r.progress (r.pending.items ++ last)
 step_is r text last stands none =
     let line : r.pending.items ≡ (cut text).rest = at_none r.fault _ none stands.pending in
     let progress : (told text).progress ≡ r.progress = at_none r.fault _ none stands.progress in
     rw (progress, line) refl
 
 -- a line that is read
-pub ends_ok : (r n : CertReader) (part : Option Part) (text last : Bytes) → Lacks 10 last → StandsFor r text → r.fault ≡ None → step r.progress (r.pending.items ++ last) ≡ Ok (n.progress, part) → n.count ≡ r.count + 1 → n.fault ≡ r.fault → n.pending.items ≡ []
+pub ends_ok : (r n : LineReader) (part : Option Part) (text last : Bytes) → Lacks 10 last → StandsFor r text → r.fault ≡ None → step r.progress (r.pending.items ++ last) ≡ Ok (n.progress, part) → n.count ≡ r.count + 1 → n.fault ≡ r.fault → n.pending.items ≡ []
     → StandsFor n (text ++ (last ++ 10 ∷ [])) × ((told (text ++ (last ++ 10 ∷ []))).parts ≡ (told text).parts ++ listed part)
 ends_ok r n part text last h stands none stepped count fault empty =
     let e : told (text ++ (last ++ 10 ∷ [])) ≡ record { progress = n.progress; count = (told text).count + 1; fault = None; parts = (told text).parts ++ listed part } =
@@ -91,7 +91,7 @@ ends_ok r n part text last h stands none stepped count fault empty =
     )
 
 -- a line that is faulty
-pub ends_err : (r n : CertReader) (fault : Fault) (text last : Bytes) → Lacks 10 last → StandsFor r text → r.fault ≡ None → step r.progress (r.pending.items ++ last) ≡ Err fault → n.count ≡ r.count + 1 → n.fault ≡ Some (fault, r.count + 1)
+pub ends_err : (r n : LineReader) (fault : Fault) (text last : Bytes) → Lacks 10 last → StandsFor r text → r.fault ≡ None → step r.progress (r.pending.items ++ last) ≡ Err fault → n.count ≡ r.count + 1 → n.fault ≡ Some (fault, r.count + 1)
     → StandsFor n (text ++ (last ++ 10 ∷ [])) × ((told (text ++ (last ++ 10 ∷ []))).parts ≡ (told text).parts ++ [])
 ends_err r n fault text last h stands none stepped count some =
     let e : told (text ++ (last ++ 10 ∷ [])) ≡ taken (told text) (Err fault) =
@@ -106,7 +106,7 @@ ends_err r n fault text last h stands none stepped count some =
     )
 
 -- behind a faulty line
-pub ends_past : (r : CertReader) (f : Fault × ℕ) (text last : Bytes) → Lacks 10 last → StandsFor r text → r.fault ≡ Some f → StandsFor r (text ++ (last ++ 10 ∷ [])) × ((told (text ++ (last ++ 10 ∷ []))).parts ≡ (told text).parts ++ [])
+pub ends_past : (r : LineReader) (f : Fault × ℕ) (text last : Bytes) → Lacks 10 last → StandsFor r text → r.fault ≡ Some f → StandsFor r (text ++ (last ++ 10 ∷ [])) × ((told (text ++ (last ++ 10 ∷ []))).parts ≡ (told text).parts ++ [])
 ends_past r f text last h stands some =
     let e : told (text ++ (last ++ 10 ∷ [])) ≡ told text = told_line text last h ∙ after_some (told text) ((cut text).rest ++ last) f (stands.fault ∙ some) in (
       record {
@@ -119,14 +119,14 @@ ends_past r f text last h stands some =
     )
 
 -- all of the piece but the rest has been fed, and no part is whole
-abbrev pub HasFed : CertReader → CertReader → Bytes → Bytes → Type 0
+abbrev pub HasFed : LineReader → LineReader → Bytes → Bytes → Type 0
 HasFed old new piece rest = (front : Bytes) × (piece ≡ front ++ rest) × ((text : Bytes) → StandsFor old text → StandsFor new (text ++ front) × ((told (text ++ front)).parts ≡ (told text).parts))
 
 -- the same, where the part is whole with the last byte of the front
-abbrev pub HasGiven : CertReader → CertReader → Bytes → Bytes → Option Part → Type 0
+abbrev pub HasGiven : LineReader → LineReader → Bytes → Bytes → Option Part → Type 0
 HasGiven old new piece rest part = (front : Bytes) × (piece ≡ front ++ rest) × ((text : Bytes) → StandsFor old text → StandsFor new (text ++ front) × ((told (text ++ front)).parts ≡ (told text).parts ++ listed part))
 
-pub feeds : (old mid ended : CertReader) (piece rest line behind : Bytes) (part : Option Part) → HasFed old mid piece rest → rest ≡ line ++ 10 ∷ behind
+pub feeds : (old mid ended : LineReader) (piece rest line behind : Bytes) (part : Option Part) → HasFed old mid piece rest → rest ≡ line ++ 10 ∷ behind
     → ((text : Bytes) → StandsFor mid text → StandsFor ended (text ++ (line ++ 10 ∷ [])) × ((told (text ++ (line ++ 10 ∷ []))).parts ≡ (told text).parts ++ listed part))
     → HasGiven old ended piece behind part
 feeds old mid ended piece rest line behind part fed is ends =
@@ -143,7 +143,7 @@ feeds old mid ended piece rest line behind part fed is ends =
     )
 
 -- no part is whole yet
-pub gives_none : (old new : CertReader) (piece rest : Bytes) → HasGiven old new piece rest None → HasFed old new piece rest
+pub gives_none : (old new : LineReader) (piece rest : Bytes) → HasGiven old new piece rest None → HasFed old new piece rest
 gives_none old new piece rest h = (h.0, h.1, λ text stands. let s = h.2 text stands in (s.0, s.1 ∙ append-nil (told text).parts))
 
 front_is : (front piece rest : Bytes) → piece ≡ front ++ rest → front ≡ take (length piece - length rest) piece
@@ -152,24 +152,35 @@ front_is front piece rest e =
     rw (n, e) (sym (take-append_seam front rest))
 
 -- a part is whole, and so many bytes were used
-pub gives : (old new : CertReader) (piece rest : Bytes) (part : Option Part) → HasGiven old new piece rest part
+pub gives : (old new : LineReader) (piece rest : Bytes) (part : Option Part) → HasGiven old new piece rest part
     → (text : Bytes) → StandsFor old text → StandsFor new (text ++ take (length piece - length rest) piece) × ((told (text ++ take (length piece - length rest) piece)).parts ≡ (told text).parts ++ listed part)
 gives old new piece rest part h text stands =
     let front : h.0 ≡ take (length piece - length rest) piece = front_is h.0 piece rest h.1 in
     subst (λ (t : Bytes). StandsFor new (text ++ t) × ((told (text ++ t)).parts ≡ (told text).parts ++ listed part)) front (h.2 text stands)
 
+-- without its line feed the line isn't whole
+pub not_before : (old mid : LineReader) (piece rest line behind : Bytes) → HasFed old mid piece rest → rest ≡ line ++ 10 ∷ behind → Lacks 10 line
+    → (text : Bytes) → StandsFor old text → (told (text ++ take (length piece - length behind - 1) piece)).parts ≡ (told text).parts
+not_before old mid piece rest line behind fed is lacks text stands =
+    let front = fed.0 ++ line in
+    let whole : piece ≡ front ++ 10 ∷ behind = fed.1 ∙ ap (λ (r : Bytes). fed.0 ++ r) is ∙ sym (append_assoc fed.0 line (10 ∷ behind)) in
+    let n : length piece - length behind - 1 ≡ length front = omega (arith, ap length whole, length-append front (10 ∷ behind)) in
+    let cut : take (length piece - length behind - 1) piece ≡ front = ap (λ (k : ℕ). take k piece) n ∙ ap (λ (t : Bytes). take (length front) t) whole ∙ take-append_seam front (10 ∷ behind) in
+    ap (λ (t : Bytes). (told t).parts) (ap (λ (t : Bytes). text ++ t) cut ∙ sym (append_assoc text fed.0 line))
+    ∙ ap (λ (s : Seen). s.parts) (told_add (text ++ fed.0) line lacks) ∙ (fed.2 text stands).1
+
 -- ---- the end
 
-outcome_none : (s : Seen) (r : CertReader) → s.fault ≡ r.fault → s.count ≡ r.count → IfNone r.fault (s.progress ≡ r.progress) → (o : Option (Fault × ℕ)) → r.fault ≡ o → o ≡ None → outcome s ≡ at_number (r.count + 1) (end_fault r.progress r.progress.due)
+outcome_none : (s : Seen) (r : LineReader) → s.fault ≡ r.fault → s.count ≡ r.count → IfNone r.fault (s.progress ≡ r.progress) → (o : Option (Fault × ℕ)) → r.fault ≡ o → o ≡ None → outcome s ≡ at_number (r.count + 1) (end_fault r.progress r.progress.due)
 outcome_none s r fault count progress o is none =
     let p : s.progress ≡ r.progress = at_none r.fault _ (is ∙ none) progress in
     rw (fault, is, none, count, p) refl
 
 -- the outcome where no fault has come
-pub outcome_at_none : (r : CertReader) (text : Bytes) → StandsFor r text → r.fault ≡ None → outcome (told text) ≡ at_number (r.count + 1) (end_fault r.progress r.progress.due)
+pub outcome_at_none : (r : LineReader) (text : Bytes) → StandsFor r text → r.fault ≡ None → outcome (told text) ≡ at_number (r.count + 1) (end_fault r.progress r.progress.due)
 outcome_at_none r text stands none = outcome_none (told text) r stands.fault stands.count stands.progress r.fault refl none
 
-pub outcome_at_some : (r : CertReader) (text : Bytes) (bad : Fault × ℕ) → StandsFor r text → r.fault ≡ Some bad → outcome (told text) ≡ Some bad
+pub outcome_at_some : (r : LineReader) (text : Bytes) (bad : Fault × ℕ) → StandsFor r text → r.fault ≡ Some bad → outcome (told text) ≡ Some bad
 outcome_at_some r text bad stands some = rw (stands.fault, some) refl
 
 lines_are : (text : Bytes) → lines text ≡ (cut text).whole ++ without_empty_end ((cut text).rest ∷ [])
@@ -190,12 +201,12 @@ seen_cases text [] e f some = at_feed text e
 seen_cases text (b ∷ bs) e f some = unfinished text (rw e (omega arith)) ∙ told_feed text ∙ after_some (told text) (cut text).rest f some
 
 -- a fault that has come stays
-pub end_bad : (r : CertReader) (text : Bytes) (bad : Fault × ℕ) → StandsFor r text → r.fault ≡ Some bad → fault_of text ≡ Some bad
+pub end_bad : (r : LineReader) (text : Bytes) (bad : Fault × ℕ) → StandsFor r text → r.fault ≡ Some bad → fault_of text ≡ Some bad
 unfolding fault_of
 end_bad r text bad stands some = ap outcome (seen_cases text (cut text).rest refl bad (stands.fault ∙ some)) ∙ outcome_at_some r text bad stands some
 
 -- no line is unfinished
-pub end_whole : (r : CertReader) (text : Bytes) (o : Option (Fault × ℕ)) → StandsFor r text → r.fault ≡ None → r.pending.items ≡ [] → o ≡ outcome (told text) → (fault_of text ≡ o) × (parts_of text ≡ (told text).parts ++ [])
+pub end_whole : (r : LineReader) (text : Bytes) (o : Option (Fault × ℕ)) → StandsFor r text → r.fault ≡ None → r.pending.items ≡ [] → o ≡ outcome (told text) → (fault_of text ≡ o) × (parts_of text ≡ (told text).parts ++ [])
 unfolding fault_of parts_of
 end_whole r text o stands none empty is =
     let line : r.pending.items ≡ (cut text).rest = at_none r.fault _ none stands.pending in
@@ -203,7 +214,7 @@ end_whole r text o stands none empty is =
     (ap outcome all ∙ sym is, ap (λ (s : Seen). s.parts) all ∙ sym (append-nil (told text).parts))
 
 -- the last line lacks its line feed
-pub end_unfinished : (r : CertReader) (text : Bytes) (o : Option (Fault × ℕ)) (part : Option Part) → StandsFor r text → r.fault ≡ None → 0 < length r.pending.items → o ≡ outcome (told (text ++ 10 ∷ [])) → (told (text ++ 10 ∷ [])).parts ≡ (told text).parts ++ listed part
+pub end_unfinished : (r : LineReader) (text : Bytes) (o : Option (Fault × ℕ)) (part : Option Part) → StandsFor r text → r.fault ≡ None → 0 < length r.pending.items → o ≡ outcome (told (text ++ 10 ∷ [])) → (told (text ++ 10 ∷ [])).parts ≡ (told text).parts ++ listed part
     → (fault_of text ≡ o) × (parts_of text ≡ (told text).parts ++ listed part)
 unfolding fault_of parts_of
 end_unfinished r text o part stands none some is parts =

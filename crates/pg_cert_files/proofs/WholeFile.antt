@@ -11,12 +11,12 @@ use Rattle.pg_cert_files.specs.Reader.{StandsFor, told, IsBad, IsEnd}
 use Rattle.pg_cert_files.specs.Views.{number_of, IsReadAs}
 use Rattle.pg_cert_files.specs.declared.fault.Fault.{Fault}
 use Rattle.pg_cert_files.specs.declared.fault.Fault.TheVariants as faults
-use Rattle.pg_cert_files.specs.declared.fault.CertFault.{CertFault}
-use Rattle.pg_cert_files.specs.declared.fault.CertFault.TheVariants as outcomes
-use Rattle.pg_cert_files.specs.declared.part.Part.{Part}
+use Rattle.pg_text.specs.declared.error.FileError.{FileError}
+use Rattle.pg_text.specs.declared.error.FileError.TheVariants as outcomes
+use Rattle.pg_cert.specs.declared.part.Part.{Part}
 use Rattle.pg_cert.specs.declared.cert.Claim.{Claim}
 use Rattle.pg_cert.specs.declared.cert.Cert.{Cert}
-use Rattle.pg_cert_files.specs.declared.reader.CertReader.{CertReader}
+use Rattle.pg_cert_files.specs.declared.reader.LineReader.{LineReader}
 use Rattle.pg_cert_files.specs.declared.reading.Gatherer.{Gatherer}
 
 pub gathered_none : gathered [] ≡ none_gathered
@@ -40,10 +40,10 @@ err_from None ps number line h = absurd h
 err_from (Some bad) ps number line h = h
 
 -- all before the rest has been fed, and its parts are gathered
-abbrev pub HasRead : CertReader → Gatherer → Bytes → Bytes → Type 0
+abbrev pub HasRead : LineReader → Gatherer → Bytes → Bytes → Type 0
 HasRead r g bytes rest = (front : Bytes) × (bytes ≡ front ++ rest) × StandsFor r front × (view g ≡ gathered (told front).parts)
 
-pub reads_more : (r next : CertReader) (g more : Gatherer) (bytes rest : Bytes) (used : ℕ) (part : Option Part) → used ≤ length rest → HasRead r g bytes rest
+pub reads_more : (r next : LineReader) (g more : Gatherer) (bytes rest : Bytes) (used : ℕ) (part : Option Part) → used ≤ length rest → HasRead r g bytes rest
     → ((text : Bytes) → StandsFor r text → StandsFor next (text ++ take used rest) × ((told (text ++ take used rest)).parts ≡ (told text).parts ++ listed part))
     → view more ≡ fold with_part (view g) (listed part) → HasRead next more bytes (take (length rest - used) (drop used rest))
 reads_more r next g more bytes rest used part few read fed with =
@@ -57,7 +57,7 @@ reads_more r next g more bytes rest used part few read fed with =
 front_is : (bytes front rest : Bytes) → bytes ≡ front ++ rest → length rest ≡ 0 → bytes ≡ front
 front_is bytes front rest e none = e ∙ ap (λ (t : Bytes). front ++ t) (nil_from_length rest none) ∙ append-nil front
 
-pub read_bad : (r : CertReader) (g : Gatherer) (bytes rest : Bytes) (fault : CertFault) → length bytes ≤ 268435456 → HasRead r g bytes rest → length rest ≡ 0
+pub read_bad : (r : LineReader) (g : Gatherer) (bytes rest : Bytes) (fault : FileError) → length bytes ≤ 268435456 → HasRead r g bytes rest → length rest ≡ 0
     → ((text : Bytes) → StandsFor r text → IsEnd (Err fault) (fault_of text) (parts_of text) (told text).parts) → IsReadAs (Err fault) (certificate bytes)
 read_bad r g bytes rest outcomes.Memory few read none ends = tt
 read_bad r g bytes rest (outcomes.Bad number line) few read none ends =
@@ -69,7 +69,7 @@ read_bad r g bytes rest (outcomes.Bad number line) few read none ends =
 abbrev pub cert_of : List Claim → Result Cert (Fault × ℕ)
 cert_of cs = Ok (record { claims = cs })
 
-pub read_good : (r : CertReader) (g more : Gatherer) (bytes rest : Bytes) (last : Option Part) (claims : List Claim) → length bytes ≤ 268435456 → HasRead r g bytes rest → length rest ≡ 0
+pub read_good : (r : LineReader) (g more : Gatherer) (bytes rest : Bytes) (last : Option Part) (claims : List Claim) → length bytes ≤ 268435456 → HasRead r g bytes rest → length rest ≡ 0
     → ((text : Bytes) → StandsFor r text → (fault_of text ≡ None) × (parts_of text ≡ (told text).parts ++ listed last)) → view more ≡ fold with_part (view g) (listed last) → claims ≡ closed (view more) → certificate bytes ≡ Ok (record { claims = claims })
 read_good r g more bytes rest last claims few read none ends with all =
     let same = front_is bytes read.0 rest read.1 none in

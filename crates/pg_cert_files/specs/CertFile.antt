@@ -1,22 +1,24 @@
 -- Certificate files: which line is due, what each line adds, and the first fault.
 use Rattle.std.specs.Prelude.{ℕ, ◌+◌, ◌-◌, ◌||◌, nat_lt, nat_le, ◌==◌, if◌then◌else◌, List, [], ◌∷◌, ◌++◌, length, Option, Some, None, Result, Ok, Err, codes, fold}
 use Rattle.std.specs.Str.{bytes_eq}
+use Rattle.pg_text.specs.Faults.{and_then}
 use Rattle.pg_text.specs.Text.{Bytes, number, lines}
 use Rattle.pg_cert_files.specs.Form.{has_bar}
 use Rattle.pg_cert_files.specs.NodeLine.{node_line}
 use Rattle.pg_cert_files.specs.Lines.{head_of, count_of}
-use Rattle.pg_cert_files.specs.Views.{and_then}
 use Rattle.pg_cert_files.specs.declared.fault.Fault.{Fault}
 use Rattle.pg_cert_files.specs.declared.fault.Fault.TheVariants as faults
-use Rattle.pg_cert_files.specs.declared.part.Head.{Head}
-use Rattle.pg_cert_files.specs.declared.part.Part.{Part}
-use Rattle.pg_cert_files.specs.declared.part.Part.TheVariants as parts
+use Rattle.pg_cert_files.specs.declared.head.Head.{Head}
+use Rattle.pg_cert.specs.declared.part.Part.{Part}
+use Rattle.pg_cert.specs.declared.part.Part.TheVariants as parts
 use Rattle.pg_cert_files.specs.declared.progress.Due.{Due}
 use Rattle.pg_cert_files.specs.declared.progress.Due.TheVariants as due
 use Rattle.pg_cert_files.specs.declared.progress.Progress.{Progress}
 use Rattle.pg_cert.specs.declared.node.Node.{Node}
 use Rattle.pg_cert.specs.declared.cert.Claim.{Claim}
 use Rattle.pg_cert.specs.declared.cert.Cert.{Cert}
+use Rattle.pg_cert.specs.declared.limits.TheConstants.{MAX_CLAIMS, MAX_CLAIM_NODES, MAX_NODES}
+use Rattle.pg_cert_files.specs.declared.limits.TheConstants.{MAX_CERT_BYTES}
 
 -- what is due after a line, and the part that is whole with it
 abbrev pub Step : Type 0
@@ -33,7 +35,7 @@ header_step p line = if bytes_eq line (codes "posgame-cert 1") then Ok (record p
 -- a claim line of the right form: the ninth is too many
 abbrev pub claimed : Progress → Option Head → Step
 claimed p None = Err faults.Form
-claimed p (Some head) = if nat_le 8 p.claims then Err faults.Limit else Ok (record p { due = due.Count head; claims = p.claims + 1 }, None)
+claimed p (Some head) = if nat_le MAX_CLAIMS p.claims then Err faults.Limit else Ok (record p { due = due.Count head; claims = p.claims + 1 }, None)
 
 -- where a claim line or the end is due, a node stands in the wrong place
 abbrev pub claim_step : Progress → Bytes → Step
@@ -44,8 +46,8 @@ abbrev pub numbered : Head → Progress → Option ℕ → Step
 numbered head p None = Err faults.Number
 numbered head p (Some n) =
     if n == 0 then Err faults.Number
-    else if nat_lt 100000 n || nat_lt 200000 (p.nodes + n) then Err faults.Limit
-    else Ok (record p { due = due.Node (n - 1); nodes = p.nodes + n }, Some (parts.Claim head n))
+    else if nat_lt MAX_CLAIM_NODES n || nat_lt MAX_NODES (p.nodes + n) then Err faults.Limit
+    else Ok (record p { due = due.Node (n - 1); nodes = p.nodes + n }, Some (parts.Claim head.turn head.side head.goal n))
 
 -- a `nodes` line of the right form
 abbrev pub counted : Head → Progress → Option Bytes → Step
@@ -156,7 +158,7 @@ closed g = g.whole ++ last_claim g.head g.nodes
 
 -- one part more: a claim ends the one before it
 abbrev pub with_part : Gathered → Part → Gathered
-with_part g (parts.Claim head nodes) = record { whole = closed g; head = Some head; nodes = [] }
+with_part g (parts.Claim turn side goal nodes) = record { whole = closed g; head = Some (record { turn = turn; side = side; goal = goal }); nodes = [] }
 with_part g (parts.Node node) = record g { nodes = g.nodes ++ node ∷ [] }
 
 -- no part yet
@@ -174,4 +176,8 @@ unless_faulty None ps = Ok (record { claims = closed (gathered ps) })
 
 -- the certificate of a file, or its first fault with the number of the line
 unfoldable pub certificate : Bytes → Result Cert (Fault × ℕ)
-certificate text = if nat_lt 268435456 (length text) then Err (faults.Size, 0) else unless_faulty (fault_of text) (parts_of text)
+certificate text = if nat_lt MAX_CERT_BYTES (length text) then Err (faults.Size, 0) else unless_faulty (fault_of text) (parts_of text)
+
+-- the first fault of a file: C1 before all others
+abbrev pub file_fault : Bytes → Option (Fault × ℕ)
+file_fault text = if nat_lt MAX_CERT_BYTES (length text) then Some (faults.Size, 0) else fault_of text

@@ -1,7 +1,10 @@
 -- What the first fault of a file is, in words of its lines.
-use Rattle.std.specs.Prelude.{◌≡◌, ℕ, ◌+◌, ◌<◌, ◌⊎◌, ◌||◌, ◌==◌, Bool, true, false, not, nat_lt, nat_le, is_none, is_err, find, codes, List, [], ◌∷◌, ◌++◌, length, Option, Some, None, Err}
+use Rattle.std.specs.Prelude.{◌≡◌, ℕ, ◌+◌, ◌<◌, ◌⊎◌, ◌||◌, ◌==◌, Bool, true, false, not, nat_lt, nat_le, is_none, is_err, codes, List, [], ◌∷◌, ◌++◌, length, Option, Some, None, Err}
 use Rattle.std.specs.Str.{bytes_eq}
 use Rattle.pg_text.specs.Text.{Bytes, number, lines}
+use Rattle.pg_text.specs.Faults.{least}
+use Rattle.pg_cert.specs.declared.limits.TheConstants.{MAX_CLAIMS, MAX_CLAIM_NODES, MAX_NODES}
+use Rattle.pg_cert_files.specs.declared.limits.TheConstants.{MAX_CERT_BYTES}
 use Rattle.pg_cert_files.specs.Form.{has_bar, Shape, shape_of}
 use Rattle.pg_cert_files.specs.NodeLine.{node_of}
 use Rattle.pg_cert_files.specs.Lines.{head_of, count_of}
@@ -25,7 +28,7 @@ is_no_count (Some n) = n == 0
 -- more nodes than a claim or a file may have
 abbrev pub is_too_many : Progress → Option ℕ → Bool
 is_too_many p None = false
-is_too_many p (Some n) = nat_lt 100000 n || nat_lt 200000 (p.nodes + n)
+is_too_many p (Some n) = nat_lt MAX_CLAIM_NODES n || nat_lt MAX_NODES (p.nodes + n)
 
 -- a number's place of the line that holds no such number
 abbrev pub has_wrong_number : Option Shape → Bool
@@ -35,17 +38,13 @@ has_wrong_number (Some shape) = is_err (node_of shape)
 -- the faults that a line can have where this one is due, each with whether it applies; what stands higher counts first
 abbrev pub line_faults : Due → Progress → Bytes → List (Fault × Bool)
 line_faults due.Header p line = (faults.Header, not (bytes_eq line (codes "posgame-cert 1"))) ∷ []
-line_faults due.Claim p line = (faults.Place, has_bar line) ∷ (faults.Form, is_none (head_of line)) ∷ (faults.Limit, nat_le 8 p.claims) ∷ []
+line_faults due.Claim p line = (faults.Place, has_bar line) ∷ (faults.Form, is_none (head_of line)) ∷ (faults.Limit, nat_le MAX_CLAIMS p.claims) ∷ []
 line_faults (due.Count head) p line = (faults.Form, is_none (count_of line)) ∷ (faults.Number, is_no_count (counted_number (count_of line))) ∷ (faults.Limit, is_too_many p (counted_number (count_of line))) ∷ []
 line_faults (due.Node others) p line = (faults.Place, not (has_bar line)) ∷ (faults.Form, is_none (shape_of line)) ∷ (faults.Number, has_wrong_number (shape_of line)) ∷ []
 
--- the first fault of a table that applies
-abbrev pub first_of : List (Fault × Bool) → Option (Fault × Bool)
-first_of rows = find (λ row. row.1) rows
-
 -- the file is too large
 pub record IsTooLarge (text : Bytes) (fault : Fault) (number : ℕ) : Type 0 where
-  pub large : 268435456 < length text
+  pub large : MAX_CERT_BYTES < length text
   pub fault_is : fault ≡ faults.Size
   pub whole_file : number ≡ 0
 
@@ -58,7 +57,7 @@ pub record IsFaultOfLine (text : Bytes) (fault : Fault) (number : ℕ) : Type 0 
   pub place : number ≡ length before + 1
   pub sound : (seen before).fault ≡ None
   pub here : step (seen before).progress line ≡ Err fault
-  pub least : first_of (line_faults (seen before).progress.due (seen before).progress line) ≡ Some (fault, true)
+  pub is_least : least (line_faults (seen before).progress.due (seen before).progress line) ≡ Some fault
 
 -- no line has a fault, and the file ends too early
 pub record IsFaultOfEnd (text : Bytes) (fault : Fault) (number : ℕ) : Type 0 where

@@ -5,5 +5,6 @@ pub mod Lines
 pub mod CertFile
 pub mod Steps
 pub mod Reader
+pub mod Pieces
 pub mod Gatherer
 pub mod FirstFault

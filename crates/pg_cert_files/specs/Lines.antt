@@ -6,7 +6,7 @@ use Rattle.pg_base.specs.declared.goal.Goal.{Goal}
 use Rattle.pg_base.specs.Goal.{goal_of}
 use Rattle.pg_text.specs.Text.{Bytes, Four, two_parts, four_parts}
 use Rattle.pg_base.specs.Side.{side_of}
-use Rattle.pg_cert_files.specs.declared.part.Head.{Head}
+use Rattle.pg_cert_files.specs.declared.head.Head.{Head}
 
 -- a text as its whole lines, and what stands after the last line feed
 pub record Cut : Type 0 where

@@ -4,11 +4,12 @@ use Rattle.std.specs.List.{list_any}
 use Rattle.std.specs.Str.{bytes_eq}
 use Rattle.std.specs.FinSet.{FinSet, contains, from_list}
 use Rattle.std.specs.Ordering.{nat_cmp}
+use Rattle.pg_text.specs.Faults.{and_then, each_of}
+use Rattle.pg_base.specs.declared.limits.TheConstants.{MAX_MEMBERS}
 use Rattle.pg_base.specs.declared.pair.Pair.{Pair}
-use Rattle.pg_text.specs.Text.{Bytes, parts, pair_of, two_parts, number}
+use Rattle.pg_text.specs.Text.{Bytes, parts, pair_of, two_parts, number, ascend_from}
+use Rattle.pg_cert.specs.declared.limits.TheConstants.{MAX_CLAIM_NODES}
 use Rattle.pg_cert_files.specs.Form.{has_bar, is_slash, Shape, shape_of}
-use Rattle.pg_cert.specs.Limits.{ascend_from}
-use Rattle.pg_cert_files.specs.Views.{and_then}
 use Rattle.pg_cert_files.specs.declared.fault.Fault.{Fault}
 use Rattle.pg_cert_files.specs.declared.fault.Fault.TheVariants as faults
 use Rattle.pg_cert_files.specs.declared.form.Form.{Form}
@@ -26,22 +27,11 @@ below limit (Some n) = if nat_lt n limit then Ok n else Err faults.Number
 
 -- the point that a word names
 abbrev pub point_of : Bytes → Result ℕ Fault
-point_of word = below 1024 (number word)
+point_of word = below MAX_MEMBERS (number word)
 
 -- the node that a word names
 abbrev pub child_of : Bytes → Result ℕ Fault
-child_of word = below 100000 (number word)
-
--- one more, if all can be read
-abbrev pub onto : {A : Type 0} → Result A Fault → Result (List A) Fault → Result (List A) Fault
-onto (Err fault) others = Err fault
-onto (Ok a) (Err fault) = Err fault
-onto (Ok a) (Ok others) = Ok (a ∷ others)
-
--- what each word says, if all can be read
-abbrev pub each_of : {A : Type 0} → (Bytes → Result A Fault) → List Bytes → Result (List A) Fault
-each_of read [] = Ok []
-each_of read (w ∷ ws) = onto (read w) (each_of read ws)
+child_of word = below MAX_CLAIM_NODES (number word)
 
 -- what two texts say together
 abbrev pub both_of : {A : Type 0} → (ℕ → ℕ → A) → Result ℕ Fault → Result ℕ Fault → Result A Fault

@@ -5,17 +5,17 @@ use Rattle.pg_cert_files.specs.Lines.{cut}
 use Rattle.pg_cert_files.specs.CertFile.{Seen, seen, listed}
 use Rattle.pg_cert_files.specs.Views.{number_of}
 use Rattle.pg_cert_files.specs.declared.fault.Fault.{Fault}
-use Rattle.pg_cert_files.specs.declared.fault.CertFault.{CertFault}
-use Rattle.pg_cert_files.specs.declared.fault.CertFault.TheVariants as outcomes
-use Rattle.pg_cert_files.specs.declared.part.Part.{Part}
-use Rattle.pg_cert_files.specs.declared.reader.CertReader.{CertReader}
+use Rattle.pg_text.specs.declared.error.FileError.{FileError}
+use Rattle.pg_text.specs.declared.error.FileError.TheVariants as outcomes
+use Rattle.pg_cert.specs.declared.part.Part.{Part}
+use Rattle.pg_cert_files.specs.declared.reader.LineReader.{LineReader}
 
 -- what the whole lines of a text have said
 abbrev pub told : Bytes → Seen
 told text = seen (cut text).whole
 
 -- the reader has been fed this text
-pub record StandsFor (r : CertReader) (text : Bytes) : Type 0 where
+pub record StandsFor (r : LineReader) (text : Bytes) : Type 0 where
   pub progress : IfNone r.fault ((told text).progress ≡ r.progress)
   pub count : (told text).count ≡ r.count
   pub fault : (told text).fault ≡ r.fault
@@ -27,7 +27,7 @@ IsBad number line None = ⊥
 IsBad number line (Some bad) = (number ≡ number_of bad.0) × (line ≡ bad.1)
 
 -- what the end of the input gives: the fault, or the last part, unless memory ran out
-abbrev pub IsEnd : Result (Option Part) CertFault → Option (Fault × ℕ) → List Part → List Part → Type 0
+abbrev pub IsEnd : Result (Option Part) FileError → Option (Fault × ℕ) → List Part → List Part → Type 0
 IsEnd (Ok part) fault all before = (fault ≡ None) × (all ≡ before ++ listed part)
 IsEnd (Err outcomes.Memory) fault all before = Unit {0}
 IsEnd (Err (outcomes.Bad number line)) fault all before = IsBad number line fault

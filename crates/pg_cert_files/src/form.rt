@@ -2,12 +2,12 @@
 
 ghost use Rattle.std.specs.Prelude.{◌≡◌, ◌==◌, option_map, is_some};
 ghost use Rattle.std.specs.List.{list_any};
-ghost use Rattle.pg_text.specs.Text.{two_parts, words_of};
+ghost use Rattle.pg_text.specs.Text.{two_parts, pair_of};
 ghost use Rattle.pg_base.specs.Side.{side_of};
 ghost use Rattle.pg_cert_files.specs.Form.{form_of, are_none, are_two, are_odd, each_has_one, is_slash, has_one_slash, fits, shape_of};
 
 use pg_base::Side;
-use pg_text::{first_word, four_parts, two_parts};
+use pg_text::{Words, four_parts, two_parts};
 
 /// The eight bodies of a node line.
 #[derive(Clone, Copy, Debug, PartialEq, Eq)]
@@ -31,7 +31,7 @@ pub(crate) enum Form {
 }
 
 /// A node line of the right form, cut where its signs stand.
-#[derive(Clone, Copy, Debug)]
+#[derive(Drop)]
 pub(crate) struct Shape<'a> {
     /// The field of X's points.
     pub(crate) x: &'a [u8],
@@ -42,7 +42,7 @@ pub(crate) struct Shape<'a> {
     /// Which body it has.
     pub(crate) form: Form,
     /// The words behind the first of the body.
-    pub(crate) words: Option<&'a [u8]>,
+    pub(crate) words: Words<'a>,
 }
 
 /// The body that a word begins.
@@ -77,91 +77,85 @@ pub(crate) fn is_slash(word: &[u8]) -> bool
     word == b"/".as_slice()
 }
 
-/// Whether there is no word.
-#[tactic(auto, using(crate::proofs::Odd::some_words))]
-fn are_none(words: Option<&[u8]>) -> bool
-    ensures { result ≡ are_none (words_of (option_map (λ w. w.now) words.entry)) }
+/// Whether the word has the sign just once.
+fn has_one(sign: u8, word: &[u8]) -> bool
+    ensures { result ≡ is_some (two_parts sign word.now) }
 {
-    match words {
-        Some(_) => false,
-        None => true,
+    two_parts(sign, word).is_some()
+}
+
+/// Whether there is no word.
+fn are_none(words: Words) -> bool
+    ensures { result ≡ are_none words.entry }
+{
+    let mut rest = words;
+    rest.next().is_none()
+}
+
+/// The two words, if there are just two.
+pub(crate) fn two<'a>(words: Words<'a>) -> Option<(&'a [u8], &'a [u8])>
+    ensures { option_map (λ p. (p.0.now, p.1.now)) result ≡ pair_of words.entry }
+{
+    let mut rest = words;
+    let first = rest.next()?;
+    let second = rest.next()?;
+    if rest.next().is_some() {
+        return None;
     }
+    Some((first, second))
 }
 
 /// Whether there are just two words.
-#[tactic(auto, unfolding(pg_text::specs::Text::two_parts))]
-fn are_two(words: Option<&[u8]>) -> bool
-    ensures { result ≡ are_two (words_of (option_map (λ w. w.now) words.entry)) }
+fn are_two(words: Words) -> bool
+    ensures { result ≡ are_two words.entry }
 {
-    match words {
-        Some(text) => two_parts(b' ', text).is_some(),
-        None => false,
-    }
+    two(words).is_some()
 }
 
 /// Whether the number of words is odd.
-fn are_odd(words: Option<&[u8]>) -> bool
-    ensures { result ≡ are_odd (words_of (option_map (λ w. w.now) words.entry)) }
+fn are_odd(words: Words) -> bool
+    ensures { result ≡ are_odd words.entry }
 {
     let mut odd = false;
-    let mut rest = words;
-    while let Some(text) = rest {
-        let (_, others) = first_word(text);
+    for _word in words {
         odd = !odd;
-        rest = others;
     }
     odd
 }
 
 /// Whether each word has the sign just once.
-fn each_has_one(sign: u8, words: Option<&[u8]>) -> bool
-    ensures { result ≡ each_has_one sign (words_of (option_map (λ w. w.now) words.entry)) }
+fn each_has_one(sign: u8, words: Words) -> bool
+    ensures { result ≡ each_has_one sign words.entry }
 {
     let mut rest = words;
-    while let Some(text) = rest {
-        let (word, others) = first_word(text);
-        if two_parts(sign, word).is_none() {
-            return false;
-        }
-        rest = others;
-    }
-    true
+    rest.all(|word| has_one(sign, word))
 }
 
 /// Whether one of the words is the one between two sets of edges.
-fn has_slash(words: Option<&[u8]>) -> bool
-    ensures { result ≡ list_any is_slash (words_of (option_map (λ w. w.now) words.entry)) }
+fn has_slash(words: Words) -> bool
+    ensures { result ≡ list_any is_slash words.entry }
 {
     let mut rest = words;
-    while let Some(text) = rest {
-        let (word, others) = first_word(text);
-        if is_slash(word) {
-            return true;
-        }
-        rest = others;
-    }
-    false
+    rest.any(|word| is_slash(word))
 }
 
 /// Whether just one of the words is that one.
-fn has_one_slash(words: Option<&[u8]>) -> bool
-    ensures { result ≡ has_one_slash (words_of (option_map (λ w. w.now) words.entry)) }
+fn has_one_slash(words: Words) -> bool
+    ensures { result ≡ has_one_slash words.entry }
 {
     let mut rest = words;
-    while let Some(text) = rest {
-        let (word, others) = first_word(text);
+    while let Some(word) = rest.next() {
         if is_slash(word) {
-            return !has_slash(others);
+            return !has_slash(rest);
         }
-        rest = others;
     }
     false
 }
 
 impl Form {
     /// Whether the words behind the first fit the body.
-    fn fits(self, words: Option<&[u8]>) -> bool
-        ensures { result ≡ fits self (words_of (option_map (λ w. w.now) words.entry)) }
+    fn fits(self, words: Words) -> bool
+        ensures { result ≡ fits self words.entry }
     {
         match self {
             Form::Over | Form::Potential => are_none(words),
@@ -177,13 +171,13 @@ impl Form {
 /// The parts of a line that has the form of a node line.
 #[tactic(auto, unfolding(crate::specs::Form::shape_of))]
 pub(crate) fn shape_of(line: &[u8]) -> Option<Shape>
-    ensures { option_map (λ s. record { x = s.x.now; y = s.y.now; turn = s.turn; form = s.form; words = words_of (option_map (λ w. w.now) s.words) }) result ≡ shape_of line.now }
+    ensures { option_map (λ s. record { x = s.x.now; y = s.y.now; turn = s.turn; form = s.form; words = s.words }) result ≡ shape_of line.now }
 {
     let (x, y, turn, body) = four_parts(b'|', line)?;
     let turn = Side::from_word(turn)?;
-    let (name, words) = first_word(body);
-    let form = form_of(name)?;
-    if !form.fits(words) {
+    let mut words = Words::of(body);
+    let form = form_of(words.next()?)?;
+    if !form.fits(words.again()) {
         return None;
     }
     Some(Shape {

@@ -6,6 +6,7 @@ ghost use Rattle.pg_cert.specs.declared.cert.Cert.{Cert};
 ghost use Rattle.pg_cert_files.specs.CertFile.{certificate};
 ghost use Rattle.pg_cert_files.specs.FirstFault.{IsFirstFault};
 ghost use Rattle.pg_cert_files.specs.declared.fault.Fault.{Fault};
+ghost use Rattle.pg_cert_files.specs.declared.limits.TheConstants.{MAX_CERT_BYTES};
 
 /// What reading gives is within the limits of the format.
 pub fn reads_within_limits()
@@ -21,5 +22,5 @@ pub fn names_the_first_fault()
 
 /// A printed certificate reads back as itself, where its text isn't too large for a file.
 pub fn reads_back()
-    ensures { (c : Cert) → IsWithinLimits c → length (printed_certificate c) ≤ 268435456 → certificate (printed_certificate c) ≡ Ok c }
+    ensures { (c : Cert) → IsWithinLimits c → length (printed_certificate c) ≤ MAX_CERT_BYTES → certificate (printed_certificate c) ≡ Ok c }
 {}

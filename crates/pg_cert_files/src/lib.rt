@@ -1,16 +1,23 @@
 //! Certificate files: a strict text of claims and nodes, read with the first fault of what is none.
 #![tactic(auto)]
 
+mod cert_reader;
+mod cert_state;
 mod fault;
+mod fed;
 mod form;
+mod head;
 mod laws;
+mod limits;
 mod line;
-mod part;
 mod progress;
 mod reader;
 mod reading;
 mod values;
 
-pub use fault::CertFault;
+pub use cert_state::CertReader;
+pub use fed::Fed;
 pub use laws::{names_the_first_fault, reads_back, reads_within_limits};
+pub use limits::MAX_CERT_BYTES;
+pub use pg_text::FileError as CertFault;
 pub use reading::read_cert;

@@ -1,22 +1,20 @@
 //! What single lines say.
 
 ghost use Rattle.std.specs.Prelude.{◌≡◌, ◌==◌, option_map};
-ghost use Rattle.pg_text.specs.Text.{words_of, pair_of};
-ghost use Rattle.pg_cert_files.specs.Views.{Gives};
+ghost use Rattle.pg_text.specs.Faults.{Gives};
+ghost use Rattle.pg_text.specs.Text.{pair_of};
 ghost use Rattle.pg_cert_files.specs.Form.{has_bar};
 ghost use Rattle.pg_cert_files.specs.NodeLine.{move_of, body_of, node_of, node_line};
 ghost use Rattle.pg_base.specs.Goal.{goal_of};
 ghost use Rattle.pg_cert_files.specs.Lines.{head_of, count_of};
 
-use crate::fault::{Fault, ReadError};
-use crate::form::{Form, Shape, shape_of};
-use crate::part::Head;
-use crate::values::{
-    ascending, child, field_words, meets, pairs, point, points, replies, set_of, two_sets,
-};
-use pg_base::{Goal, Pairs, Points, Side};
+use crate::fault::Fault;
+use crate::form::{Form, Shape, shape_of, two};
+use crate::head::Head;
+use crate::values::{ascending, child, field_words, pairs, point, points, replies, two_sets};
+use pg_base::{Goal, Pairs, PointSet, Points, Side};
 use pg_cert::{Body, Node, Replies};
-use pg_text::{four_parts, has_sign, two_parts};
+use pg_text::{LineError, Words, four_parts, has_sign, two_parts};
 use std::alloc::Global;
 
 /// Whether a bar stands in the line.
@@ -54,15 +52,11 @@ pub(crate) fn count_of(line: &[u8]) -> Option<&[u8]>
 }
 
 /// The body of one move.
-#[tactic(auto, unfolding(pg_text::specs::Text::two_parts))]
-fn move_of(words: Option<&[u8]>) -> Result<Body, ReadError>
-    ensures { Gives (λ b. b) result (move_of (pair_of (words_of (option_map (λ w. w.now) words.entry)))) }
+fn move_of(words: Words) -> Result<Body, LineError<Fault>>
+    ensures { Gives (λ b. b) result (move_of (pair_of words.entry)) }
 {
-    let Some(text) = words else {
-        return Err(ReadError::Fault(Fault::Number));
-    };
-    let Some((first, second)) = two_parts(b' ', text) else {
-        return Err(ReadError::Fault(Fault::Number));
+    let Some((first, second)) = two(words) else {
+        return Err(LineError::Fault(Fault::Number));
     };
     let point = point(first)?;
     let child = child(second)?;
@@ -70,8 +64,8 @@ fn move_of(words: Option<&[u8]>) -> Result<Body, ReadError>
 }
 
 /// The body that the words say, where they have its form.
-fn body_of(alloc: Global, form: Form, words: Option<&[u8]>) -> Result<Body, ReadError>
-    ensures { Gives (λ b. b) result (body_of form (words_of (option_map (λ w. w.now) words.entry))) }
+fn body_of(alloc: Global, form: Form, words: Words) -> Result<Body, LineError<Fault>>
+    ensures { Gives (λ b. b) result (body_of form words.entry) }
 {
     match form {
         Form::Over => Ok(Body::Over),
@@ -109,19 +103,19 @@ fn body_of(alloc: Global, form: Form, words: Option<&[u8]>) -> Result<Body, Read
 }
 
 /// The node of a line of the right form.
-fn node_of(alloc: Global, shape: Shape) -> Result<Node, ReadError>
-    ensures { Gives (λ n. n) result (node_of (record { x = shape.entry.x.now; y = shape.entry.y.now; turn = shape.entry.turn; form = shape.entry.form; words = words_of (option_map (λ w. w.now) shape.entry.words) })) }
+fn node_of(alloc: Global, shape: Shape) -> Result<Node, LineError<Fault>>
+    ensures { Gives (λ n. n) result (node_of (record { x = shape.entry.x.now; y = shape.entry.y.now; turn = shape.entry.turn; form = shape.entry.form; words = shape.entry.words })) }
 {
     let x = ascending(alloc, field_words(shape.x))?;
     let y = ascending(alloc, field_words(shape.y))?;
     let body = body_of(alloc, shape.form, shape.words)?;
-    let taken = set_of(&x);
-    if meets(&taken, &y) {
-        return Err(ReadError::Fault(Fault::Number));
+    let taken = PointSet::from_points(&x);
+    if taken.meets(&y) {
+        return Err(LineError::Fault(Fault::Number));
     }
     Ok(Node {
         x: taken,
-        y: set_of(&y),
+        y: PointSet::from_points(&y),
         turn: shape.turn,
         left: 1,
         body,
@@ -130,14 +124,14 @@ fn node_of(alloc: Global, shape: Shape) -> Result<Node, ReadError>
 
 /// The node of a line.
 #[tactic(auto, unfolding(crate::specs::NodeLine::node_line))]
-pub(crate) fn node_line(alloc: Global, line: &[u8]) -> Result<Node, ReadError>
+pub(crate) fn node_line(alloc: Global, line: &[u8]) -> Result<Node, LineError<Fault>>
     ensures { Gives (λ n. n) result (node_line line.now) }
 {
     if !has_bar(line) {
-        return Err(ReadError::Fault(Fault::Place));
+        return Err(LineError::Fault(Fault::Place));
     }
     match shape_of(line) {
         Some(shape) => node_of(alloc, shape),
-        None => Err(ReadError::Fault(Fault::Form)),
+        None => Err(LineError::Fault(Fault::Form)),
     }
 }

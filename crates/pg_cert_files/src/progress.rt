@@ -4,20 +4,12 @@ ghost use Rattle.std.specs.Prelude.{◌≡◌};
 ghost use Rattle.pg_cert_files.specs.Steps.{Steps};
 ghost use Rattle.pg_cert_files.specs.CertFile.{step, start, header_step, claim_step, count_step, node_step, end_fault};
 
-use crate::fault::{Fault, ReadError};
+use crate::fault::Fault;
+use crate::head::Head;
 use crate::line::{count_of, has_bar, head_of, node_line};
-use crate::part::{Head, Part};
-use pg_text::number;
+use pg_cert::{MAX_CLAIM_NODES, MAX_CLAIMS, MAX_NODES, Part};
+use pg_text::{LineError, number};
 use std::alloc::Global;
-
-/// The greatest number of claims in a file.
-const GREATEST_CLAIMS: u32 = 8;
-
-/// The greatest number of nodes in a claim.
-const GREATEST_NODES: u32 = 100_000;
-
-/// The greatest number of nodes in a file.
-const GREATEST_SUM: u64 = 200_000;
 
 /// The line that is due.
 #[derive(Clone, Copy, Debug, PartialEq, Eq)]
@@ -56,28 +48,28 @@ impl Progress {
     }
 
     /// Reads the first line.
-    fn header(&mut self, line: &[u8]) -> Result<Option<Part>, ReadError>
+    fn header(&mut self, line: &[u8]) -> Result<Option<Part>, LineError<Fault>>
         ensures { Steps result self.new (header_step self.old line.now) }
     {
         if line != b"posgame-cert 1".as_slice() {
-            return Err(ReadError::Fault(Fault::Header));
+            return Err(LineError::Fault(Fault::Header));
         }
         self.due = Due::Claim;
         Ok(None)
     }
 
     /// Reads a claim line.
-    fn claim(&mut self, line: &[u8]) -> Result<Option<Part>, ReadError>
+    fn claim(&mut self, line: &[u8]) -> Result<Option<Part>, LineError<Fault>>
         ensures { Steps result self.new (claim_step self.old line.now) }
     {
         if has_bar(line) {
-            return Err(ReadError::Fault(Fault::Place));
+            return Err(LineError::Fault(Fault::Place));
         }
         let Some(head) = head_of(line) else {
-            return Err(ReadError::Fault(Fault::Form));
+            return Err(LineError::Fault(Fault::Form));
         };
-        if self.claims >= GREATEST_CLAIMS {
-            return Err(ReadError::Fault(Fault::Limit));
+        if self.claims >= MAX_CLAIMS {
+            return Err(LineError::Fault(Fault::Limit));
         }
         self.claims += 1;
         self.due = Due::Count(head);
@@ -85,28 +77,39 @@ impl Progress {
     }
 
     /// Reads the `nodes` line of a claim.
-    fn count(&mut self, head: Head, line: &[u8]) -> Result<Option<Part>, ReadError>
+    fn count(&mut self, head: Head, line: &[u8]) -> Result<Option<Part>, LineError<Fault>>
         ensures { Steps result self.new (count_step head self.old line.now) }
     {
         let Some(word) = count_of(line) else {
-            return Err(ReadError::Fault(Fault::Form));
+            return Err(LineError::Fault(Fault::Form));
         };
         let Some(nodes) = number(word) else {
-            return Err(ReadError::Fault(Fault::Number));
+            return Err(LineError::Fault(Fault::Number));
         };
         if nodes == 0 {
-            return Err(ReadError::Fault(Fault::Number));
+            return Err(LineError::Fault(Fault::Number));
         }
-        if nodes > GREATEST_NODES || u64::from(self.nodes) + u64::from(nodes) > GREATEST_SUM {
-            return Err(ReadError::Fault(Fault::Limit));
+        let sum = u64::from(self.nodes) + u64::from(nodes);
+        if nodes > MAX_CLAIM_NODES || sum > u64::from(MAX_NODES) {
+            return Err(LineError::Fault(Fault::Limit));
         }
         self.nodes += nodes;
         self.due = Due::Node(nodes - 1);
-        Ok(Some(Part::Claim { head, nodes }))
+        Ok(Some(Part::Claim {
+            turn: head.turn,
+            side: head.side,
+            goal: head.goal,
+            nodes,
+        }))
     }
 
     /// Reads a node line, behind which so many others stand.
-    fn node(&mut self, alloc: Global, others: u32, line: &[u8]) -> Result<Option<Part>, ReadError>
+    fn node(
+        &mut self,
+        alloc: Global,
+        others: u32,
+        line: &[u8],
+    ) -> Result<Option<Part>, LineError<Fault>>
         ensures { Steps result self.new (node_step others self.old line.now) }
     {
         let node = node_line(alloc, line)?;
@@ -120,7 +123,11 @@ impl Progress {
 
     /// Reads the next line.
     #[tactic(auto, unfolding(crate::specs::CertFile::step))]
-    pub(crate) fn read(&mut self, alloc: Global, line: &[u8]) -> Result<Option<Part>, ReadError>
+    pub(crate) fn read(
+        &mut self,
+        alloc: Global,
+        line: &[u8],
+    ) -> Result<Option<Part>, LineError<Fault>>
         ensures { Steps result self.new (step self.old line.now) }
     {
         match self.due {

@@ -1,21 +1,22 @@
 //! Reading in pieces.
 
-ghost use Rattle.std.specs.Prelude.{◌≡◌, ◌+◌, ◌<◌, ◌≤◌, ◌^◌, ◌++◌, ◌∷◌, [], List, ℕ, take, length, IfOk, IfSome, IfNone, IfErr, MatchResult};
+ghost use Rattle.std.specs.Prelude.{◌≡◌, ◌+◌, ◌-◌, ◌<◌, ◌≤◌, ◌^◌, ◌++◌, ◌∷◌, [], List, ℕ, take, length, IfOk, IfSome, IfNone, IfErr, MatchResult};
 ghost use Rattle.pg_text.specs.Text.{Lacks};
 ghost use Rattle.pg_cert_files.specs.Steps.{Steps};
 ghost use Rattle.pg_cert_files.specs.CertFile.{step, listed, outcome, fault_of, parts_of};
 ghost use Rattle.pg_cert_files.specs.Reader.{StandsFor, told, IsEnd};
 
-use crate::fault::{CertFault, Fault, ReadError};
-use crate::part::Part;
+use crate::fault::Fault;
+use crate::fed::Fed;
 use crate::progress::Progress;
 use pg_base::Memory;
-use pg_text::cut_at;
+use pg_cert::Part;
+use pg_text::{FileError, LineError, cut_at};
 use std::alloc::Global;
 
-/// A certificate that comes in pieces: what its whole lines have said, and the line in hand.
+/// Lines that come in pieces: what the whole ones have said, and the line in hand.
 #[derive(Debug, Drop)]
-pub(crate) struct CertReader {
+pub(crate) struct LineReader {
     /// The bytes of the line in hand.
     pub(crate) pending: Vec<u8>,
     /// Which line is due.
@@ -26,22 +27,13 @@ pub(crate) struct CertReader {
     pub(crate) fault: Option<(Fault, u32)>,
 }
 
-/// How many bytes were used, and the part that is whole with them.
-#[derive(Debug, Drop)]
-pub(crate) struct Fed {
-    /// How many bytes of the piece were used.
-    pub(crate) used: usize,
-    /// The part that is whole with them.
-    pub(crate) part: Option<Part>,
-}
-
-impl CertReader {
+impl LineReader {
     /// A reader to which nothing was fed.
-    pub(crate) fn new(alloc: Global) -> CertReader
+    pub(crate) fn new(alloc: Global) -> LineReader
         ensures stands { StandsFor result [] }
         ensures count { result.count ≡ 0 }
     {
-        CertReader {
+        LineReader {
             pending: Vec::new(alloc),
             progress: Progress::new(),
             count: 0,
@@ -62,7 +54,7 @@ impl CertReader {
     }
 
     /// Reads the line in hand, whose last bytes these are.
-    fn read_line(&mut self, alloc: Global, last: &[u8]) -> Result<Option<Part>, ReadError>
+    fn read_line(&mut self, alloc: Global, last: &[u8]) -> Result<Option<Part>, LineError<Fault>>
         ensures steps { Steps result self.new.progress (step self.old.progress (self.old.pending.items ++ last.now)) }
         ensures count { self.new.count ≡ self.old.count }
         ensures fault { self.new.fault ≡ self.old.fault }
@@ -92,8 +84,8 @@ impl CertReader {
         self.count += 1;
         match self.read_line(alloc, last) {
             Ok(part) => Ok(part),
-            Err(ReadError::Memory) => Err(Memory),
-            Err(ReadError::Fault(fault)) => {
+            Err(LineError::Memory) => Err(Memory),
+            Err(LineError::Fault(fault)) => {
                 self.fault = Some((fault, self.count));
                 Ok(None)
             }
@@ -107,6 +99,9 @@ impl CertReader {
         ensures all { IfOk result (λ fed. IfNone fed.part (fed.used ≡ length piece.now)) }
         ensures some { IfOk result (λ fed. IfSome fed.part (λ _. 0 < fed.used)) }
         ensures count { IfOk result (λ fed. self.new.count ≤ self.old.count + fed.used) }
+        ensures most { self.new.count ≤ self.old.count + length piece.now }
+        ensures last { IfOk result (λ fed. IfSome fed.part (λ _. (text : List ℕ) → StandsFor self.old text
+            → (told (text ++ take (fed.used - 1) piece.now)).parts ≡ (told text).parts)) }
         ensures stands { IfOk result (λ fed. (text : List ℕ) → StandsFor self.old text
             → StandsFor self.new (text ++ take fed.used piece.now)
             × ((told (text ++ take fed.used piece.now)).parts ≡ (told text).parts ++ listed fed.part)) }
@@ -143,23 +138,23 @@ impl CertReader {
     }
 
     /// Ends the input: the last part, where its line feed was lacking, or the fault of all that was fed.
-    pub(crate) fn end(self, alloc: Global) -> Result<Option<Part>, CertFault>
+    pub(crate) fn end(self, alloc: Global) -> Result<Option<Part>, FileError>
         requires { self.count + 1 < 2 ^ 31 }
         ensures { (text : List ℕ) → StandsFor self text → IsEnd result (fault_of text) (parts_of text) (told text).parts }
     {
         if let Some((fault, line)) = self.fault {
-            return Err(fault.at(line));
+            return Err(FileError::at_line(fault, line));
         }
         if self.pending.is_empty() {
             if let Some((fault, line)) = self.outcome() {
-                return Err(fault.at(line));
+                return Err(FileError::at_line(fault, line));
             }
             return Ok(None);
         }
         let mut reader = self;
         let part = reader.end_line(alloc, &[])?;
         match reader.outcome() {
-            Some((fault, line)) => Err(fault.at(line)),
+            Some((fault, line)) => Err(FileError::at_line(fault, line)),
             None => Ok(part),
         }
     }

@@ -6,14 +6,13 @@ ghost use Rattle.pg_cert_files.specs.CertFile.{certificate, with_part, none_gath
 ghost use Rattle.pg_cert_files.specs.Gatherer.{view};
 ghost use Rattle.pg_cert.specs.Limits.{IsWithinLimits};
 
-use crate::fault::{CertFault, Fault};
-use crate::part::{Head, Part};
-use crate::reader::CertReader;
-use pg_cert::{Cert, Claim, Claims, Node, Nodes};
+use crate::fault::Fault;
+use crate::head::Head;
+use crate::limits::MAX_CERT_BYTES;
+use crate::reader::LineReader;
+use pg_cert::{Cert, Claim, Claims, Node, Nodes, Part};
+use pg_text::FileError;
 use std::alloc::{AllocError, Global};
-
-/// The greatest number of bytes of a file.
-const GREATEST_FILE: usize = 268_435_456;
 
 /// The claims of parts, in order: those that are whole, and one whose nodes are gathered.
 #[derive(Debug, Drop)]
@@ -60,9 +59,16 @@ impl Gatherer {
     {
         match part {
             None => Ok(self),
-            Some(Part::Claim { head, .. }) => Ok(Gatherer {
+            Some(
+                Part::Claim {
+                    turn,
+                    side,
+                    goal,
+                    ..
+                },
+            ) => Ok(Gatherer {
                 claims: self.close()?,
-                head: Some(head),
+                head: Some(Head { turn, side, goal }),
                 nodes: Vec::new(alloc),
             }),
             Some(Part::Node(node)) => {
@@ -75,14 +81,14 @@ impl Gatherer {
 }
 
 /// The certificate of a file.
-pub fn read_cert(alloc: Global, bytes: &[u8]) -> Result<Cert, CertFault>
+pub fn read_cert(alloc: Global, bytes: &[u8]) -> Result<Cert, FileError>
     ensures read { IsReadAs result (certificate bytes.now) }
     ensures limits { IfOk result IsWithinLimits }
 {
-    if bytes.len() > GREATEST_FILE {
-        return Err(Fault::Size.at(0));
+    if bytes.len() > MAX_CERT_BYTES {
+        return Err(FileError::at_line(Fault::Size, 0));
     }
-    let mut reader = CertReader::new(alloc);
+    let mut reader = LineReader::new(alloc);
     let mut gatherer = Gatherer::new(alloc);
     let mut rest = bytes;
     while !rest.is_empty() {

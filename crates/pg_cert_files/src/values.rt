@@ -1,18 +1,17 @@
 //! The numbers of a node line.
 
 ghost use Rattle.std.specs.Prelude.{◌≡◌, ℕ, ◌<◌, map, IfOk, option_map, length};
-ghost use Rattle.std.specs.FinSet.{from_list};
 ghost use Rattle.std.specs.List.{All};
-ghost use Rattle.pg_text.specs.Text.{words_of, number, two_parts};
-ghost use Rattle.pg_cert_files.specs.Views.{Gives};
-ghost use Rattle.pg_cert.specs.Limits.{ascend_from};
-ghost use Rattle.pg_cert_files.specs.NodeLine.{below, point_of, child_of, each_of, ascending_of, field_words, word_reply, word_pair, replies_of, is_e, begins_with_e, after_e, before_slash, after_slash, edges_of, meets};
+ghost use Rattle.pg_text.specs.Text.{number, two_parts, ascend_from};
+ghost use Rattle.pg_base.specs.declared.limits.TheConstants.{MAX_MEMBERS};
+ghost use Rattle.pg_text.specs.Faults.{Gives, each_of};
+ghost use Rattle.pg_cert_files.specs.NodeLine.{below, point_of, child_of, ascending_of, field_words, word_reply, word_pair, replies_of, is_e, begins_with_e, after_e, before_slash, after_slash, edges_of};
 
-use crate::fault::{Fault, ReadError};
+use crate::fault::Fault;
 use crate::form::is_slash;
-use pg_base::{Pair, PointSet};
-use pg_cert::Reply;
-use pg_text::{first_word, number, two_parts};
+use pg_base::{MAX_MEMBERS, Pair, PointSet};
+use pg_cert::{MAX_CLAIM_NODES, Reply};
+use pg_text::{LineError, Words, ascend, number, two_parts};
 use std::alloc::Global;
 
 /// Two sets of edges.
@@ -27,7 +26,7 @@ pub(crate) struct Edges {
 }
 
 /// The number of a word, if it is below the limit.
-fn below(limit: u32, word: &[u8]) -> Result<u32, ReadError>
+fn below(limit: u32, word: &[u8]) -> Result<u32, LineError<Fault>>
     ensures read { Gives (λ n. n) result (below limit (number word.now)) }
     ensures small { IfOk result (λ n. n < limit) }
 {
@@ -36,111 +35,67 @@ fn below(limit: u32, word: &[u8]) -> Result<u32, ReadError>
             if n < limit {
                 Ok(n)
             } else {
-                Err(ReadError::Fault(Fault::Number))
+                Err(LineError::Fault(Fault::Number))
             }
         }
-        None => Err(ReadError::Fault(Fault::Number)),
+        None => Err(LineError::Fault(Fault::Number)),
     }
 }
 
 /// The point that a word names.
-pub(crate) fn point(word: &[u8]) -> Result<u16, ReadError>
+pub(crate) fn point(word: &[u8]) -> Result<u16, LineError<Fault>>
     ensures read { Gives (λ p. p) result (point_of word.now) }
-    ensures small { IfOk result (λ p. p < 1024) }
+    ensures small { IfOk result (λ p. p < MAX_MEMBERS) }
 {
-    let n = below(1024, word)?;
+    let n = below(u32::from(MAX_MEMBERS), word)?;
     Ok(n as u16)
 }
 
 /// The number of the node that a word names.
-pub(crate) fn child(word: &[u8]) -> Result<u32, ReadError>
+pub(crate) fn child(word: &[u8]) -> Result<u32, LineError<Fault>>
     ensures { Gives (λ j. j) result (child_of word.now) }
 {
-    below(100_000, word)
+    below(MAX_CLAIM_NODES, word)
 }
 
 /// The points that the words name.
-pub(crate) fn points(alloc: Global, words: Option<&[u8]>) -> Result<Vec<u16>, ReadError>
-    ensures read { Gives (λ v. v.items) result (each_of point_of (words_of (option_map (λ w. w.now) words.entry))) }
-    ensures small { IfOk result (λ v. All (λ p. p < 1024) v.items) }
+pub(crate) fn points(alloc: Global, words: Words) -> Result<Vec<u16>, LineError<Fault>>
+    ensures read { Gives (λ v. v.items) result (each_of point_of words.entry) }
+    ensures small { IfOk result (λ v. All (λ p. p < MAX_MEMBERS) v.items) }
 {
-    let mut found = Vec::new(alloc);
-    let mut rest = words;
-    while let Some(text) = rest {
-        let (word, others) = first_word(text);
-        let p = point(word)?;
-        found.push(p)?;
-        rest = others;
-    }
-    Ok(found)
-}
-
-/// Whether the points ascend.
-fn ascend(points: &[u16]) -> bool
-    ensures { result ≡ ascend_from 0 points.now }
-{
-    let mut least: u32 = 0;
-    for p in points {
-        let point = u32::from(*p);
-        if point < least {
-            return false;
-        }
-        least = point + 1;
-    }
-    true
+    words.each(alloc, |word| point(word))
 }
 
 /// The points that the words name, if they ascend.
-pub(crate) fn ascending(alloc: Global, words: Option<&[u8]>) -> Result<Vec<u16>, ReadError>
-    ensures read { Gives (λ v. v.items) result (ascending_of (words_of (option_map (λ w. w.now) words.entry))) }
-    ensures small { IfOk result (λ v. All (λ p. p < 1024) v.items) }
+pub(crate) fn ascending(alloc: Global, words: Words) -> Result<Vec<u16>, LineError<Fault>>
+    ensures read { Gives (λ v. v.items) result (ascending_of words.entry) }
+    ensures small { IfOk result (λ v. All (λ p. p < MAX_MEMBERS) v.items) }
 {
     let found = points(alloc, words)?;
     if ascend(&found) {
         Ok(found)
     } else {
-        Err(ReadError::Fault(Fault::Number))
+        Err(LineError::Fault(Fault::Number))
     }
 }
 
 /// The words of a field.
-pub(crate) fn field_words(field: &[u8]) -> Option<&[u8]>
-    ensures { words_of (option_map (λ w. w.now) result) ≡ field_words field.now }
+pub(crate) fn field_words(field: &[u8]) -> Words
+    ensures { result ≡ field_words field.now }
 {
-    if field.is_empty() { None } else { Some(field) }
-}
-
-/// The set of these points.
-pub(crate) fn set_of(points: &[u16]) -> PointSet
-    requires { All (λ p. p < 1024) points.now }
-    ensures { result ≡ from_list points.now }
-{
-    let mut set = PointSet::empty();
-    for p in points {
-        set.put(*p);
+    if field.is_empty() {
+        Words::none()
+    } else {
+        Words::of(field)
     }
-    set
-}
-
-/// Whether one of the points is in the set.
-pub(crate) fn meets(set: &PointSet, points: &[u16]) -> bool
-    requires { All (λ p. p < 1024) points.now }
-    ensures { result ≡ meets set.now points.now }
-{
-    for p in points {
-        if set.has(*p) {
-            return true;
-        }
-    }
-    false
 }
 
 /// The reply that a word says.
-fn reply(word: &[u8]) -> Result<Reply, ReadError>
+fn reply(word: &[u8]) -> Result<Reply, LineError<Fault>>
     ensures { Gives (λ r. r) result (word_reply word.now) }
 {
     let Some((first, second)) = two_parts(b':', word) else {
-        return Err(ReadError::Fault(Fault::Number));
+        return Err(LineError::Fault(Fault::Number));
     };
     let point = point(first)?;
     let child = child(second)?;
@@ -148,11 +103,11 @@ fn reply(word: &[u8]) -> Result<Reply, ReadError>
 }
 
 /// The pair that a word says.
-fn pair(word: &[u8]) -> Result<Pair, ReadError>
+fn pair(word: &[u8]) -> Result<Pair, LineError<Fault>>
     ensures { Gives (λ p. p) result (word_pair word.now) }
 {
     let Some((first, second)) = two_parts(b'-', word) else {
-        return Err(ReadError::Fault(Fault::Number));
+        return Err(LineError::Fault(Fault::Number));
     };
     let a = point(first)?;
     let b = point(second)?;
@@ -160,59 +115,28 @@ fn pair(word: &[u8]) -> Result<Pair, ReadError>
 }
 
 /// The pairs that the words say.
-pub(crate) fn pairs(alloc: Global, words: Option<&[u8]>) -> Result<Vec<Pair>, ReadError>
-    ensures { Gives (λ v. v.items) result (each_of word_pair (words_of (option_map (λ w. w.now) words.entry))) }
+pub(crate) fn pairs(alloc: Global, words: Words) -> Result<Vec<Pair>, LineError<Fault>>
+    ensures { Gives (λ v. v.items) result (each_of word_pair words.entry) }
 {
-    let mut found = Vec::new(alloc);
-    let mut rest = words;
-    while let Some(text) = rest {
-        let (word, others) = first_word(text);
-        let next = pair(word)?;
-        found.push(next)?;
-        rest = others;
-    }
-    Ok(found)
+    words.each(alloc, |word| pair(word))
 }
 
 /// Whether the points of the replies ascend.
 fn replies_ascend(replies: &[Reply]) -> bool
     ensures { result ≡ ascend_from 0 (map (λ r. r.point) replies.now) }
 {
-    let mut least: u32 = 0;
-    for reply in replies {
-        let point = u32::from(reply.point);
-        if point < least {
-            return false;
-        }
-        least = point + 1;
-    }
-    true
-}
-
-/// The replies that the words say, in any order.
-fn all_replies(alloc: Global, words: Option<&[u8]>) -> Result<Vec<Reply>, ReadError>
-    ensures { Gives (λ v. v.items) result (each_of word_reply (words_of (option_map (λ w. w.now) words.entry))) }
-{
-    let mut found = Vec::new(alloc);
-    let mut rest = words;
-    while let Some(text) = rest {
-        let (word, others) = first_word(text);
-        let next = reply(word)?;
-        found.push(next)?;
-        rest = others;
-    }
-    Ok(found)
+    replies.is_sorted_by(|a, b| a.point < b.point)
 }
 
 /// The replies that the words say, if their points ascend.
-pub(crate) fn replies(alloc: Global, words: Option<&[u8]>) -> Result<Vec<Reply>, ReadError>
-    ensures { Gives (λ v. v.items) result (replies_of (words_of (option_map (λ w. w.now) words.entry))) }
+pub(crate) fn replies(alloc: Global, words: Words) -> Result<Vec<Reply>, LineError<Fault>>
+    ensures { Gives (λ v. v.items) result (replies_of words.entry) }
 {
-    let found = all_replies(alloc, words)?;
+    let found = words.each(alloc, |word| reply(word))?;
     if replies_ascend(&found) {
         Ok(found)
     } else {
-        Err(ReadError::Fault(Fault::Number))
+        Err(LineError::Fault(Fault::Number))
     }
 }
 
@@ -224,78 +148,51 @@ fn is_e(word: &[u8]) -> bool
 }
 
 /// Whether the first word is that one, and the words behind it.
-fn after_e(words: Option<&[u8]>) -> (bool, Option<&[u8]>)
-    ensures begins { result.0 ≡ begins_with_e (words_of (option_map (λ w. w.now) words.entry)) }
-    ensures behind { words_of (option_map (λ w. w.now) result.1) ≡ after_e (words_of (option_map (λ w. w.now) words.entry)) }
+fn after_e<'a>(words: Words<'a>) -> (bool, Words<'a>)
+    ensures begins { result.0 ≡ begins_with_e words.entry }
+    ensures behind { result.1 ≡ after_e words.entry }
 {
-    let Some(text) = words else {
-        return (false, None);
-    };
-    let (word, others) = first_word(text);
-    if is_e(word) {
-        (true, others)
-    } else {
-        (false, words)
+    let mut others = words.again();
+    match others.next() {
+        Some(word) if is_e(word) => (true, others),
+        _ => (false, words),
     }
 }
 
-/// The words behind the slash.
-fn after_slash(words: Option<&[u8]>) -> Option<&[u8]>
-    ensures { words_of (option_map (λ w. w.now) result) ≡ after_slash (words_of (option_map (λ w. w.now) words.entry)) }
-{
-    let mut rest = words;
-    while let Some(text) = rest {
-        let (word, others) = first_word(text);
-        if is_slash(word) {
-            return others;
-        }
-        rest = others;
-    }
-    None
-}
-
-/// The points that the words before the slash name, if they ascend.
-fn ascending_before_slash(alloc: Global, words: Option<&[u8]>) -> Result<Vec<u16>, ReadError>
-    ensures read { Gives (λ v. v.items) result (ascending_of (before_slash (words_of (option_map (λ w. w.now) words.entry)))) }
-    ensures small { IfOk result (λ v. All (λ p. p < 1024) v.items) }
-{
-    let found = points_before_slash(alloc, words)?;
-    if ascend(&found) {
-        Ok(found)
-    } else {
-        Err(ReadError::Fault(Fault::Number))
-    }
-}
-
-/// The points that the words before the slash name.
-fn points_before_slash(alloc: Global, words: Option<&[u8]>) -> Result<Vec<u16>, ReadError>
-    ensures read { Gives (λ v. v.items) result (each_of point_of (before_slash (words_of (option_map (λ w. w.now) words.entry)))) }
-    ensures small { IfOk result (λ v. All (λ p. p < 1024) v.items) }
+/// The points that the words before the slash name, and the words behind it.
+fn points_before_slash<'a>(
+    alloc: Global,
+    words: Words<'a>,
+) -> Result<(Vec<u16>, Words<'a>), LineError<Fault>>
+    ensures read { Gives (λ p. p.0.items) result (each_of point_of (before_slash words.entry)) }
+    ensures small { IfOk result (λ p. All (λ v. v < MAX_MEMBERS) p.0.items) }
+    ensures behind { IfOk result (λ p. p.1 ≡ after_slash words.entry) }
 {
     let mut found = Vec::new(alloc);
     let mut rest = words;
-    while let Some(text) = rest {
-        let (word, others) = first_word(text);
+    while let Some(word) = rest.next() {
         if is_slash(word) {
-            return Ok(found);
+            return Ok((found, rest));
         }
         let p = point(word)?;
         found.push(p)?;
-        rest = others;
     }
-    Ok(found)
+    Ok((found, rest))
 }
 
 /// The two sets of edges that the words say.
-pub(crate) fn two_sets(alloc: Global, words: Option<&[u8]>) -> Result<Edges, ReadError>
-    ensures { Gives (λ e. e) result (edges_of (words_of (option_map (λ w. w.now) words.entry))) }
+pub(crate) fn two_sets(alloc: Global, words: Words) -> Result<Edges, LineError<Fault>>
+    ensures { Gives (λ e. e) result (edges_of words.entry) }
 {
     let (with_e, sets) = after_e(words);
-    let first = ascending_before_slash(alloc, sets)?;
-    let second = ascending(alloc, after_slash(sets))?;
+    let (first, others) = points_before_slash(alloc, sets)?;
+    if !ascend(&first) {
+        return Err(LineError::Fault(Fault::Number));
+    }
+    let second = ascending(alloc, others)?;
     Ok(Edges {
         with_e,
-        first: set_of(&first),
-        second: set_of(&second),
+        first: PointSet::from_points(&first),
+        second: PointSet::from_points(&second),
     })
 }

@@ -6,29 +6,17 @@ use Rattle.std.proofs.lemmas.Bool.{ltb-true}
 use Rattle.pg_base.specs.declared.kind.Kind.{Kind}
 use Rattle.pg_base.specs.declared.side.Side.{Side}
 use Rattle.pg_text.specs.Text.{Bytes, lines}
-use Rattle.pg_files.specs.Text.{words}
+use Rattle.pg_text.specs.Text.{words}
 use Rattle.pg_files.specs.Key.{key_of}
-use Rattle.pg_files.specs.GameFile.{Draft, Entry, nothing, reading, after, significant, keyed, keyed_fault, named, unless, said, least, first, rest, is_header, is_printable, begins_comment, game, ended, game_of}
-use Rattle.pg_files.specs.Laws.{named_faults, words_faults, line_faults, IsLeast, IsFirstFault, Lacks, IsWholeFault}
+use Rattle.pg_files.specs.GameFile.{Draft, Entry, nothing, after, significant, keyed, keyed_fault, named, said, first, rest, is_header, is_printable, begins_comment, game, ended, game_of}
+use Rattle.pg_text.specs.Faults.{reading, least}
+use Rattle.pg_files.specs.Laws.{named_faults, words_faults, line_faults, IsFirstFault, Lacks, IsWholeFault}
+use Rattle.pg_text.specs.Faults.{IsLeast}
 use Rattle.pg_files.specs.declared.fault.Fault.{Fault}
 use Rattle.pg_files.specs.declared.fault.Fault.TheVariants as faults
 use Rattle.pg_files.specs.declared.key.Key.{Key}
-use Rattle.pg_files.proofs.LineByLine.{bad, first_fault}
+use Rattle.pg_text.proofs.Reading.{is_least, unless_err, first_fault}
 use Rattle.pg_files.proofs.Sound.{IsSound, sound_reading, sound_nothing}
-
--- ---- the least of a line
-
-least_here : (f fault : Fault) (b : Bool) (rows : List (Fault × Bool)) → (least rows ≡ Some fault → IsLeast fault rows) → cond b (Some f) (least rows) ≡ Some fault → IsLeast fault ((f, b) ∷ rows)
-least_here f fault true rows others e = let same : f ≡ fault = cc in record { lower = []; higher = rows; cut = ap (λ (g : Fault). (g, true) ∷ rows) same; none = tt }
-least_here f fault false rows others e = let rec = others e in record { lower = (f, false) ∷ rec.lower; higher = rec.higher; cut = ap (λ (rs : List (Fault × Bool)). (f, false) ∷ rs) rec.cut; none = (refl, rec.none) }
-
-pub is_least : (rows : List (Fault × Bool)) (fault : Fault) → least rows ≡ Some fault → IsLeast fault rows
-is_least [] fault e = absurd cc
-is_least (row ∷ rows) fault e = least_here row.0 fault row.1 rows (is_least rows fault) e
-
-unless_err : (found : Option Fault) (fault : Fault) (d : Draft) → unless found d ≡ Err fault → found ≡ Some fault
-unless_err None fault d e = absurd cc
-unless_err (Some f) fault d e = cc
 
 named_err : (d : Draft) (key : Option Key) (arguments : List Bytes) (fault : Fault) → named d key arguments ≡ Err fault → least ((faults.Key, is_none key) ∷ named_faults d key arguments) ≡ Some fault
 unfolding keyed
@@ -57,6 +45,9 @@ unfolding after
 after_err d line fault e = is_least (line_faults d line) fault (line_err (list_all is_printable line) (begins_comment line || length (words line) == 0) d (words line) fault e)
 
 -- ---- the first of a file
+
+abbrev bad : Fault → ℕ → Result Draft (Fault × ℕ)
+bad fault n = Err (fault, n)
 
 abbrev wrong : Fault → ℕ → Result Entry (Fault × ℕ)
 wrong fault n = Err (fault, n)
@@ -90,23 +81,23 @@ size_or false read fault m e = inr e
 
 pub first_of_file : (text : Bytes) (fault : Fault) (m : ℕ) → game text ≡ Err (fault, m) → 0 < m → IsFirstFault text fault m
 unfolding game
-first_of_file text fault m e some = elim (size_or (nat_lt 4194304 (length text)) (reading 1 nothing (lines text)) fault m e) [
+first_of_file text fault m e some = elim (size_or (nat_lt 4194304 (length text)) (reading after 1 nothing (lines text)) fault m e) [
   | inl h ↦ absurd (omega (arith, h.2))
-  | inr h ↦ elim (ended_err (reading 1 nothing (lines text)) fault m (λ d read. sound_reading 1 nothing d (lines text) sound_nothing read) h) [
+  | inr h ↦ elim (ended_err (reading after 1 nothing (lines text)) fault m (λ d read. sound_reading 1 nothing d (lines text) sound_nothing read) h) [
     | inl k ↦ absurd (omega (arith, k.0))
     | inr k ↦
-        let found = first_fault nothing 1 (lines text) fault m k in
+        let found = first_fault after nothing 1 (lines text) fault m k in
         let f = found.2 in
-        record { before = f.before; line = f.line; behind = f.behind; draft = f.draft; cut = f.cut; sound = f.sound 1; least = after_err f.draft f.line fault f.here; counted = omega (arith, found.1, f.number) }
+        record { before = f.before; line = f.line; behind = f.behind; draft = f.state; cut = f.cut; sound = f.sound 1; least = after_err f.state f.line fault f.here; counted = omega (arith, found.1, f.number) }
   ]
 ]
 
 pub whole_of_file : (text : Bytes) (fault : Fault) → game text ≡ Err (fault, 0) → IsWholeFault text fault
 unfolding game
-whole_of_file text fault e = elim (size_or (nat_lt 4194304 (length text)) (reading 1 nothing (lines text)) fault 0 e) [
+whole_of_file text fault e = elim (size_or (nat_lt 4194304 (length text)) (reading after 1 nothing (lines text)) fault 0 e) [
   | inl h ↦ record { why = inl (ltb-true 4194304 (length text) h.0, sym h.1) }
-  | inr h ↦ elim (ended_err (reading 1 nothing (lines text)) fault 0 (λ d read. sound_reading 1 nothing d (lines text) sound_nothing read) h) [
+  | inr h ↦ elim (ended_err (reading after 1 nothing (lines text)) fault 0 (λ d read. sound_reading 1 nothing d (lines text) sound_nothing read) h) [
     | inl k ↦ record { why = inr (record { draft = k.1; sound = k.2; lacks = k.3 }) }
-    | inr k ↦ let found = first_fault nothing 1 (lines text) fault 0 k in absurd (omega (arith, found.1))
+    | inr k ↦ let found = first_fault after nothing 1 (lines text) fault 0 k in absurd (omega (arith, found.1))
   ]
 ]

@@ -1,10 +1,10 @@
 pub mod Finds
 pub mod SetLaws
 pub mod Sound
-pub mod LineByLine
 pub mod PrintLemmas
 pub mod FirstFault
 pub mod Words
 pub mod RoundTrip
 pub mod PrintSize
 pub mod RoundTripFile
+pub mod ShapeLine

@@ -194,7 +194,7 @@ printed_parts g = refl
 
 pub printed_small : (g : Entry) → IsFit g.kind g.field g.x g.y 1 → AllByRecursion AreWords (printed_lines g) × (length (printed g) ≤ 4194304)
 printed_small g fit =
-    let field = few_points g.field (record { on_lines = fit.on_lines; on_graph = fit.on_graph }) in
+    let field = few_points g.field (record { on_lines = fit.within.on_lines; on_graph = fit.within.on_graph }) in
     let x = smaller (field_points g.field) (members g.x) field.0 (below-members (field_points g.field) g.x fit.x_range) in
     let y = smaller (field_points g.field) (members g.y) field.0 (below-members (field_points g.field) g.y fit.y_range) in
     let parts = parts_len header (worded keys.Kind (kind_word g.kind)) (worded keys.Turn (side_word g.turn)) (field_words g.field) (marked keys.X (members g.x)) (marked keys.Y (members g.y)) in

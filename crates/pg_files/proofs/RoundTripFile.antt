@@ -21,14 +21,15 @@ use Rattle.pg_game.specs.declared.game.Game.{Game}
 use Rattle.pg_game.specs.Field.{field_points}
 use Rattle.pg_game.specs.Fit.{AreBelow, ShareNone, IsLineOf, AreLinesOf, IsBoard, IsFit, is_switching}
 use Rattle.pg_text.specs.Text.{Bytes, spaced, lines}
-use Rattle.pg_files.specs.Text.{words}
+use Rattle.pg_text.specs.Text.{words}
 use Rattle.pg_base.specs.Points.{members}
 use Rattle.pg_base.proofs.MemberLemmas.{points_below-ascend, from_list-points_below}
 use Rattle.pg_files.specs.Sets.{set_of, ascending, repeats}
 use Rattle.pg_files.specs.Print.{header, numbered, worded, marked, size_words, edge_words, field_words, printed, printed_lines}
 use Rattle.pg_base.specs.Kind.{kind_word}
 use Rattle.pg_base.specs.Side.{side_word}
-use Rattle.pg_files.specs.GameFile.{Draft, Entry, nothing, after, significant, reading, game, game_of, is_misplaced, points_for, points_so_far, field_of}
+use Rattle.pg_files.specs.GameFile.{Draft, Entry, nothing, after, significant, game, game_of, is_misplaced, points_for, points_so_far, field_of}
+use Rattle.pg_text.specs.Faults.{reading}
 use Rattle.pg_files.specs.Views.{entry}
 use Rattle.pg_files.specs.declared.fault.Fault.TheVariants as faults
 use Rattle.pg_files.specs.declared.key.Key.TheVariants as keys
@@ -42,7 +43,7 @@ use Rattle.pg_files.proofs.RoundTrip.{smaller, one_small, two_small, all_below, 
 
 -- after these lines the draft is the next one, whatever follows
 abbrev pub Goes : Draft → List Bytes → Draft → Type 0
-Goes d ls next = (n : ℕ) (others : List Bytes) → (m : ℕ) × (reading n d (ls ++ others) ≡ reading m next others)
+Goes d ls next = (n : ℕ) (others : List Bytes) → (m : ℕ) × (reading after n d (ls ++ others) ≡ reading after m next others)
 
 goes_none : (d : Draft) → Goes d [] d
 goes_none d = λ n others. (n, refl)
@@ -55,7 +56,7 @@ goes_then : (a b c : Draft) (ls ms : List Bytes) → Goes a ls b → Goes b ms c
 goes_then a b c ls ms p q = λ n others.
     let first = p n (ms ++ others) in
     let second = q first.0 others in
-    (second.0, ap (reading n a) (append_assoc ls ms others) ∙ first.1 ∙ second.1)
+    (second.0, ap (reading after n a) (append_assoc ls ms others) ∙ first.1 ∙ second.1)
 
 -- a printed list of words
 abbrev text : List (List Bytes) → List Bytes
@@ -111,7 +112,7 @@ one_line kind d l h fits room total =
 
 all_lines : (kind : Kind) (d : Draft) (ls : List (List ℕ)) → TakesLines kind d → All (IsLineOf d.points 1) ls → length d.lines + length ls ≤ 20000 → sum_by length d.lines + sum_by length ls ≤ 400000
     → Goes d (text (map (numbered keys.Line) ls)) (with_lines d ls)
-all_lines kind d [] h fits room total = λ n others. (n, ap (λ (ls : List (List ℕ)). reading n (record d { lines = ls }) others) (sym (append-nil d.lines)))
+all_lines kind d [] h fits room total = λ n others. (n, ap (λ (ls : List (List ℕ)). reading after n (record d { lines = ls }) others) (sym (append-nil d.lines)))
 all_lines kind d (l ∷ ls) h fits room total =
     let next : Draft = record d { rank = 4; lines = d.lines ++ l ∷ [] } in
     let each : sum_by length (l ∷ ls) ≡ length l + sum_by length ls = sum_by-cons length l ls in
@@ -144,7 +145,7 @@ one_edge d e h first second room =
     (after_keyed d keys.Edge (map decimal (e.0 ∷ e.1 ∷ [])) h.begun (decimals_are_words (e.0 ∷ e.1 ∷ []) small) ∙ keyed_edge d e.0 e.1 (edge_in_place d h.kind_is h.three h.four) first second few room)
 
 all_edges : (d : Draft) (es : List (ℕ × ℕ)) → TakesEdges d → All (λ e. (e.0 < d.vertices) × (e.1 < d.vertices)) es → length d.ends + length es ≤ 1000 → Goes d (text (map edge_words es)) (with_ends d es)
-all_edges d [] h fits room = λ n others. (n, ap (λ (es : List (ℕ × ℕ)). reading n (record d { ends = es }) others) (sym (append-nil d.ends)))
+all_edges d [] h fits room = λ n others. (n, ap (λ (es : List (ℕ × ℕ)). reading after n (record d { ends = es }) others) (sym (append-nil d.ends)))
 all_edges d (e ∷ es) h fits room =
     let next : Draft = record d { rank = 4; ends = d.ends ++ e ∷ [] } in
     let longer : length (d.ends ++ e ∷ []) ≡ length d.ends + 1 = length-append d.ends (e ∷ []) ∙ omega arith in
@@ -171,7 +172,7 @@ needed_small kinds.Switching r le = le
 
 marks_x : (kind : Kind) (d : Draft) (ns : List ℕ) (s : FinSet nat_cmp) → TakesMarks kind d → d.rank < 5 → d.x ≡ empty → set_of ns ≡ s → list_all (λ n. nat_lt n (points_so_far d)) ns ≡ true → repeats empty ns ≡ false
     → (rank : ℕ) × (cond (is_switching kind) 3 2 ≤ rank) × (rank < 6) × Goes d (text (marked keys.X ns)) (record d { rank = rank; x = s })
-marks_x kind d [] s h five none is below different = (d.rank, h.needed, omega arith, λ n others. (n, ap (λ (x : FinSet nat_cmp). reading n (record d { x = x }) others) (none ∙ is)))
+marks_x kind d [] s h five none is below different = (d.rank, h.needed, omega arith, λ n others. (n, ap (λ (x : FinSet nat_cmp). reading after n (record d { x = x }) others) (none ∙ is)))
 marks_x kind d (m ∷ ms) s h five none is below different =
     let ns : List ℕ = m ∷ ms in
     let small = smaller (points_so_far d) ns h.few below in
@@ -185,7 +186,7 @@ marks_x kind d (m ∷ ms) s h five none is below different =
 
 marks_y : (kind : Kind) (d : Draft) (ns : List ℕ) (s : FinSet nat_cmp) → TakesMarks kind d → d.rank < 6 → d.y ≡ empty → set_of ns ≡ s → list_all (λ n. nat_lt n (points_so_far d)) ns ≡ true → repeats d.x ns ≡ false
     → (rank : ℕ) × (cond (is_switching kind) 3 2 ≤ rank) × (rank < 7) × Goes d (text (marked keys.Y ns)) (record d { rank = rank; y = s })
-marks_y kind d [] s h six none is below different = (d.rank, h.needed, omega arith, λ n others. (n, ap (λ (y : FinSet nat_cmp). reading n (record d { y = y }) others) (none ∙ is)))
+marks_y kind d [] s h six none is below different = (d.rank, h.needed, omega arith, λ n others. (n, ap (λ (y : FinSet nat_cmp). reading after n (record d { y = y }) others) (none ∙ is)))
 marks_y kind d (m ∷ ms) s h six none is below different =
     let ns : List ℕ = m ∷ ms in
     let small = smaller (points_so_far d) ns h.few below in
@@ -351,7 +352,7 @@ ends_as g d fit goes begun kind field =
     let fitting : nat_lt 4194304 (length (printed g)) ≡ false = grind (arith, nat_tests) in
     let cut : lines (printed g) ≡ text (printed_lines g) = lines_spelled (printed_lines g) small.0 in
     let last = goes 1 [] in
-    let read : reading 1 nothing (text (printed_lines g)) ≡ Ok (at_end d g) = ap (reading 1 nothing) (sym (append-nil (text (printed_lines g)))) ∙ last.1 in
+    let read : reading after 1 nothing (text (printed_lines g)) ≡ Ok (at_end d g) = ap (reading after 1 nothing) (sym (append-nil (text (printed_lines g)))) ∙ last.1 in
     rw (fitting, cut, read) (chosen d.begun d.kind (Some g.turn) (at_end d g) g begun kind refl field refl refl)
 
 -- a game of parts
@@ -360,9 +361,9 @@ parts kind field x y turn = record { kind = kind; field = field; x = x; y = y; t
 
 lines_back : (kind : Kind) (f : LineField) (x y : FinSet nat_cmp) (turn : Side) → IsFit kind (fields.Lines f) x y 1 → game (printed (parts kind (fields.Lines f) x y turn)) ≡ Ok (parts kind (fields.Lines f) x y turn)
 lines_back kind f x y turn fit =
-    let on : is_switching kind ≡ false = sym fit.kind_fits in
+    let on : is_switching kind ≡ false = sym fit.within.kind_fits in
     let g : Entry = parts kind (fields.Lines f) x y turn in
-    let h = fit.on_lines f refl in
+    let h = fit.within.on_lines f refl in
     let d : Draft = of_lines kind f in
     let goes = file_goes g d fit (lines_go kind f on h) (lines_take kind f on h) (after_two f.lines).1 refl refl (points_are kind d refl on) in
     ends_as g d fit goes refl refl (field_is kind (at_end d g) on)
@@ -370,7 +371,7 @@ lines_back kind f x y turn fit =
 graph_back : (h : Graph) (x y : FinSet nat_cmp) (turn : Side) → IsFit kinds.Switching (fields.Graph h) x y 1 → game (printed (parts kinds.Switching (fields.Graph h) x y turn)) ≡ Ok (parts kinds.Switching (fields.Graph h) x y turn)
 graph_back h x y turn fit =
     let g : Entry = parts kinds.Switching (fields.Graph h) x y turn in
-    let b = fit.on_graph h refl in
+    let b = fit.within.on_graph h refl in
     let d : Draft = of_edges h in
     let takes : TakesMarks kinds.Switching d = record { begun = refl; kind_is = refl; needed = (after_three h.ends).0; few = b.few_edges } in
     let goes = file_goes g d fit (graph_goes h b) takes (after_three h.ends).1 refl refl refl in
@@ -379,9 +380,9 @@ graph_back h x y turn fit =
 pub back : (kind : Kind) (field : Field) (x y : FinSet nat_cmp) (turn : Side) → IsFit kind field x y 1 → game (printed (parts kind field x y turn)) ≡ Ok (parts kind field x y turn)
 back kind (fields.Lines f) x y turn fit = lines_back kind f x y turn fit
 back kinds.Switching (fields.Graph h) x y turn fit = graph_back h x y turn fit
-back kinds.MakerBreaker (fields.Graph h) x y turn fit = absurd (cc fit.kind_fits)
-back kinds.MakerMaker (fields.Graph h) x y turn fit = absurd (cc fit.kind_fits)
-back kinds.AvoiderEnforcer (fields.Graph h) x y turn fit = absurd (cc fit.kind_fits)
+back kinds.MakerBreaker (fields.Graph h) x y turn fit = absurd (cc fit.within.kind_fits)
+back kinds.MakerMaker (fields.Graph h) x y turn fit = absurd (cc fit.within.kind_fits)
+back kinds.AvoiderEnforcer (fields.Graph h) x y turn fit = absurd (cc fit.within.kind_fits)
 
 -- a game within the limits in which Y claims one point a turn is read as it is printed
 pub entry_back : (g : Entry) → IsFit g.kind g.field g.x g.y 1 → game (printed g) ≡ Ok g

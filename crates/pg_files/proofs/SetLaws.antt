@@ -14,6 +14,7 @@ use Rattle.std.proofs.lemmas.List.Sorted.{sum_by-IsPermutation}
 use Rattle.std.proofs.lemmas.Map.Keys.{sorted_from_strictly_increasing}
 use Rattle.std.proofs.lemmas.Map.Made.{length-from_same_keys}
 use Rattle.std.proofs.lemmas.List.{take_more}
+use Rattle.pg_base.specs.declared.limits.TheConstants.{MAX_MEMBERS}
 use Rattle.pg_base.specs.Line.{StandsTwice}
 use Rattle.pg_base.specs.WordLemmas.{in_insert}
 use Rattle.pg_base.specs.Points.{members}
@@ -139,7 +140,7 @@ below_permutation limit ns (m ∷ ms) from all =
     rw (has-below limit ns m all (from m first)) (below_permutation limit ns ms (λ q h. from q (or_right (nat_eq m q) (has ms q) h)) all)
 
 -- what sorting a list of different points gives
-pub sorted_is_ascending : (ns line : List ℕ) → list_all (λ n. nat_lt n 1024) ns ≡ true → IsPermutation ns line → IsStrictlyIncreasing line → line ≡ ascending ns
+pub sorted_is_ascending : (ns line : List ℕ) → list_all (λ n. nat_lt n MAX_MEMBERS) ns ≡ true → IsPermutation ns line → IsStrictlyIncreasing line → line ≡ ascending ns
 sorted_is_ascending ns line below moved up =
     members_are (set_of ns) line up (below_permutation 1024 ns line (λ q h. sym (has-permutation ns line q moved) ∙ h) below)
     (λ q. has-permutation ns line q moved ∙ sym (in_set_of ns q))

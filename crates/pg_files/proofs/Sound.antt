@@ -1,5 +1,5 @@
 -- What is read is within the limits.
-use Rattle.std.proofs.Common.{◌≡◌, ◌≢◌, ℕ, suc, ◌+◌, ◌*◌, ◌<◌, ◌≤◌, lit≤, Bool, true, false, cond, ◌&&◌, ◌||◌, ◌⊎◌, inl, inr, List, [], ◌∷◌, ◌++◌, length, arith, refl, sym, ap, subst, ◌∙◌, Option, Some, None, Result, Ok, Err}
+use Rattle.std.proofs.Common.{◌≡◌, ◌≢◌, ℕ, suc, ◌+◌, ◌*◌, ◌<◌, ◌≤◌, lit≤, Bool, true, false, cond, ◌&&◌, ◌||◌, ◌⊎◌, inl, inr, List, [], ◌∷◌, ◌++◌, length, get_or, arith, refl, sym, ap, subst, ◌∙◌, Option, Some, None, Result, Ok, Err}
 use Rattle.std.specs.Prelude.{◌==◌, nat_lt, nat_le, not, sum_by, is_none, unwrap_or}
 use Rattle.std.specs.List.{list_all, All, AllByRecursion}
 use Rattle.std.specs.FinSet.{FinSet, contains, empty, contains-empty}
@@ -7,8 +7,8 @@ use Rattle.std.specs.Ordering.{nat_cmp}
 use Rattle.std.proofs.lemmas.Bool.{cases_lt, ltb-true, ltb-false, eqb-false, and_parts, or_parts}
 use Rattle.std.proofs.lemmas.Bool.Decides.{nat_tests}
 use Rattle.std.proofs.lemmas.List.{length-append}
-use Rattle.std.proofs.lemmas.List.Elements.{All-push}
-use Rattle.std.proofs.lemmas.List.Sums.{sum_by_push, AllPass-from_list_all}
+use Rattle.std.proofs.lemmas.List.Elements.{All-cons, All-push, All-tail}
+use Rattle.std.proofs.lemmas.List.Sums.{sum_by_push, sum_by-append, sum_by-cons, AllPass-from_list_all}
 use Rattle.pg_base.specs.declared.grid.Grid.{Grid}
 use Rattle.pg_base.specs.declared.kind.Kind.{Kind}
 use Rattle.pg_base.specs.declared.kind.Kind.TheVariants as kinds
@@ -19,11 +19,18 @@ use Rattle.pg_game.specs.declared.field.Field.TheVariants as fields
 use Rattle.pg_game.specs.declared.field.LineField.{LineField}
 use Rattle.pg_game.specs.Fit.{AreBelow, ShareNone, IsLineOf, AreLinesOf, IsBoard, IsFit, is_switching, greatest_bias}
 use Rattle.pg_text.specs.Text.{Bytes, number, lines}
-use Rattle.pg_files.specs.Text.{words, numbers, then_numbers}
+use Rattle.pg_poly.specs.declared.cell.Cell.{Cell}
+use Rattle.pg_poly.specs.Decided.{is_shape}
+use Rattle.pg_poly.specs.Listed.{placements_of}
+use Rattle.pg_poly.specs.Shapes.{cells_of, ones}
+use Rattle.pg_poly.proofs.Decides.{count_cells, shape_from}
+use Rattle.pg_poly.proofs.Listing.{line_of_cells}
+use Rattle.pg_text.specs.Text.{words, numbers, then_numbers}
 use Rattle.pg_files.specs.Sets.{set_of, ascending, repeats}
 use Rattle.pg_base.specs.Kind.{kind_of}
 use Rattle.pg_files.specs.Key.{rank_of, key_of, belongs, needed_rank}
-use Rattle.pg_files.specs.GameFile.{Draft, least, unless, keyed_faults, keyed_fault, said, keyed, significant, after, numbers_of, first_number, second_number, first, rest, nothing, named, is_header, begins_comment, is_printable, reading, go_on, is_misplaced, lacks_grid, is_outside, points_for, field_of, Entry, game, ended, game_of}
+use Rattle.pg_files.specs.GameFile.{Draft, keyed_faults, keyed_fault, said, keyed, significant, after, numbers_of, first_number, second_number, first, rest, nothing, named, is_header, begins_comment, is_printable, is_misplaced, lacks_grid, placed_in, exceeds_with, is_outside, points_for, field_of, Entry, game, ended, game_of}
+use Rattle.pg_text.specs.Faults.{least, unless, reading, go_on}
 use Rattle.pg_files.specs.declared.fault.Fault.{Fault}
 use Rattle.pg_files.specs.declared.fault.Fault.TheVariants as faults
 use Rattle.pg_files.specs.declared.key.Key.{Key}
@@ -300,7 +307,7 @@ sound_x d arguments sound e =
     let at = place d.kind d keys.X refl rows.1.0 in
     let before = later at (λ of. refl) in
     let two = before.two in
-    let below = not_false (list_all (λ n. nat_lt n (points_for d.kind d.points (length d.ends))) (numbers_of arguments)) rows.1.1.1.1.0 in
+    let below = not_false (list_all (λ n. nat_lt n (points_for d.kind d.points (length d.ends))) (numbers_of arguments)) rows.1.1.1.0 in
     let none = sound.order.y (omega (arith, at.up)) in
     record {
       order = raised d (said d keys.X arguments) sound.order (omega (arith, two)) (omega (arith, at.up)) refl refl;
@@ -321,7 +328,7 @@ sound_y d arguments sound e =
     let at = place d.kind d keys.Y refl rows.1.0 in
     let before = later at (λ of. refl) in
     let two = before.two in
-    let below = not_false (list_all (λ n. nat_lt n (points_for d.kind d.points (length d.ends))) (numbers_of arguments)) rows.1.1.1.1.0 in
+    let below = not_false (list_all (λ n. nat_lt n (points_for d.kind d.points (length d.ends))) (numbers_of arguments)) rows.1.1.1.0 in
     record {
       order = raised d (said d keys.Y arguments) sound.order (omega (arith, two)) (omega (arith, at.up)) refl refl;
       count = λ h. sound.count two;
@@ -331,7 +338,7 @@ sound_y d arguments sound e =
       marks = record {
         x_below = sound.marks.x_below;
         y_below = set_below (points_for d.kind d.points (length d.ends)) (numbers_of arguments) below;
-        apart = λ v h. in_set_of (numbers_of arguments) v ∙ repeats_apart d.x (numbers_of arguments) v rows.1.1.1.1.1.0 h;
+        apart = λ v h. in_set_of (numbers_of arguments) v ∙ repeats_apart d.x (numbers_of arguments) v rows.1.1.1.1.0 h;
       };
     }
 
@@ -346,17 +353,17 @@ sound_line d arguments sound e =
     let kind = in_lines at (λ of. refl) in
     let same = kind.points d.points (length d.ends) in
     let few = (kind.few d.points d.vertices count).1 in
-    let below = ap (λ n. list_all (λ p. nat_lt p n) ns) (sym same) ∙ not_false (list_all (λ n. nat_lt n (points_for d.kind d.points (length d.ends))) ns) rows.1.1.1.1.0 in
-    let len = or_parts (length ns == 0) (nat_lt 100 (length ns)) rows.1.1.1.1.1.1.0 in
+    let below = ap (λ n. list_all (λ p. nat_lt p n) ns) (sym same) ∙ not_false (list_all (λ n. nat_lt n (points_for d.kind d.points (length d.ends))) ns) rows.1.1.1.0 in
+    let len = or_parts (length ns == 0) (nat_lt 100 (length ns)) rows.1.1.1.1.1.0 in
     let some : 0 < length ns = grind (arith, nat_tests, len.0) in
-    let room = or_parts (nat_le 20000 (length d.lines)) (nat_lt 400000 (sum_by length d.lines + length ns)) rows.1.1.1.1.1.1.1.0 in
+    let room = or_parts (nat_le 20000 (length d.lines)) (nat_lt 400000 (sum_by length d.lines + length ns)) rows.1.1.1.1.1.1.0 in
     let fewer : length d.lines < 20000 = grind (arith, nat_tests, room.0) in
-    let kept = length-ascending ns (below_more d.points ns (omega (arith, few)) below) rows.1.1.1.1.1.0 in
+    let kept = length-ascending ns (below_more d.points ns (omega (arith, few)) below) rows.1.1.1.1.0 in
     record {
       order = raised d (said d keys.Line arguments) sound.order (omega (arith, two)) (omega (arith, at.up)) refl refl;
       count = λ h. count;
       terminals = λ h. before.terminals d.vertices d.s d.t sound.terminals;
-      lines = more_lines d.points d.grid d.lines (ascending ns) sound.lines (line_is d.points ns few below rows.1.1.1.1.1.0 some (ltb-false 100 (length ns) len.1)) fewer (omega (arith, kept, ltb-false 400000 (sum_by length d.lines + length ns) room.1));
+      lines = more_lines d.points d.grid d.lines (ascending ns) sound.lines (line_is d.points ns few below rows.1.1.1.1.0 some (ltb-false 100 (length ns) len.1)) fewer (omega (arith, kept, ltb-false 400000 (sum_by length d.lines + length ns) room.1));
       ends = sound.ends;
       marks = sound.marks;
     }
@@ -370,8 +377,8 @@ sound_edge d arguments sound e =
     let two = before.two in
     let form = or_parts (not (length arguments == 2)) (is_none (numbers arguments)) rows.1.1.0 in
     let pair : length arguments ≡ 2 = grind (arith, nat_tests, form.0) in
-    let each = two_below d.vertices arguments pair form.1 (not_false (list_all (λ n. nat_lt n d.vertices) ns) rows.1.1.1.1.0) in
-    let room : nat_le 1000 (length d.ends) ≡ false = rows.1.1.1.1.1.1.1.0 in
+    let each = two_below d.vertices arguments pair form.1 (not_false (list_all (λ n. nat_lt n d.vertices) ns) rows.1.1.1.0) in
+    let room : nat_le 1000 (length d.ends) ≡ false = rows.1.1.1.1.1.1.0 in
     let fewer : length d.ends < 1000 = grind (arith, nat_tests) in
     record {
       order = raised d (said d keys.Edge arguments) sound.order (omega (arith, two)) (omega (arith, at.up)) refl refl;
@@ -390,8 +397,8 @@ sound_terminals d arguments sound e =
     let two : 2 ≤ d.rank = at.needed in
     let form = or_parts (not (length arguments == 2)) (is_none (numbers arguments)) rows.1.1.0 in
     let pair : length arguments ≡ 2 = grind (arith, nat_tests, form.0) in
-    let each = two_below d.vertices arguments pair form.1 (not_false (list_all (λ n. nat_lt n d.vertices) ns) rows.1.1.1.1.0) in
-    let one : (first_number ns == second_number ns) ≡ false = rows.1.1.1.1.1.1.1.1.0 in
+    let each = two_below d.vertices arguments pair form.1 (not_false (list_all (λ n. nat_lt n d.vertices) ns) rows.1.1.1.0) in
+    let one : (first_number ns == second_number ns) ≡ false = rows.1.1.1.1.1.1.1.0 in
     record {
       order = raised d (said d keys.Terminals arguments) sound.order (omega (arith, two)) (omega (arith, at.up)) refl refl;
       count = λ h. sound.count two;
@@ -406,7 +413,7 @@ sound_vertices d arguments sound e =
     let rows = none_applies (keyed_faults d keys.Vertices arguments) e in
     let n = first_number (numbers_of arguments) in
     let at = place d.kind d keys.Vertices refl rows.1.0 in
-    let limits = outside_not 2 500 n rows.1.1.1.1.1.1.1.0 in
+    let limits = outside_not 2 500 n rows.1.1.1.1.1.1.0 in
     record {
       order = raised d (said d keys.Vertices arguments) sound.order at.needed (omega (arith, at.up)) refl refl;
       count = λ h. (in_graph at (λ of. refl)).count d.points n limits.0 limits.1;
@@ -434,7 +441,7 @@ sound_points d arguments sound e =
     let rows = none_applies (keyed_faults d keys.Points arguments) e in
     let at = place d.kind d keys.Points refl rows.1.0 in
     let bare : d.grid ≡ None = sound.order.grid (at.under refl) in
-    sized d (first_number (numbers_of arguments)) d.grid sound at.needed at.up (in_lines at (λ of. refl)) rows.1.1.1.1.1.1.1.0 (λ g is. absurd cc)
+    sized d (first_number (numbers_of arguments)) d.grid sound at.needed at.up (in_lines at (λ of. refl)) rows.1.1.1.1.1.1.0 (λ g is. absurd cc)
 
 same_grid : (g h : Grid) → ◌≡◌ {A = Option Grid} (Some g) (Some h) → g ≡ h
 same_grid g h e = cc
@@ -444,7 +451,7 @@ sound_grid d arguments sound e =
     let rows = none_applies (keyed_faults d keys.Grid arguments) e in
     let grid : Grid = record { width = first_number (numbers_of arguments); height = second_number (numbers_of arguments) } in
     let at = place d.kind d keys.Grid refl rows.1.0 in
-    sized d (grid.width * grid.height) (Some grid) sound at.needed at.up (in_lines at (λ of. refl)) rows.1.1.1.1.1.1.1.0 (λ g is. ap (λ (k : Grid). k.width * k.height) (sym (same_grid grid g is)))
+    sized d (grid.width * grid.height) (Some grid) sound at.needed at.up (in_lines at (λ of. refl)) rows.1.1.1.1.1.1.0 (λ g is. ap (λ (k : Grid). k.width * k.height) (sym (same_grid grid g is)))
 
 known : (kind : Option Kind) → is_none kind ≡ false → kind ≡ None → ⊥
 known None some e = absurd cc
@@ -471,8 +478,63 @@ sound_kind d (word ∷ others) sound e =
       marks = no_marks _ d.x d.y (sound.order.x (omega arith)) (sound.order.y (omega arith));
     }
 
-sound_shape : (d : Draft) (arguments : List Bytes) → keyed_fault d keys.Shape arguments ≡ None → IsSound (said d keys.Shape arguments)
-sound_shape d arguments e = let rows = none_applies (keyed_faults d keys.Shape arguments) e in absurd (cc rows.1.1.1.0)
+-- as many lines, with as many points each
+pub equal_lines : (count : ℕ) (lines : List (List ℕ)) → All (λ line. length line ≡ count) lines → sum_by length lines ≡ length lines * count
+equal_lines count [] all = let none : ◌≡◌ {A = ℕ} 0 (0 * count) = omega arith in none
+equal_lines count (line ∷ lines) all =
+    let own = all 0 line (omega arith) in
+    let rest = equal_lines count lines (All-tail (λ l. length l ≡ count) line lines all) in
+    let first = sum_by-cons length line lines in
+    let more : (length lines + 1) * count ≡ length lines * count + count = grind arith in
+    let size : length (line ∷ lines) ≡ length lines + 1 = omega arith in
+    first ∙ (let sum : length line + sum_by length lines ≡ length lines * count + count = omega arith in sum) ∙ sym (ap (λ n. n * count) size ∙ more)
+
+all_append : {A : Type 0} (P : A → Type 0) (xs ys : List A) → All P xs → All P ys → All P (xs ++ ys)
+all_append P [] ys h k = k
+all_append P (x ∷ xs) ys h k = All-cons P x (xs ++ ys) (h 0 x (omega arith)) (all_append P xs ys (All-tail P x xs h) k)
+
+further_lines : (points : ℕ) (grid : Option Grid) (lines more : List (List ℕ)) → AreLines points grid lines → All (IsLineOf points 1) more → length lines + length more ≤ 20000 → sum_by length lines + sum_by length more ≤ 400000
+    → AreLines points grid (lines ++ more)
+further_lines points grid lines more h each few summed = record {
+  cells = h.cells;
+  each = all_append (IsLineOf points 1) lines more h.each each;
+  count = omega (arith, length-append lines more);
+  total = omega (arith, sum_by-append length lines more);
+}
+
+placed_fit : (points : ℕ) (grid : Option Grid) (cells : List Cell) → ((g : Grid) → grid ≡ Some g → g.width * g.height ≡ points) → 0 < length cells → length cells ≤ 100 → All (IsLineOf points 1) (placed_in grid cells)
+placed_fit points None cells is some few = λ i d lt. absurd (omega arith)
+placed_fit points (Some grid) cells is some few = λ i d lt.
+    let line = line_of_cells grid cells some i d lt in
+    let count = line.count in
+    record {
+      some = omega arith;
+      short = omega arith;
+      ascending = line.ascending;
+      range = λ k e inside. subst (λ n. get_or (get_or (placements_of grid cells) i d) k e < n) (is grid refl) (line.range k e inside);
+    }
+
+sound_shape : (d : Draft) (arguments : List Bytes) → IsSound d → keyed_fault d keys.Shape arguments ≡ None → IsSound (said d keys.Shape arguments)
+sound_shape d arguments sound e =
+    let word = first arguments in
+    let rows = none_applies (keyed_faults d keys.Shape arguments) e in
+    let at = place d.kind d keys.Shape refl rows.1.0 in
+    let before = later at (λ of. refl) in
+    let two = before.two in
+    let is = not_false (is_shape word) rows.1.1.1.1.1.0 in
+    let shape = shape_from word is in
+    let small = ltb-false 100 (ones word) rows.1.1.1.0 in
+    let count = count_cells 0 0 word in
+    let more = placed_in d.grid (cells_of word) in
+    let within = or_parts (nat_lt 20000 (length d.lines + length more)) (nat_lt 400000 (sum_by length d.lines + sum_by length more)) (sym (ap (λ b. b && exceeds_with d more) is) ∙ rows.1.1.1.1.0) in
+    record {
+      order = raised d (said d keys.Shape arguments) sound.order (omega (arith, two)) (omega (arith, at.up)) refl refl;
+      count = λ h. sound.count two;
+      terminals = λ h. before.terminals d.vertices d.s d.t sound.terminals;
+      lines = further_lines d.points d.grid d.lines more sound.lines (placed_fit d.points d.grid (cells_of word) sound.lines.cells shape.some (omega arith)) (ltb-false _ _ within.0) (ltb-false _ _ within.1);
+      ends = sound.ends;
+      marks = sound.marks;
+    }
 
 sound_key : (d : Draft) (key : Key) (arguments : List Bytes) → IsSound d → keyed_fault d key arguments ≡ None → IsSound (said d key arguments)
 sound_key d keys.Kind arguments sound e = sound_kind d arguments sound e
@@ -481,7 +543,7 @@ sound_key d keys.Grid arguments sound e = sound_grid d arguments sound e
 sound_key d keys.Vertices arguments sound e = sound_vertices d arguments sound e
 sound_key d keys.Terminals arguments sound e = sound_terminals d arguments sound e
 sound_key d keys.Line arguments sound e = sound_line d arguments sound e
-sound_key d keys.Shape arguments sound e = sound_shape d arguments e
+sound_key d keys.Shape arguments sound e = sound_shape d arguments sound e
 sound_key d keys.Edge arguments sound e = sound_edge d arguments sound e
 sound_key d keys.X arguments sound e = sound_x d arguments sound e
 sound_key d keys.Y arguments sound e = sound_y d arguments sound e
@@ -542,11 +604,11 @@ sound_after d next line sound e =
       ]
     ]
 
-sound_step : (n : ℕ) (r : Result Draft Fault) (others : List Bytes) (last : Draft) → ((next : Draft) → r ≡ Ok next → reading (n + 1) next others ≡ Ok last → IsSound last) → go_on n r (λ next. reading (n + 1) next others) ≡ Ok last → IsSound last
+sound_step : (n : ℕ) (r : Result Draft Fault) (others : List Bytes) (last : Draft) → ((next : Draft) → r ≡ Ok next → reading after (n + 1) next others ≡ Ok last → IsSound last) → go_on n r (λ next. reading after (n + 1) next others) ≡ Ok last → IsSound last
 sound_step n (Ok next) others last h e = h next refl e
 sound_step n (Err f) others last h e = absurd cc
 
-pub sound_reading : (n : ℕ) (d last : Draft) (ls : List Bytes) → IsSound d → reading n d ls ≡ Ok last → IsSound last
+pub sound_reading : (n : ℕ) (d last : Draft) (ls : List Bytes) → IsSound d → reading after n d ls ≡ Ok last → IsSound last
 unfolding reading
 sound_reading n d last [] sound e = subst IsSound (ok_is d last e) sound
 sound_reading n d last (line ∷ others) sound e = sound_step n (after d line) others last (λ next went f. sound_reading (n + 1) next last others (sound_after d next line sound went) f) e
@@ -579,9 +641,7 @@ fits_lines : (kind : Kind) (f : LineField) (x y : FinSet nat_cmp) → false ≡ 
 fits_lines kind f x y is bias h marks = record {
   some_bias = lit≤ tt;
   few_bias = bias;
-  kind_fits = is;
-  on_lines = λ g e. subst (λ (k : LineField). AreLinesOf 1 k) (same_lines f g e) h;
-  on_graph = λ g e. absurd cc;
+  within = record { kind_fits = is; on_lines = λ g e. subst (λ (k : LineField). AreLinesOf 1 k) (same_lines f g e) h; on_graph = λ g e. absurd cc };
   x_range = marks.x_below;
   y_range = marks.y_below;
   disjoint = marks.apart;
@@ -591,9 +651,7 @@ fits_graph : (f : Graph) (x y : FinSet nat_cmp) → IsBoard f → AreMarks (leng
 fits_graph f x y h marks = record {
   some_bias = lit≤ tt;
   few_bias = lit≤ tt;
-  kind_fits = refl;
-  on_lines = λ g e. absurd cc;
-  on_graph = λ g e. subst IsBoard (same_graph f g e) h;
+  within = record { kind_fits = refl; on_lines = λ g e. absurd cc; on_graph = λ g e. subst IsBoard (same_graph f g e) h };
   x_range = marks.x_below;
   y_range = marks.y_below;
   disjoint = marks.apart;
@@ -643,4 +701,4 @@ size_fits false read g sound e = ended_fits read g sound e
 
 pub fits_game : (text : Bytes) (g : Entry) → game text ≡ Ok g → IsFit g.kind g.field g.x g.y 1
 unfolding game
-fits_game text g e = size_fits (nat_lt 4194304 (length text)) (reading 1 nothing (lines text)) g (λ d h. sound_reading 1 nothing d (lines text) sound_nothing h) e
+fits_game text g e = size_fits (nat_lt 4194304 (length text)) (reading after 1 nothing (lines text)) g (λ d h. sound_reading 1 nothing d (lines text) sound_nothing h) e

@@ -10,8 +10,15 @@ use Rattle.pg_base.specs.declared.kind.Kind.TheVariants as kinds
 use Rattle.pg_base.specs.declared.side.Side.{Side}
 use Rattle.pg_game.specs.declared.field.Field.{Field}
 use Rattle.pg_game.specs.declared.field.Field.TheVariants as fields
-use Rattle.pg_text.specs.Text.{Bytes, lines}
-use Rattle.pg_files.specs.Text.{words, numbers}
+use Rattle.pg_text.specs.Text.{Bytes, lines, words, numbers}
+use Rattle.pg_poly.specs.declared.cell.Cell.{Cell}
+use Rattle.pg_poly.specs.Decided.{is_shape}
+use Rattle.pg_poly.specs.Listed.{placements_of}
+use Rattle.pg_poly.specs.Shapes.{cells_of, ones}
+use Rattle.pg_base.specs.declared.limits.TheConstants.{MAX_EDGES}
+use Rattle.pg_game.specs.declared.bounds.TheConstants.{MAX_LINE_POINTS, MAX_LINES, MAX_POINTS, MAX_SUMMED_POINTS, MAX_VERTICES}
+use Rattle.pg_text.specs.Faults.{least, unless, reading}
+use Rattle.pg_files.specs.declared.limits.TheConstants.{MAX_GAME_BYTES}
 use Rattle.pg_files.specs.Sets.{set_of, ascending, repeats}
 use Rattle.pg_base.specs.Kind.{kind_of}
 use Rattle.pg_base.specs.Side.{side_of}
@@ -57,11 +64,6 @@ abbrev pub points_so_far : Draft → ℕ
 points_so_far d = points_for d.kind d.points (length d.ends)
 
 -- ---- the faults of a line
-
--- The least fault that applies, of a table in ascending order.
-abbrev pub least : List (Fault × Bool) → Option Fault
-least [] = None
-least (row ∷ rows) = if row.1 then Some row.0 else least rows
 
 -- the first of some words, none where there is none
 abbrev pub first : List Bytes → Bytes
@@ -120,11 +122,6 @@ is_ill_formed keys.Terminals arguments = not (length arguments == 2) || is_none 
 is_ill_formed keys.Edge arguments = not (length arguments == 2) || is_none (numbers arguments)
 is_ill_formed _ arguments = is_none (numbers arguments)
 
--- shapes aren't read so far
-abbrev pub is_unread : Key → Bool
-is_unread keys.Shape = true
-is_unread _ = false
-
 -- a point that isn't below the number of points, or a vertex that isn't below the number of vertices
 abbrev pub is_out_of_range : Draft → Key → List ℕ → Bool
 is_out_of_range d keys.Line ns = not (list_all (λ n. nat_lt n (points_so_far d)) ns)
@@ -143,7 +140,7 @@ is_repeated d _ ns = false
 
 -- a line without points, or one of more than 100
 abbrev pub has_wrong_length : Key → List ℕ → Bool
-has_wrong_length keys.Line ns = length ns == 0 || nat_lt 100 (length ns)
+has_wrong_length keys.Line ns = length ns == 0 || nat_lt MAX_LINE_POINTS (length ns)
 has_wrong_length _ ns = false
 
 -- a count that isn't from the first number to the second
@@ -152,16 +149,16 @@ is_outside low high n = nat_lt n low || nat_lt high n
 
 -- a count out of its limits
 abbrev pub exceeds : Draft → Key → List ℕ → Bool
-exceeds d keys.Points ns = is_outside 1 256 (first_number ns)
-exceeds d keys.Grid ns = is_outside 1 256 (first_number ns * second_number ns)
-exceeds d keys.Vertices ns = is_outside 2 500 (first_number ns)
-exceeds d keys.Line ns = nat_le 20000 (length d.lines) || nat_lt 400000 (sum_by length d.lines + length ns)
-exceeds d keys.Edge ns = nat_le 1000 (length d.ends)
+exceeds d keys.Points ns = is_outside 1 MAX_POINTS (first_number ns)
+exceeds d keys.Grid ns = is_outside 1 MAX_POINTS (first_number ns * second_number ns)
+exceeds d keys.Vertices ns = is_outside 2 MAX_VERTICES (first_number ns)
+exceeds d keys.Line ns = nat_le MAX_LINES (length d.lines) || nat_lt MAX_SUMMED_POINTS (sum_by length d.lines + length ns)
+exceeds d keys.Edge ns = nat_le MAX_EDGES (length d.ends)
 exceeds _ _ _ = false
 
 -- the grid with these sides, where it has 1 to 256 cells
 abbrev pub grid_of : ℕ → ℕ → Option Grid
-grid_of width height = if is_outside 1 256 (width * height) then None else Some (record { width = width; height = height })
+grid_of width height = if is_outside 1 MAX_POINTS (width * height) then None else Some (record { width = width; height = height })
 
 -- a key of a line of marks
 abbrev pub IsMarks : Key → Type 0
@@ -183,14 +180,34 @@ numbers_faults d key ns =
     (faults.Limit, exceeds d key ns) ∷
     (faults.Terminals, is_one_terminal key ns) ∷ []
 
+-- the placements of some cells, where there is a grid
+abbrev pub placed_in : Option Grid → List Cell → List (List ℕ)
+placed_in None cells = []
+placed_in (Some grid) cells = placements_of grid cells
+
+-- lines that are too many with those before, or have too many points with them
+abbrev pub exceeds_with : Draft → List (List ℕ) → Bool
+exceeds_with d more = nat_lt MAX_LINES (length d.lines + length more) || nat_lt MAX_SUMMED_POINTS (sum_by length d.lines + sum_by length more)
+
+-- the faults that are told from the word of a shape
+abbrev pub shape_faults : Draft → Bytes → List (Fault × Bool)
+shape_faults d word =
+    (faults.Length, nat_lt MAX_LINE_POINTS (ones word)) ∷
+    (faults.Limit, is_shape word && exceeds_with d (placed_in d.grid (cells_of word))) ∷
+    (faults.Shape, not (is_shape word)) ∷ []
+
+-- the faults that are told from the arguments, if these are of the right form
+abbrev pub further_faults : Draft → Key → List Bytes → List (Fault × Bool)
+further_faults d keys.Shape arguments = shape_faults d (first arguments)
+further_faults d key arguments = numbers_faults d key (numbers_of arguments)
+
 -- the faults that a line with this key can have
 abbrev pub keyed_faults : Draft → Key → List Bytes → List (Fault × Bool)
 keyed_faults d key arguments =
     (faults.Key, is_unknown_choice key arguments) ∷
     (faults.Order, is_out_of_place d key) ∷
     (faults.Arguments, is_ill_formed key arguments) ∷
-    (faults.Unread, is_unread key) ∷
-    numbers_faults d key (numbers_of arguments)
+    further_faults d key arguments
 
 -- the fault of a line with this key
 abbrev pub keyed_fault : Draft → Key → List Bytes → Option Fault
@@ -214,12 +231,8 @@ with_numbers d _ ns = d
 abbrev pub said : Draft → Key → List Bytes → Draft
 said d keys.Kind arguments = record d { rank = 1; kind = kind_of (first arguments) }
 said d keys.Turn arguments = record d { rank = 7; turn = side_of (first arguments) }
+said d keys.Shape arguments = record d { rank = 4; lines = d.lines ++ placed_in d.grid (cells_of (first arguments)) }
 said d key arguments = with_numbers d key (numbers_of arguments)
-
--- a value, unless there is a fault
-abbrev pub unless : {A : Type 0} → Option Fault → A → Result A Fault
-unless None x = Ok x
-unless (Some fault) x = Err fault
 
 -- The draft after a line with this key, or the line's fault.
 unfoldable pub keyed : Draft → Key → List Bytes → Result Draft Fault
@@ -264,20 +277,10 @@ pub record Entry : Type 0 where
   pub y : FinSet nat_cmp
   pub turn : Side
 
--- the answer at a line's fault, or what the lines behind it answer
-abbrev pub go_on : ℕ → Result Draft Fault → (Draft → Result Draft (Fault × ℕ)) → Result Draft (Fault × ℕ)
-go_on n (Ok d) others = others d
-go_on n (Err fault) others = Err (fault, n)
-
--- The draft after these lines, of which the first has number n, or the first fault and the number of its line.
-unfoldable pub reading : ℕ → Draft → List Bytes → Result Draft (Fault × ℕ)
-reading n d [] = Ok d
-reading n d (line ∷ others) = go_on n (after d line) (λ next. reading (n + 1) next others)
-
 -- some lines say this
 pub record IsSaid (d : Draft) : Type 0 where
   pub said_by : List Bytes
-  pub is_said : reading 1 nothing said_by ≡ Ok d
+  pub is_said : reading after 1 nothing said_by ≡ Ok d
 
 -- what a game of the kind is played on
 abbrev pub field_of : Kind → Draft → Field
@@ -296,4 +299,4 @@ ended (Ok d) = if d.begun then game_of d d.kind d.turn else Err (faults.Header, 
 
 -- The game that a text says, or its fault with the number of the line.
 unfoldable pub game : Bytes → Result Entry (Fault × ℕ)
-game text = if nat_lt 4194304 (length text) then Err (faults.Size, 0) else ended (reading 1 nothing (lines text))
+game text = if nat_lt MAX_GAME_BYTES (length text) then Err (faults.Size, 0) else ended (reading after 1 nothing (lines text))

@@ -1,10 +1,11 @@
 -- What a fault of a file means, above the definition of reading.
 use Rattle.std.specs.Prelude.{◌≡◌, ℕ, ◌+◌, ◌<◌, Bool, true, false, not, ◌||◌, ◌⊎◌, if◌then◌else◌, List, [], ◌∷◌, ◌++◌, length, Option, Some, None, is_none, Ok, ◌==◌}
-use Rattle.std.specs.List.{list_all, AllByRecursion}
-use Rattle.pg_text.specs.Text.{Bytes, lines}
-use Rattle.pg_files.specs.Text.{words}
+use Rattle.std.specs.List.{list_all}
+use Rattle.pg_text.specs.Text.{Bytes, lines, words}
+use Rattle.pg_text.specs.Faults.{reading, IsLeast}
+use Rattle.pg_files.specs.declared.limits.TheConstants.{MAX_GAME_BYTES}
 use Rattle.pg_files.specs.Key.{key_of}
-use Rattle.pg_files.specs.GameFile.{Draft, nothing, reading, keyed_faults, first, rest, is_header, is_printable, begins_comment}
+use Rattle.pg_files.specs.GameFile.{Draft, nothing, after, keyed_faults, first, rest, is_header, is_printable, begins_comment}
 use Rattle.pg_files.specs.declared.fault.Fault.{Fault}
 use Rattle.pg_files.specs.declared.fault.Fault.TheVariants as faults
 use Rattle.pg_files.specs.declared.key.Key.{Key}
@@ -22,13 +23,6 @@ words_faults d ws = if d.begun then (faults.Key, is_none (key_of (first ws))) �
 abbrev pub line_faults : Draft → Bytes → List (Fault × Bool)
 line_faults d line = (faults.Bytes, not (list_all is_printable line)) ∷ (if begins_comment line || length (words line) == 0 then [] else words_faults d (words line))
 
--- the fault applies, and none before it in the table does
-pub record IsLeast (fault : Fault) (rows : List (Fault × Bool)) : Type 0 where
-  pub lower : List (Fault × Bool)
-  pub higher : List (Fault × Bool)
-  pub cut : rows ≡ lower ++ (fault, true) ∷ higher
-  pub none : AllByRecursion (λ row. row.1 ≡ false) lower
-
 -- the lines before this one have no fault, and it has this one as its least
 pub record IsFirstFault (text : Bytes) (fault : Fault) (number : ℕ) : Type 0 where
   pub before : List Bytes
@@ -36,7 +30,7 @@ pub record IsFirstFault (text : Bytes) (fault : Fault) (number : ℕ) : Type 0 w
   pub behind : List Bytes
   pub draft : Draft
   pub cut : lines text ≡ before ++ line ∷ behind
-  pub sound : reading 1 nothing before ≡ Ok draft
+  pub sound : reading after 1 nothing before ≡ Ok draft
   pub least : IsLeast fault (line_faults draft line)
   pub counted : number ≡ length before + 1
 
@@ -47,9 +41,9 @@ Lacks draft fault = ((draft.begun ≡ false) × (fault ≡ faults.Header)) ⊎ (
 -- no line has a fault, and at the end something lacks
 pub record IsFaultOfEnd (text : Bytes) (fault : Fault) : Type 0 where
   pub draft : Draft
-  pub sound : reading 1 nothing (lines text) ≡ Ok draft
+  pub sound : reading after 1 nothing (lines text) ≡ Ok draft
   pub lacks : Lacks draft fault
 
 -- the text is too long, or no line has a fault and something lacks
 pub record IsWholeFault (text : Bytes) (fault : Fault) : Type 0 where
-  pub why : ((4194304 < length text) × (fault ≡ faults.Size)) ⊎ IsFaultOfEnd text fault
+  pub why : ((MAX_GAME_BYTES < length text) × (fault ≡ faults.Size)) ⊎ IsFaultOfEnd text fault

@@ -1,5 +1,8 @@
 //! What the lines of a game file have said so far.
-ghost use Rattle.std.specs.Prelude.{◌≡◌, ◌≤◌, length, sum_by};
+ghost use Rattle.std.specs.Prelude.{◌≡◌, ◌≤◌, ◌*◌, Some, length, sum_by};
+ghost use Rattle.pg_base.specs.declared.grid.Grid.{Grid};
+ghost use Rattle.pg_base.specs.declared.limits.TheConstants.{MAX_EDGES};
+ghost use Rattle.pg_game.specs.declared.bounds.TheConstants.{MAX_POINTS, MAX_SUMMED_POINTS, MAX_VERTICES};
 
 use pg_base::{Grid, Kind, Line, PointSet, Side};
 
@@ -35,8 +38,9 @@ pub struct Draft {
     /// The side to move, where it is said.
     pub turn: Option<Side>,
     ghost totalled: { total ≡ sum_by length lines.items },
-    ghost small: { total ≤ 400000 },
-    ghost few_points: { points ≤ 256 },
-    ghost few_vertices: { vertices ≤ 500 },
-    ghost few_edges: { length ends.items ≤ 1000 },
+    ghost small: { total ≤ MAX_SUMMED_POINTS },
+    ghost few_points: { points ≤ MAX_POINTS },
+    ghost few_cells: { (g : Grid) → grid ≡ Some g → g.width * g.height ≤ MAX_POINTS },
+    ghost few_vertices: { vertices ≤ MAX_VERTICES },
+    ghost few_edges: { length ends.items ≤ MAX_EDGES },
 }

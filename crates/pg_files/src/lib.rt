@@ -5,13 +5,15 @@ mod draft;
 mod fault;
 mod key;
 mod laws;
+mod limits;
 mod line;
 mod printing;
 mod reading;
 mod sets;
-mod text;
 
-pub use fault::{Fault, GameFault};
+pub use fault::Fault;
 pub use laws::{first_fault_is_told, printed_game_is_read, what_is_read_fits};
+pub use limits::MAX_GAME_BYTES;
+pub use pg_text::FileError as GameFault;
 pub use printing::print_game;
 pub use reading::read_game;

@@ -4,31 +4,22 @@ ghost use Rattle.std.specs.FinSet.{empty};
 ghost use Rattle.pg_files.specs.Sets.{repeats};
 ghost use Rattle.std.specs.List.{list_all};
 ghost use Rattle.pg_files.specs.declared.key.Key.TheVariants as keys;
-ghost use Rattle.pg_files.specs.GameFile.{nothing, points_so_far, is_out_of_place, keyed, least, numbers_faults, significant, after, is_header, is_printable, begins_comment, grid_of, IsMarks};
-ghost use Rattle.pg_files.specs.Text.{numbers};
-ghost use Rattle.pg_files.specs.Views.{view, Becomes};
+ghost use Rattle.pg_files.specs.GameFile.{nothing, points_so_far, is_out_of_place, keyed, numbers_faults, significant, after, is_header, is_printable, begins_comment, grid_of, IsMarks};
+ghost use Rattle.pg_base.specs.declared.limits.TheConstants.{MAX_EDGES, MAX_MEMBERS};
+ghost use Rattle.pg_game.specs.declared.bounds.TheConstants.{MAX_LINE_POINTS, MAX_LINES, MAX_POINTS, MAX_SUMMED_POINTS};
+ghost use Rattle.pg_text.specs.Text.{numbers};
+ghost use Rattle.pg_text.specs.Faults.{least, Becomes};
+ghost use Rattle.pg_files.specs.Views.{view};
 
 use crate::draft::Draft;
-use crate::fault::{Fault, ReadError};
+use crate::fault::Fault;
 use crate::key::Key;
 use crate::sets::{are_below, line_of, repeats, set_of};
-use crate::text::{numbers, words};
-use pg_base::{Grid, Kind, PointSet, Side};
-use pg_text::number;
+use pg_base::{Grid, Kind, MAX_EDGES, PointSet, Side};
+use pg_game::{MAX_LINE_POINTS, MAX_LINES, MAX_POINTS, MAX_SUMMED_POINTS, MAX_VERTICES};
+use pg_poly::{Shape, ShapeFault, placed};
+use pg_text::{LineError, number, number_list, word_list};
 use std::alloc::Global;
-
-/// The greatest number of points of a game with lines.
-const MOST_POINTS: u32 = 256;
-/// The greatest number of vertices.
-const MOST_VERTICES: u32 = 500;
-/// The greatest number of lines.
-const MOST_LINES: usize = 20_000;
-/// The greatest number of points summed over the lines.
-const MOST_SUMMED: usize = 400_000;
-/// The greatest number of points of a line.
-const LONGEST: usize = 100;
-/// The greatest number of edges.
-const MOST_EDGES: usize = 1_000;
 
 impl Draft {
     /// The draft before the first line.
@@ -56,7 +47,7 @@ impl Draft {
     /// How many points there are so far.
     fn points_so_far(&self) -> u32
         ensures count { result ≡ points_so_far (view self.now) }
-        ensures few { result ≤ 1000 }
+        ensures few { result ≤ MAX_EDGES }
     {
         match self.kind {
             Some(Kind::Switching) => self.ends.len() as u32,
@@ -82,62 +73,62 @@ impl Draft {
     }
 
     #[tactic(auto, unfolding(crate::specs::GameFile::keyed))]
-    fn add_kind(&mut self, arguments: &[&[u8]]) -> Result<(), ReadError>
+    fn add_kind(&mut self, arguments: &[&[u8]]) -> Result<(), LineError<Fault>>
         ensures { Becomes result (view self.new) (keyed (view self.old) keys.Kind (map (λ w. w.now) arguments.now)) }
     {
         let Some(word) = arguments.first() else {
             if self.is_out_of_place(Key::Kind) {
-                return Err(ReadError::Fault(Fault::Order));
+                return Err(LineError::Fault(Fault::Order));
             }
-            return Err(ReadError::Fault(Fault::Arguments));
+            return Err(LineError::Fault(Fault::Arguments));
         };
         let Some(kind) = Kind::from_word(word) else {
-            return Err(ReadError::Fault(Fault::Key));
+            return Err(LineError::Fault(Fault::Key));
         };
         if self.is_out_of_place(Key::Kind) {
-            return Err(ReadError::Fault(Fault::Order));
+            return Err(LineError::Fault(Fault::Order));
         }
         if arguments.len() != 1 {
-            return Err(ReadError::Fault(Fault::Arguments));
+            return Err(LineError::Fault(Fault::Arguments));
         }
         self.kind = Some(kind);
         self.rank = 1;
         Ok(())
     }
 
-    #[tactic(auto, unfolding(crate::specs::GameFile::keyed, crate::specs::Text::numbers))]
-    fn add_points(&mut self, arguments: &[&[u8]]) -> Result<(), ReadError>
+    #[tactic(auto, unfolding(crate::specs::GameFile::keyed, pg_text::specs::Text::numbers))]
+    fn add_points(&mut self, arguments: &[&[u8]]) -> Result<(), LineError<Fault>>
         ensures { Becomes result (view self.new) (keyed (view self.old) keys.Points (map (λ w. w.now) arguments.now)) }
     {
         if self.is_out_of_place(Key::Points) {
-            return Err(ReadError::Fault(Fault::Order));
+            return Err(LineError::Fault(Fault::Order));
         }
         let [word] = arguments else {
-            return Err(ReadError::Fault(Fault::Arguments));
+            return Err(LineError::Fault(Fault::Arguments));
         };
         let Some(points) = number(word) else {
-            return Err(ReadError::Fault(Fault::Arguments));
+            return Err(LineError::Fault(Fault::Arguments));
         };
-        if points < 1 || points > MOST_POINTS {
-            return Err(ReadError::Fault(Fault::Limit));
+        if points < 1 || points > MAX_POINTS as u32 {
+            return Err(LineError::Fault(Fault::Limit));
         }
         self.points = points as u16;
         self.rank = 2;
         Ok(())
     }
 
-    #[tactic(auto, unfolding(crate::specs::GameFile::keyed, crate::specs::Text::numbers))]
-    fn add_grid(&mut self, arguments: &[&[u8]]) -> Result<(), ReadError>
+    #[tactic(auto, unfolding(crate::specs::GameFile::keyed, pg_text::specs::Text::numbers))]
+    fn add_grid(&mut self, arguments: &[&[u8]]) -> Result<(), LineError<Fault>>
         ensures { Becomes result (view self.new) (keyed (view self.old) keys.Grid (map (λ w. w.now) arguments.now)) }
     {
         if self.is_out_of_place(Key::Grid) {
-            return Err(ReadError::Fault(Fault::Order));
+            return Err(LineError::Fault(Fault::Order));
         }
         let Some((width, height)) = two_numbers(arguments) else {
-            return Err(ReadError::Fault(Fault::Arguments));
+            return Err(LineError::Fault(Fault::Arguments));
         };
         let Some(grid) = grid_of(width, height) else {
-            return Err(ReadError::Fault(Fault::Limit));
+            return Err(LineError::Fault(Fault::Limit));
         };
         self.points = grid.width * grid.height;
         self.grid = Some(grid);
@@ -145,43 +136,43 @@ impl Draft {
         Ok(())
     }
 
-    #[tactic(auto, unfolding(crate::specs::GameFile::keyed, crate::specs::Text::numbers))]
-    fn add_vertices(&mut self, arguments: &[&[u8]]) -> Result<(), ReadError>
+    #[tactic(auto, unfolding(crate::specs::GameFile::keyed, pg_text::specs::Text::numbers))]
+    fn add_vertices(&mut self, arguments: &[&[u8]]) -> Result<(), LineError<Fault>>
         ensures { Becomes result (view self.new) (keyed (view self.old) keys.Vertices (map (λ w. w.now) arguments.now)) }
     {
         if self.is_out_of_place(Key::Vertices) {
-            return Err(ReadError::Fault(Fault::Order));
+            return Err(LineError::Fault(Fault::Order));
         }
         let [word] = arguments else {
-            return Err(ReadError::Fault(Fault::Arguments));
+            return Err(LineError::Fault(Fault::Arguments));
         };
         let Some(vertices) = number(word) else {
-            return Err(ReadError::Fault(Fault::Arguments));
+            return Err(LineError::Fault(Fault::Arguments));
         };
-        if vertices < 2 || vertices > MOST_VERTICES {
-            return Err(ReadError::Fault(Fault::Limit));
+        if vertices < 2 || vertices > u32::from(MAX_VERTICES) {
+            return Err(LineError::Fault(Fault::Limit));
         }
         self.vertices = vertices as u16;
         self.rank = 2;
         Ok(())
     }
 
-    #[tactic(auto, unfolding(crate::specs::GameFile::keyed, crate::specs::Text::numbers))]
-    fn add_terminals(&mut self, arguments: &[&[u8]]) -> Result<(), ReadError>
+    #[tactic(auto, unfolding(crate::specs::GameFile::keyed, pg_text::specs::Text::numbers))]
+    fn add_terminals(&mut self, arguments: &[&[u8]]) -> Result<(), LineError<Fault>>
         ensures { Becomes result (view self.new) (keyed (view self.old) keys.Terminals (map (λ w. w.now) arguments.now)) }
     {
         if self.is_out_of_place(Key::Terminals) {
-            return Err(ReadError::Fault(Fault::Order));
+            return Err(LineError::Fault(Fault::Order));
         }
         let Some((s, t)) = two_numbers(arguments) else {
-            return Err(ReadError::Fault(Fault::Arguments));
+            return Err(LineError::Fault(Fault::Arguments));
         };
         let vertices = u32::from(self.vertices);
         if s >= vertices || t >= vertices {
-            return Err(ReadError::Fault(Fault::Range));
+            return Err(LineError::Fault(Fault::Range));
         }
         if s == t {
-            return Err(ReadError::Fault(Fault::Terminals));
+            return Err(LineError::Fault(Fault::Terminals));
         }
         self.s = s as u16;
         self.t = t as u16;
@@ -192,8 +183,8 @@ impl Draft {
     /// The fault of a line with these numbers.
     fn line_fault(&self, numbers: &[u32]) -> Option<Fault>
         ensures fault { result ≡ least (numbers_faults (view self.now) keys.Line numbers.now) }
-        ensures fits { IfNone result (self.now.total + length numbers.now ≤ 400000) }
-        ensures below { IfNone result (IsTrue (list_all (λ n. nat_lt n 1024) numbers.now)) }
+        ensures fits { IfNone result (self.now.total + length numbers.now ≤ MAX_SUMMED_POINTS) }
+        ensures below { IfNone result (IsTrue (list_all (λ n. nat_lt n MAX_MEMBERS) numbers.now)) }
         ensures different { IfNone result (repeats empty numbers.now ≡ false) }
     {
         if !are_below(numbers, self.points_so_far()) {
@@ -202,27 +193,27 @@ impl Draft {
         if repeats(numbers, PointSet::empty()) {
             return Some(Fault::Repeated);
         }
-        if numbers.is_empty() || numbers.len() > LONGEST {
+        if numbers.is_empty() || numbers.len() > MAX_LINE_POINTS {
             return Some(Fault::Length);
         }
-        if self.lines.len() >= MOST_LINES || self.total + numbers.len() > MOST_SUMMED {
+        if self.lines.len() >= MAX_LINES || self.total + numbers.len() > MAX_SUMMED_POINTS {
             return Some(Fault::Limit);
         }
         None
     }
 
     #[tactic(auto, unfolding(crate::specs::GameFile::keyed))]
-    fn add_line(&mut self, alloc: Global, arguments: &[&[u8]]) -> Result<(), ReadError>
+    fn add_line(&mut self, alloc: Global, arguments: &[&[u8]]) -> Result<(), LineError<Fault>>
         ensures { Becomes result (view self.new) (keyed (view self.old) keys.Line (map (λ w. w.now) arguments.now)) }
     {
         if self.is_out_of_place(Key::Line) {
-            return Err(ReadError::Fault(Fault::Order));
+            return Err(LineError::Fault(Fault::Order));
         }
-        let Some(numbers) = numbers(alloc, arguments)? else {
-            return Err(ReadError::Fault(Fault::Arguments));
+        let Some(numbers) = number_list(alloc, arguments)? else {
+            return Err(LineError::Fault(Fault::Arguments));
         };
         if let Some(fault) = self.line_fault(&numbers) {
-            return Err(ReadError::Fault(fault));
+            return Err(LineError::Fault(fault));
         }
         let total = self.total + numbers.len();
         let line = line_of(alloc, &numbers)?;
@@ -232,35 +223,63 @@ impl Draft {
         Ok(())
     }
 
+    /// Whether as many further lines, with as many points each, are too many.
+    fn exceeds_with(&self, lines: usize, points: usize) -> bool
+        requires { points ≤ MAX_LINE_POINTS }
+        ensures limit { result ≡ (nat_lt MAX_LINES (length self.now.lines.items + lines) || nat_lt MAX_SUMMED_POINTS (self.now.total + lines * points)) }
+    {
+        lines > MAX_LINES
+            || self.lines.len() + lines > MAX_LINES
+            || self.total + lines * points > MAX_SUMMED_POINTS
+    }
+
     #[tactic(auto, unfolding(crate::specs::GameFile::keyed))]
-    fn add_shape(&mut self, arguments: &[&[u8]]) -> Result<(), ReadError>
+    fn add_shape(&mut self, alloc: Global, arguments: &[&[u8]]) -> Result<(), LineError<Fault>>
         ensures { Becomes result (view self.new) (keyed (view self.old) keys.Shape (map (λ w. w.now) arguments.now)) }
     {
         if self.is_out_of_place(Key::Shape) {
-            return Err(ReadError::Fault(Fault::Order));
+            return Err(LineError::Fault(Fault::Order));
         }
-        if arguments.len() != 1 {
-            return Err(ReadError::Fault(Fault::Arguments));
+        let [word] = arguments else {
+            return Err(LineError::Fault(Fault::Arguments));
+        };
+        let shape = match Shape::read(alloc, word) {
+            Ok(shape) => shape,
+            Err(ShapeFault::Large) => return Err(LineError::Fault(Fault::Length)),
+            Err(ShapeFault::Form) => return Err(LineError::Fault(Fault::Shape)),
+            Err(ShapeFault::Memory) => return Err(LineError::Memory),
+        };
+        let Some(grid) = self.grid else {
+            unreachable!()
+        };
+        let mut lines = placed(alloc, grid, &shape)?;
+        let points = shape.as_slice().len();
+        if self.exceeds_with(lines.len(), points) {
+            return Err(LineError::Fault(Fault::Limit));
         }
-        Err(ReadError::Fault(Fault::Unread))
+        let total = self.total + lines.len() * points;
+        self.lines.append(&mut lines)?;
+        self.total = total;
+        self.rank = 4;
+        Ok(())
     }
 
-    #[tactic(auto, unfolding(crate::specs::GameFile::keyed, crate::specs::Text::numbers))]
-    fn add_edge(&mut self, arguments: &[&[u8]]) -> Result<(), ReadError>
+    #[tactic(auto, unfolding(crate::specs::GameFile::keyed, pg_text::specs::Text::numbers))]
+    fn add_edge(&mut self, arguments: &[&[u8]]) -> Result<(), LineError<Fault>>
         ensures { Becomes result (view self.new) (keyed (view self.old) keys.Edge (map (λ w. w.now) arguments.now)) }
     {
         if self.is_out_of_place(Key::Edge) {
-            return Err(ReadError::Fault(Fault::Order));
+            return Err(LineError::Fault(Fault::Order));
         }
         let Some((a, b)) = two_numbers(arguments) else {
-            return Err(ReadError::Fault(Fault::Arguments));
+            return Err(LineError::Fault(Fault::Arguments));
         };
         let vertices = u32::from(self.vertices);
         if a >= vertices || b >= vertices {
-            return Err(ReadError::Fault(Fault::Range));
+            return Err(LineError::Fault(Fault::Range));
         }
-        if self.ends.len() >= MOST_EDGES {
-            return Err(ReadError::Fault(Fault::Limit));
+        if self.ends.len() >= usize::from(MAX_EDGES) {
+            return Err(LineError::Fault(Fault::Limit));
         }
         self.ends.push((a as u16, b as u16))?;
         self.rank = 4;
@@ -271,7 +290,7 @@ impl Draft {
     fn marks_fault(&self, key: Key, numbers: &[u32]) -> Option<Fault>
         requires { IsMarks key }
         ensures fault { result ≡ least (numbers_faults (view self.now) key numbers.now) }
-        ensures below { IfNone result (IsTrue (list_all (λ n. nat_lt n 1024) numbers.now)) }
+        ensures below { IfNone result (IsTrue (list_all (λ n. nat_lt n MAX_MEMBERS) numbers.now)) }
     {
         if !are_below(numbers, self.points_so_far()) {
             return Some(Fault::Range);
@@ -288,17 +307,17 @@ impl Draft {
     }
 
     #[tactic(auto, unfolding(crate::specs::GameFile::keyed))]
-    fn add_x(&mut self, alloc: Global, arguments: &[&[u8]]) -> Result<(), ReadError>
+    fn add_x(&mut self, alloc: Global, arguments: &[&[u8]]) -> Result<(), LineError<Fault>>
         ensures { Becomes result (view self.new) (keyed (view self.old) keys.X (map (λ w. w.now) arguments.now)) }
     {
         if self.is_out_of_place(Key::X) {
-            return Err(ReadError::Fault(Fault::Order));
+            return Err(LineError::Fault(Fault::Order));
         }
-        let Some(numbers) = numbers(alloc, arguments)? else {
-            return Err(ReadError::Fault(Fault::Arguments));
+        let Some(numbers) = number_list(alloc, arguments)? else {
+            return Err(LineError::Fault(Fault::Arguments));
         };
         if let Some(fault) = self.marks_fault(Key::X, &numbers) {
-            return Err(ReadError::Fault(fault));
+            return Err(LineError::Fault(fault));
         }
         let marks = set_of(&numbers);
         self.x = marks;
@@ -307,17 +326,17 @@ impl Draft {
     }
 
     #[tactic(auto, unfolding(crate::specs::GameFile::keyed))]
-    fn add_y(&mut self, alloc: Global, arguments: &[&[u8]]) -> Result<(), ReadError>
+    fn add_y(&mut self, alloc: Global, arguments: &[&[u8]]) -> Result<(), LineError<Fault>>
         ensures { Becomes result (view self.new) (keyed (view self.old) keys.Y (map (λ w. w.now) arguments.now)) }
     {
         if self.is_out_of_place(Key::Y) {
-            return Err(ReadError::Fault(Fault::Order));
+            return Err(LineError::Fault(Fault::Order));
         }
-        let Some(numbers) = numbers(alloc, arguments)? else {
-            return Err(ReadError::Fault(Fault::Arguments));
+        let Some(numbers) = number_list(alloc, arguments)? else {
+            return Err(LineError::Fault(Fault::Arguments));
         };
         if let Some(fault) = self.marks_fault(Key::Y, &numbers) {
-            return Err(ReadError::Fault(fault));
+            return Err(LineError::Fault(fault));
         }
         let marks = set_of(&numbers);
         self.y = marks;
@@ -326,30 +345,30 @@ impl Draft {
     }
 
     #[tactic(auto, unfolding(crate::specs::GameFile::keyed))]
-    fn add_turn(&mut self, arguments: &[&[u8]]) -> Result<(), ReadError>
+    fn add_turn(&mut self, arguments: &[&[u8]]) -> Result<(), LineError<Fault>>
         ensures { Becomes result (view self.new) (keyed (view self.old) keys.Turn (map (λ w. w.now) arguments.now)) }
     {
         let Some(word) = arguments.first() else {
             if self.is_out_of_place(Key::Turn) {
-                return Err(ReadError::Fault(Fault::Order));
+                return Err(LineError::Fault(Fault::Order));
             }
-            return Err(ReadError::Fault(Fault::Arguments));
+            return Err(LineError::Fault(Fault::Arguments));
         };
         let Some(turn) = Side::from_word(word) else {
-            return Err(ReadError::Fault(Fault::Key));
+            return Err(LineError::Fault(Fault::Key));
         };
         if self.is_out_of_place(Key::Turn) {
-            return Err(ReadError::Fault(Fault::Order));
+            return Err(LineError::Fault(Fault::Order));
         }
         if arguments.len() != 1 {
-            return Err(ReadError::Fault(Fault::Arguments));
+            return Err(LineError::Fault(Fault::Arguments));
         }
         self.turn = Some(turn);
         self.rank = 7;
         Ok(())
     }
 
-    fn add(&mut self, alloc: Global, key: Key, arguments: &[&[u8]]) -> Result<(), ReadError>
+    fn add(&mut self, alloc: Global, key: Key, arguments: &[&[u8]]) -> Result<(), LineError<Fault>>
         ensures { Becomes result (view self.new) (keyed (view self.old) key (map (λ w. w.now) arguments.now)) }
     {
         match key {
@@ -359,7 +378,7 @@ impl Draft {
             Key::Vertices => self.add_vertices(arguments),
             Key::Terminals => self.add_terminals(arguments),
             Key::Line => self.add_line(alloc, arguments),
-            Key::Shape => self.add_shape(arguments),
+            Key::Shape => self.add_shape(alloc, arguments),
             Key::Edge => self.add_edge(arguments),
             Key::X => self.add_x(alloc, arguments),
             Key::Y => self.add_y(alloc, arguments),
@@ -368,37 +387,37 @@ impl Draft {
     }
 
     #[tactic(auto, unfolding(crate::specs::GameFile::significant))]
-    fn read_words(&mut self, alloc: Global, words: &[&[u8]]) -> Result<(), ReadError>
+    fn read_words(&mut self, alloc: Global, words: &[&[u8]]) -> Result<(), LineError<Fault>>
         ensures { Becomes result (view self.new) (significant (view self.old) (map (λ w. w.now) words.now)) }
     {
         if !self.begun {
             if !is_header(words) {
-                return Err(ReadError::Fault(Fault::Header));
+                return Err(LineError::Fault(Fault::Header));
             }
             self.begun = true;
             return Ok(());
         }
         let [name, arguments @ ..] = words else {
-            return Err(ReadError::Fault(Fault::Key));
+            return Err(LineError::Fault(Fault::Key));
         };
         match Key::read(name) {
-            None => Err(ReadError::Fault(Fault::Key)),
+            None => Err(LineError::Fault(Fault::Key)),
             Some(key) => self.add(alloc, key, arguments),
         }
     }
 
     /// Reads the next line of the file.
     #[tactic(auto, unfolding(crate::specs::GameFile::after))]
-    pub fn read(&mut self, alloc: Global, line: &[u8]) -> Result<(), ReadError>
+    pub fn read(&mut self, alloc: Global, line: &[u8]) -> Result<(), LineError<Fault>>
         ensures { Becomes result (view self.new) (after (view self.old) line.now) }
     {
         if !is_printable(line) {
-            return Err(ReadError::Fault(Fault::Bytes));
+            return Err(LineError::Fault(Fault::Bytes));
         }
         if begins_comment(line) {
             return Ok(());
         }
-        let words = words(alloc, line)?;
+        let words = word_list(alloc, line)?;
         if words.is_empty() {
             return Ok(());
         }
@@ -409,10 +428,10 @@ impl Draft {
 /// The grid with these sides, where it has 1 to 256 cells.
 fn grid_of(width: u32, height: u32) -> Option<Grid>
     ensures grid { result ≡ grid_of width height }
-    ensures few { IfSome result (λ g. g.width * g.height ≤ 256) }
+    ensures few { IfSome result (λ g. g.width * g.height ≤ MAX_POINTS) }
 {
     let cells = u64::from(width) * u64::from(height);
-    if cells < 1 || cells > u64::from(MOST_POINTS) {
+    if cells < 1 || cells > MAX_POINTS as u64 {
         return None;
     }
     Some(Grid {
@@ -422,7 +441,7 @@ fn grid_of(width: u32, height: u32) -> Option<Grid>
 }
 
 /// The two numbers that the words spell, if there are two and each spells one.
-#[tactic(auto, unfolding(crate::specs::Text::numbers))]
+#[tactic(auto, unfolding(pg_text::specs::Text::numbers))]
 fn two_numbers(words: &[&[u8]]) -> Option<(u32, u32)>
     ensures two { IfSome result (λ p. (length words.now ≡ 2) × (numbers (map (λ w. w.now) words.now) ≡ Some (p.0 ∷ p.1 ∷ []))) }
     ensures other { IfNone result ((not (length words.now == 2) || is_none (numbers (map (λ w. w.now) words.now))) ≡ true) }

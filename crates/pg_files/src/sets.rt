@@ -2,17 +2,18 @@
 ghost use Rattle.std.specs.Prelude.{◌≡◌, ◌≤◌, length, IfOk, IsTrue, false, nat_lt};
 ghost use Rattle.std.specs.List.{list_all};
 ghost use Rattle.pg_base.specs.Points.{members};
+ghost use Rattle.pg_base.specs.declared.limits.TheConstants.{MAX_MEMBERS};
 ghost use Rattle.pg_files.specs.Sets.{set_of, ascending, repeats};
 ghost use Rattle.std.specs.FinSet.{empty};
 
-use pg_base::{Line, LineFault, Memory, PointSet};
+use pg_base::{Line, LineFault, MAX_MEMBERS, Memory, PointSet};
 use std::alloc::{AllocError, Global};
 
 /// Whether each number is below the limit.
 pub fn are_below(numbers: &[u32], limit: u32) -> bool
-    requires { limit ≤ 1024 }
+    requires { limit ≤ MAX_MEMBERS }
     ensures below { result ≡ list_all (λ n. nat_lt n limit) numbers.now }
-    ensures small { IsTrue (list_all (λ n. nat_lt n limit) numbers.now) → IsTrue (list_all (λ n. nat_lt n 1024) numbers.now) }
+    ensures small { IsTrue (list_all (λ n. nat_lt n limit) numbers.now) → IsTrue (list_all (λ n. nat_lt n MAX_MEMBERS) numbers.now) }
 {
     numbers.iter().all(|n| *n < limit)
 }
@@ -20,7 +21,7 @@ pub fn are_below(numbers: &[u32], limit: u32) -> bool
 /// Whether a number is in the set, or stands twice in the list.
 #[tactic(auto, using(crate::proofs::SetLaws::repeats_step, crate::proofs::SetLaws::repeats_stop))]
 pub fn repeats(numbers: &[u32], apart: PointSet) -> bool
-    requires { IsTrue (list_all (λ n. nat_lt n 1024) numbers.now) }
+    requires { IsTrue (list_all (λ n. nat_lt n MAX_MEMBERS) numbers.now) }
     ensures { result ≡ repeats apart numbers.now }
 {
     let mut seen = apart;
@@ -37,7 +38,7 @@ pub fn repeats(numbers: &[u32], apart: PointSet) -> bool
 /// The set of the numbers.
 #[tactic(auto, using(crate::proofs::SetLaws::set_of_step))]
 pub fn set_of(numbers: &[u32]) -> PointSet
-    requires { IsTrue (list_all (λ n. nat_lt n 1024) numbers.now) }
+    requires { IsTrue (list_all (λ n. nat_lt n MAX_MEMBERS) numbers.now) }
     ensures { result ≡ set_of numbers.now }
 {
     let mut set = PointSet::empty();
@@ -49,7 +50,7 @@ pub fn set_of(numbers: &[u32]) -> PointSet
 
 /// The numbers as points, in their order.
 fn as_points(alloc: Global, numbers: &[u32]) -> Result<Vec<u16>, AllocError>
-    requires { IsTrue (list_all (λ n. nat_lt n 1024) numbers.now) }
+    requires { IsTrue (list_all (λ n. nat_lt n MAX_MEMBERS) numbers.now) }
     ensures { IfOk result (λ points. points.items ≡ numbers.now) }
 {
     let mut points = Vec::with_capacity(alloc, numbers.len())?;
@@ -62,7 +63,7 @@ fn as_points(alloc: Global, numbers: &[u32]) -> Result<Vec<u16>, AllocError>
 /// The line of the numbers.
 #[tactic(auto, using(std::proofs::lemmas::List::Sorted::length_permutation, crate::proofs::SetLaws::sorted_is_ascending, crate::proofs::SetLaws::repeats_from_twice))]
 pub fn line_of(alloc: Global, numbers: &[u32]) -> Result<Line, Memory>
-    requires below { IsTrue (list_all (λ n. nat_lt n 1024) numbers.now) }
+    requires below { IsTrue (list_all (λ n. nat_lt n MAX_MEMBERS) numbers.now) }
     requires different { repeats empty numbers.now ≡ false }
     ensures line { IfOk result (λ line. line ≡ ascending numbers.now) }
     ensures length { IfOk result (λ line. length line ≡ length numbers.now) }
@@ -81,7 +82,7 @@ pub fn members(alloc: Global, set: &PointSet) -> Result<Vec<u16>, AllocError>
     ensures { IfOk result (λ points. points.items ≡ members set.now) }
 {
     let mut points = Vec::new(alloc);
-    for p in 0..1024 {
+    for p in 0..MAX_MEMBERS {
         if set.has(p) {
             points.push(p)?;
         }

@@ -1,6 +1,6 @@
 -- Printed numbers are read again, and have no other signs than digits.
 use Rattle.std.proofs.Common.{◌≡◌, ℕ, zero, suc, ◌^◌, ◌<◌, ◌≤◌, lit<, Bool, true, false, cond, ◌||◌, ◌⊎◌, inl, inr, List, [], ◌∷◌, ◌++◌, length, map, get_or, arith, refl, ap, ◌∙◌}
-use Rattle.std.specs.Prelude.{◌==◌, nat_lt, Some, None}
+use Rattle.std.specs.Prelude.{◌==◌, nat_lt, nat_le, Some, None}
 use Rattle.std.specs.Char.{is_ascii_digit}
 use Rattle.std.specs.Fmt.{decimal}
 use Rattle.std.specs.List.{list_all, AllByRecursion}
@@ -75,7 +75,7 @@ numeral_is : (w : Bytes) → 0 < length w → length w < 10 → list_all is_asci
 unfolding number
 numeral_is w some few digits first =
     let a : nat_lt 0 (length w) ≡ true = grind (arith, nat_tests) in
-    let b : nat_lt (length w) 10 ≡ true = grind (arith, nat_tests) in
+    let b : nat_le (length w) 9 ≡ true = grind (arith, nat_tests) in
     let c : (get_or w 0 0 == 48) ≡ false = grind (arith, nat_tests) in
     rw (a, b, digits, c) (or_true (length w == 1))
 

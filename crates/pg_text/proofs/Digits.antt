@@ -8,6 +8,7 @@ use Rattle.std.proofs.lemmas.Bool.Decides.{nat_tests}
 use Rattle.std.proofs.lemmas.Int.Digits.{digits_value_more, digits_value-lt}
 use Rattle.std.proofs.lemmas.Str.Parse.{digits_value-take-le, digit_at}
 use Rattle.std.proofs.Math.Nat.{pow-le-pow_right}
+use Rattle.pg_text.specs.declared.numbers.TheConstants.{MAX_DIGITS}
 
 pub digit : (c : ℕ) → is_ascii_digit c ≡ true → (48 ≤ c) × (c < 58)
 digit c e = grind (arith, nat_tests)
@@ -22,7 +23,7 @@ digits_from (c ∷ cs) e =
     let here = digit c both.0 in
     (rw (digit_value_is c here.0 here.1) (omega arith), digits_from cs both.1)
 
-pub value_steps : (ds : List ℕ) (i : ℕ) → i < length ds → list_all is_ascii_digit ds ≡ true → length ds < 10
+pub value_steps : (ds : List ℕ) (i : ℕ) → i < length ds → list_all is_ascii_digit ds ≡ true → length ds ≤ MAX_DIGITS
     → (digits_value 10 (take (i + 1) ds) ≡ digits_value 10 (take i ds) * 10 + (get_or ds i 0 - 48)) × (48 ≤ get_or ds i 0) × (get_or ds i 0 < 58) × (digits_value 10 (take (i + 1) ds) < 2 ^ 32)
 value_steps ds i lt digits few =
     let all = digits_from ds digits in

@@ -1,5 +1,7 @@
 pub mod Cuts
 pub mod Digits
 pub mod Decimals
-pub mod Words
-pub mod Lines
+pub mod PlainWords
+pub mod Reading
+pub mod Rising
+pub mod FirstLine

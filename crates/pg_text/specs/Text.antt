@@ -1,8 +1,9 @@
 -- Text of signs and words: parts with one sign between each two, lines, words behind single spaces, and numbers.
-use Rattle.std.specs.Prelude.{◌≡◌, ℕ, Bool, false, ◌&&◌, ◌||◌, not, nat_lt, ◌==◌, if◌then◌else◌, List, [], ◌∷◌, ◌++◌, length, slice_index, Option, Some, None}
+use Rattle.std.specs.Prelude.{◌≡◌, ℕ, ◌+◌, Bool, true, false, ◌&&◌, ◌||◌, not, nat_lt, nat_le, ◌==◌, if◌then◌else◌, List, [], ◌∷◌, ◌++◌, length, slice_index, Option, Some, None, option_map, filter}
 use Rattle.std.specs.Char.{is_ascii_digit}
 use Rattle.std.specs.List.{slice_split, list_all, flat_map, All}
 use Rattle.std.specs.Str.Parse.{digits_value}
+use Rattle.pg_text.specs.declared.numbers.TheConstants.{MAX_DIGITS}
 
 -- the bytes of a text
 abbrev pub Bytes : Type 0
@@ -46,18 +47,39 @@ four_of _ = None
 unfoldable pub four_parts : ℕ → Bytes → Option Four
 four_parts sign text = four_of (parts sign text)
 
--- the words of a text, of which there may be none at all; a space stands between each two
+-- the words of a text, of which there may be none at all; a space stands between each two, and words may be empty
 abbrev pub words_of : Option Bytes → List Bytes
 words_of None = []
 words_of (Some text) = parts 32 text
 
+-- A word is a longest run of bytes other than a space: any number of spaces stands between words.
+unfoldable pub words : Bytes → List Bytes
+words line = filter (λ w. not (length w == 0)) (slice_split (λ b. b == 32) line)
+
 -- one to nine digits, the first of several not 0
 abbrev pub is_numeral : Bytes → Bool
-is_numeral word = nat_lt 0 (length word) && nat_lt (length word) 10 && list_all is_ascii_digit word && (length word == 1 || not (slice_index word 0 == 48))
+is_numeral word = nat_lt 0 (length word) && nat_le (length word) MAX_DIGITS && list_all is_ascii_digit word && (length word == 1 || not (slice_index word 0 == 48))
 
 -- the number that a word spells
 unfoldable pub number : Bytes → Option ℕ
 number word = if is_numeral word then Some (digits_value 10 word) else None
+
+-- the numbers of the words, if each is one
+abbrev pub onto : ℕ → Option (List ℕ) → Option (List ℕ)
+onto n found = option_map (λ ns. n ∷ ns) found
+
+abbrev pub then_numbers : Option ℕ → Option (List ℕ) → Option (List ℕ)
+then_numbers None found = None
+then_numbers (Some n) found = onto n found
+
+unfoldable pub numbers : List Bytes → Option (List ℕ)
+numbers [] = Some []
+numbers (word ∷ others) = then_numbers (number word) (numbers others)
+
+-- the numbers ascend, each above the one before it and the first not below n
+abbrev pub ascend_from : ℕ → List ℕ → Bool
+ascend_from n [] = true
+ascend_from n (p ∷ ps) = nat_le n p && ascend_from (p + 1) ps
 
 -- no byte of the text is the sign
 abbrev pub Lacks : ℕ → Bytes → Type 0

@@ -1,11 +1,16 @@
-//! Text of signs and words, as game files, certificates and replies have it: cut at signs, and read as numbers.
+//! What text formats share: lines and words, numbers, the faults of a line in order, and the errors of their readers.
 #![tactic(auto)]
 
+mod ascending;
+mod by_line;
+mod by_word;
+mod error;
 mod numbers;
 mod parts;
 
-pub use numbers::number;
+pub use ascending::ascend;
+pub use by_line::Lines;
+pub use by_word::{Words, word_list};
+pub use error::{FileError, LineError, Numbered};
+pub use numbers::{MAX_DIGITS, number, number_list};
 pub use parts::{cut_at, first_word, four_parts, has_sign, two_parts};
-
-#[cfg(test)]
-mod tests;

@@ -1,9 +1,14 @@
 //! Numbers in decimal digits.
-ghost use Rattle.std.specs.Prelude.{◌≡◌, ◌<◌, length, IsTrue};
+ghost use Rattle.std.specs.Prelude.{◌≡◌, ◌≤◌, length, IsTrue, map, IfOk, option_map};
 ghost use Rattle.std.specs.Char.{is_ascii_digit};
 ghost use Rattle.std.specs.List.{list_all};
 ghost use Rattle.std.specs.Str.Parse.{digits_value};
-ghost use Rattle.pg_text.specs.Text.{number};
+ghost use Rattle.pg_text.specs.Text.{number, numbers};
+
+use std::alloc::{AllocError, Global};
+
+/// The greatest number of digits of a number.
+pub const MAX_DIGITS: usize = 9;
 
 /// Whether each byte is a decimal digit.
 fn is_digits(word: &[u8]) -> bool
@@ -16,7 +21,7 @@ fn is_digits(word: &[u8]) -> bool
 #[tactic(auto, using(crate::proofs::Digits::value_steps))]
 fn value(word: &[u8]) -> u32
     requires digits { IsTrue (list_all is_ascii_digit word.now) }
-    requires few { length word.now < 10 }
+    requires few { length word.now ≤ MAX_DIGITS }
     ensures { result ≡ digits_value 10 word.now }
 {
     let mut found = 0;
@@ -31,11 +36,26 @@ fn value(word: &[u8]) -> u32
 pub fn number(word: &[u8]) -> Option<u32>
     ensures { result ≡ number word.now }
 {
-    if word.is_empty() || word.len() > 9 || !is_digits(word) {
+    if word.is_empty() || word.len() > MAX_DIGITS || !is_digits(word) {
         return None;
     }
     if word.len() > 1 && word[0] == b'0' {
         return None;
     }
     Some(value(word))
+}
+
+/// The numbers that the words spell, if each spells one.
+#[tactic(auto, unfolding(crate::specs::Text::numbers))]
+pub fn number_list(alloc: Global, words: &[&[u8]]) -> Result<Option<Vec<u32>>, AllocError>
+    ensures { IfOk result (λ found. option_map (λ v. v.items) found ≡ numbers (map (λ w. w.now) words.now)) }
+{
+    let mut found = Vec::with_capacity(alloc, words.len())?;
+    for word in words {
+        match number(word) {
+            None => return Ok(None),
+            Some(n) => found.push(n)?,
+        }
+    }
+    Ok(Some(found))
 }

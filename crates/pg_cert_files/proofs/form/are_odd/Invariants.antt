@@ -1,12 +1,7 @@
 use Rattle.std.proofs.Common.{◌≡◌}
-use Rattle.std.specs.Prelude.{option_map, length}
-use Rattle.pg_text.specs.Text.{words_of}
 use Rattle.pg_cert_files.specs.Form.{are_odd}
 use Rattle.pg_cert_files.proofs.Odd.{xor}
 use Rattle.pg_cert_files.proofs.form.are_odd.Given as goal
 
-abbrev pub invariant-loop-rest : goal.invariant-loop-rest
-invariant-loop-rest l = xor l.odd (are_odd (words_of (option_map (λ w. w.now) l.rest))) ≡ are_odd (words_of (option_map (λ w. w.now) l.words))
-
-abbrev pub decreases-loop-rest : goal.decreases-loop-rest
-decreases-loop-rest l = length (words_of (option_map (λ w. w.now) l.rest))
+abbrev pub invariant-loop-word : goal.invariant-loop-word
+invariant-loop-word l = xor l.odd (are_odd l._word-iterator) ≡ are_odd l.fn.words

@@ -1,11 +1,9 @@
-use Rattle.std.proofs.Common.{◌≡◌}
-use Rattle.std.specs.Prelude.{option_map, length}
-use Rattle.pg_text.specs.Text.{words_of}
+use Rattle.std.proofs.Common.{◌≡◌, length}
 use Rattle.pg_cert_files.specs.Form.{has_one_slash}
 use Rattle.pg_cert_files.proofs.form.has_one_slash.Given as goal
 
-abbrev pub invariant-loop-rest : goal.invariant-loop-rest
-invariant-loop-rest l = has_one_slash (words_of (option_map (λ w. w.now) l.rest)) ≡ has_one_slash (words_of (option_map (λ w. w.now) l.words))
+abbrev pub invariant-loop-word : goal.invariant-loop-word
+invariant-loop-word l = has_one_slash l.rest ≡ has_one_slash l.fn.words
 
-abbrev pub decreases-loop-rest : goal.decreases-loop-rest
-decreases-loop-rest l = length (words_of (option_map (λ w. w.now) l.rest))
+abbrev pub decreases-loop-word : goal.decreases-loop-word
+decreases-loop-word l = length l.rest

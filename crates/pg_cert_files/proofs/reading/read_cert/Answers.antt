@@ -8,8 +8,8 @@ use Rattle.pg_cert_files.proofs.CertLimits.{read_within}
 use Rattle.pg_cert_files.proofs.WholeFile.{gathered_none, too_large, reads_more, read_bad, read_good}
 use Rattle.pg_cert_files.proofs.reading.read_cert.Goals as goal
 
-pub returns-then-bytes-gt-GREATEST_FILE : goal.returns-then-bytes-gt-GREATEST_FILE
-returns-then-bytes-gt-GREATEST_FILE c = record { limits = tt; read = rw (c.at.ensures, too_large c.args.bytes.now c.if-bytes-gt-GREATEST_FILE.true) (refl, refl) }
+pub returns-then-bytes-gt-MAX_CERT_BYTES : goal.returns-then-bytes-gt-MAX_CERT_BYTES
+returns-then-bytes-gt-MAX_CERT_BYTES c = record { limits = tt; read = rw (c.at_line.ensures, too_large c.args.bytes.now c.if-bytes-gt-MAX_CERT_BYTES.true) (refl, refl) }
 
 pub loop-rest-init : goal.loop-rest-init
 unfolding cut seen
@@ -25,10 +25,10 @@ pub returns-in_err-last : goal.returns-in_err-last
 returns-in_err-last c =
     let p = err_from_is_err_and c.from_residual-in_err-last.result c.from_residual-in_err-last.ensures.1 in
     let none : length c.loop-rest.rest.now ≡ 0 = grind (arith, nat_tests) in
-    record { limits = rw p.1 tt; read = rw (p.1, p.2) (read_bad c.loop-rest.reader c.loop-rest.gatherer c.args.bytes.now c.loop-rest.rest.now _ c.if-bytes-gt-GREATEST_FILE.false c.loop-rest.invariant.read none c.in_err-last.ensures) }
+    record { limits = rw p.1 tt; read = rw (p.1, p.2) (read_bad c.loop-rest.reader c.loop-rest.gatherer c.args.bytes.now c.loop-rest.rest.now _ c.if-bytes-gt-MAX_CERT_BYTES.false c.loop-rest.invariant.read none c.in_err-last.ensures) }
 
 pub returns : goal.returns
 returns c =
     let none : length c.loop-rest.rest.now ≡ 0 = grind (arith, nat_tests) in
-    let read = read_good c.loop-rest.reader c.loop-rest.gatherer c.in_ok-with.field-0 c.args.bytes.now c.loop-rest.rest.now c.in_ok-last.last c.from_vec.result c.if-bytes-gt-GREATEST_FILE.false c.loop-rest.invariant.read none c.in_ok-last.ensures c.in_ok-with.ensures (c.from_vec.ensures ∙ c.in_ok-claims.ensures) in
+    let read = read_good c.loop-rest.reader c.loop-rest.gatherer c.in_ok-with.field-0 c.args.bytes.now c.loop-rest.rest.now c.in_ok-last.last c.from_vec.result c.if-bytes-gt-MAX_CERT_BYTES.false c.loop-rest.invariant.read none c.in_ok-last.ensures c.in_ok-with.ensures (c.from_vec.ensures ∙ c.in_ok-claims.ensures) in
     record { read = read; limits = read_within c.args.bytes.now (record { claims = c.from_vec.result }) read }

@@ -1,22 +1,27 @@
-use Rattle.std.proofs.Common.{◌<◌, ◌+◌, length, arith, ◌∙◌, sym, ap}
-use Rattle.std.proofs.lemmas.Bool.Decides.{nat_tests}
-use Rattle.pg_files.specs.Views.{view}
-use Rattle.pg_text.proofs.Lines.{shorter}
-use Rattle.pg_files.proofs.LineByLine.{reads_on, ends, is_over}
+use Rattle.std.proofs.Common.{◌≡◌, ◌+◌, ◌∷◌, List, length, arith, ◌∙◌, sym, ap}
+use Rattle.pg_text.specs.Text.{Bytes}
+use Rattle.pg_text.specs.Faults.{reading}
+use Rattle.pg_text.proofs.Reading.{lines_few, reads_on, ends, is_over}
+use Rattle.pg_files.specs.GameFile.{after}
+use Rattle.pg_files.specs.Views.{view, number_of}
 use Rattle.pg_files.proofs.reading.read_lines.Goals as goal
 
-pub loop-rest-preserved : goal.loop-rest-preserved
-loop-rest-preserved c =
-    let some : 0 < length c.loop-rest.rest.now = grind (arith, nat_tests) in
-    record {
-      so_far = reads_on (c.loop-rest.number + 1) _ _ c.loop-rest.rest.now _ _ some c.first_line.ensures.line c.first_line.ensures.rest c.in-Ok.ensures ∙ c.loop-rest.invariant.so_far;
-      count = omega (arith, shorter c.loop-rest.rest.now some, ap length c.first_line.ensures.rest);
-    }
+pub overflow_add-number : goal.overflow_add-number
+overflow_add-number c = omega (arith, c.loop-line.invariant.count, lines_few c.args.text.now, c.requires)
 
-pub returns : goal.returns
-returns c = sym c.loop-rest.invariant.so_far ∙ is_over (c.loop-rest.number + 1) (view c.loop-rest.draft) c.loop-rest.rest.now (grind (arith, nat_tests))
+pub loop-line-preserved : goal.loop-line-preserved
+loop-line-preserved c =
+    let rest : c.loop-line.line-iterator ≡ c.in-Some.line.now ∷ c.next.new.self = c.in-Some.ensures.steps in
+    record {
+      so_far = reads_on after (c.loop-line.number + 1) (view c.loop-line.draft) (view c.read.new.self) c.in-Some.line.now c.next.new.self c.in_default.ensures ∙ ap (λ (ls : List Bytes). reading after (c.loop-line.number + 1) (view c.loop-line.draft) ls) (sym rest) ∙ c.loop-line.invariant.so_far;
+      count = omega (arith, ap length rest, c.loop-line.invariant.count);
+    }
 
 pub returns-in-Err : goal.returns-in-Err
 returns-in-Err c =
-    let some : 0 < length c.loop-rest.rest.now = grind (arith, nat_tests) in
-    rw c.at.ensures (ends view c.in-Err.error (c.loop-rest.number + 1) (view c.loop-rest.draft) c.loop-rest.rest.now _ _ some c.first_line.ensures.line c.in-Err.ensures c.loop-rest.invariant.so_far)
+    let rest : c.loop-line.line-iterator ≡ c.in-Some.line.now ∷ c.next.new.self = c.in-Some.ensures.steps in
+    rw c.at.ensures (ends after number_of view c.in-Err.error (c.loop-line.number + 1) (view c.loop-line.draft) c.in-Some.line.now c.next.new.self _ c.in-Err.ensures (ap (λ (ls : List Bytes). reading after (c.loop-line.number + 1) (view c.loop-line.draft) ls) (sym rest) ∙ c.loop-line.invariant.so_far))
+
+pub returns : goal.returns
+returns c =
+    sym c.loop-line.invariant.so_far ∙ ap (λ (ls : List Bytes). reading after (c.loop-line.number + 1) (view c.loop-line.draft) ls) c.in-None.ensures.steps.0 ∙ is_over after (c.loop-line.number + 1) (view c.loop-line.draft)
