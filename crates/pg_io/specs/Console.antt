@@ -5,7 +5,14 @@ use Rattle.pg_io.specs.declared.entry.Entry.{Entry}
 use Rattle.pg_io.specs.declared.entry.Entry.TheVariants.{Said, Heard, Skipped, Ended}
 use Rattle.pg_io.specs.declared.entry.Heard.{Heard as Answer}
 use Rattle.pg_io.specs.declared.entry.Heard.TheVariants.{Line, Long, End}
+use Rattle.pg_io.specs.Causes.{Faults}
 use Rattle.pg_io.specs.Files.{Bytes}
+
+-- what is told of a console: the unread input and what was said and heard in order, each where it is told; and always the numbers of faults
+pub record ConsoleTold : Type 0 where
+  pub left : Option Bytes
+  pub log : Option (List Entry)
+  pub faults : Faults
 
 -- a log, where it is told, grows by these entries
 abbrev pub Grows : Option (List Entry) → Option (List Entry) → List Entry → Type 0

@@ -1,9 +1,10 @@
 -- Files in memory, by their list of names and bytes: of several with one name the first counts.
-use Rattle.std.specs.Prelude.{ℕ, Bool, List, [], drop, slice_get, Option, Some, None}
+use Rattle.std.specs.Prelude.{ℕ, Bool, List, [], drop, slice_get, Option, Some, None, is_some}
 use Rattle.std.specs.Option.{option_map, unwrap_or}
 use Rattle.std.specs.List.{find}
 use Rattle.std.specs.Str.{bytes_eq}
-use Rattle.pg_io.specs.Files.{Bytes, Holding, Making}
+use Rattle.pg_io.specs.Causes.{faults}
+use Rattle.pg_io.specs.Files.{Bytes, Holding, Making, FilesTold}
 use Rattle.pg_io.specs.declared.mem_files.MemFiles.{MemFiles}
 use Rattle.pg_io.specs.declared.mem_files.Draft.{Draft}
 
@@ -35,3 +36,7 @@ left_in m = unread m.files.items m.opened m.from
 -- the file that is being made, if one is
 abbrev pub making_of : Option Draft → Option Making
 making_of draft = option_map (λ d. (d.name, d.bytes.items)) draft
+
+-- all that is told of the files
+abbrev pub told_by : MemFiles → FilesTold
+told_by m = record { held = Some (held_in m); left = Some (left_in m); making = making_of m.draft; busy = is_some m.draft; faults = faults m.reads m.writes }

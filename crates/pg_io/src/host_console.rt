@@ -37,14 +37,9 @@ impl<'a, R: Input + Print> HostConsole<'a, R> {
 
 impl<'a, R: Input + Print> Console for HostConsole<'a, R> {
     ghost use Rattle.std.specs.Prelude.{None};
+    ghost use Rattle.pg_io.specs.Causes.{faults};
 
-    ghost left = { λ h. None };
-
-    ghost log = { λ h. None };
-
-    ghost read_faults = { λ h. h.reads };
-
-    ghost write_faults = { λ h. h.writes };
+    ghost told = { λ h. record { left = None; log = None; faults = faults h.reads h.writes } };
 
     fn say(&mut self, bytes: &[u8]) -> Result<(), Failed> {
         match self.write(bytes) {

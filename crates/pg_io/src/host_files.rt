@@ -3,12 +3,12 @@ ghost use Rattle.std.specs.Prelude.{◌≡◌, is_some, false};
 
 use crate::files::{Failed, Files};
 use std::fs::OpenFile;
-use std::io::{Read, Write};
+use std::io::{ErrorKind, Read, Write};
 use std::rt::Files as FileSystem;
 use std::{fs, io};
 
-/// What the name of a file that isn't finished ends with.
-const PART: &str = ".posgame-part";
+/// How many names are tried for a file that isn't finished.
+const PARTS: u8 = 100;
 
 /// The file that is being made.
 #[derive(Drop)]
@@ -22,9 +22,10 @@ struct Draft<R: FileSystem + Alloc> {
 
 /// The files of the system, by their paths.
 ///
-/// A file is made beside its name, with `.posgame-part` added, and takes its name when it is
-/// finished: until then the name keeps what it held, and a file that isn't finished is removed. Where
-/// the name is no plain file, as a terminal, the bytes are written there at once.
+/// A file is made beside its name, under the first of `NAME.posgame-part0`, `NAME.posgame-part1` and so on
+/// that isn't there, and takes its name when it is finished: until then the name keeps what it held, and a file that
+/// isn't finished is removed. No file or folder of another name is touched. Where the name is no plain file, as a terminal,
+/// the bytes are written there at once.
 #[derive(Drop)]
 pub struct HostFiles<'a, R: FileSystem + Alloc> {
     rt: &'a R,
@@ -50,20 +51,38 @@ impl<'a, R: FileSystem + Alloc> HostFiles<'a, R> {
         }
     }
 
-    /// Begins an empty file for the name.
+    /// Begins an empty file for the name, there or beside it.
     fn begin(&self, name: &str) -> io::Result<Draft<R>> {
-        let mut path = String::from_str(self.rt.alloc(), name)?;
-        let mut kept = None;
         if self.is_plain(name) {
-            path.push_str(PART)?;
-            kept = Some(String::from_str(self.rt.alloc(), name)?);
+            return self.begin_beside(name);
         }
+        let path = String::from_str(self.rt.alloc(), name)?;
         let file = fs::File::create(self.rt, path.as_str())?;
         Ok(Draft {
             file,
             path,
-            name: kept,
+            name: None,
         })
+    }
+
+    /// Begins an empty file beside the name, under a name that isn't there.
+    fn begin_beside(&self, name: &str) -> io::Result<Draft<R>> {
+        for number in 0..PARTS {
+            let path = format!(in self.rt.alloc(); "{name}.posgame-part{number}")?;
+            let kept = String::from_str(self.rt.alloc(), name)?;
+            match fs::File::create_new(self.rt, path.as_str()) {
+                Ok(file) => {
+                    return Ok(Draft {
+                        file,
+                        path,
+                        name: Some(kept),
+                    });
+                }
+                Err(error) if error.kind() == ErrorKind::AlreadyExists => {}
+                Err(error) => return Err(error),
+            }
+        }
+        Err(io::Error::from(ErrorKind::AlreadyExists))
     }
 
     /// Whether the name is free or a plain file.
@@ -96,18 +115,9 @@ impl<'a, R: FileSystem + Alloc> HostFiles<'a, R> {
 
 impl<'a, R: FileSystem + Alloc> Files for HostFiles<'a, R> {
     ghost use Rattle.std.specs.Prelude.{None, is_some};
+    ghost use Rattle.pg_io.specs.Causes.{faults};
 
-    ghost held = { λ h. None };
-
-    ghost left = { λ h. None };
-
-    ghost making = { λ h. None };
-
-    ghost busy = { λ h. is_some h.draft };
-
-    ghost read_faults = { λ h. h.reads };
-
-    ghost write_faults = { λ h. h.writes };
+    ghost told = { λ h. record { held = None; left = None; making = None; busy = is_some h.draft; faults = faults h.reads h.writes } };
 
     fn open(&mut self, name: &str) -> Result<(), Failed> {
         match fs::File::open(self.rt, name) {

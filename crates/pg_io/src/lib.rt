@@ -23,6 +23,3 @@ pub use mem_files::MemFiles;
 pub use reading::{read_whole, store};
 pub use stop::Stop;
 pub use text::Text;
-
-#[cfg(test)]
-mod tests;

@@ -1,11 +1,10 @@
 //! A console in memory.
-ghost use Rattle.std.specs.Prelude.{◌≡◌, ℕ, ◌<◌, ◌≤◌, ◌+◌, ◌^◌, ◌==◌, ◌++◌, ◌∷◌, [], Option, Some, List, length, take, drop, IfOk, IsErr, OnOk, OnErr};
+ghost use Rattle.std.specs.Prelude.{◌≡◌, ◌<◌, ◌≤◌, ◌+◌, ◌^◌, ◌==◌, ◌++◌, ◌∷◌, [], length, IfOk, IsErr, OnOk, OnErr};
 ghost use Rattle.std.specs.List.{position};
-ghost use Rattle.pg_io.specs.Causes.{Rose, Blames};
-ghost use Rattle.pg_io.specs.Files.{Bytes};
+ghost use Rattle.pg_io.specs.Causes.{faults, BlamesReads, BlamesWrites};
 ghost use Rattle.pg_io.specs.Console.{Says, Hears, Fits, reply};
 ghost use Rattle.pg_io.specs.Failing.{FailsNext, CountsOne};
-ghost use Rattle.pg_io.specs.Terminal.{left_in, log_in};
+ghost use Rattle.pg_io.specs.Terminal.{left_in, log_in, told_by};
 
 use crate::console::Console;
 use crate::entry::{Entry, Heard};
@@ -95,7 +94,7 @@ impl MemConsole {
     pub fn new(alloc: Global, input: Text, failing: Vec<u64>) -> MemConsole
         ensures left { left_in result ≡ input }
         ensures log { log_in result ≡ [] }
-        ensures faults { (result.reads ≡ 0) × (result.writes ≡ 0) }
+        ensures faults { (told_by result).faults ≡ faults 0 0 }
         ensures failing { result.failing.numbers.items ≡ failing.items }
         ensures made { result.failing.made ≡ 0 }
     {
@@ -152,22 +151,15 @@ impl MemConsole {
 }
 
 impl Console for MemConsole {
-    ghost use Rattle.std.specs.Prelude.{Some};
-    ghost use Rattle.pg_io.specs.Terminal.{left_in, log_in};
+    ghost use Rattle.pg_io.specs.Terminal.{told_by};
 
-    ghost left = { λ m. Some (left_in m) };
-
-    ghost log = { λ m. Some (log_in m) };
-
-    ghost read_faults = { λ m. m.reads };
-
-    ghost write_faults = { λ m. m.writes };
+    ghost told = { told_by };
 
     /// A listed call fails, and another only for want of memory.
     fn say(&mut self, bytes: &[u8]) -> Result<(), Failed>
-        ensures said { Says (Some (log_in self.old)) (Some (log_in self.new)) bytes.now result }
-        ensures cause { Blames self.old.writes self.new.writes self.old.reads self.new.reads result }
-        ensures left { left_in self.new ≡ left_in self.old }
+        ensures said { Says (told_by self.old).log (told_by self.new).log bytes.now result }
+        ensures cause { BlamesWrites (told_by self.old).faults (told_by self.new).faults result }
+        ensures left { (told_by self.new).left ≡ (told_by self.old).left }
         ensures listed { FailsNext self.old.failing → IsErr result }
         ensures counted { CountsOne self.old.failing self.new.failing }
     {
@@ -183,8 +175,8 @@ impl Console for MemConsole {
     /// A listed call fails, and another only for want of memory.
     fn hear(&mut self, buf: &mut [u8]) -> Result<Heard, Failed>
         requires { 0 < length buf.old }
-        ensures heard { Hears (Some (log_in self.old)) (Some (log_in self.new)) (Some (left_in self.old)) (Some (left_in self.new)) buf.new result }
-        ensures cause { Blames self.old.reads self.new.reads self.old.writes self.new.writes result }
+        ensures heard { Hears (told_by self.old).log (told_by self.new).log (told_by self.old).left (told_by self.new).left buf.new result }
+        ensures cause { BlamesReads (told_by self.old).faults (told_by self.new).faults result }
         ensures kept { OnErr result (left_in self.new ≡ left_in self.old) }
         ensures listed { FailsNext self.old.failing → IsErr result }
         ensures counted { CountsOne self.old.failing self.new.failing }

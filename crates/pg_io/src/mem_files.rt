@@ -2,9 +2,9 @@
 ghost use Rattle.std.specs.Prelude.{◌≡◌, ◌⊎◌, ℕ, ◌<◌, ◌≤◌, ◌+◌, ◌^◌, Option, Some, None, Bool, true, false, List, [], length, take, drop, IfOk, IsErr, IsOk, OnOk, OnErr, IsTrue, is_some};
 ghost use Rattle.std.specs.List.{Contains, position};
 ghost use Rattle.std.specs.Option.{option_map};
-ghost use Rattle.pg_io.specs.Causes.{Rose, Blames};
-ghost use Rattle.pg_io.specs.Files.{Bytes, Holding, Making, Opens, IsAbsent, Takes, Begins, Adds, Finishes};
-ghost use Rattle.pg_io.specs.Memory.{has_name, held_by, contents, unread, held_in, left_in, making_of};
+ghost use Rattle.pg_io.specs.Causes.{faults, BlamesOpen, BlamesReads, BlamesWrites};
+ghost use Rattle.pg_io.specs.Files.{ReadsOnly, Opens, IsAbsent, Takes, Begins, Adds, Finishes};
+ghost use Rattle.pg_io.specs.Memory.{has_name, held_by, contents, held_in, left_in, making_of, told_by};
 ghost use Rattle.pg_io.specs.Failing.{FailsNext, CountsOne};
 
 use crate::failing::Failing;
@@ -44,7 +44,7 @@ impl MemFiles {
         ensures left { left_in result ≡ [] }
         ensures making { making_of result.draft ≡ None }
         ensures busy { is_some result.draft ≡ false }
-        ensures faults { (result.reads ≡ 0) × (result.writes ≡ 0) }
+        ensures faults { (told_by result).faults ≡ faults 0 0 }
         ensures failing { result.failing.numbers.items ≡ failing.items }
         ensures made { result.failing.made ≡ 0 }
     {
@@ -108,34 +108,18 @@ impl MemFiles {
 }
 
 impl Files for MemFiles {
-    ghost use Rattle.std.specs.Prelude.{Some, is_some};
-    ghost use Rattle.pg_io.specs.Memory.{held_in, left_in, making_of};
+    ghost use Rattle.pg_io.specs.Memory.{told_by};
 
-    ghost held = { λ m. Some (held_in m) };
-
-    ghost left = { λ m. Some (left_in m) };
-
-    ghost making = { λ m. making_of m.draft };
-
-    ghost busy = { λ m. is_some m.draft };
-
-    ghost read_faults = { λ m. m.reads };
-
-    ghost write_faults = { λ m. m.writes };
+    ghost told = { told_by };
 
     /// A listed call fails, and another only at a name that isn't held. A file that is open stays open then.
     fn open(&mut self, name: &str) -> Result<(), Failed>
-        ensures opened { Opens (Some (held_in self.old)) name.now (Some (left_in self.new)) result }
-        ensures same { OnOk result ((self.new.reads ≡ self.old.reads) × (self.new.writes ≡ self.old.writes)) }
-        ensures cause { OnErr result (Rose self.old.reads self.new.reads ⊎ (IsAbsent (Some (held_in self.old)) name.now × (self.new.reads ≡ self.old.reads) × (self.new.writes ≡ self.old.writes))) }
-        ensures absent { IsAbsent (Some (held_in self.old)) name.now → (self.new.reads ≡ self.old.reads) × (self.new.writes ≡ self.old.writes) }
-        ensures later { (self.old.reads ≤ self.new.reads) × (self.old.writes ≤ self.new.writes) }
-        ensures held { held_in self.new ≡ held_in self.old }
-        ensures making { self.new.draft ≡ self.old.draft }
-        ensures busy { is_some self.new.draft ≡ is_some self.old.draft }
-        ensures kept { OnErr result (left_in self.new ≡ left_in self.old) }
+        ensures opened { Opens (told_by self.old).held name.now (told_by self.new).left result }
+        ensures cause { BlamesOpen (IsAbsent (told_by self.old).held name.now) (told_by self.old).faults (told_by self.new).faults result }
+        ensures kept { ReadsOnly (told_by self.old) (told_by self.new) }
+        ensures left { OnErr result (left_in self.new ≡ left_in self.old) }
         ensures listed { FailsNext self.old.failing → IsErr result }
-        ensures unlisted { OnErr result (FailsNext self.old.failing ⊎ IsAbsent (Some (held_in self.old)) name.now) }
+        ensures unlisted { OnErr result (FailsNext self.old.failing ⊎ IsAbsent (told_by self.old).held name.now) }
         ensures counted { CountsOne self.old.failing self.new.failing }
     {
         let is_listed = self.failing.is_next();
@@ -157,12 +141,10 @@ impl Files for MemFiles {
     fn next(&mut self, buf: &mut [u8]) -> Result<usize, Failed>
         requires { 0 < length buf.old }
         ensures bound { IfOk result (λ k. k ≤ length buf.new) }
-        ensures bytes { Takes (Some (left_in self.old)) (Some (left_in self.new)) buf.new result }
-        ensures cause { Blames self.old.reads self.new.reads self.old.writes self.new.writes result }
-        ensures held { held_in self.new ≡ held_in self.old }
-        ensures making { self.new.draft ≡ self.old.draft }
-        ensures busy { is_some self.new.draft ≡ is_some self.old.draft }
-        ensures kept { OnErr result (left_in self.new ≡ left_in self.old) }
+        ensures bytes { Takes (told_by self.old).left (told_by self.new).left buf.new result }
+        ensures cause { BlamesReads (told_by self.old).faults (told_by self.new).faults result }
+        ensures kept { ReadsOnly (told_by self.old) (told_by self.new) }
+        ensures left { OnErr result (left_in self.new ≡ left_in self.old) }
         ensures listed { FailsNext self.old.failing → IsErr result }
         ensures unlisted { OnErr result (FailsNext self.old.failing) }
         ensures counted { CountsOne self.old.failing self.new.failing }
@@ -180,11 +162,11 @@ impl Files for MemFiles {
 
     /// A listed call fails, and another only for want of memory.
     fn create(&mut self, name: &str) -> Result<(), Failed>
-        ensures begun { OnOk result (Begins (Some (held_in self.old)) name.now (making_of self.new.draft)) }
-        ensures cause { Blames self.old.writes self.new.writes self.old.reads self.new.reads result }
-        ensures held { held_in self.new ≡ held_in self.old }
-        ensures busy { OnOk result (is_some self.new.draft ≡ true) }
-        ensures idle { OnErr result (is_some self.new.draft ≡ false) }
+        ensures begun { OnOk result (Begins (told_by self.old).held name.now (told_by self.new).making) }
+        ensures cause { BlamesWrites (told_by self.old).faults (told_by self.new).faults result }
+        ensures held { (told_by self.new).held ≡ (told_by self.old).held }
+        ensures busy { OnOk result ((told_by self.new).busy ≡ true) }
+        ensures idle { OnErr result ((told_by self.new).busy ≡ false) }
         ensures listed { FailsNext self.old.failing → IsErr result }
         ensures counted { CountsOne self.old.failing self.new.failing }
     {
@@ -204,12 +186,12 @@ impl Files for MemFiles {
 
     /// A listed call fails, and another only for want of memory.
     fn append(&mut self, bytes: &[u8]) -> Result<(), Failed>
-        requires { IsTrue (is_some self.old.draft) }
-        ensures added { OnOk result (Adds (making_of self.old.draft) bytes.now (making_of self.new.draft)) }
-        ensures cause { Blames self.old.writes self.new.writes self.old.reads self.new.reads result }
-        ensures held { held_in self.new ≡ held_in self.old }
-        ensures busy { OnOk result (is_some self.new.draft ≡ true) }
-        ensures idle { OnErr result (is_some self.new.draft ≡ false) }
+        requires { IsTrue (told_by self.old).busy }
+        ensures added { OnOk result (Adds (told_by self.old).held (told_by self.old).making bytes.now (told_by self.new).making) }
+        ensures cause { BlamesWrites (told_by self.old).faults (told_by self.new).faults result }
+        ensures held { (told_by self.new).held ≡ (told_by self.old).held }
+        ensures busy { OnOk result ((told_by self.new).busy ≡ true) }
+        ensures idle { OnErr result ((told_by self.new).busy ≡ false) }
         ensures listed { FailsNext self.old.failing → IsErr result }
         ensures counted { CountsOne self.old.failing self.new.failing }
     {
@@ -227,10 +209,10 @@ impl Files for MemFiles {
 
     /// A listed call fails, and another only for want of memory.
     fn finish(&mut self) -> Result<(), Failed>
-        requires { IsTrue (is_some self.old.draft) }
-        ensures stored { Finishes (Some (held_in self.old)) (making_of self.old.draft) (Some (held_in self.new)) result }
-        ensures cause { Blames self.old.writes self.new.writes self.old.reads self.new.reads result }
-        ensures idle { is_some self.new.draft ≡ false }
+        requires { IsTrue (told_by self.old).busy }
+        ensures stored { Finishes (told_by self.old).held (told_by self.old).making (told_by self.new).held result }
+        ensures cause { BlamesWrites (told_by self.old).faults (told_by self.new).faults result }
+        ensures idle { (told_by self.new).busy ≡ false }
         ensures listed { FailsNext self.old.failing → IsErr result }
         ensures counted { CountsOne self.old.failing self.new.failing }
     {

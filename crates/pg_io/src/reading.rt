@@ -1,6 +1,6 @@
 //! Reading a file whole, and storing one.
-ghost use Rattle.std.specs.Prelude.{◌≡◌, ◌≢◌, Err, ℕ, ◌+◌, ◌<◌, ◌≤◌, ◌^◌, List, length, take, IfOk, IfSome};
-ghost use Rattle.pg_io.specs.Files.{IsAbsent};
+ghost use Rattle.std.specs.Prelude.{◌≡◌, ◌≢◌, false, Err, ◌+◌, ◌<◌, length, take, IfOk, IfSome};
+ghost use Rattle.pg_io.specs.Files.{IsAbsent, ReadsOnly};
 ghost use Rattle.pg_io.specs.Stop.{Causes};
 ghost use Rattle.pg_io.specs.Reading.{IsFile, Stored};
 
@@ -26,11 +26,9 @@ fn read_open<F: Files>(
     buf: &mut [u8],
 ) -> Result<Vec<u8>, Stop>
     requires room { 0 < length buf.old }
-    ensures bytes { IfOk result (λ bytes. IfSome (F.left files.old) (λ left. bytes.items ≡ take (limit + 1) left)) }
-    ensures causes { Causes ⊥ (F.read_faults files.old) (F.read_faults files.new) (F.write_faults files.old) (F.write_faults files.new) result }
-    ensures held { F.held files.new ≡ F.held files.old }
-    ensures making { F.making files.new ≡ F.making files.old }
-    ensures busy { F.busy files.new ≡ F.busy files.old }
+    ensures bytes { IfOk result (λ bytes. IfSome (F.told files.old).left (λ left. bytes.items ≡ take (limit + 1) left)) }
+    ensures causes { Causes ⊥ (F.told files.old).faults (F.told files.new).faults result }
+    ensures kept { ReadsOnly (F.told files.old) (F.told files.new) }
 {
     let mut bytes = Vec::new(alloc);
     while bytes.len() <= limit {
@@ -57,11 +55,9 @@ pub fn read_whole<F: Files>(
     name: &str,
     limit: usize,
 ) -> Result<Vec<u8>, Stop>
-    ensures bytes { IfOk result (λ bytes. IsFile (F.held files.old) name.now limit bytes.items) }
-    ensures causes { Causes (IsAbsent (F.held files.old) name.now) (F.read_faults files.old) (F.read_faults files.new) (F.write_faults files.old) (F.write_faults files.new) result }
-    ensures held { F.held files.new ≡ F.held files.old }
-    ensures making { F.making files.new ≡ F.making files.old }
-    ensures busy { F.busy files.new ≡ F.busy files.old }
+    ensures bytes { IfOk result (λ bytes. IsFile (F.told files.old).held name.now limit bytes.items) }
+    ensures causes { Causes (IsAbsent (F.told files.old).held name.now) (F.told files.old).faults (F.told files.new).faults result }
+    ensures kept { ReadsOnly (F.told files.old) (F.told files.new) }
 {
     let mut buf = piece(alloc)?;
     if files.open(name).is_err() {
@@ -73,10 +69,11 @@ pub fn read_whole<F: Files>(
 /// Stores these bytes under the name, in place of what it held.
 ///
 /// `Stop::Write` means that a call has failed, and it is the only error; then the name holds what it
-/// held before or these bytes.
+/// held before or these bytes. However it ends, no file is being made afterwards.
 pub fn store<F: Files>(files: &mut F, name: &str, bytes: &[u8]) -> Result<(), Stop>
-    ensures stored { Stored (F.held files.old) (F.held files.new) (name.now, bytes.now) result }
-    ensures causes { Causes ⊥ (F.read_faults files.old) (F.read_faults files.new) (F.write_faults files.old) (F.write_faults files.new) result }
+    ensures stored { Stored (F.told files.old).held (F.told files.new).held (name.now, bytes.now) result }
+    ensures idle { (F.told files.new).busy ≡ false }
+    ensures causes { Causes ⊥ (F.told files.old).faults (F.told files.new).faults result }
     ensures fed { result ≢ Err Stop.Memory }
     ensures written { result ≢ Err Stop.Read }
 {

@@ -1,11 +1,10 @@
-//! Rows worked by hand, and the files and the console of the system.
+//! Rows worked by hand, and the files of the system.
 //!
 //! The helpers promise nothing, so that each call in a test is proved by itself.
-use crate::{
-    Console, Entry, Failed, Files, Heard, HostConsole, HostFiles, MemConsole, MemFiles, Stop, Text,
-    read_whole, store,
-};
 use pg_base::Memory;
+use pg_io::{
+    Console, Failed, Files, Heard, HostFiles, MemConsole, MemFiles, Stop, Text, read_whole, store,
+};
 use std::alloc::{AllocError, Global};
 use std::fs;
 use std::rt::Files as FileSystem;
@@ -168,13 +167,6 @@ fn is_there(files: &impl FileSystem, path: &str) -> Option<bool> {
 }
 
 #[test]
-fn a_text_keeps_its_bytes(rt: HostRuntime) -> Result<(), Fail> {
-    let text = Text::new(rt.alloc(), b"a\n\xff")?;
-    assert_eq!(rt; text.as_slice(), b"a\n\xff".as_slice());
-    Ok(())
-}
-
-#[test]
 fn reads_the_first_file_of_a_name(rt: HostRuntime) -> Result<(), Fail> {
     let mut files = games(rt.alloc(), &[])?;
     assert!(rt; reads(&mut files, b""), "no file is open");
@@ -260,18 +252,9 @@ fn hears_lines(rt: HostRuntime) -> Result<(), Fail> {
 }
 
 #[test]
-fn a_failed_hear_takes_nothing(rt: HostRuntime) -> Result<(), Fail> {
-    let mut console = console(rt.alloc(), b"12\n", &[0])?;
-    assert_eq!(rt; hears(&mut console), Err(Failed));
-    assert!(rt; console.entries().is_empty());
-    assert_eq!(rt; console.rest(), b"12\n".as_slice());
-    Ok(())
-}
-
-#[test]
 fn the_system_keeps_a_file_until_another_is_finished(rt: HostRuntime) -> Result<(), Fail> {
     let name = "pg_io_test_file";
-    let part = "pg_io_test_file.posgame-part";
+    let part = "pg_io_test_file.posgame-part0";
     let mut files = HostFiles::new(&rt);
     assert_eq!(rt; end_of_storing(&mut files, name, b"first"), None);
     assert!(rt; begins(&mut files, name, b"half of the sec"));
@@ -283,18 +266,14 @@ fn the_system_keeps_a_file_until_another_is_finished(rt: HostRuntime) -> Result<
         Some(false),
         "an unfinished file is removed"
     );
+    assert_eq!(rt; end_of_storing(&mut files, part, b"another file"), None);
     assert_eq!(rt; end_of_storing(&mut files, name, b"second"), None);
+    assert!(rt; reads_whole(rt.alloc(), &mut files, part, 100, b"another file"));
     assert!(rt; reads_whole(rt.alloc(), &mut files, name, 3, b"seco"));
-    assert_eq!(rt; is_there(&rt, part), Some(false));
+    fs::remove_file(&rt, part)?;
     fs::remove_file(&rt, name)?;
     assert!(rt; !opens(&mut files, name));
     let nameless = end_of_storing(&mut files, "", b"third");
     assert_eq!(rt; nameless, Some(Stop::Write));
     Ok(())
-}
-
-#[test]
-fn the_system_console_says(rt: HostRuntime) {
-    let mut console = HostConsole::new(&rt);
-    assert!(rt; says(&mut console, b"accepted\n"));
 }

@@ -1,0 +1,7 @@
+-- How long a number is.
+use Rattle.std.proofs.Common.{ℕ, ◌^◌, ◌<◌, ◌≤◌, length, arith}
+use Rattle.std.specs.Fmt.{decimal}
+use Rattle.std.proofs.lemmas.Fmt.{length-decimal-le}
+
+pub short : (n : ℕ) → n < 2 ^ 32 → length (decimal n) ≤ 10
+short n small = length-decimal-le 10 n (omega arith) (omega arith) (omega arith)

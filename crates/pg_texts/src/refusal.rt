@@ -1,0 +1,113 @@
+//! Why a command isn't carried out.
+ghost use Rattle.std.specs.Prelude.{◌≡◌, ◌≤◌, length};
+ghost use Rattle.pg_texts.specs.Texts.{file_fault_text, no_claim_text, refusal_text, rejected_text};
+ghost use Rattle.pg_texts.specs.Statuses.{refusal_status};
+
+use crate::line::{Line, push_number};
+use crate::statuses::{FAULTY_GAME, NO_MEANING, REFUSED};
+use pg_base::Side;
+
+/// Why a command isn't carried out.
+#[derive(Clone, Copy, Debug)]
+pub enum Refusal {
+    /// The words of the command line have no meaning.
+    NoMeaning,
+    /// The certificate has no claim of the side with the game's turn.
+    NoClaim {
+        /// The side.
+        side: Side,
+    },
+    /// The game file has a fault.
+    Game {
+        /// The number of the fault.
+        number: u8,
+        /// The number of its line, 0 for the whole file.
+        line: u32,
+    },
+    /// The certificate file has a fault.
+    Certificate {
+        /// The number of the fault.
+        number: u8,
+        /// The number of its line, 0 for the whole file.
+        line: u32,
+    },
+    /// The certificate isn't valid for the game.
+    Rejected {
+        /// The number of the first faulty claim.
+        claim: u32,
+        /// The number of its first faulty node.
+        node: u32,
+        /// The least number of the node's faults.
+        why: u8,
+    },
+}
+
+/// The text of a fault in a file: the file's sign, the number of the fault, and that of its line.
+fn fault_text(file: &str, number: u8, line: u32) -> Line
+    requires { length file.now ≤ 20 }
+    ensures { result.bytes ≡ file_fault_text file.now number line }
+{
+    let mut text = Line::new();
+    text.push_str(file);
+    push_number(&mut text, u32::from(number));
+    text.push_str(" line ");
+    push_number(&mut text, line);
+    text.push_str("\n");
+    text
+}
+
+/// The text of a certificate that isn't valid.
+fn rejected_text(claim: u32, node: u32, why: u8) -> Line
+    ensures { result.bytes ≡ rejected_text claim node why }
+{
+    let mut text = Line::new();
+    text.push_str("rejected J");
+    push_number(&mut text, u32::from(why));
+    text.push_str(" claim ");
+    push_number(&mut text, claim);
+    text.push_str(" node ");
+    push_number(&mut text, node);
+    text.push_str("\n");
+    text
+}
+
+/// The text where a side has no claim.
+fn no_claim_text(side: Side) -> Line
+    ensures { result.bytes ≡ no_claim_text side }
+{
+    let mut text = Line::new();
+    text.push_str("words: no claim for side ");
+    text.push_str(side.word());
+    text.push_str("\n");
+    text
+}
+
+impl Refusal {
+    /// The text of the refusal, with its line feed. It takes no memory.
+    pub fn text(self) -> Line
+        ensures { result.bytes ≡ refusal_text self }
+    {
+        match self {
+            Refusal::NoMeaning => {
+                let mut text = Line::new();
+                text.push_str("words: no meaning\n");
+                text
+            }
+            Refusal::NoClaim { side } => no_claim_text(side),
+            Refusal::Game { number, line } => fault_text("game G", number, line),
+            Refusal::Certificate { number, line } => fault_text("certificate C", number, line),
+            Refusal::Rejected { claim, node, why } => rejected_text(claim, node, why),
+        }
+    }
+
+    /// The status of the refusal.
+    pub fn status(self) -> u8
+        ensures { result ≡ refusal_status self }
+    {
+        match self {
+            Refusal::NoMeaning | Refusal::NoClaim { .. } => NO_MEANING,
+            Refusal::Game { .. } => FAULTY_GAME,
+            Refusal::Certificate { .. } | Refusal::Rejected { .. } => REFUSED,
+        }
+    }
+}
