@@ -1,0 +1,89 @@
+//! Reports on certificates, as JSON.
+#![tactic(auto)]
+
+ghost use Rattle.std.specs.Prelude.{◌≡◌, IfOk, string_bytes};
+ghost use Rattle.pg_report.specs.Report.{rejection_text, report_text};
+ghost use Rattle.pg_report.specs.Values.{claim_data, claims_data, rejection_data, report_data};
+ghost use Rattle.serde_json.specs.Data.{array};
+ghost use Rattle.serde_json.specs.View.{view};
+
+use pg_base::Memory;
+use pg_cert::{Cert, Claim};
+use pg_game::{Field, Game};
+use serde_json::{Value, json};
+use std::alloc::{AllocError, Global};
+
+/// A claim: its goal, the number of its nodes, its side and its turn.
+fn claim_value(alloc: Global, claim: &Claim) -> Result<Value, AllocError>
+    ensures { IfOk result (λ v. view v ≡ claim_data claim.now) }
+{
+    let nodes = claim.nodes.as_slice().len();
+    json!(in alloc; {"goal": claim.goal.word(), "nodes": nodes, "side": claim.side.word(), "turn": claim.turn.word()})
+}
+
+/// The claims in order.
+fn claims_value(alloc: Global, claims: &[Claim]) -> Result<Value, AllocError>
+    ensures { IfOk result (λ v. view v ≡ array (claims_data claims.now)) }
+{
+    let mut values = Vec::new(alloc);
+    for claim in claims {
+        values.push(claim_value(alloc, claim)?)?;
+    }
+    Ok(Value::Array(values))
+}
+
+/// A valid certificate for a game.
+fn report_value(alloc: Global, game: &Game, certificate: &Cert) -> Result<Value, AllocError>
+    ensures { IfOk result (λ v. view v ≡ report_data game.now certificate.now) }
+{
+    let claims = claims_value(alloc, certificate.claims.as_slice())?;
+    let kind = game.kind.word();
+    match &game.field {
+        Field::Lines(field) => {
+            let lines = field.lines.as_slice().len();
+            json!(in alloc; {"claims": claims, "kind": kind, "lines": lines, "points": field.points})
+        }
+        Field::Graph(graph) => {
+            let points = graph.ends.as_slice().len();
+            json!(in alloc; {"claims": claims, "kind": kind, "points": points, "vertices": graph.vertices})
+        }
+    }
+}
+
+/// What a report says of a valid certificate for a game: one line of compact JSON (RFC 8259) with its line feed.
+///
+/// It is an object whose keys ascend: `claims`, `kind`, and `lines` and `points` of a line game, or `points` (its edges) and `vertices` of a switching
+/// game. Each claim is an object with the keys `goal`, `nodes` (their number), `side` and `turn`.
+///
+/// # Errors
+///
+/// `Memory` where no memory is found.
+pub fn report(alloc: Global, game: &Game, certificate: &Cert) -> Result<String, Memory>
+    ensures { IfOk result (λ text. string_bytes text ≡ report_text game.now certificate.now) }
+{
+    let mut text = report_value(alloc, game, certificate)?.to_string(alloc)?;
+    text.push('\n')?;
+    Ok(text)
+}
+
+/// A certificate that isn't valid.
+fn rejection_value(alloc: Global, claim: u32, node: u32, why: u8) -> Result<Value, AllocError>
+    ensures { IfOk result (λ v. view v ≡ rejection_data claim node why) }
+{
+    let code = format!(in alloc; "J{why}")?;
+    json!(in alloc; {"claim": claim, "node": node, "reject": code})
+}
+
+/// What a report says of a certificate that isn't valid, by the numbers of the first faulty claim and node, and of the fault: an object with the keys
+/// `claim`, `node` and `reject`, such as `J6`, as one line of compact JSON with its line feed.
+///
+/// # Errors
+///
+/// `Memory` where no memory is found.
+pub fn rejection(alloc: Global, claim: u32, node: u32, why: u8) -> Result<String, Memory>
+    ensures { IfOk result (λ text. string_bytes text ≡ rejection_text claim node why) }
+{
+    let mut text = rejection_value(alloc, claim, node, why)?.to_string(alloc)?;
+    text.push('\n')?;
+    Ok(text)
+}

@@ -1,0 +1,97 @@
+-- What the words of a command line mean.
+use Rattle.std.specs.Prelude.{◌*◌, min, nat_le, ℕ, List, [], ◌∷◌, codes, Option, Some, None, option_map, option_and_then, if◌then◌else◌}
+use Rattle.std.specs.Str.{bytes_eq}
+use Rattle.pg_base.specs.Side.{side_of}
+use Rattle.pg_base.specs.declared.side.Side.{Side}
+use Rattle.pg_text.specs.Text.{Bytes}
+use Rattle.pg_words.specs.Given.{Given, given}
+use Rattle.pg_words.specs.Line.{line_of}
+use Rattle.pg_words.specs.Numbers.{number_in, seed_of}
+use Rattle.pg_words.specs.declared.source.Source.{Source}
+use Rattle.pg_words.specs.declared.source.Source.TheVariants.{Rows, Bridge, Scatter}
+
+-- what the program is asked to do, with the names of files
+pub data Command : Type 0 where
+  -- solve a game, by so many positions where it is said
+  Solve : (game certificate : Bytes) (positions : Option ℕ) → Command
+  -- check a certificate for a game
+  Check : (game certificate : Bytes) → Command
+  -- play a side of a game by a certificate
+  Play : (game certificate : Bytes) (side : Side) → Command
+  -- make a game, and solve it where a certificate is wanted
+  Gen : (which : Source) (game : Bytes) (certificate : Option Bytes) → Command
+  -- report on a certificate for a game
+  Report : (game certificate : Bytes) → Command
+
+-- a number of positions, where one is given
+abbrev pub limit_of : Option Bytes → Option (Option ℕ)
+limit_of None = Some None
+limit_of (Some word) = option_map (λ n. Some n) (number_in 1 100000 word)
+
+abbrev pub solve : List Bytes → Option Bytes → Option Bytes → Option Command
+solve (game ∷ certificate ∷ []) positions None = option_map (Solve game certificate) (limit_of positions)
+solve _ _ _ = None
+
+abbrev pub check : List Bytes → Option Bytes → Option Bytes → Option Command
+check (game ∷ certificate ∷ []) None None = Some (Check game certificate)
+check _ _ _ = None
+
+abbrev pub play : List Bytes → Option Bytes → Option Bytes → Option Command
+play (game ∷ certificate ∷ []) None (Some word) = option_map (Play game certificate) (side_of word)
+play _ _ _ = None
+
+abbrev pub report : List Bytes → Option Bytes → Option Bytes → Option Command
+report (game ∷ certificate ∷ []) None None = Some (Report game certificate)
+report _ _ _ = None
+
+-- a game and, where wanted, a certificate, under these names
+abbrev pub made : List Bytes → Source → Option Command
+made (game ∷ []) which = Some (Gen which game None)
+made (game ∷ certificate ∷ []) which = Some (Gen which game (Some certificate))
+made _ which = None
+
+abbrev pub rows : List Bytes → Option Command
+rows (n ∷ names) = option_and_then (λ n. made names (Rows n)) (number_in 2 16 n)
+rows [] = None
+
+abbrev pub bridge : List Bytes → Option Command
+bridge (r ∷ names) = option_and_then (λ r. made names (Bridge r)) (number_in 1 22 r)
+bridge [] = None
+
+abbrev pub scatter_by : Option ℕ → Option ℕ → Option ℕ → Option ℕ → Option Source
+scatter_by (Some seed) (Some n) (Some m) (Some k) = if nat_le (m * k) 400000 then Some (Scatter seed n m k) else None
+scatter_by _ _ _ _ = None
+
+-- m lines of k points, of n in all
+abbrev pub scatter_of : Bytes → Bytes → Bytes → Bytes → Option Source
+scatter_of seed n m k = scatter_by (seed_of seed) (number_in 1 256 n) (number_in 0 20000 m) (option_and_then (λ n. number_in 1 (min n 100) k) (number_in 1 256 n))
+
+abbrev pub scatter : List Bytes → Option Command
+scatter (seed ∷ n ∷ m ∷ k ∷ names) = option_and_then (made names) (scatter_of seed n m k)
+scatter _ = None
+
+abbrev pub generate : List Bytes → Option Bytes → Option Bytes → Option Command
+generate (kind ∷ others) None None =
+    if bytes_eq kind (codes "rows") then rows others
+    else if bytes_eq kind (codes "bridge") then bridge others
+    else if bytes_eq kind (codes "scatter") then scatter others
+    else None
+generate _ _ _ = None
+
+-- what positionals and options ask for
+abbrev pub asked_by : List Bytes → Option Bytes → Option Bytes → Option Command
+asked_by [] positions side = None
+asked_by (name ∷ others) positions side =
+    if bytes_eq name (codes "solve") then solve others positions side
+    else if bytes_eq name (codes "check") then check others positions side
+    else if bytes_eq name (codes "play") then play others positions side
+    else if bytes_eq name (codes "gen") then generate others positions side
+    else if bytes_eq name (codes "report") then report others positions side
+    else None
+
+abbrev pub asked : Given → Option Command
+asked g = asked_by g.positionals g.positions g.side
+
+-- the meaning of the words, none where they have none
+abbrev pub meaning_of : List Bytes → Option Command
+meaning_of words = option_and_then asked (option_and_then given (line_of words))

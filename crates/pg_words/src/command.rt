@@ -1,0 +1,49 @@
+//! What the words ask for.
+use crate::source::Source;
+use pg_base::Side;
+
+/// What the words ask for, with the names of files.
+#[derive(Debug, Drop)]
+pub enum Command {
+    /// Solve a game.
+    Solve {
+        /// The name of the game.
+        game: String,
+        /// The name of the certificate.
+        certificate: String,
+        /// How many positions the search may expand, 1 to 100,000, where it is said.
+        positions: Option<u32>,
+    },
+    /// Check a certificate for a game.
+    Check {
+        /// The name of the game.
+        game: String,
+        /// The name of the certificate.
+        certificate: String,
+    },
+    /// Play a side of a game by a certificate.
+    Play {
+        /// The name of the game.
+        game: String,
+        /// The name of the certificate.
+        certificate: String,
+        /// The side.
+        side: Side,
+    },
+    /// Make a game, and solve it where a certificate is wanted.
+    Gen {
+        /// Which game.
+        which: Source,
+        /// Its name.
+        game: String,
+        /// The name of the certificate.
+        certificate: Option<String>,
+    },
+    /// Report on a certificate for a game.
+    Report {
+        /// The name of the game.
+        game: String,
+        /// The name of the certificate.
+        certificate: String,
+    },
+}

@@ -1,0 +1,221 @@
+//! The commands, by their positionals and options.
+ghost use Rattle.std.specs.Prelude.{◌≡◌, IfOk, option_map, string_bytes};
+ghost use Rattle.pg_words.specs.Ordered.{ordered, text, texts};
+ghost use Rattle.pg_words.specs.Words.{asked_by, bridge, check, generate, made, play, report, rows, scatter, scatter_of, solve};
+
+use crate::command::Command;
+use crate::number::{number_in, seed as read_seed};
+use crate::source::Source;
+use pg_base::{Memory, Side};
+use std::alloc::Global;
+
+/// A game or a certificate under a name.
+fn named(alloc: Global, name: &str) -> Result<String, Memory>
+    ensures { IfOk result (λ s. string_bytes s ≡ name.now) }
+{
+    Ok(String::from_str(alloc, name)?)
+}
+
+/// `solve`, a game and a certificate, perhaps with `--positions`.
+fn solve(
+    alloc: Global,
+    others: &[&str],
+    positions: Option<&str>,
+    side: Option<&str>,
+) -> Result<Option<Command>, Memory>
+    ensures { IfOk result (λ c. option_map ordered c ≡ solve (texts others.now) (text positions.entry) (text side.entry)) }
+{
+    let ([game, certificate], None) = (others, side) else {
+        return Ok(None);
+    };
+    let positions = match positions {
+        None => None,
+        Some(word) => match number_in(1, 100_000, word) {
+            None => return Ok(None),
+            Some(n) => Some(n),
+        },
+    };
+    Ok(Some(Command::Solve {
+        game: named(alloc, game)?,
+        certificate: named(alloc, certificate)?,
+        positions,
+    }))
+}
+
+/// `check`, a game and a certificate.
+fn check(
+    alloc: Global,
+    others: &[&str],
+    positions: Option<&str>,
+    side: Option<&str>,
+) -> Result<Option<Command>, Memory>
+    ensures { IfOk result (λ c. option_map ordered c ≡ check (texts others.now) (text positions.entry) (text side.entry)) }
+{
+    let ([game, certificate], None, None) = (others, positions, side) else {
+        return Ok(None);
+    };
+    Ok(Some(Command::Check {
+        game: named(alloc, game)?,
+        certificate: named(alloc, certificate)?,
+    }))
+}
+
+/// `play`, a game and a certificate, with `--side`.
+fn play(
+    alloc: Global,
+    others: &[&str],
+    positions: Option<&str>,
+    side: Option<&str>,
+) -> Result<Option<Command>, Memory>
+    ensures { IfOk result (λ c. option_map ordered c ≡ play (texts others.now) (text positions.entry) (text side.entry)) }
+{
+    let ([game, certificate], None, Some(word)) = (others, positions, side) else {
+        return Ok(None);
+    };
+    let Some(side) = Side::from_word(word.as_bytes()) else {
+        return Ok(None);
+    };
+    Ok(Some(Command::Play {
+        game: named(alloc, game)?,
+        certificate: named(alloc, certificate)?,
+        side,
+    }))
+}
+
+/// `report`, a game and a certificate.
+fn report(
+    alloc: Global,
+    others: &[&str],
+    positions: Option<&str>,
+    side: Option<&str>,
+) -> Result<Option<Command>, Memory>
+    ensures { IfOk result (λ c. option_map ordered c ≡ report (texts others.now) (text positions.entry) (text side.entry)) }
+{
+    let ([game, certificate], None, None) = (others, positions, side) else {
+        return Ok(None);
+    };
+    Ok(Some(Command::Report {
+        game: named(alloc, game)?,
+        certificate: named(alloc, certificate)?,
+    }))
+}
+
+/// A game that is made and, where wanted, a certificate, under these names.
+fn made(alloc: Global, names: &[&str], which: Source) -> Result<Option<Command>, Memory>
+    ensures { IfOk result (λ c. option_map ordered c ≡ made (texts names.now) which) }
+{
+    match names {
+        [game] => Ok(Some(Command::Gen {
+            which,
+            game: named(alloc, game)?,
+            certificate: None,
+        })),
+        [game, certificate] => Ok(Some(Command::Gen {
+            which,
+            game: named(alloc, game)?,
+            certificate: Some(named(alloc, certificate)?),
+        })),
+        _ => Ok(None),
+    }
+}
+
+/// `gen rows`, a number and names.
+fn rows(alloc: Global, others: &[&str]) -> Result<Option<Command>, Memory>
+    ensures { IfOk result (λ c. option_map ordered c ≡ rows (texts others.now)) }
+{
+    let [length, names @ ..] = others else {
+        return Ok(None);
+    };
+    match number_in(2, 16, length) {
+        Some(length) => made(alloc, names, Source::Rows { length }),
+        None => Ok(None),
+    }
+}
+
+/// `gen bridge`, a number and names.
+fn bridge(alloc: Global, others: &[&str]) -> Result<Option<Command>, Memory>
+    ensures { IfOk result (λ c. option_map ordered c ≡ bridge (texts others.now)) }
+{
+    let [rows, names @ ..] = others else {
+        return Ok(None);
+    };
+    match number_in(1, 22, rows) {
+        Some(rows) => made(alloc, names, Source::Bridge { rows }),
+        None => Ok(None),
+    }
+}
+
+/// Lines that are drawn by a seed, from four words.
+fn scattered(seed: &str, points: &str, lines: &str, size: &str) -> Option<Source>
+    ensures { result ≡ scatter_of seed.now points.now lines.now size.now }
+{
+    let seed = read_seed(seed)?;
+    let points = number_in(1, 256, points)?;
+    let lines = number_in(0, 20_000, lines)?;
+    let size = number_in(1, points.min(100), size)?;
+    if lines * size <= 400_000 {
+        Some(Source::Scatter {
+            seed,
+            points,
+            lines,
+            size,
+        })
+    } else {
+        None
+    }
+}
+
+/// `gen scatter`, four numbers and names.
+fn scatter(alloc: Global, others: &[&str]) -> Result<Option<Command>, Memory>
+    ensures { IfOk result (λ c. option_map ordered c ≡ scatter (texts others.now)) }
+{
+    let [seed, points, lines, size, names @ ..] = others else {
+        return Ok(None);
+    };
+    match scattered(seed, points, lines, size) {
+        Some(which) => made(alloc, names, which),
+        None => Ok(None),
+    }
+}
+
+/// `gen`, a kind, its numbers and names.
+fn generate(
+    alloc: Global,
+    others: &[&str],
+    positions: Option<&str>,
+    side: Option<&str>,
+) -> Result<Option<Command>, Memory>
+    ensures { IfOk result (λ c. option_map ordered c ≡ generate (texts others.now) (text positions.entry) (text side.entry)) }
+{
+    let ([kind, others @ ..], None, None) = (others, positions, side) else {
+        return Ok(None);
+    };
+    match *kind {
+        "rows" => rows(alloc, others),
+        "bridge" => bridge(alloc, others),
+        "scatter" => scatter(alloc, others),
+        _ => Ok(None),
+    }
+}
+
+/// What positionals and options ask for.
+pub(crate) fn asked(
+    alloc: Global,
+    positionals: &[&str],
+    positions: Option<&str>,
+    side: Option<&str>,
+) -> Result<Option<Command>, Memory>
+    ensures { IfOk result (λ c. option_map ordered c ≡ asked_by (texts positionals.now) (text positions.entry) (text side.entry)) }
+{
+    let [name, others @ ..] = positionals else {
+        return Ok(None);
+    };
+    match *name {
+        "solve" => solve(alloc, others, positions, side),
+        "check" => check(alloc, others, positions, side),
+        "play" => play(alloc, others, positions, side),
+        "gen" => generate(alloc, others, positions, side),
+        "report" => report(alloc, others, positions, side),
+        _ => Ok(None),
+    }
+}

@@ -1,0 +1,94 @@
+//! What words mean, as text.
+use pg_words::{Command, Source, meaning};
+use std::alloc::Global;
+use std::test::Fail;
+
+/// The words of a row, with spaces between them: `<>` is the empty word, and `~` a space.
+fn words(alloc: Global, row: &str) -> Result<Vec<String>, Fail> {
+    let mut words = Vec::new(alloc);
+    for word in row.split_whitespace() {
+        if word == "<>" {
+            words.push(String::new(alloc))?;
+        } else {
+            words.push(word.replace(alloc, "~", " ")?)?;
+        }
+    }
+    Ok(words)
+}
+
+/// A game that is made from numbers, by its words.
+fn source_text(alloc: Global, source: Source) -> Result<String, Fail> {
+    Ok(match source {
+        Source::Rows { length } => format!(in alloc; "rows {length}")?,
+        Source::Bridge { rows } => format!(in alloc; "bridge {rows}")?,
+        Source::Scatter {
+            seed,
+            points,
+            lines,
+            size,
+        } => format!(in alloc; "scatter {seed} {points} {lines} {size}")?,
+    })
+}
+
+/// A command, with its names in angle brackets.
+fn command_text(alloc: Global, command: &Command) -> Result<String, Fail> {
+    Ok(match command {
+        Command::Solve {
+            game,
+            certificate,
+            positions: None,
+        } => format!(in alloc; "solve <{game}> <{certificate}>")?,
+        Command::Solve {
+            game,
+            certificate,
+            positions: Some(n),
+        } => format!(in alloc; "solve <{game}> <{certificate}> {n}")?,
+        Command::Check { game, certificate } => {
+            format!(in alloc; "check <{game}> <{certificate}>")?
+        }
+        Command::Play {
+            game,
+            certificate,
+            side,
+        } => format!(in alloc; "play <{game}> <{certificate}> {}", side.word())?,
+        Command::Gen {
+            which,
+            game,
+            certificate: None,
+        } => format!(in alloc; "{} <{game}>", source_text(alloc, *which)?)?,
+        Command::Gen {
+            which,
+            game,
+            certificate: Some(certificate),
+        } => format!(in alloc; "{} <{game}> <{certificate}>", source_text(alloc, *which)?)?,
+        Command::Report { game, certificate } => {
+            format!(in alloc; "report <{game}> <{certificate}>")?
+        }
+    })
+}
+
+/// What the words of a row mean; `none` where they have no meaning.
+fn told(alloc: Global, row: &str) -> Result<String, Fail> {
+    let words = words(alloc, row)?;
+    let Ok(meaning) = meaning(alloc, &words) else {
+        return Ok(String::from_str(alloc, "memory")?);
+    };
+    match meaning {
+        None => Ok(String::from_str(alloc, "none")?),
+        Some(command) => command_text(alloc, &command),
+    }
+}
+
+/// The rows that are wrong, of rows `WORDS => MEANING` with `;` between them.
+pub(crate) fn wrong_rows(alloc: Global, rows: &str) -> Result<String, Fail> {
+    let mut wrong = String::new(alloc);
+    for row in rows.split(';') {
+        let mut parts = row.split("=> ");
+        let words = parts.next().unwrap_or("");
+        let expected = parts.next().unwrap_or("");
+        if told(alloc, words)?.as_str() != expected {
+            wrong.push_str(row)?;
+        }
+    }
+    Ok(wrong)
+}
