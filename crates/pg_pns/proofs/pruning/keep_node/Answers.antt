@@ -1,0 +1,18 @@
+use Rattle.std.proofs.Common.{◌≡◌, ◌∙◌, ◌++◌, ◌∷◌, ℕ, List, [], length, refl, sym, ap, subst, rules}
+use Rattle.std.proofs.lemmas.Bool.{false≢true}
+use Rattle.pg_pns.specs.Pruned.{Renumbers}
+use Rattle.pg_pns.proofs.pruning.keep_node.Goals as goal
+
+pub returns : goal.returns
+returns c =
+    let len : c.len.result ≡ length c.args.out.now.items = search rules in
+    record {
+      number = c.in_ok-push.ensures.items ∙ ap (λ n. c.args.numbers.now.items ++ n ∷ []) len;
+      taken = λ _. (
+        record { x = c.args.node.now.x; y = c.args.node.now.y; turn = c.args.node.now.turn; left = c.args.node.now.left; body = c.in_ok-body.body },
+        refl,
+        subst (λ (ns : List ℕ). Renumbers ns c.args.node.now.body c.in_ok-body.body) c.as_slice.ensures.value c.in_ok-body.ensures,
+        c.in_ok-push-2.ensures.items,
+      );
+      left = λ off. absurd (false≢true (sym off ∙ c.if-not-marked.false));
+    }

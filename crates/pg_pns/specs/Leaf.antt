@@ -1,0 +1,36 @@
+-- The leaf of a decided position: which criterion decides it, and the body that shows it.
+use Rattle.std.specs.Prelude.{◌≡◌, ℕ, ◌<◌, ◌%◌, Bool, List, Option, Some, None, length}
+use Rattle.std.specs.List.{All}
+use Rattle.pg_base.specs.declared.score.Score.{Score}
+use Rattle.pg_game.specs.declared.game.Game.{Game}
+use Rattle.pg_game.specs.declared.position.Position.{Position}
+use Rattle.pg_game.specs.Decided.{Criterion, claimer, claimed_goal}
+pub use Rattle.pg_game.specs.Decided.{first_criterion}
+use Rattle.pg_game.specs.Decided.Criterion.{ByEnd, ByPotential, ByThreat, ByPairs}
+use Rattle.pg_game.specs.Threat.{IsThreatLine}
+use Rattle.pg_cert.specs.declared.node.Node.{Node}
+use Rattle.pg_cert.specs.declared.node.Body.{Body}
+use Rattle.pg_cert.specs.declared.node.Body.TheVariants.{Over, Move, All as AllReplies, Pairs, Potential, Trees, Cuts, Threat}
+use Rattle.pg_pns.specs.Sound.{BodyHolds}
+
+-- the criterion by which a body shows the answer, where it is by one
+abbrev pub criterion_of : Body → Option Criterion
+criterion_of Over = Some ByEnd
+criterion_of (Move point child) = None
+criterion_of (AllReplies replies) = None
+criterion_of (Pairs pairs) = Some ByPairs
+criterion_of Potential = Some ByPotential
+criterion_of (Trees with_e first second) = None
+criterion_of (Cuts with_e first second) = None
+criterion_of (Threat points) = Some ByThreat
+
+-- the points are a threat line of the side to move, an odd number of points
+pub record IsAttackLine (g : Game) (p : Position) (points : List ℕ) : Type 0 where
+  pub line : IsThreatLine g p p.turn points
+  pub range : All (λ v. v < 1024) points
+  pub odd : length points % 2 ≡ 1
+
+-- the body shows the answer at the position wherever the node stands, and it is by the first criterion
+pub record IsLeaf (g : Game) (t : Score) (p : Position) (b : Bool) (body : Body) : Type 0 where
+  pub holds : (nodes : List Node) (k : ℕ) → BodyHolds g (claimer b) (claimed_goal g.kind t b) nodes k p body
+  pub first : criterion_of body ≡ first_criterion g t p

@@ -1,0 +1,15 @@
+pub mod Budget
+pub mod Expanded
+pub mod Reachable
+pub mod Sound
+pub mod Known
+pub mod Claims
+pub mod Settles
+pub mod Leaf
+pub mod Table
+pub mod Met
+pub mod Tree
+pub mod Search
+pub mod Descent
+pub mod Pruned
+pub mod Found

@@ -1,0 +1,98 @@
+//! The search as it is called.
+ghost use Rattle.std.specs.Prelude.{◌≡◌, ◌≢◌, ◌≤◌, ◌*◌, Some, IfOk, length};
+ghost use Rattle.pg_base.specs.declared.kind.Kind.TheVariants.{Switching};
+ghost use Rattle.pg_game.specs.Decided.{IsQuestion};
+ghost use Rattle.pg_game.specs.Game.{free_points, lines_of, start};
+ghost use Rattle.pg_game.specs.Settled.{IsTable};
+ghost use Rattle.pg_match.specs.Cache.{Fits};
+ghost use Rattle.pg_pns.specs.Budget.{budget_for, most_for};
+ghost use Rattle.pg_pns.specs.Found.{IsAnswer};
+
+use crate::expansion::explore;
+use crate::work::{Found, Work};
+use pg_base::{Memory, Score};
+use pg_game::Game;
+use pg_match::PairCache;
+use std::alloc::Global;
+
+/// How many positions may be expanded where so many points are free.
+fn most_for(free: u32) -> u32
+    ensures { result ≡ most_for free }
+{
+    if free == 0 {
+        return 99_999;
+    }
+    99_999 / free
+}
+
+/// How many positions a search may expand, where so many are asked for: so few that a claim stays within the limits of the
+/// format.
+pub fn budget_of(g: &Game, positions: u32) -> u32
+    ensures exact { result ≡ budget_for (length (free_points g.now (start g.now))) positions }
+    ensures most { result ≤ positions }
+    ensures some { 1 ≤ positions → 1 ≤ result }
+    ensures few { result * length (free_points g.now (start g.now)) ≤ 99999 }
+{
+    let most = most_for(g.free_points(&g.start()).len());
+    if positions < most { positions } else { most }
+}
+
+/// Whether X reaches the score from the game's position, with the claim that shows it; or that so many expansions don't
+/// decide it.
+///
+/// The positions that are expanded are undecided, and each is one move after one that those before it don't settle.
+/// `work` holds them at every answer.
+///
+/// # Errors
+///
+/// `Memory` where no memory is found.
+pub fn search(
+    alloc: Global,
+    g: &Game,
+    question: Score,
+    budget: u32,
+    work: &mut Work,
+) -> Result<Found, Memory>
+    requires asked { IsQuestion g.now.kind question }
+    requires lines { g.now.kind ≢ Switching }
+    requires some { 1 ≤ budget }
+    requires limit { budget ≤ 100000 }
+    requires few { budget * length (free_points g.now (start g.now)) ≤ 99999 }
+    ensures answer { IfOk result (λ found. IsAnswer g.now question budget work.new.positions found) }
+    ensures question { work.new.question ≡ Some question }
+    ensures rules { IsTable g.now question work.new.positions }
+    ensures count { length work.new.positions ≤ budget }
+{
+    work.begin(question);
+    let mut cache = PairCache::new(alloc, 1024)?;
+    search_with(alloc, g, question, budget, work, &mut cache)
+}
+
+/// The same with a cache of pairs for the game's lines, which is asked each time that pairs are needed.
+///
+/// # Errors
+///
+/// `Memory` where no memory is found; the cache then still fits the lines.
+pub fn search_with(
+    alloc: Global,
+    g: &Game,
+    question: Score,
+    budget: u32,
+    work: &mut Work,
+    cache: &mut PairCache,
+) -> Result<Found, Memory>
+    requires asked { IsQuestion g.now.kind question }
+    requires lines { g.now.kind ≢ Switching }
+    requires some { 1 ≤ budget }
+    requires limit { budget ≤ 100000 }
+    requires few { budget * length (free_points g.now (start g.now)) ≤ 99999 }
+    requires fits { Fits cache.old (lines_of g.now) }
+    ensures fits { Fits cache.new (lines_of g.now) }
+    ensures answer { IfOk result (λ found. IsAnswer g.now question budget work.new.positions found) }
+    ensures question { work.new.question ≡ Some question }
+    ensures rules { IsTable g.now question work.new.positions }
+    ensures count { length work.new.positions ≤ budget }
+{
+    work.begin(question);
+    explore(alloc, g, question, budget, &mut work.positions, cache)
+}

@@ -1,0 +1,145 @@
+//! The criteria that decide a position without search.
+ghost use Rattle.std.specs.Prelude.{◌≡◌, ◌≢◌, ◌<◌, ◌≤◌, length, slice_get, Some, IfOk, IfSome, OnOk, true, false, option_map, List, ℕ, is_some, None, if◌then◌else◌};
+ghost use Rattle.pg_game.specs.Threat.{may_attack};
+ghost use Rattle.pg_base.specs.declared.kind.Kind.TheVariants.{Switching};
+ghost use Rattle.pg_game.specs.Game.{lines_of, is_over, IsPosition};
+ghost use Rattle.pg_game.specs.Decided.{decided, defender, answer_for, attack_wins, pairs_exist, IsQuestion};
+ghost use Rattle.pg_game.specs.Pairs.{breaker_of};
+ghost use Rattle.pg_pns.specs.Descent.{IsAt};
+ghost use Rattle.pg_match.specs.Cache.{Fits};
+ghost use Rattle.pg_threat.specs.Search.{points_of_line};
+ghost use Rattle.pg_pns.specs.Leaf.{IsLeaf, IsAttackLine};
+
+use pg_base::{Kind, Memory, Pairs, Points, Score, Side};
+use pg_board::Board;
+use pg_cert::Body;
+use pg_game::{Game, Position};
+use pg_match::{PairCache, pairs_leaf};
+use pg_threat::{ThreatLine, forced};
+use std::alloc::Global;
+
+/// The side whose potential and private pairs speak to the question.
+fn defender(kind: Kind, question: Score) -> Side
+    ensures { result ≡ defender kind question }
+{
+    match (kind, question) {
+        (Kind::AvoiderEnforcer, _) => Side::X,
+        (Kind::MakerMaker, Score::XWins) => Side::Y,
+        (Kind::MakerMaker, _) => Side::X,
+        _ => Side::Y,
+    }
+}
+
+/// The answer that a side's criterion gives: yes for X.
+fn answer_for(side: Side) -> bool
+    ensures { result ≡ answer_for side }
+{
+    match side {
+        Side::X => true,
+        Side::Y => false,
+    }
+}
+
+/// Whether the side wins by filling a line.
+fn may_attack(kind: Kind, side: Side) -> bool
+    ensures { result ≡ may_attack kind side }
+{
+    match (kind, side) {
+        (Kind::MakerBreaker, Side::X) => true,
+        (Kind::MakerMaker, _) => true,
+        _ => false,
+    }
+}
+
+/// The points of the line.
+fn points_of(alloc: Global, line: &ThreatLine) -> Result<Vec<u16>, Memory>
+    requires { line.now.len ≤ 7 }
+    ensures { IfOk result (λ points. points.items ≡ points_of_line line.now) }
+{
+    let points = line.points[..usize::from(line.len)].to_vec(alloc)?;
+    Ok(points)
+}
+
+/// The points of the shortest threat line of the side to move, where one forces at most three replies.
+fn attack(alloc: Global, b: &mut Board<'_>) -> Result<Option<Vec<u16>>, Memory>
+    requires going { is_over b.old.game b.old.stand.position ≡ false }
+    ensures kept { b.new ≡ b.old }
+    ensures found { IfOk result (λ r. is_some r ≡ attack_wins b.old.game b.old.stand.position) }
+    ensures line { IfOk result (λ r. IfSome r (λ points. IsAttackLine b.old.game b.old.stand.position points.items)) }
+{
+    let turn = b.turn();
+    if !may_attack(b.kind(), turn) {
+        return Ok(None);
+    }
+    if b.game().bias != 1 {
+        return Ok(None);
+    }
+    match forced(b, turn, 3) {
+        Some(line) => Ok(Some(points_of(alloc, &line)?)),
+        None => Ok(None),
+    }
+}
+
+/// The side whose points make a line harmless to the claimer.
+fn breaker_of(kind: Kind, side: Side) -> Side
+    ensures { result ≡ breaker_of kind side }
+{
+    match kind {
+        Kind::AvoiderEnforcer => Side::Y,
+        Kind::MakerBreaker | Kind::MakerMaker | Kind::Switching => side,
+    }
+}
+
+/// Whether the board's counts show that not each of the lines meant can have two free points of its own: there are too many
+/// lines for the free points, or one line has fewer than two.
+fn is_short(b: &Board<'_>, side: Side) -> bool
+    ensures { result ≡ true → pairs_exist b.now.game b.now.stand.position side ≡ false }
+{
+    let breaker = breaker_of(b.kind(), side);
+    if b.live_count(breaker) > u32::from(b.free_count()) / 2 {
+        return true;
+    }
+    if b.live_with(breaker, 0) > 0 {
+        return true;
+    }
+    b.live_with(breaker, 1) > 0
+}
+
+/// The answer of the first criterion that decides the position, with the body that shows it. The board stands at the
+/// position, and does so afterwards.
+pub(crate) fn leaf(
+    alloc: Global,
+    g: &Game,
+    question: Score,
+    p: &Position,
+    b: &mut Board<'_>,
+    cache: &mut PairCache,
+) -> Result<Option<(bool, Body)>, Memory>
+    requires asked { IsQuestion g.now.kind question }
+    requires lines { g.now.kind ≢ Switching }
+    requires position { IsPosition g.now p.now }
+    requires stands { IsAt g.now p.now b.old }
+    requires fits { Fits cache.old (lines_of g.now) }
+    ensures kept { b.new ≡ b.old }
+    ensures fits { Fits cache.new (lines_of g.now) }
+    ensures decided { IfOk result (λ r. option_map (λ k. k.0) r ≡ decided g.now question p.now) }
+    ensures body { IfOk result (λ r. IfSome r (λ k. IsLeaf g.now question p.now k.0 k.1)) }
+{
+    if let Some(answer) = b.by_end(question) {
+        return Ok(Some((answer, Body::Over)));
+    }
+    let side = defender(g.kind, question);
+    if b.defends(question) {
+        return Ok(Some((answer_for(side), Body::Potential)));
+    }
+    if let Some(points) = attack(alloc, b)? {
+        return Ok(Some((answer_for(p.turn), Body::Threat(Points::from_vec(points)))));
+    }
+    if is_short(b, side) {
+        return Ok(None);
+    }
+    match pairs_leaf(alloc, g, p, side, cache)? {
+        Some(pairs) => Ok(Some((answer_for(side), Body::Pairs(Pairs::from_vec(pairs))))),
+        None => Ok(None),
+    }
+}

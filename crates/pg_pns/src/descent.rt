@@ -1,0 +1,76 @@
+//! The walk on the board from the root to the position that is expanded next, and back.
+ghost use Rattle.std.specs.Prelude.{◌≡◌, ◌<◌, IfSome, IfNone, None, Some, ℕ, List, length, get_or, slice_get, []};
+ghost use Rattle.std.specs.List.{All};
+ghost use Rattle.pg_base.specs.declared.score.Score.{Score};
+ghost use Rattle.pg_game.specs.declared.game.Game.{Game};
+ghost use Rattle.pg_game.specs.declared.position.Position.{Position};
+ghost use Rattle.pg_pns.specs.Descent.{IsOpenMove, HasOpen, IsAtStart, first_stand};
+ghost use Rattle.pg_pns.specs.Known.{answer_at};
+ghost use Rattle.pg_pns.specs.Search.{IsSearch, IsNext};
+
+use crate::guide::Guide;
+use crate::known::Answered;
+use crate::table::Table;
+use pg_board::Board;
+
+/// The first of the moves without an answer.
+fn first_open(moves: &[(u16, u32)], answers: &[Option<Answered>]) -> Option<(u16, u32)>
+    requires { All (λ m. m.1 < length answers.now) moves.now }
+    ensures some { IfSome result (IsOpenMove moves.now answers.now) }
+    ensures none { IfNone result (HasOpen moves.now answers.now → ⊥) }
+{
+    for m in moves {
+        if answers[m.1 as usize].is_none() {
+            return Some(*m);
+        }
+    }
+    None
+}
+
+/// The best of the moves at a place, with the place after it, and None where it isn't expanded.
+fn next_on_way(table: &Table, guide: &Guide, place: u32) -> Option<(u16, u32)>
+    requires search { (t : Score) × (list : List Position) × (g : Game) × IsSearch g t [] list table.now }
+    requires range { place < length table.now.positions.items }
+    ensures some { IfSome result (IsOpenMove (get_or table.now.moves.items place []) table.now.answers.items) }
+    ensures none { IfNone result (HasOpen (get_or table.now.moves.items place []) table.now.answers.items → ⊥) }
+{
+    let positions = table.positions.as_slice();
+    let side = positions[place as usize].turn;
+    let nexts = table.moves.as_slice();
+    let moves = nexts[place as usize].as_slice();
+    let answers = table.answers.as_slice();
+    let best = guide.best(side, place, moves, answers);
+    if best.is_some() {
+        return best;
+    }
+    first_open(moves, answers)
+}
+
+/// Goes down from the root by the best moves, on the board too, and gives the place of the position that is expanded next.
+pub(crate) fn go_down(table: &Table, guide: &Guide, board: &mut Board<'_>) -> u32
+    requires search { (t : Score) × (list : List Position) × IsSearch board.old.game t [] list table.now }
+    requires opened { answer_at table.now.answers.items 0 ≡ None }
+    requires starts { IsAtStart board.old.game board.old }
+    ensures next { IsNext table.now result }
+    ensures game { board.new.game ≡ board.old.game }
+    ensures stands { slice_get table.now.positions.items result ≡ Some board.new.stand.position }
+    ensures first { first_stand board.new ≡ board.old.stand }
+{
+    let mut place = 0;
+    while let Some((v, next)) = next_on_way(table, guide, place) {
+        board.play(v);
+        place = next;
+    }
+    place
+}
+
+/// Takes back all plays.
+pub(crate) fn go_up(board: &mut Board<'_>)
+    ensures game { board.new.game ≡ board.old.game }
+    ensures stand { board.new.stand ≡ first_stand board.old }
+    ensures earlier { board.new.earlier ≡ [] }
+{
+    while board.plays() > 0 {
+        board.undo();
+    }
+}

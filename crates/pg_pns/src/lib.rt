@@ -1,0 +1,21 @@
+//! A search for the answer to a question on a game: whether X reaches a score, with a claim that shows the answer.
+#![tactic(auto)]
+
+mod calls;
+mod claims;
+mod criteria;
+mod descent;
+mod expansion;
+mod guide;
+mod known;
+pub mod laws;
+mod lists;
+mod numbers;
+mod order;
+mod pruning;
+mod settle;
+mod table;
+mod work;
+
+pub use calls::{budget_of, search, search_with};
+pub use work::{Found, Work};

@@ -1,0 +1,176 @@
+//! The positions that a search has met.
+ghost use Rattle.std.specs.Prelude.{◌≡◌, ◌≢◌, ◌<◌, ◌≤◌, ◌+◌, ◌^◌, [], length, slice_get, Some, None, IfOk, IfSome, OnOk, true, false, option_map, List, ℕ};
+ghost use Rattle.std.specs.HashMap.{get};
+ghost use Rattle.pg_base.specs.declared.kind.Kind.TheVariants.{Switching};
+ghost use Rattle.pg_base.specs.declared.score.Score.{Score};
+ghost use Rattle.pg_game.specs.declared.game.Game.{Game};
+ghost use Rattle.pg_game.specs.declared.position.Position.{Position};
+ghost use Rattle.pg_game.specs.Decided.{decided, claimer, claimed_goal, IsQuestion};
+ghost use Rattle.pg_game.specs.Game.{lines_of, point_count, after, IsPosition};
+ghost use Rattle.pg_game.specs.Position.{is_free};
+ghost use Rattle.pg_game.specs.PositionLemmas.{equal_positions};
+ghost use Rattle.pg_match.specs.Cache.{Fits};
+ghost use Rattle.pg_pns.specs.Claims.{nodes_of};
+ghost use Rattle.pg_pns.specs.Descent.{IsAt};
+ghost use Rattle.pg_pns.specs.Met.{LeafAdds};
+ghost use Rattle.pg_pns.specs.Tree.{IsTreeOf, IsMetAt};
+
+use crate::claims::Claims;
+use crate::criteria::leaf;
+use crate::known::Answered;
+use crate::lists::{Moves, Places};
+use pg_base::{Memory, Score};
+use pg_board::Board;
+use pg_cert::Node;
+use pg_game::{Game, Position};
+use pg_match::PairCache;
+use std::alloc::Global;
+use std::collections::HashMap;
+
+/// The positions met, each at its place: their moves once they are expanded, the places before them, and their answers.
+#[derive(Debug, Drop)]
+pub(crate) struct Table {
+    pub(crate) positions: Vec<Position>,
+    pub(crate) places: HashMap<Position, u32>,
+    pub(crate) moves: Vec<Moves>,
+    pub(crate) parents: Vec<Places>,
+    pub(crate) answers: Vec<Option<Answered>>,
+    pub(crate) claims: Claims,
+}
+
+/// The answer of a criterion at a position, at which the board stands, kept with a node that shows it.
+pub(crate) fn leaf_answer(
+    alloc: Global,
+    g: &Game,
+    question: Score,
+    p: &Position,
+    board: &mut Board<'_>,
+    cache: &mut PairCache,
+    claims: &mut Claims,
+) -> Result<Option<Answered>, Memory>
+    requires asked { IsQuestion g.now.kind question }
+    requires lines { g.now.kind ≢ Switching }
+    requires position { IsPosition g.now p.now }
+    requires stands { IsAt g.now p.now board.old }
+    requires fits { Fits cache.old (lines_of g.now) }
+    requires yes_room { length (nodes_of claims.old true) < 2 ^ 32 }
+    requires no_room { length (nodes_of claims.old false) < 2 ^ 32 }
+    ensures kept { board.new ≡ board.old }
+    ensures fits { Fits cache.new (lines_of g.now) }
+    ensures adds { IfOk result (λ a. LeafAdds g.now question p.now a (nodes_of claims.old) (nodes_of claims.new)) }
+{
+    match leaf(alloc, g, question, p, board, cache)? {
+        Some((answer, body)) => {
+            let node = claims.add(
+                answer,
+                Node {
+                    x: p.x,
+                    y: p.y,
+                    turn: p.turn,
+                    left: p.left,
+                    body,
+                },
+            )?;
+            Ok(Some(Answered { answer, node }))
+        }
+        None => Ok(None),
+    }
+}
+
+impl Table {
+    /// No positions.
+    pub(crate) fn new(alloc: Global) -> Table
+        ensures tree { (g : Game) → (t : Score) → IsTreeOf g t result }
+        ensures places { (q : Position) → get equal_positions result.places q ≡ None }
+        ensures positions { result.positions.items ≡ [] }
+        ensures moves { result.moves.items ≡ [] }
+        ensures parents { result.parents.items ≡ [] }
+    {
+        Table {
+            positions: Vec::new(alloc),
+            places: HashMap::new(alloc),
+            moves: Vec::new(alloc),
+            parents: Vec::new(alloc),
+            answers: Vec::new(alloc),
+            claims: Claims::new(alloc),
+        }
+    }
+
+    /// The place of a position, and None where it wasn't met.
+    pub(crate) fn find(&self, q: &Position) -> Option<u32>
+        ensures { result ≡ get equal_positions self.now.places q.now }
+    {
+        match self.places.get(q) {
+            Some(place) => Some(*place),
+            None => None,
+        }
+    }
+
+    /// Adds a position that wasn't met, at which the board stands, and gives its place.
+    pub(crate) fn add(
+        &mut self,
+        alloc: Global,
+        g: &Game,
+        question: Score,
+        q: Position,
+        board: &mut Board<'_>,
+        cache: &mut PairCache,
+    ) -> Result<u32, Memory>
+        requires asked { IsQuestion g.now.kind question }
+        requires lines { g.now.kind ≢ Switching }
+        requires position { IsPosition g.now q }
+        requires fresh { get equal_positions self.old.places q ≡ None }
+        requires stands { IsAt g.now q board.old }
+        requires fits { Fits cache.old (lines_of g.now) }
+        requires few { length self.old.positions.items < 2 ^ 32 }
+        requires tree { IsTreeOf g.now question self.old }
+        ensures kept { board.new ≡ board.old }
+        ensures fits { Fits cache.new (lines_of g.now) }
+        ensures met { IfOk result (λ place. IsMetAt g.now question self.old self.new q place) }
+    {
+        let number = self.positions.len() as u32;
+        let answer = leaf_answer(alloc, g, question, &q, board, cache, &mut self.claims)?;
+        self.places.insert(q, number)?;
+        self.positions.push(q)?;
+        self.moves.push(Moves::new(alloc))?;
+        self.parents.push(Places::new(alloc))?;
+        self.answers.push(answer)?;
+        Ok(number)
+    }
+}
+
+/// The place of the position after a move of the position at which the board stands, which is added where it wasn't met
+/// yet.
+pub(crate) fn meet_after(
+    alloc: Global,
+    g: &Game,
+    question: Score,
+    p: &Position,
+    v: u16,
+    board: &mut Board<'_>,
+    cache: &mut PairCache,
+    table: &mut Table,
+) -> Result<u32, Memory>
+    requires asked { IsQuestion g.now.kind question }
+    requires lines { g.now.kind ≢ Switching }
+    requires position { IsPosition g.now p.now }
+    requires range { v < 1024 }
+    requires point { v < point_count g.now }
+    requires free { is_free p.now v ≡ true }
+    requires stands { IsAt g.now p.now board.old }
+    requires fits { Fits cache.old (lines_of g.now) }
+    requires few { length table.old.positions.items < 2 ^ 32 }
+    requires tree { IsTreeOf g.now question table.old }
+    ensures kept { board.new ≡ board.old }
+    ensures fits { Fits cache.new (lines_of g.now) }
+    ensures met { IfOk result (λ place. IsMetAt g.now question table.old table.new (after g.now p.now v) place) }
+{
+    let q = g.after(p, v);
+    if let Some(known) = table.find(&q) {
+        return Ok(known);
+    }
+    board.play(v);
+    let added = table.add(alloc, g, question, q, board, cache);
+    board.undo();
+    added
+}
