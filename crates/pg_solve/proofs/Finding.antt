@@ -1,0 +1,199 @@
+-- What is found by questions and by classes, as the clauses of solving say it.
+use Rattle.std.proofs.Common.{◌≡◌, ◌∙◌, ℕ, zero, suc, ◌<◌, ◌≤◌, Bool, true, false, List, [], ◌∷◌, Option, Some, length, map, refl, sym, ap, subst, arith, slice_get, get_or, IfSome}
+use Rattle.std.proofs.lemmas.Option.{none-some}
+use Rattle.std.specs.List.{All}
+use Rattle.pg_base.specs.declared.goal.Goal.{Goal}
+use Rattle.pg_base.specs.declared.goal.Goal.TheVariants.{Win, Draw as AtLeastDraw}
+use Rattle.pg_base.specs.declared.kind.Kind.{Kind}
+use Rattle.pg_base.specs.declared.kind.Kind.TheVariants.{MakerBreaker, MakerMaker, AvoiderEnforcer, Switching}
+use Rattle.pg_base.specs.declared.score.Score.{Score}
+use Rattle.pg_base.specs.declared.score.Score.TheVariants.{XWins, Draw, YWins}
+use Rattle.pg_base.specs.declared.side.Side.{Side}
+use Rattle.pg_base.specs.declared.side.Side.TheVariants.{X, Y}
+use Rattle.pg_cert.specs.Limits.{IsClaim, IsWithinLimits, node_count}
+use Rattle.pg_cert.specs.Valid.{IsValid, IsValidClaim}
+use Rattle.pg_cert.specs.declared.cert.Cert.{Cert}
+use Rattle.pg_cert.specs.declared.cert.Claim.{Claim}
+use Rattle.pg_game.specs.Decided.{claimed_goal}
+use Rattle.pg_game.specs.Fit.{is_switching}
+use Rattle.pg_game.specs.Settled.{IsTable, IsOpenTable}
+use Rattle.pg_game.specs.declared.game.Game.{Game}
+use Rattle.pg_game.specs.declared.position.Position.{Position}
+use Rattle.pg_pns.specs.Expanded.{Expanded}
+use Rattle.pg_solve.proofs.Searching.{claims-value, denied-value, yes-win, no-win}
+use Rattle.pg_solve.specs.Due.{Heading, heading, due_for_value, winner, wins}
+use Rattle.pg_solve.specs.EdgeClaims.{IsEdgeClaim, needs_e}
+use Rattle.pg_solve.specs.Left.{IsLeft, IsLeftOpen, IsAskedLast}
+use Rattle.pg_solve.specs.Searched.{last_question, IsSearched, AreValueClaims}
+use Rattle.pg_solve.specs.Solved.{certificate_of, due, is_class, IsTrueOf, IsShown, IsClassified, IsFoundBy}
+use Rattle.pg_solve.specs.declared.solution.Solution.{Solution}
+use Rattle.pg_solve.specs.declared.solution.Solution.TheVariants.{Value, Class as ForClass, Unknown}
+
+-- ---- the second question
+
+pub left-second : (g : Game) (budget : ℕ) (denial : Claim) (work : Expanded) → g.kind ≡ MakerMaker → IsSearched g budget XWins false denial
+    → work.question ≡ Some Draw → IsTable g Draw work.positions → length work.positions ≤ budget → IsLeft g budget work
+left-second g budget denial work kind denied held rules count = record { question = Draw; held = held; asked = (kind, denied-value g budget denial kind denied); rules = rules; count = count }
+
+pub open-second : (g : Game) (budget : ℕ) (denial : Claim) (work : Expanded) → g.kind ≡ MakerMaker → IsSearched g budget XWins false denial
+    → work.question ≡ Some Draw → IsOpenTable g Draw budget work.positions → IsLeftOpen g budget work
+open-second g budget denial work kind denied held unsettled = record { question = Draw; held = held; asked = (kind, denied-value g budget denial kind denied); unsettled = unsettled }
+
+-- ---- lists of one and of two claims
+
+heading-is : (c : Claim) (turn side : Side) (goal : Goal) → c.turn ≡ turn → c.side ≡ side → c.goal ≡ goal → heading c ≡ record { turn = turn; side = side; goal = goal }
+heading-is c turn side goal same_turn same_side same_goal = rw (same_turn, same_side, same_goal) refl
+
+headings-one : (claims : List Claim) (claim : Claim) (h : Heading) → claims ≡ claim ∷ [] → heading claim ≡ h → map heading claims ≡ h ∷ []
+headings-one claims claim h one is = ap (map heading) one ∙ ap (λ (k : Heading). k ∷ []) is
+
+headings-two : (claims : List Claim) (one other : Claim) (h k : Heading) → claims ≡ one ∷ other ∷ [] → heading one ≡ h → heading other ≡ k → map heading claims ≡ h ∷ k ∷ []
+headings-two claims one other h k two first second = ap (map heading) two ∙ (ap (λ (i : Heading). i ∷ heading other ∷ []) first ∙ ap (λ (i : Heading). h ∷ i ∷ []) second)
+
+valid-one : (g : Game) (cert : Cert) (claim : Claim) → cert.claims ≡ claim ∷ [] → IsValidClaim g claim → IsValid g cert
+valid-one g cert claim one valid i c at = only i (subst (λ (cs : List Claim). slice_get cs i ≡ Some c) one at)
+  where
+    only : (i : ℕ) → slice_get (claim ∷ []) i ≡ Some c → IsValidClaim g c
+    only zero here = let same : claim ≡ c = cc in subst (λ (d : Claim). IsValidClaim g d) same valid
+    only (suc i) here = absurd (none-some c here)
+
+valid-two : (g : Game) (cert : Cert) (one other : Claim) → cert.claims ≡ one ∷ other ∷ [] → IsValidClaim g one → IsValidClaim g other → IsValid g cert
+valid-two g cert one other two valid too i c at = each i (subst (λ (cs : List Claim). slice_get cs i ≡ Some c) two at)
+  where
+    each : (i : ℕ) → slice_get (one ∷ other ∷ []) i ≡ Some c → IsValidClaim g c
+    each zero here = let same : one ≡ c = cc in subst (λ (d : Claim). IsValidClaim g d) same valid
+    each (suc zero) here = let same : other ≡ c = cc in subst (λ (d : Claim). IsValidClaim g d) same too
+    each (suc (suc i)) here = absurd (none-some c here)
+
+within-one : (cert : Cert) (claim : Claim) → cert.claims ≡ claim ∷ [] → IsClaim claim → IsWithinLimits cert
+within-one cert claim one limits = record {
+  some = subst (λ (cs : List Claim). 0 < length cs) (sym one) (omega arith);
+  few = subst (λ (cs : List Claim). length cs ≤ 8) (sym one) (omega arith);
+  claims = subst (λ (cs : List Claim). All IsClaim cs) (sym one) each;
+  nodes = subst (λ (cs : List Claim). node_count cs ≤ 200000) (sym one) (let few = limits.few in omega (arith, few));
+}
+  where
+    each : (k : ℕ) (d : Claim) → k < 1 → IsClaim (get_or (claim ∷ []) k d)
+    each zero d lt = limits
+    each (suc k) d lt = absurd (omega arith)
+
+within-two : (cert : Cert) (one other : Claim) → cert.claims ≡ one ∷ other ∷ [] → IsClaim one → IsClaim other → IsWithinLimits cert
+within-two cert one other two limits too = record {
+  some = subst (λ (cs : List Claim). 0 < length cs) (sym two) (omega arith);
+  few = subst (λ (cs : List Claim). length cs ≤ 8) (sym two) (omega arith);
+  claims = subst (λ (cs : List Claim). All IsClaim cs) (sym two) each;
+  nodes = subst (λ (cs : List Claim). node_count cs ≤ 200000) (sym two) (let first = limits.few in let second = too.few in omega (arith, first, second));
+}
+  where
+    each : (k : ℕ) (d : Claim) → k < 2 → IsClaim (get_or (one ∷ other ∷ []) k d)
+    each zero d lt = limits
+    each (suc zero) d lt = too
+    each (suc (suc k)) d lt = absurd (omega arith)
+
+-- ---- claims that show a value
+
+value-headings : (g : Game) (budget : ℕ) (table : List Position) (score : Score) (claims : List Claim) → AreValueClaims g budget table score claims → map heading claims ≡ due_for_value g.turn score
+value-headings g budget table XWins claims is = headings-one claims is.claim _ is.one (heading-is is.claim g.turn X Win is.shows.turn is.shows.side (is.shows.goal ∙ yes-win g.kind))
+value-headings g budget table YWins claims is = headings-one claims is.claim _ is.one (heading-is is.claim g.turn Y Win is.shows.turn is.shows.side (is.shows.goal ∙ no-win g.kind))
+value-headings g budget table Draw claims is =
+    headings-two claims is.denial is.claim _ _ is.two
+    (heading-is is.denial g.turn Y AtLeastDraw is.denies.shows.turn is.denies.shows.side (is.denies.shows.goal ∙ ap (λ (k : Kind). claimed_goal k XWins false) is.kind))
+    (heading-is is.claim g.turn X AtLeastDraw is.shows.turn is.shows.side (is.shows.goal ∙ ap (λ (k : Kind). claimed_goal k Draw true) is.kind))
+
+value-valid : (g : Game) (budget : ℕ) (table : List Position) (score : Score) (cert : Cert) → AreValueClaims g budget table score cert.claims → IsValid g cert
+value-valid g budget table XWins cert is = valid-one g cert is.claim is.one is.shows.valid
+value-valid g budget table YWins cert is = valid-one g cert is.claim is.one is.shows.valid
+value-valid g budget table Draw cert is = valid-two g cert is.denial is.claim is.two is.denies.shows.valid is.shows.valid
+
+value-within : (g : Game) (budget : ℕ) (table : List Position) (score : Score) (cert : Cert) → g.bias ≡ 1 → AreValueClaims g budget table score cert.claims → IsWithinLimits cert
+value-within g budget table XWins cert single is = within-one cert is.claim is.one (is.shows.limits single)
+value-within g budget table YWins cert single is = within-one cert is.claim is.one (is.shows.limits single)
+value-within g budget table Draw cert single is = within-two cert is.denial is.claim is.two (is.denies.shows.limits single) (is.shows.limits single)
+
+-- ---- the clauses, for a game on lines
+
+not-switching : (kind : Kind) → (kind ≡ Switching → ⊥) → false ≡ is_switching kind
+not-switching MakerBreaker ne = refl
+not-switching MakerMaker ne = refl
+not-switching AvoiderEnforcer ne = refl
+not-switching Switching ne = absurd (ne refl)
+
+module _ (g : Game) (budget : ℕ) (work : Expanded) where
+  pub found-kind : (g.kind ≡ Switching → ⊥) → (s : Solution) → IsFoundBy g budget work s → is_class s ≡ is_switching g.kind
+  found-kind ne (Value score cert) is = not-switching g.kind ne
+  found-kind ne (ForClass class cert) is = absurd is
+  found-kind ne Unknown is = not-switching g.kind ne
+
+  pub found-true : IsLeft g budget work → (s : Solution) → IsFoundBy g budget work s → IsTrueOf g s
+  found-true left (Value score cert) is =
+      let same : Some left.question ≡ Some (last_question g.kind score) = sym left.held ∙ is.0 in
+      let asked : left.question ≡ last_question g.kind score = cc in
+      claims-value g budget work.positions score cert.claims (subst (λ (t : Score). IsTable g t work.positions) asked left.rules) is.1
+  found-true left (ForClass class cert) is = absurd is
+  found-true left Unknown is = tt
+
+  pub found-claims : (s : Solution) → IsFoundBy g budget work s → IfSome (certificate_of s) (λ cert. map heading cert.claims ≡ due g.turn s)
+  found-claims (Value score cert) is = value-headings g budget work.positions score cert.claims is.1
+  found-claims (ForClass class cert) is = absurd is
+  found-claims Unknown is = tt
+
+  pub found-valid : (s : Solution) → IsFoundBy g budget work s → IfSome (certificate_of s) (IsValid g)
+  found-valid (Value score cert) is = value-valid g budget work.positions score cert is.1
+  found-valid (ForClass class cert) is = absurd is
+  found-valid Unknown is = tt
+
+  pub found-within : g.bias ≡ 1 → (s : Solution) → IsFoundBy g budget work s → IfSome (certificate_of s) IsWithinLimits
+  found-within single (Value score cert) is = value-within g budget work.positions score cert single is.1
+  found-within single (ForClass class cert) is = absurd is
+  found-within single Unknown is = tt
+
+  pub found-shown : (s : Solution) → IsFoundBy g budget work s → IsShown g budget work.positions s
+  found-shown (Value score cert) is = is.1
+  found-shown (ForClass class cert) is = absurd is
+  found-shown Unknown is = tt
+
+  pub found-last : (s : Solution) → IsFoundBy g budget work s → IsAskedLast g.kind work.question s
+  found-last (Value score cert) is = is.0
+  found-last (ForClass class cert) is = absurd is
+  found-last Unknown is = tt
+
+-- ---- the clauses, for a switching game
+
+edge-heading : (g : Game) (turn side : Side) (e : Bool) (c : Claim) → IsEdgeClaim g turn side e c → heading c ≡ wins turn side
+edge-heading g turn side e c is = heading-is c turn side Win is.same_turn is.same_side is.goal
+
+module _ (g : Game) where
+  pub classified-kind : g.kind ≡ Switching → (s : Solution) → IsClassified g s → is_class s ≡ is_switching g.kind
+  classified-kind kind (Value score cert) is = absurd is
+  classified-kind kind (ForClass class cert) is = sym (ap is_switching kind)
+  classified-kind kind Unknown is = absurd is
+
+  pub classified-true : (s : Solution) → IsClassified g s → IsTrueOf g s
+  classified-true (Value score cert) is = absurd is
+  classified-true (ForClass class cert) is = is.0
+  classified-true Unknown is = absurd is
+
+  pub classified-claims : (s : Solution) → IsClassified g s → IfSome (certificate_of s) (λ cert. map heading cert.claims ≡ due g.turn s)
+  classified-claims (Value score cert) is = absurd is
+  classified-claims (ForClass class cert) (right, are) = headings-two cert.claims are.first are.second _ _ are.two (edge-heading g X (winner class X) (needs_e class) are.first are.with_x) (edge-heading g Y (winner class Y) (needs_e class) are.second are.with_y)
+  classified-claims Unknown is = absurd is
+
+  pub classified-valid : (s : Solution) → IsClassified g s → IfSome (certificate_of s) (IsValid g)
+  classified-valid (Value score cert) is = absurd is
+  classified-valid (ForClass class cert) (right, are) = valid-two g cert are.first are.second are.two are.with_x.valid are.with_y.valid
+  classified-valid Unknown is = absurd is
+
+  pub classified-within : (s : Solution) → IsClassified g s → IfSome (certificate_of s) IsWithinLimits
+  classified-within (Value score cert) is = absurd is
+  classified-within (ForClass class cert) (right, are) = within-two cert are.first are.second are.two are.with_x.limits are.with_y.limits
+  classified-within Unknown is = absurd is
+
+  pub classified-shown : (budget : ℕ) (table : List Position) (s : Solution) → IsClassified g s → IsShown g budget table s
+  classified-shown budget table (Value score cert) is = absurd is
+  classified-shown budget table (ForClass class cert) is = is.1
+  classified-shown budget table Unknown is = absurd is
+
+  pub classified-last : (kind : Kind) (question : Option Score) (s : Solution) → IsClassified g s → IsAskedLast kind question s
+  classified-last kind question (Value score cert) is = absurd is
+  classified-last kind question (ForClass class cert) is = tt
+  classified-last kind question Unknown is = absurd is

@@ -1,0 +1,5 @@
+pub mod Values
+pub mod Searching
+pub mod EdgeNodes
+pub mod Counting
+pub mod Finding

@@ -1,0 +1,74 @@
+-- Claims of one node that stand on two sets of edges.
+use Rattle.std.specs.Prelude.{◌≡◌, Bool, true, false, List, [], ◌∷◌}
+use Rattle.pg_base.specs.declared.goal.Goal.TheVariants.{Win}
+use Rattle.pg_base.specs.declared.side.Side.{Side}
+use Rattle.pg_base.specs.declared.side.Side.TheVariants.{X, Y}
+use Rattle.pg_cert.specs.Limits.{IsClaim}
+use Rattle.pg_cert.specs.Node.{position_of}
+use Rattle.pg_cert.specs.Valid.{IsValidClaim}
+use Rattle.pg_cert.specs.declared.cert.Claim.{Claim}
+use Rattle.pg_cert.specs.declared.node.Body.{Body}
+use Rattle.pg_cert.specs.declared.node.Body.TheVariants.{Trees, Cuts}
+use Rattle.pg_cert.specs.declared.node.Node.{Node}
+use Rattle.pg_game.specs.Class.{Class as Named}
+use Rattle.pg_game.specs.Class.Class.{Short as ForShort, Cut as ForCut, First as ForFirst}
+use Rattle.pg_game.specs.Game.{with_turn}
+use Rattle.pg_game.specs.declared.game.Game.{Game}
+use Rattle.pg_game.specs.declared.position.Position.{Position}
+use Rattle.pg_lehman.specs.declared.class.Class.{Class as Sets}
+use Rattle.pg_lehman.specs.declared.class.Class.TheVariants.{Short as ShortSets, Cut as CutSets, First as FirstSets}
+use Rattle.pg_solve.specs.Due.{winner}
+use Rattle.pg_solve.specs.declared.solution.Class.{Class}
+use Rattle.pg_solve.specs.declared.solution.Class.TheVariants.{Short, Cut, First}
+
+-- X's trees, or Y's cuts, and whether e is in the first set
+abbrev pub IsEdgeBody : Side → Bool → Body → Type 0
+IsEdgeBody X with_e (Trees e first second) = e ≡ with_e
+IsEdgeBody Y with_e (Cuts e first second) = e ≡ with_e
+IsEdgeBody _ _ _ = ⊥
+
+-- the node with this body at the position
+abbrev pub node_at : Position → Body → Node
+node_at p body = record { x = p.x; y = p.y; turn = p.turn; left = p.left; body = body }
+
+-- the claim that the side wins with this turn, of one node at the game's marks
+abbrev pub claim_at : Game → Side → Side → Body → Claim
+claim_at g turn side body = record { turn = turn; side = side; goal = Win; nodes = node_at (with_turn g turn) body ∷ [] }
+
+-- With this turn the side wins, as one node at the game's marks shows by its sets of edges.
+pub record IsEdgeClaim (g : Game) (turn side : Side) (with_e : Bool) (claim : Claim) : Type 0 where
+  pub same_turn : claim.turn ≡ turn
+  pub same_side : claim.side ≡ side
+  pub goal : claim.goal ≡ Win
+  pub node : Node
+  pub one : claim.nodes ≡ node ∷ []
+  pub position : position_of node ≡ with_turn g turn
+  pub body : IsEdgeBody side with_e node.body
+  pub valid : IsValidClaim g claim
+  pub limits : IsClaim claim
+
+-- the class by its name in the rules
+abbrev pub named : Class → Named
+named Short = ForShort
+named Cut = ForCut
+named First = ForFirst
+
+-- the class that sets show
+abbrev pub without_sets : Sets → Class
+without_sets (ShortSets a1 a2) = Short
+without_sets (CutSets d1 d2) = Cut
+without_sets (FirstSets a1 a2 d1 d2) = First
+
+-- whether the sets of the class need e: where the side that moves first wins
+abbrev pub needs_e : Class → Bool
+needs_e Short = false
+needs_e Cut = false
+needs_e First = true
+
+-- Two claims show the class, with X and then with Y to move first.
+pub record AreClassClaims (g : Game) (class : Class) (claims : List Claim) : Type 0 where
+  pub first : Claim
+  pub second : Claim
+  pub two : claims ≡ first ∷ second ∷ []
+  pub with_x : IsEdgeClaim g X (winner class X) (needs_e class) first
+  pub with_y : IsEdgeClaim g Y (winner class Y) (needs_e class) second

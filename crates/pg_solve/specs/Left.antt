@@ -1,0 +1,46 @@
+-- What solving leaves in the work.
+use Rattle.std.specs.Prelude.{◌≡◌, ◌≢◌, ◌≤◌, ℕ, length, Option, Some}
+use Rattle.pg_base.specs.declared.kind.Kind.{Kind}
+use Rattle.pg_base.specs.declared.kind.Kind.TheVariants.{MakerMaker}
+use Rattle.pg_base.specs.declared.score.Score.{Score}
+use Rattle.pg_base.specs.declared.score.Score.TheVariants.{XWins, Draw, YWins}
+use Rattle.pg_game.specs.Game.{free_points, start}
+use Rattle.pg_game.specs.Settled.{IsTable, IsOpenTable}
+use Rattle.pg_game.specs.Value.{value}
+use Rattle.pg_game.specs.declared.game.Game.{Game}
+use Rattle.pg_pns.specs.Budget.{budget_for}
+use Rattle.pg_pns.specs.Expanded.{Expanded}
+use Rattle.pg_solve.specs.Searched.{last_question}
+use Rattle.pg_solve.specs.declared.solution.Solution.{Solution}
+use Rattle.pg_solve.specs.declared.solution.Solution.TheVariants.{Value, Class as ForClass, Unknown}
+
+-- how many positions may be expanded for each question where so many are asked for
+abbrev pub budget : Game → ℕ → ℕ
+budget g positions = budget_for (length (free_points g (start g))) positions
+
+-- what may have been asked last: whether X wins; or in Maker-Maker whether X at least draws, and then X doesn't win
+abbrev pub IsAsked : Game → Score → Type 0
+IsAsked g XWins = Unit {0}
+IsAsked g Draw = (g.kind ≡ MakerMaker) × (value g (start g) ≢ XWins)
+IsAsked g YWins = ⊥
+
+-- the work holds the question asked last, with positions expanded for it by the rules, no more than the budget
+pub record IsLeft (g : Game) (budget : ℕ) (work : Expanded) : Type 0 where
+  pub question : Score
+  pub held : work.question ≡ Some question
+  pub asked : IsAsked g question
+  pub rules : IsTable g question work.positions
+  pub count : length work.positions ≤ budget
+
+-- the work holds the question asked last, with exactly as many positions as the budget, which leave it open
+pub record IsLeftOpen (g : Game) (budget : ℕ) (work : Expanded) : Type 0 where
+  pub question : Score
+  pub held : work.question ≡ Some question
+  pub asked : IsAsked g question
+  pub unsettled : IsOpenTable g question budget work.positions
+
+-- where a value was found, the question held is the one whose answer tells it
+abbrev pub IsAskedLast : Kind → Option Score → Solution → Type 0
+IsAskedLast kind question (Value score certificate) = question ≡ Some (last_question kind score)
+IsAskedLast kind question (ForClass class certificate) = Unit {0}
+IsAskedLast kind question Unknown = Unit {0}

@@ -1,0 +1,64 @@
+//! Solving a switching game: its class, with the claims that show it.
+ghost use Rattle.std.specs.Prelude.{◌≡◌, IfOk};
+ghost use Rattle.pg_base.specs.declared.kind.Kind.TheVariants.{Switching};
+ghost use Rattle.pg_lehman.specs.Sets.{SetsHold};
+ghost use Rattle.pg_solve.specs.EdgeClaims.{without_sets, AreClassClaims};
+ghost use Rattle.pg_solve.specs.Solved.{IsClassified};
+
+use crate::certificates::two_claims;
+use crate::edge_claims::{cuts_claim, trees_claim};
+use crate::solution::{Class, Solution};
+use pg_base::{Memory, Side};
+use pg_cert::Cert;
+use pg_game::Game;
+use pg_lehman::{Class as Sets, classify};
+use std::alloc::Global;
+
+/// The class that the sets show.
+fn class_of(sets: &Sets) -> Class
+    ensures { result ≡ without_sets sets.now }
+{
+    match sets {
+        Sets::Short { .. } => Class::Short,
+        Sets::Cut { .. } => Class::Cut,
+        Sets::First { .. } => Class::First,
+    }
+}
+
+/// The claims of the sets, with X and then with Y to move first.
+fn class_certificate(alloc: Global, game: &Game, sets: &Sets) -> Result<Cert, Memory>
+    requires switching { game.now.kind ≡ Switching }
+    requires sets { SetsHold game.now sets.now }
+    ensures { IfOk result (λ certificate. AreClassClaims game.now (without_sets sets.now) certificate.claims) }
+{
+    match sets {
+        Sets::Short { a1, a2 } => {
+            let with_x = trees_claim(alloc, game, Side::X, a1, a2)?;
+            let with_y = trees_claim(alloc, game, Side::Y, a1, a2)?;
+            two_claims(alloc, with_x, with_y)
+        }
+        Sets::Cut { d1, d2 } => {
+            let with_x = cuts_claim(alloc, game, Side::X, d1, d2)?;
+            let with_y = cuts_claim(alloc, game, Side::Y, d1, d2)?;
+            two_claims(alloc, with_x, with_y)
+        }
+        Sets::First { a1, a2, d1, d2 } => {
+            let with_x = trees_claim(alloc, game, Side::X, a1, a2)?;
+            let with_y = cuts_claim(alloc, game, Side::Y, d1, d2)?;
+            two_claims(alloc, with_x, with_y)
+        }
+    }
+}
+
+/// The class of the switching game, with its certificate.
+pub(crate) fn classified(alloc: Global, game: &Game) -> Result<Solution, Memory>
+    requires { game.now.kind ≡ Switching }
+    ensures { IfOk result (IsClassified game.now) }
+{
+    let sets = classify(alloc, game)?;
+    let certificate = class_certificate(alloc, game, &sets)?;
+    Ok(Solution::Class {
+        class: class_of(&sets),
+        certificate,
+    })
+}

@@ -1,0 +1,14 @@
+//! Solving: any game is decided, with the certificate that shows it. A switching game gets its class by two forests (Lehman
+//! 1964), a game on lines its value by a best-first search that asks at most two questions.
+#![tactic(auto)]
+
+mod certificates;
+mod classes;
+mod edge_claims;
+pub mod laws;
+mod questions;
+mod solution;
+mod solving;
+
+pub use solution::{Class, Solution};
+pub use solving::{LEAST_POSITIONS, MOST_POSITIONS, solve};
