@@ -6,7 +6,6 @@ use Rattle.std.proofs.lemmas.List.Sums.{sum_by-cons}
 use Rattle.pg_base.specs.Side.{other}
 use Rattle.pg_base.specs.declared.side.Side.{Side}
 use Rattle.pg_base.specs.declared.side.Side.TheVariants.{X, Y}
-use Rattle.pg_io.specs.Files.{Bytes}
 use Rattle.pg_io.specs.declared.entry.Entry.{Entry}
 use Rattle.pg_io.specs.declared.entry.Entry.TheVariants.{Said, Heard, Skipped, Ended}
 use Rattle.pg_game.specs.declared.game.Game.{Game}
@@ -16,7 +15,10 @@ use Rattle.pg_game.specs.Play.{IsLegalPlay, played}
 use Rattle.pg_game.specs.Position.{is_free}
 use Rattle.pg_cli.specs.Dialogue.{Stage, At, Owes, Over, Steps, Leads, EndsWith, IsOwnMove, position_at, is_heard, after_refusal, after_reply}
 use Rattle.pg_cli.specs.Reply.{said_number, point_or_refusal, replied_point}
-use Rattle.pg_cli.specs.Texts.{no_such_point, taken}
+use Rattle.pg_cli.specs.declared.dialogue.TheConstants.{MAX_REFUSALS}
+use Rattle.pg_texts.specs.declared.message.ReplyFault.{ReplyFault}
+use Rattle.pg_texts.specs.declared.message.ReplyFault.TheVariants.{NoPoint, Taken}
+use Rattle.pg_texts.specs.declared.statuses.TheConstants.{DONE, INPUT_ENDED, OUT_OF_REPLIES}
 
 -- no side is the other side
 apart : (side turn : Side) → turn ≡ side → turn ≢ other side
@@ -37,7 +39,7 @@ own_first g side p refusals Ended next going own theirs = absurd (apart side p.t
 said_free : (g : Game) (p : Position) (o : Option ℕ) (v : ℕ) → point_or_refusal g p o ≡ Ok v → (v < point_count g) × (is_free p v ≡ true)
 said_free g p None v e = absurd (cc e)
 said_free g p (Some n) v e = go (nat_lt n (point_count g)) (is_free p n) refl refl e where
-  go : (within free : Bool) → nat_lt n (point_count g) ≡ within → is_free p n ≡ free → (if within then (if free then Ok n else Err taken) else Err no_such_point) ≡ Ok v → (v < point_count g) × (is_free p v ≡ true)
+  go : (within free : Bool) → nat_lt n (point_count g) ≡ within → is_free p n ≡ free → (if within then (if free then Ok n else Err Taken) else Err NoPoint) ≡ Ok v → (v < point_count g) × (is_free p v ≡ true)
   go true true lt is e =
       let same : n ≡ v = cc e in
       let below : n < point_count g = grind (arith, nat_tests, lt) in
@@ -49,8 +51,8 @@ said_free g p (Some n) v e = go (nat_lt n (point_count g)) (is_free p n) refl re
 
 -- after a refusal the position is the same
 refusal_stays : (p : Position) (refusals : ℕ) → position_at (after_refusal p refusals) ≡ p
-refusal_stays p refusals = go (nat_eq (refusals + 1) 100) where
-  go : (last : Bool) → position_at (if last then Over p 9 else At p (refusals + 1)) ≡ p
+refusal_stays p refusals = go (nat_eq (refusals + 1) MAX_REFUSALS) where
+  go : (last : Bool) → position_at (if last then Over p OUT_OF_REPLIES else At p (refusals + 1)) ≡ p
   go true = refl
   go false = refl
 
@@ -58,9 +60,9 @@ refusal_stays p refusals = go (nat_eq (refusals + 1) 100) where
 abbrev pub IsStep : Game → Position → Position → Type 0
 IsStep g p q = (q ≡ p) ⊎ ((v : ℕ) × (is_over g p ≡ false) × (v < point_count g) × (is_free p v ≡ true) × (q ≡ after g p v))
 
-reply_moves : (g : Game) (p : Position) (refusals : ℕ) (o : Option ℕ) (r : Result ℕ Bytes) → is_over g p ≡ false → point_or_refusal g p o ≡ r → IsStep g p (position_at (after_reply g p refusals r))
+reply_moves : (g : Game) (p : Position) (refusals : ℕ) (o : Option ℕ) (r : Result ℕ ReplyFault) → is_over g p ≡ false → point_or_refusal g p o ≡ r → IsStep g p (position_at (after_reply g p refusals r))
 reply_moves g p refusals o (Ok v) going e = let legal = said_free g p o v e in inr (v, going, legal.0, legal.1, refl)
-reply_moves g p refusals o (Err text) going e = inl refl
+reply_moves g p refusals o (Err fault) going e = inl refl
 
 steps_move : (g : Game) (side : Side) (s m : Stage) (entry : Entry) → Steps g side s entry m → IsStep g (position_at s) (position_at m)
 steps_move g side (At p refusals) m (Said text) (inl result) = inl (ap position_at result.2)
@@ -69,10 +71,10 @@ steps_move g side (At p refusals) m (Heard line) h =
     subst (λ (q : Position). IsStep g p q) (sym (ap position_at h.1)) (reply_moves g p refusals (said_number line) (replied_point g p line) h.0.0 refl)
 steps_move g side (At p refusals) m (Skipped line) h = inl (ap position_at h.1)
 steps_move g side (At p refusals) m Ended h = inl (ap position_at h.1)
-steps_move g side (Owes p refusals text) m (Said said) h = inl (ap position_at h.1 ∙ refusal_stays p refusals)
-steps_move g side (Owes p refusals text) m (Heard line) h = absurd h
-steps_move g side (Owes p refusals text) m (Skipped line) h = absurd h
-steps_move g side (Owes p refusals text) m Ended h = absurd h
+steps_move g side (Owes p refusals fault) m (Said text) h = inl (ap position_at h.1 ∙ refusal_stays p refusals)
+steps_move g side (Owes p refusals fault) m (Heard line) h = absurd h
+steps_move g side (Owes p refusals fault) m (Skipped line) h = absurd h
+steps_move g side (Owes p refusals fault) m Ended h = absurd h
 steps_move g side (Over p status) m entry h = absurd h
 
 -- a legal play leads from one position to another
@@ -95,18 +97,18 @@ dialogues_play g side s t (entry ∷ entries) (m, step, rest) =
 -- a refusal is owed in a game that goes on, and an end has its status
 abbrev pub IsFair : Game → Stage → Type 0
 IsFair g (At p refusals) = Unit {0}
-IsFair g (Owes p refusals text) = is_over g p ≡ false
+IsFair g (Owes p refusals fault) = is_over g p ≡ false
 IsFair g (Over p status) = EndsWith g p status
 
 refusal_fair : (g : Game) (p : Position) (refusals : ℕ) (m : Stage) → is_over g p ≡ false → m ≡ after_refusal p refusals → IsFair g m
-refusal_fair g p refusals m going is = subst (λ (n : Stage). IsFair g n) (sym is) (go (nat_eq (refusals + 1) 100)) where
-  go : (last : Bool) → IsFair g (if last then Over p 9 else At p (refusals + 1))
+refusal_fair g p refusals m going is = subst (λ (n : Stage). IsFair g n) (sym is) (go (nat_eq (refusals + 1) MAX_REFUSALS)) where
+  go : (last : Bool) → IsFair g (if last then Over p OUT_OF_REPLIES else At p (refusals + 1))
   go true = inr (going, inr refl)
   go false = tt
 
-reply_fair : (g : Game) (p : Position) (refusals : ℕ) (r : Result ℕ Bytes) → is_over g p ≡ false → IsFair g (after_reply g p refusals r)
+reply_fair : (g : Game) (p : Position) (refusals : ℕ) (r : Result ℕ ReplyFault) → is_over g p ≡ false → IsFair g (after_reply g p refusals r)
 reply_fair g p refusals (Ok v) going = tt
-reply_fair g p refusals (Err text) going = going
+reply_fair g p refusals (Err fault) going = going
 
 steps_fair : (g : Game) (side : Side) (s m : Stage) (entry : Entry) → IsFair g s → Steps g side s entry m → IsFair g m
 steps_fair g side (At p refusals) m (Said text) fair (inl result) = subst (λ (n : Stage). IsFair g n) (sym result.2) (inl (result.0, refl))
@@ -114,10 +116,10 @@ steps_fair g side (At p refusals) m (Said text) fair (inr move) = subst (λ (n :
 steps_fair g side (At p refusals) m (Heard line) fair h = subst (λ (n : Stage). IsFair g n) (sym h.1) (reply_fair g p refusals (replied_point g p line) h.0.0)
 steps_fair g side (At p refusals) m (Skipped line) fair h = subst (λ (n : Stage). IsFair g n) (sym h.1) h.0.0
 steps_fair g side (At p refusals) m Ended fair h = subst (λ (n : Stage). IsFair g n) (sym h.1) (inr (h.0.0, inl refl))
-steps_fair g side (Owes p refusals text) m (Said said) fair h = refusal_fair g p refusals m fair h.1
-steps_fair g side (Owes p refusals text) m (Heard line) fair h = absurd h
-steps_fair g side (Owes p refusals text) m (Skipped line) fair h = absurd h
-steps_fair g side (Owes p refusals text) m Ended fair h = absurd h
+steps_fair g side (Owes p refusals fault) m (Said text) fair h = refusal_fair g p refusals m fair h.1
+steps_fair g side (Owes p refusals fault) m (Heard line) fair h = absurd h
+steps_fair g side (Owes p refusals fault) m (Skipped line) fair h = absurd h
+steps_fair g side (Owes p refusals fault) m Ended fair h = absurd h
 steps_fair g side (Over p status) m entry fair h = absurd h
 
 pub stays_fair : (g : Game) (side : Side) (s t : Stage) (entries : List Entry) → IsFair g s → Leads g side s entries t → IsFair g t
@@ -130,32 +132,32 @@ stays_fair g side s t (entry ∷ entries) fair (m, step, rest) = stays_fair g si
 abbrev pub LeavesFewer : Type 0
 LeavesFewer = (g : Game) (p : Position) (v : ℕ) → v < point_count g → is_free p v ≡ true → length (free_points g (after g p v)) < length (free_points g p)
 
--- how often something may still be heard, and that fewer than a hundred replies have been refused
+-- how often something may still be heard, and that fewer replies have been refused than may be
 abbrev pub budget : Game → Stage → ℕ
-budget g (At p refusals) = length (free_points g p) + (100 - refusals)
-budget g (Owes p refusals text) = length (free_points g p) + (99 - refusals)
+budget g (At p refusals) = length (free_points g p) + (MAX_REFUSALS - refusals)
+budget g (Owes p refusals fault) = length (free_points g p) + (MAX_REFUSALS - 1 - refusals)
 budget g (Over p status) = 0
 
 abbrev pub Under : Stage → Type 0
-Under (At p refusals) = refusals < 100
-Under (Owes p refusals text) = refusals < 100
+Under (At p refusals) = refusals < MAX_REFUSALS
+Under (Owes p refusals fault) = refusals < MAX_REFUSALS
 Under (Over p status) = Unit {0}
 
 -- an entry that takes so much leaves the rest
 abbrev pub Leaves : Game → Stage → ℕ → Stage → Type 0
 Leaves g s taken m = Under m × (taken + budget g m ≤ budget g s)
 
-refusal_leaves : (g : Game) (p : Position) (refusals : ℕ) (text : Bytes) (m : Stage) → refusals < 100 → m ≡ after_refusal p refusals → Leaves g (Owes p refusals text) 0 m
-refusal_leaves g p refusals text m few is = subst (λ (n : Stage). Leaves g (Owes p refusals text) 0 n) (sym is) (go (nat_eq (refusals + 1) 100) refl) where
-  go : (last : Bool) → nat_eq (refusals + 1) 100 ≡ last → Leaves g (Owes p refusals text) 0 (if last then Over p 9 else At p (refusals + 1))
+refusal_leaves : (g : Game) (p : Position) (refusals : ℕ) (fault : ReplyFault) (m : Stage) → refusals < MAX_REFUSALS → m ≡ after_refusal p refusals → Leaves g (Owes p refusals fault) 0 m
+refusal_leaves g p refusals fault m few is = subst (λ (n : Stage). Leaves g (Owes p refusals fault) 0 n) (sym is) (go (nat_eq (refusals + 1) MAX_REFUSALS) refl) where
+  go : (last : Bool) → nat_eq (refusals + 1) MAX_REFUSALS ≡ last → Leaves g (Owes p refusals fault) 0 (if last then Over p OUT_OF_REPLIES else At p (refusals + 1))
   go true e = (tt, omega arith)
-  go false e = let other : refusals + 1 ≢ 100 = grind (arith, nat_tests, e) in (omega (arith, few, other), omega (arith, few, other))
+  go false e = let other : refusals + 1 ≢ MAX_REFUSALS = grind (arith, nat_tests, e) in (omega (arith, few, other), omega (arith, few, other))
 
-reply_leaves : LeavesFewer → (g : Game) (p : Position) (refusals : ℕ) (o : Option ℕ) (r : Result ℕ Bytes) → refusals < 100 → point_or_refusal g p o ≡ r → Leaves g (At p refusals) 1 (after_reply g p refusals r)
+reply_leaves : LeavesFewer → (g : Game) (p : Position) (refusals : ℕ) (o : Option ℕ) (r : Result ℕ ReplyFault) → refusals < MAX_REFUSALS → point_or_refusal g p o ≡ r → Leaves g (At p refusals) 1 (after_reply g p refusals r)
 reply_leaves fewer g p refusals o (Ok v) few e = let legal = said_free g p o v e in (few, omega (arith, few, fewer g p v legal.0 legal.1))
-reply_leaves fewer g p refusals o (Err text) few e = (few, omega (arith, few))
+reply_leaves fewer g p refusals o (Err fault) few e = (few, omega (arith, few))
 
-result_leaves : (g : Game) (p : Position) (refusals status : ℕ) (m : Stage) → m ≡ Over p status → refusals < 100 → Leaves g (At p refusals) 1 m
+result_leaves : (g : Game) (p : Position) (refusals status : ℕ) (m : Stage) → m ≡ Over p status → refusals < MAX_REFUSALS → Leaves g (At p refusals) 1 m
 result_leaves g p refusals status m is few = subst (λ (n : Stage). Leaves g (At p refusals) 1 n) (sym is) (tt, omega (arith, few))
 
 -- how often an entry was heard
@@ -164,17 +166,17 @@ heard_in entry = if is_heard entry then 1 else 0
 
 steps_leave : LeavesFewer → (g : Game) (side : Side) (s m : Stage) (entry : Entry) → Under s → Steps g side s entry m → Leaves g s (heard_in entry) m
 steps_leave fewer g side (At p refusals) m (Said text) few (inl result) =
-    let left = result_leaves g p refusals 0 m result.2 few in (left.0, omega (arith, left.1))
+    let left = result_leaves g p refusals DONE m result.2 few in (left.0, omega (arith, left.1))
 steps_leave fewer g side (At p refusals) m (Said text) few (inr (v, going, own, within, free, said, is)) =
     subst (λ (n : Stage). Leaves g (At p refusals) 0 n) (sym is) (few, omega (arith, few, fewer g p v within free))
 steps_leave fewer g side (At p refusals) m (Heard line) few h =
     subst (λ (n : Stage). Leaves g (At p refusals) 1 n) (sym h.1) (reply_leaves fewer g p refusals (said_number line) (replied_point g p line) few refl)
 steps_leave fewer g side (At p refusals) m (Skipped line) few h = subst (λ (n : Stage). Leaves g (At p refusals) 1 n) (sym h.1) (few, omega (arith, few))
-steps_leave fewer g side (At p refusals) m Ended few h = result_leaves g p refusals 8 m h.1 few
-steps_leave fewer g side (Owes p refusals text) m (Said said) few h = refusal_leaves g p refusals text m few h.1
-steps_leave fewer g side (Owes p refusals text) m (Heard line) few h = absurd h
-steps_leave fewer g side (Owes p refusals text) m (Skipped line) few h = absurd h
-steps_leave fewer g side (Owes p refusals text) m Ended few h = absurd h
+steps_leave fewer g side (At p refusals) m Ended few h = result_leaves g p refusals INPUT_ENDED m h.1 few
+steps_leave fewer g side (Owes p refusals fault) m (Said text) few h = refusal_leaves g p refusals fault m few h.1
+steps_leave fewer g side (Owes p refusals fault) m (Heard line) few h = absurd h
+steps_leave fewer g side (Owes p refusals fault) m (Skipped line) few h = absurd h
+steps_leave fewer g side (Owes p refusals fault) m Ended few h = absurd h
 steps_leave fewer g side (Over p status) m entry few h = absurd h
 
 pub hears_few : LeavesFewer → (g : Game) (side : Side) (s t : Stage) (entries : List Entry) → Under s → Leads g side s entries t → count_by is_heard entries ≤ budget g s

@@ -1,14 +1,25 @@
--- Claims that a check accepts are forced.
-use Rattle.std.proofs.Common.{◌≡◌, ◌⊎◌, ℕ, suc, Bool, true, false, cond, List, [], ◌∷◌, find, slice_get, Option, Some, None, Result, Ok, Err, refl, sym, ◌∙◌, ap, subst, inl, inr, arith}
+-- Claims that are said are forced.
+use Rattle.std.proofs.Common.{◌≡◌, ◌≢◌, ◌⊎◌, ℕ, zero, suc, ◌<◌, nat_eq, Bool, true, false, cond, List, [], ◌∷◌, ◌++◌, length, get_or, map, find, slice_get, Option, Some, None, Result, Ok, Err, refl, sym, ◌∙◌, ap, subst, inl, inr, arith}
+use Rattle.std.specs.Prelude.{codes, IfSome}
+use Rattle.std.specs.List.{Contains}
+use Rattle.std.specs.Option.{option_or}
 use Rattle.std.proofs.lemmas.Bool.{and_parts}
+use Rattle.std.proofs.lemmas.Bool.Decides.{nat_tests}
+use Rattle.std.proofs.lemmas.List.{append_cancel_left, append-nil}
+use Rattle.std.proofs.lemmas.List.Elements.{Contains-append_left, Contains-append_right, Contains-append_cases}
+use Rattle.pg_base.specs.Goal.{goal_word}
+use Rattle.pg_base.specs.Side.{is_same_side, side_word}
+use Rattle.pg_base.specs.declared.goal.Goal.{Goal}
+use Rattle.pg_base.specs.declared.goal.Goal.TheVariants.{Win, Draw}
 use Rattle.pg_base.specs.declared.side.Side.{Side}
 use Rattle.pg_base.specs.declared.side.Side.TheVariants.{X, Y}
-use Rattle.pg_io.specs.Files.{Bytes, Holding}
-use Rattle.pg_io.specs.Console.{Grows}
+use Rattle.pg_io.specs.Console.{ConsoleTold, Grows}
+use Rattle.pg_io.specs.Files.{Bytes, Holding, FilesTold}
 use Rattle.pg_io.specs.declared.entry.Entry.{Entry}
-use Rattle.pg_io.specs.declared.entry.Entry.TheVariants.{Said}
+use Rattle.pg_io.specs.declared.entry.Entry.TheVariants.{Said, Heard, Skipped, Ended}
 use Rattle.pg_game.specs.declared.game.Game.{Game}
 use Rattle.pg_files.specs.GameFile.{game, Entry as GameEntry}
+use Rattle.pg_files.specs.Views.{entry}
 use Rattle.pg_cert_files.specs.CertFile.{certificate}
 use Rattle.pg_cert.specs.Limits.{IsWithinLimits}
 use Rattle.pg_cert.specs.Valid.{IsValid}
@@ -16,48 +27,141 @@ use Rattle.pg_cert.specs.declared.cert.Cert.{Cert}
 use Rattle.pg_cert.specs.declared.cert.Claim.{Claim}
 use Rattle.pg_game.specs.Game.{with_turn, start}
 use Rattle.pg_game.specs.Value.{Forces}
-use Rattle.pg_cli.specs.Accepted.{IsForced, AreSaid, AreForced, IsForcedOf, SaysForcedClaim, AnnouncesForced}
-use Rattle.pg_cli.specs.Answer.{Answer, lacking, or_answer, game_held, certificate_held, both, both_held, IsSaidBy, Checks, ChecksTo}
-use Rattle.pg_player.specs.Player.{is_same_side, is_win, is_claim_of, is_win_of, first_claim, chosen_claim}
-use Rattle.pg_cli.specs.Run.{told, Finished, RefusesPlay, IsPlayedBy, Plays, Ran}
-use Rattle.pg_cli.specs.Texts.{claim_text}
-use Rattle.pg_cli.specs.Words.{Command, Check, Play}
-use Rattle.pg_cli.specs.Work.{Search}
+use Rattle.pg_player.specs.Player.{is_win, is_claim_of, is_win_of, chosen_claim}
+use Rattle.pg_texts.specs.Texts.{accepted_text, claim_text, move_text, reply_text, result_text, refusal_text, unknown_text}
+use Rattle.pg_texts.specs.declared.message.ReplyFault.{ReplyFault}
+use Rattle.pg_texts.specs.declared.message.ReplyFault.TheVariants.{NoNumber, NoPoint, Taken}
+use Rattle.pg_texts.specs.declared.refusal.Refusal.{Refusal}
+use Rattle.pg_texts.specs.declared.refusal.Refusal.TheVariants as refusals
+use Rattle.pg_words.specs.Words.{Command, Solve, Check, Play, Gen, Report}
+use Rattle.pg_cli.specs.Checking.{acceptance, AcceptsAll, SaysAll}
+use Rattle.pg_cli.specs.Commands.{game_read}
+use Rattle.pg_cli.specs.Dialogue.{Stage, At, Owes, Over, Steps, Leads}
+use Rattle.pg_cli.specs.Done.{Done, End, Finished, Failed, Starved, ending}
+use Rattle.pg_cli.specs.Forced.{SaysGame, IsForcedFrom, IsForced, AreForced, AnnouncesForced}
+use Rattle.pg_cli.specs.Playing.{IsPlayedBy, IsPlay, PlaysOn}
+use Rattle.pg_cli.specs.Reading.{or_halt, game_held, certificate_held, both, both_held, IsSaidBy}
+use Rattle.pg_cli.specs.Reporting.{Accounts, Reports}
+use Rattle.pg_cli.specs.Solving.{Solves, solution_text}
+use Rattle.pg_cli.specs.Storing.{Delivers}
+use Rattle.pg_solve.specs.Left.{budget}
+use Rattle.pg_solve.specs.Solved.{certificate_of}
+use Rattle.pg_solve.specs.declared.solution.Class.TheVariants.{Short, Cut, First}
+use Rattle.pg_solve.specs.declared.solution.Solution.{Solution}
+use Rattle.pg_solve.specs.declared.solution.Solution.TheVariants.{Value, Class as ForClass, Unknown}
+use Rattle.pg_cli.specs.Run.{Allows, Acts, Declines, RanOn, Ran}
+use Rattle.pg_pns.specs.Expanded.{Expanded}
+use Rattle.pg_cli.specs.declared.halt.Halt.{Halt}
 
-or_answer_ok : {T F : Type 0} (answer_to : F → Answer) (r : Result T F) (x : T) → or_answer answer_to r ≡ Ok x → r ≡ Ok x
-or_answer_ok answer_to (Ok y) x e = let same : y ≡ x = cc e in ap (λ z. Ok z) same
-or_answer_ok answer_to (Err fault) x e = absurd (cc e)
+-- ---- texts that neither accept a claim nor say one
 
--- an answer to a fault has a status other than 0, where all of them have
-or_answer_err : {T F : Type 0} (answer_to : F → Answer) (r : Result T F) (a : Answer) (n : ℕ) → ((fault : F) → (answer_to fault).status ≡ n) → or_answer answer_to r ≡ Err a → a.status ≡ n
-or_answer_err answer_to (Ok y) a n all e = absurd (cc e)
-or_answer_err answer_to (Err fault) a n all e = let same : a ≡ answer_to fault = cc e in ap (λ (b : Answer). b.status) same ∙ all fault
+-- by its first letter it doesn't accept a claim, and by its fourth it says none
+abbrev pub IsOther : Bytes → Type 0
+IsOther text = (get_or text 0 0 ≢ 97) × (get_or text 3 0 ≢ 105)
 
-game_status : (o : Option Bytes) (a : Answer) → game_held o ≡ Err a → a.status ≡ 0 → ⊥
-game_status None a e zero = let same : a ≡ lacking = cc e in absurd (omega (arith, ap (λ (b : Answer). b.status) same, zero))
-game_status (Some text) a e zero = let three : a.status ≡ 3 = or_answer_err _ (game text) a 3 (λ fault. refl) e in omega (arith, three, zero)
+apart : (a b : ℕ) → nat_eq a b ≡ false → a ≢ b
+apart a b e = grind (arith, nat_tests, e)
 
-certificate_status : (o : Option Bytes) (a : Answer) → certificate_held o ≡ Err a → a.status ≡ 0 → ⊥
-certificate_status None a e zero = let same : a ≡ lacking = cc e in absurd (omega (arith, ap (λ (b : Answer). b.status) same, zero))
-certificate_status (Some text) a e zero = let four : a.status ≡ 4 = or_answer_err _ (certificate text) a 4 (λ fault. refl) e in omega (arith, four, zero)
+refusal_other : (refusal : Refusal) → IsOther (refusal_text refusal)
+refusal_other refusals.NoMeaning = (apart _ 97 refl, apart _ 105 refl)
+refusal_other (refusals.NoClaim side) = (apart _ 97 refl, apart _ 105 refl)
+refusal_other (refusals.Game number line) = (apart _ 97 refl, apart _ 105 refl)
+refusal_other (refusals.Certificate number line) = (apart _ 97 refl, apart _ 105 refl)
+refusal_other (refusals.Rejected claim node why) = (apart _ 97 refl, apart _ 105 refl)
 
-both_err : (p : Result GameEntry Answer) (q : Result Cert Answer) (a : Answer) → both p q ≡ Err a → (p ≡ Err a) ⊎ (q ≡ Err a)
-both_err (Err b) q a e = inl (cc e)
-both_err (Ok x) (Err b) a e = inr (cc e)
-both_err (Ok x) (Ok c) a e = absurd (cc e)
+reply_other : (fault : ReplyFault) → IsOther (reply_text fault)
+reply_other NoNumber = (apart _ 97 refl, apart _ 105 refl)
+reply_other NoPoint = (apart _ 97 refl, apart _ 105 refl)
+reply_other Taken = (apart _ 97 refl, apart _ 105 refl)
 
-both_ok : (p : Result GameEntry Answer) (q : Result Cert Answer) (pair : GameEntry × Cert) → both p q ≡ Ok pair → (p ≡ Ok pair.0) × (q ≡ Ok pair.1)
+-- what is said next in a dialogue is another text
+step_other : (g : Game) (side : Side) (s m : Stage) (text : Bytes) → Steps g side s (Said text) m → IsOther text
+step_other g side (At p refusals) m text (inl result) = subst (λ (t : Bytes). IsOther t) (sym result.1) (apart _ 97 refl, apart _ 105 refl)
+step_other g side (At p refusals) m text (inr move) = subst (λ (t : Bytes). IsOther t) (sym move.5) (apart _ 97 refl, apart _ 105 refl)
+step_other g side (Owes p refusals fault) m text step = subst (λ (t : Bytes). IsOther t) (sym step.0) (reply_other fault)
+step_other g side (Over p status) m text step = absurd step
+
+-- ---- members of lists
+
+one_of : {A : Type 0} (x y : A) → Contains (x ∷ []) y → x ≡ y
+one_of x y (zero, lt, e) = e
+one_of x y (suc k, lt, e) = absurd (omega (arith, lt))
+
+first_or_later : {A : Type 0} (x : A) (xs : List A) (y : A) → Contains (x ∷ xs) y → (x ≡ y) ⊎ Contains xs y
+first_or_later x xs y among = elim (Contains-append_cases (x ∷ []) xs y among) as (λ _. (x ≡ y) ⊎ Contains xs y) [ inl here ↦ inl (one_of x y here) | inr later ↦ inr later ]
+
+none_of : {A : Type 0} (y : A) → Contains [] y → ⊥
+none_of y (k, lt, e) = absurd (omega (arith, lt))
+
+-- a member of a list of images is the image of a member
+image_of : {A B : Type 0} (f : A → B) (xs : List A) (y : B) → Contains (map f xs) y → (i : ℕ) × (x : A) × (slice_get xs i ≡ Some x) × (f x ≡ y)
+image_of f [] y among = absurd (none_of y among)
+image_of f (x ∷ xs) y among = elim (first_or_later (f x) (map f xs) y among) as (λ _. (i : ℕ) × (z : _) × (slice_get (x ∷ xs) i ≡ Some z) × (f z ≡ y)) [
+  | inl here ↦ (0, x, refl, here)
+  | inr later ↦ let rest = image_of f xs y later in (suc rest.0, rest.1, rest.2, rest.3)
+]
+
+said_is : (a b : Bytes) → Said a ≡ Said b → a ≡ b
+said_is a b e = cc e
+
+-- ---- what is said of other texts alone
+
+others_forced : (bytes : Option Bytes) (entries : List Entry) → ((text : Bytes) → Contains entries (Said text) → IsOther text) → AreForced bytes entries
+others_forced bytes entries others = record {
+  accepted = λ turn side claimed among. absurd ((others (accepted_text turn side claimed) among).0 refl);
+  claimed = λ side claimed among. absurd ((others (claim_text side claimed) among).1 refl);
+}
+
+leads_other : (g : Game) (side : Side) (s t : Stage) (entries : List Entry) → Leads g side s entries t → (text : Bytes) → Contains entries (Said text) → IsOther text
+leads_other g side s t [] leads text among = absurd (none_of (Said text) among)
+leads_other g side s t (entry ∷ entries) (m, step, rest) text among = elim (first_or_later entry entries (Said text) among) as (λ _. IsOther text) [
+  | inl here ↦ step_other g side s m text (subst (λ (e : Entry). Steps g side s e m) here step)
+  | inr later ↦ leads_other g side m t entries rest text later
+]
+
+-- ---- words that texts share
+
+side_words : (s t : Side) (a b : Bytes) → side_word s ++ a ≡ side_word t ++ b → (s ≡ t) × (a ≡ b)
+side_words X X a b e = (refl, append_cancel_left (codes "x") a b e)
+side_words X Y a b e = absurd (apart 120 121 refl (ap (λ (t : Bytes). get_or t 0 0) e))
+side_words Y X a b e = absurd (apart 121 120 refl (ap (λ (t : Bytes). get_or t 0 0) e))
+side_words Y Y a b e = (refl, append_cancel_left (codes "y") a b e)
+
+goal_words : (s t : Goal) (a b : Bytes) → goal_word s ++ a ≡ goal_word t ++ b → s ≡ t
+goal_words Win Win a b e = refl
+goal_words Win Draw a b e = absurd (apart 119 100 refl (ap (λ (t : Bytes). get_or t 0 0) e))
+goal_words Draw Win a b e = absurd (apart 100 119 refl (ap (λ (t : Bytes). get_or t 0 0) e))
+goal_words Draw Draw a b e = refl
+
+claim_words : (side side' : Side) (claimed claimed' : Goal) → claim_text side claimed ≡ claim_text side' claimed' → (side ≡ side') × (claimed ≡ claimed')
+claim_words side side' claimed claimed' e =
+    let first = side_words side side' _ _ (append_cancel_left (codes "claim ") _ _ e) in
+    (first.0, goal_words claimed claimed' _ _ (append_cancel_left (codes " ") _ _ first.1))
+
+accepted_words : (turn turn' side side' : Side) (claimed claimed' : Goal) → accepted_text turn side claimed ≡ accepted_text turn' side' claimed' → (turn ≡ turn') × (side ≡ side') × (claimed ≡ claimed')
+accepted_words turn turn' side side' claimed claimed' e =
+    let first = side_words turn turn' _ _ (append_cancel_left (codes "accepted ") _ _ e) in
+    let second = side_words side side' _ _ (append_cancel_left (codes " ") _ _ first.1) in
+    (first.0, second.0, goal_words claimed claimed' _ _ (append_cancel_left (codes " ") _ _ second.1))
+
+-- ---- what both names hold
+
+or_halt_ok : {T F : Type 0} (halt_of : F → Halt) (r : Result T F) (x : T) → or_halt halt_of r ≡ Ok x → r ≡ Ok x
+or_halt_ok halt_of (Ok y) x e = let same : y ≡ x = cc e in ap (λ z. Ok z) same
+or_halt_ok halt_of (Err fault) x e = absurd (cc e)
+
+both_ok : (p : Result GameEntry Halt) (q : Result Cert Halt) (pair : GameEntry × Cert) → both p q ≡ Ok pair → (p ≡ Ok pair.0) × (q ≡ Ok pair.1)
 both_ok (Err b) q pair e = absurd (cc e)
 both_ok (Ok x) (Err b) pair e = absurd (cc e)
 both_ok (Ok x) (Ok c) pair e = let same : (x, c) ≡ pair = cc e in (ap (λ (p : GameEntry × Cert). Ok p.0) same, ap (λ (p : GameEntry × Cert). Ok p.1) same)
 
 game_there : (o : Option Bytes) (x : GameEntry) → game_held o ≡ Ok x → (text : Bytes) × (o ≡ Some text) × (game text ≡ Ok x)
 game_there None x e = absurd (cc e)
-game_there (Some text) x e = (text, refl, or_answer_ok _ (game text) x e)
+game_there (Some text) x e = (text, refl, or_halt_ok _ (game text) x e)
 
 certificate_there : (o : Option Bytes) (x : Cert) → certificate_held o ≡ Ok x → (text : Bytes) × (o ≡ Some text) × (certificate text ≡ Ok x)
 certificate_there None x e = absurd (cc e)
-certificate_there (Some text) x e = (text, refl, or_answer_ok _ (certificate text) x e)
+certificate_there (Some text) x e = (text, refl, or_halt_ok _ (certificate text) x e)
 
 -- what is read of a certificate is within the limits
 abbrev pub ReadsWithinLimits : Type 0
@@ -65,49 +169,17 @@ ReadsWithinLimits = (text : Bytes) (c : Cert) → certificate text ≡ Ok c → 
 
 -- each claim of a valid certificate within the limits is forced
 abbrev pub ValidClaimsAreForced : Type 0
-ValidClaimsAreForced = (g : Game) (c : Cert) → IsWithinLimits c → IsValid g c → (i : ℕ) (claim : Claim) → slice_get c.claims i ≡ Some claim → IsForced g claim
+ValidClaimsAreForced = (g : Game) (c : Cert) → IsWithinLimits c → IsValid g c → (i : ℕ) (claim : Claim) → slice_get c.claims i ≡ Some claim → Forces g (with_turn g claim.turn) claim.side claim.goal
 
--- what both names hold, where a game and a certificate are read from them
-abbrev are_said : (g c : Option Bytes) (pair : GameEntry × Cert) (played : Game) → both_held g c ≡ Ok pair → IsSaidBy pair.0 played → AreSaid g c
-are_said g c pair played e said =
+-- the game that is read, and a certificate within the limits
+said_game : ReadsWithinLimits → (g c : Option Bytes) (pair : GameEntry × Cert) (played : Game) → both_held g c ≡ Ok pair → IsSaidBy pair.0 played → SaysGame g played × IsWithinLimits pair.1
+said_game limits g c pair played e said =
     let parts = both_ok (game_held g) (certificate_held c) pair e in
     let first = game_there g pair.0 parts.0 in
     let second = certificate_there c pair.1 parts.1 in
-    record {
-      game_text = first.0;
-      game_held = first.1;
-      played = played;
-      game_said = first.2 ∙ ap (λ (x : GameEntry). Ok x) (sym said.0);
-      single = said.1;
-      certificate_text = second.0;
-      certificate_held = second.1;
-      checked = pair.1;
-      certificate_said = second.2;
-    }
+    (record { text = first.0; held = first.1; said = first.2 ∙ ap (λ (x : GameEntry). Ok x) (sym said.0); single = said.1 }, limits second.0 pair.1 second.2)
 
--- the answer of a check with status 0 accepts forced claims
-abbrev pub AcceptedAreForced : Type 0
-AcceptedAreForced = (g c : Option Bytes) (a : Answer) → ChecksTo g c a → a.status ≡ 0 → AreForced g c a.texts
-
-pub accepted_are_forced : ReadsWithinLimits → ValidClaimsAreForced → AcceptedAreForced
-accepted_are_forced limits valid_forced g c a checks zero = go (both_held g c) refl checks where
-  go : (r : Result (GameEntry × Cert) Answer) → both_held g c ≡ r → Checks r a → AreForced g c a.texts
-  go (Err refusal) e same =
-      let none : refusal.status ≡ 0 = ap (λ (b : Answer). b.status) (sym same) ∙ zero in
-      elim (both_err (game_held g) (certificate_held c) refusal e) as (λ _. AreForced g c a.texts)
-      [ inl p ↦ absurd (game_status g refusal p none) | inr q ↦ absurd (certificate_status c refusal q none) ]
-  go (Ok pair) e (played, said, inl accepts) =
-      let files = are_said g c pair played e said in
-      record {
-        files = files;
-        accepted = ap (λ (b : Answer). b.texts) accepts.1;
-        forced = valid_forced played pair.1 (limits files.certificate_text pair.1 files.certificate_said) accepts.0;
-      }
-  go (Ok pair) e (played, said, inr rejects) =
-      let four : a.status ≡ 4 = ap (λ (b : Answer). b.status) rejects.4 in
-      absurd (omega (arith, four, zero))
-
--- ---- play
+-- ---- the claim that is chosen
 
 -- what is found is in the list and passes the test
 found : {A : Type 0} (test : A → Bool) (xs : List A) (x : A) → find test xs ≡ Some x → (i : ℕ) × (slice_get xs i ≡ Some x) × (test x ≡ true)
@@ -137,61 +209,175 @@ of_side g c side claim (i, at, test) =
 chosen : (g : Game) (c : Cert) (side : Side) (claim : Claim) → chosen_claim g c side ≡ Some claim → IsChosen g c side claim
 unfolding chosen_claim
 chosen g c side claim e = go (find (is_win_of side g.turn) c.claims) refl e where
-  go : (o : Option Claim) → find (is_win_of side g.turn) c.claims ≡ o → first_claim o (find (is_claim_of side g.turn) c.claims) ≡ Some claim → IsChosen g c side claim
+  go : (o : Option Claim) → find (is_win_of side g.turn) c.claims ≡ o → option_or o (find (is_claim_of side g.turn) c.claims) ≡ Some claim → IsChosen g c side claim
   go (Some first) is e =
       let there = found (is_win_of side g.turn) c.claims claim (is ∙ e) in
       of_side g c side claim (there.0, there.1, (and_parts (is_claim_of side g.turn claim) (is_win claim.goal) there.2).0)
   go None is e = of_side g c side claim (found (is_claim_of side g.turn) c.claims claim e)
 
--- a claim by which a side is played is forced
-abbrev pub PlayedAreForced : Type 0
-PlayedAreForced = (g c : Option Bytes) (side : Side) (played : Game) (claim : Claim) → IsPlayedBy side (both_held g c) played claim → IsForcedOf g c side claim
+-- ---- a check
 
-pub played_are_forced : ReadsWithinLimits → ValidClaimsAreForced → PlayedAreForced
-unfolding IsChosen
-played_are_forced limits valid_forced g c side played claim by = go (both_held g c) refl by where
-  go : (r : Result (GameEntry × Cert) Answer) → both_held g c ≡ r → IsPlayedBy side r played claim → IsForcedOf g c side claim
-  go (Err refusal) e by = absurd by
-  go (Ok pair) e (said, valid, is) =
-      let files = are_said g c pair played e said in
-      let one = chosen played pair.1 side claim is in
-      let forces = valid_forced played pair.1 (limits files.certificate_text pair.1 files.certificate_said) valid one.0 claim one.1 in
-      let of_turn = subst (λ (turn : Side). Forces played (with_turn played turn) claim.side claim.goal) one.3 forces in
-      record {
-        files = files;
-        place = one.0;
-        one = one.1;
-        own = one.2;
-        forced = subst (λ (s : Side). Forces played (start played) s claim.goal) one.2 of_turn;
-      }
+-- a text among those that were said
+unsaid : (texts : List Bytes) (text : Bytes) → Contains (map Said texts) (Said text) → Contains texts text
+unsaid [] text among = absurd (none_of (Said text) among)
+unsaid (t ∷ texts) text among = elim (first_or_later (Said t) (map Said texts) (Said text) among) as (λ _. Contains (t ∷ texts) text) [
+  | inl here ↦ (0, omega arith, said_is t text here)
+  | inr later ↦ Contains-append_right (t ∷ []) texts text (unsaid texts text later)
+]
 
--- an answer that stands against a play has a status other than 0
-against : (g c : Option Bytes) (side : Side) (a : Answer) → RefusesPlay side (both_held g c) a → a.status ≡ 0 → ⊥
-against g c side a refuses zero = go (both_held g c) refl refuses where
-  go : (r : Result (GameEntry × Cert) Answer) → both_held g c ≡ r → RefusesPlay side r a → ⊥
-  go (Err refusal) e same =
-      let none : refusal.status ≡ 0 = ap (λ (b : Answer). b.status) (sym same) ∙ zero in
-      elim (both_err (game_held g) (certificate_held c) refusal e) as (λ _. ⊥) [ inl p ↦ game_status g refusal p none | inr q ↦ certificate_status c refusal q none ]
-  go (Ok pair) e (played, said, inl rejects) =
-      let four : a.status ≡ 4 = ap (λ (b : Answer). b.status) rejects.4 in
-      omega (arith, four, zero)
-  go (Ok pair) e (played, said, inr none) =
-      let two : a.status ≡ 2 = ap (λ (b : Answer). b.status) none.2 in
-      omega (arith, two, zero)
+-- all that was said accepts claims of the list
+accepts_among : (claims : List Claim) (entries : List Entry) (end : End) → SaysAll (map acceptance claims) entries end → (text : Bytes) → Contains entries (Said text)
+    → (i : ℕ) × (claim : Claim) × (slice_get claims i ≡ Some claim) × (acceptance claim ≡ text)
+accepts_among claims entries (Finished status) says text among =
+    image_of acceptance claims text (unsaid (map acceptance claims) text (subst (λ (l : List Entry). Contains l (Said text)) says.0 among))
+accepts_among claims entries Failed (front, rest, whole, is) text among =
+    let here = unsaid front text (subst (λ (l : List Entry). Contains l (Said text)) is among) in
+    image_of acceptance claims text (subst (λ (l : List Bytes). Contains l text) (sym whole) (Contains-append_left front rest text here))
+accepts_among claims entries Starved says text among = absurd says
 
--- ---- runs
+module _ (limits : ReadsWithinLimits) (valid_forced : ValidClaimsAreForced) where
+  check_forced : (g c : Option Bytes) (entries : List Entry) (end : End) → AcceptsAll (both_held g c) entries end → AreForced g entries
+  check_forced g c entries end accepts = go (both_held g c) refl accepts where
+    go : (r : Result (GameEntry × Cert) Halt) → both_held g c ≡ r → AcceptsAll r entries end → AreForced g entries
+    go (Err halt) e accepts = absurd accepts
+    go (Ok pair) e (played, said, valid, says) =
+        let there = said_game limits g c pair played e said in
+        record {
+          accepted = λ turn side claimed among.
+              let one = accepts_among pair.1.claims entries end says (accepted_text turn side claimed) among in
+              let words = accepted_words one.1.turn turn one.1.side side one.1.goal claimed one.3 in
+              let forces = valid_forced played pair.1 there.1 valid one.0 one.1 one.2 in
+              let by_turn = subst (λ (t : Side). Forces played (with_turn played t) one.1.side one.1.goal) words.0 forces in
+              let by_side = subst (λ (s : Side). Forces played (with_turn played turn) s one.1.goal) words.1 by_turn in
+              (played, there.0, subst (λ (k : Goal). Forces played (with_turn played turn) side k) words.2 by_side);
+          claimed = λ side claimed among.
+              let one = accepts_among pair.1.claims entries end says (claim_text side claimed) among in
+              absurd (not_both one.1.turn one.1.side side one.1.goal claimed one.3);
+        }
+      where
+        not_both : (turn side side' : Side) (claimed claimed' : Goal) → accepted_text turn side claimed ≡ claim_text side' claimed' → ⊥
+        not_both turn side side' claimed claimed' e = apart 97 99 refl (ap (λ (t : Bytes). get_or t 0 0) e)
 
-pub forced_when_ran : AcceptedAreForced → PlayedAreForced → (command : Option Command) (held held' : Option Holding) (log log' : Option (List Entry)) (left left' : Option Bytes) (work : Search) (status : ℕ)
-    → Ran command (told held log left) (told held' log' left') work (Finished status) → status ≡ 0 → AnnouncesForced held command log log'
-forced_when_ran law played command None held' log log' left left' work status ran zero = tt
-forced_when_ran law played None (Some held) held' log log' left left' work status ran zero = tt
-forced_when_ran law played (Some (Check g c)) (Some held) held' log log' left left' work status ran zero =
-    let one = ran.allowed in
-    (one.0.texts, law (held g) (held c) one.0 one.1 (sym one.2.1 ∙ zero), subst (λ (l : List Entry). Grows log log' l) one.2.0 ran.logged)
-forced_when_ran law played (Some (Play g c side)) (Some held) held' log log' left left' work status ran zero = go ran.allowed.0 where
-  go : Plays side (both_held (held g) (held c)) ran.done.entries (Finished status) → SaysForcedClaim (held g) (held c) side log log'
-  go (inl (a, refuses, said, given)) = absurd (against (held g) (held c) side a refuses (sym given ∙ zero))
-  go (inr (game, claim, by, whole)) =
-      let forced = played (held g) (held c) side game claim by in
-      let entries = subst (λ (s : Side). ran.done.entries ≡ Said (claim_text s claim.goal) ∷ whole.others) forced.own whole.said in
-      (claim, whole.others, forced, subst (λ (l : List Entry). Grows log log' l) entries ran.logged)
+  -- ---- a play
+
+  -- the claim that is played is forced
+  play_claim_forced : (g c : Option Bytes) (side : Side) (played : Game) (claim : Claim) → IsPlayedBy side (both_held g c) played claim → IsForced g claim.side claim.goal
+  unfolding IsChosen
+  play_claim_forced g c side played claim by = go (both_held g c) refl by where
+    go : (r : Result (GameEntry × Cert) Halt) → both_held g c ≡ r → IsPlayedBy side r played claim → IsForced g claim.side claim.goal
+    go (Err halt) e by = absurd by
+    go (Ok pair) e (said, valid, is) =
+        let there = said_game limits g c pair played e said in
+        let one = chosen played pair.1 side claim is in
+        let forces = valid_forced played pair.1 there.1 valid one.0 claim one.1 in
+        (played, there.0, subst (λ (turn : Side). Forces played (with_turn played turn) claim.side claim.goal) one.3 forces)
+
+  -- the claim is said, and then other texts
+  claim_forced : (bytes : Option Bytes) (claim : Claim) (entries others : List Entry) → IsForced bytes claim.side claim.goal → entries ≡ Said (claim_text claim.side claim.goal) ∷ others
+      → ((text : Bytes) → Contains others (Said text) → IsOther text) → AreForced bytes entries
+  claim_forced bytes claim entries others forced is quiet = record {
+    accepted = λ turn side claimed among.
+        elim (split (accepted_text turn side claimed) among) as (λ _. IsForcedFrom bytes turn side claimed) [
+          | inl here ↦ absurd (not_both turn side claimed here)
+          | inr later ↦ absurd ((quiet (accepted_text turn side claimed) later).0 refl)
+        ];
+    claimed = λ side claimed among.
+        elim (split (claim_text side claimed) among) as (λ _. IsForced bytes side claimed) [
+          | inl here ↦ let words = claim_words claim.side side claim.goal claimed here in
+              subst (λ (k : Goal). IsForced bytes side k) words.1 (subst (λ (s : Side). IsForced bytes s claim.goal) words.0 forced)
+          | inr later ↦ absurd ((quiet (claim_text side claimed) later).1 refl)
+        ];
+  } where
+    split : (text : Bytes) → Contains entries (Said text) → (claim_text claim.side claim.goal ≡ text) ⊎ Contains others (Said text)
+    split text among = elim (first_or_later (Said (claim_text claim.side claim.goal)) others (Said text) (subst (λ (l : List Entry). Contains l (Said text)) is among))
+        as (λ _. (claim_text claim.side claim.goal ≡ text) ⊎ Contains others (Said text)) [ inl here ↦ inl (said_is _ text here) | inr later ↦ inr later ]
+
+    not_both : (turn side : Side) (claimed : Goal) → claim_text claim.side claim.goal ≡ accepted_text turn side claimed → ⊥
+    not_both turn side claimed e = apart 99 97 refl (ap (λ (t : Bytes). get_or t 0 0) e)
+
+  play_forced : (g c : Option Bytes) (side : Side) (entries : List Entry) (end : End) → PlaysOn side (both_held g c) entries end → AreForced g entries
+  play_forced g c side entries (Finished status) (played, claim, by, whole) =
+      claim_forced g claim entries whole.others (play_claim_forced g c side played claim by) whole.said (leads_other played claim.side (At (start played) 0) _ whole.others whole.dialogue)
+  play_forced g c side entries Failed (played, claim, by, unended) =
+      claim_forced g claim entries unended.others (play_claim_forced g c side played claim by) unended.said (leads_other played claim.side (At (start played) 0) unended.dialogue.0 unended.others unended.dialogue.2)
+  play_forced g c side entries Starved (played, claim, by, none) = absurd none
+
+  -- ---- solving
+
+  -- nothing was said
+  silent_forced : (bytes : Option Bytes) (entries : List Entry) → entries ≡ [] → AreForced bytes entries
+  silent_forced bytes entries none = others_forced bytes entries (λ text among. absurd (none_of (Said text) (subst (λ (l : List Entry). Contains l (Said text)) none among)))
+
+  solution_other : (g : Game) (solution : Solution) (c : Cert) → certificate_of solution ≡ Some c → IsOther (solution_text g solution)
+  solution_other g (Value score certificate) c own = (apart _ 97 refl, apart _ 105 refl)
+  solution_other g (ForClass Short certificate) c own = (apart _ 97 refl, apart _ 105 refl)
+  solution_other g (ForClass Cut certificate) c own = (apart _ 97 refl, apart _ 105 refl)
+  solution_other g (ForClass First certificate) c own = (apart _ 97 refl, apart _ 105 refl)
+  solution_other g Unknown c own = absurd (cc own)
+
+  -- one other text was said
+  other_forced : (bytes : Option Bytes) (entries : List Entry) (said : Bytes) → entries ≡ Said said ∷ [] → IsOther said → AreForced bytes entries
+  other_forced bytes entries said is other = others_forced bytes entries
+      (λ text among. let here = one_of (Said said) (Said text) (subst (λ (l : List Entry). Contains l (Said text)) is among) in
+      subst (λ (t : Bytes). IsOther t) (said_is said text here) other)
+
+  solves_forced : (bytes : Option Bytes) (read : Result GameEntry Halt) (name : Bytes) (positions : ℕ) (work : Expanded) (done : Done) (end : End) → Solves read name positions work done end → AreForced bytes done.entries
+  solves_forced bytes (Err halt) name positions work done end solves = absurd solves
+  solves_forced bytes (Ok e) name positions work done (Finished status) (g, said, inl stays) = other_forced bytes done.entries (unknown_text (budget g positions)) stays.said (apart _ 97 refl, apart _ 105 refl)
+  solves_forced bytes (Ok e) name positions work done (Finished status) (g, said, inr (solution, c, shows, delivers)) =
+      other_forced bytes done.entries (solution_text g solution) (ap (λ (d : Done). d.entries) delivers.0) (solution_other g solution c shows.own)
+  solves_forced bytes (Ok e) name positions work done Failed (g, said, (solution, c, shows, delivers)) = silent_forced bytes done.entries (ap (λ (d : Done). d.entries) delivers)
+  solves_forced bytes (Ok e) name positions work done Starved (g, said, none) = absurd none
+
+  -- ---- a report
+
+  account_other : (g : Game) (c : Cert) (text : Bytes) (status : ℕ) → Accounts g c text status → IsOther text
+  account_other g c text status (inl tells) = subst (λ (t : Bytes). IsOther t) (sym tells.text_is) (apart _ 97 refl, apart _ 105 refl)
+  account_other g c text status (inr tells) = subst (λ (t : Bytes). IsOther t) (sym tells.text_is) (apart _ 97 refl, apart _ 105 refl)
+
+  reports_forced : (bytes : Option Bytes) (read : Result (GameEntry × Cert) Halt) (entries : List Entry) (end : End) → Reports read entries end → AreForced bytes entries
+  reports_forced bytes (Err halt) entries end none = absurd none
+  reports_forced bytes (Ok pair) entries (Finished status) (g, said, text, told, is) = other_forced bytes entries text is (account_other g pair.1 text status told)
+  reports_forced bytes (Ok pair) entries Failed none = absurd none
+  reports_forced bytes (Ok pair) entries Starved none = absurd none
+
+  -- ---- all commands
+
+  acts_forced : (held : Holding) (command : Option Command) (work : Expanded) (done : Done) (end : End) → Acts held command work done end → AreForced (game_read held command) done.entries
+  acts_forced held None work done end acts = absurd acts
+  acts_forced held (Some (Solve g c None)) work done end acts = absurd acts
+  acts_forced held (Some (Solve g c (Some positions))) work done end acts = solves_forced (held g) (game_held (held g)) c positions work done end acts
+  acts_forced held (Some (Check g c)) work done end acts = check_forced (held g) (held c) done.entries end acts.0
+  acts_forced held (Some (Play g c side)) work done end acts = play_forced (held g) (held c) side done.entries end acts.0
+  acts_forced held (Some (Gen which g c)) work done end acts = absurd acts
+  acts_forced held (Some (Report g c)) work done end acts = reports_forced (held g) (both_held (held g) (held c)) done.entries end acts.0
+
+  declines_forced : (held : Holding) (command : Option Command) (done : Done) (end : End) → Declines held command done end → AreForced (game_read held command) done.entries
+  declines_forced held command done (Finished status) (refusal, refuses, says, stored, is) = others_forced (game_read held command) done.entries
+      (λ text among. let here = one_of (Said (refusal_text refusal)) (Said text) (subst (λ (l : List Entry). Contains l (Said text)) says among) in
+      subst (λ (t : Bytes). IsOther t) (said_is (refusal_text refusal) text here) (refusal_other refusal))
+  declines_forced held command done Failed none = silent_forced (game_read held command) done.entries none.0
+  declines_forced held command done Starved none = silent_forced (game_read held command) done.entries none.0
+
+  pub announced : (held : Holding) (command : Option Command) (work : Expanded) (done : Done) (end : End) → Allows held command work done end → AreForced (game_read held command) done.entries
+  announced held command work done end (inl declines) = declines_forced held command done end declines
+  announced held command work done end (inr acts) = acts_forced held command work done end acts
+
+-- ---- a run
+
+abbrev pub AllowedAreForced : Type 0
+AllowedAreForced = (held : Holding) (command : Option Command) (work : Expanded) (done : Done) (end : End) → Allows held command work done end → AreForced (game_read held command) done.entries
+
+said_more : (before after : Option (List Entry)) (earlier entries more : List Entry) → before ≡ Some earlier → after ≡ Some (earlier ++ entries) → Grows before after more → more ≡ entries
+said_more None after earlier entries more before_is after_is grows = absurd (cc before_is)
+said_more (Some old) after earlier entries more before_is after_is grows =
+    let same : old ≡ earlier = cc before_is in
+    let whole : earlier ++ more ≡ earlier ++ entries = cc (subst (λ (l : List Entry). after ≡ Some (l ++ more)) same grows, after_is) in
+    append_cancel_left earlier more entries whole
+
+pub forced_ran : AllowedAreForced → (command : Option Command) (work : Expanded) (files files' : FilesTold) (before after : ConsoleTold) (status : ℕ) → Ran command work files files' before after status
+    → AnnouncesForced files.held command before.log after.log
+forced_ran law command work files files' before after status ran held earlier entries told before_is after_is =
+    let ran_on = subst (λ (h : Option Holding). IfSome h (λ held. RanOn held command work files' before after (ending status))) told ran in
+    subst (λ (l : List Entry). AreForced (game_read held command) l) (said_more before.log after.log earlier entries ran_on.0.entries before_is after_is ran_on.2.talked.logged)
+    (law held command work ran_on.0 (ending status) ran_on.1)

@@ -1,9 +1,13 @@
 pub mod Speaking
-pub mod Openings
-pub mod Digits
 pub mod Talking
 pub mod Turns
 pub mod Dialogues
+pub mod Openings
 pub mod Runs
 pub mod Plays
 pub mod Forced
+pub mod Ending
+pub mod Judging
+pub mod Reports
+pub mod Delivering
+pub mod Solves

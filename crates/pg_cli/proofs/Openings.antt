@@ -4,18 +4,23 @@ use Rattle.std.proofs.lemmas.Bool.{cases_lt}
 use Rattle.std.proofs.lemmas.Bool.Decides.{nat_tests}
 use Rattle.std.proofs.lemmas.List.{take_all}
 use Rattle.std.specs.Prelude.{IsErrAnd}
-use Rattle.pg_io.specs.Causes.{Rose}
+use Rattle.pg_io.specs.Causes.{Faults, Rose}
 use Rattle.pg_io.specs.Files.{Bytes, Holding, IsAbsent}
 use Rattle.pg_io.specs.Reading.{IsWhole, IsFile}
 use Rattle.pg_io.specs.Stop.{StopCauses}
 use Rattle.pg_io.specs.declared.stop.Stop.{Stop}
 use Rattle.pg_io.specs.declared.stop.Stop.TheVariants.{Read, Write, Memory}
 use Rattle.pg_game.specs.declared.game.Game.{Game}
+use Rattle.pg_files.specs.declared.limits.TheConstants.{MAX_GAME_BYTES}
+use Rattle.pg_cert_files.specs.declared.limits.TheConstants.{MAX_CERT_BYTES}
 use Rattle.pg_files.specs.GameFile.{game, Entry as GameEntry}
+use Rattle.pg_files.specs.Views.{entry}
 use Rattle.pg_cert_files.specs.CertFile.{certificate}
 use Rattle.pg_cert.specs.declared.cert.Cert.{Cert}
-use Rattle.pg_cli.specs.Answer.{Answer, or_answer, game_held, certificate_held, both, game_seen, certificate_seen, both_seen, OpensGame, OpensCertificate, OpensBoth, AreLacking}
-use Rattle.pg_cli.specs.declared.refusal.Refusal.{Refusal}
+use Rattle.pg_cli.specs.Halts.{HaltCauses}
+use Rattle.pg_cli.specs.Reading.{or_halt, game_held, certificate_held, both, both_held, pair_entry, read_of, IsReadAs, OpensGame, OpensCertificate, OpensBoth, AreLacking}
+use Rattle.pg_cli.specs.declared.halt.Halt.{Halt}
+use Rattle.pg_cli.specs.declared.halt.Halt.TheVariants.{Refused, Stopped}
 
 is_above : (n m : ℕ) → n < m → nat_lt n m ≡ true
 is_above n m h = grind (arith, nat_tests, h)
@@ -27,79 +32,93 @@ long_stays limit cut all same long =
     is_above limit (length (take cut all)) (omega (arith, size))
 
 -- one byte more than the limit tells as much as the whole file
-game_cut : (all : Bytes) → game (take (4194304 + 1) all) ≡ game all
+game_cut : (all : Bytes) → game (take (MAX_GAME_BYTES + 1) all) ≡ game all
 unfolding game
-game_cut all = elim (cases_lt 4194304 (length all)) [
-  | inl long ↦ let a : nat_lt 4194304 (length all) ≡ true = is_above 4194304 (length all) long in
-      let b : nat_lt 4194304 (length (take 4194305 all)) ≡ true = long_stays 4194304 4194305 all refl long in rw (a, b) refl
-  | inr short ↦ let e : take 4194305 all ≡ all = take_all 4194305 all (omega arith) in rw e refl
+game_cut all = elim (cases_lt MAX_GAME_BYTES (length all)) [
+  | inl long ↦ let a : nat_lt MAX_GAME_BYTES (length all) ≡ true = is_above MAX_GAME_BYTES (length all) long in
+      let b : nat_lt MAX_GAME_BYTES (length (take (MAX_GAME_BYTES + 1) all)) ≡ true = long_stays MAX_GAME_BYTES (MAX_GAME_BYTES + 1) all refl long in rw (a, b) refl
+  | inr short ↦ let e : take (MAX_GAME_BYTES + 1) all ≡ all = take_all (MAX_GAME_BYTES + 1) all (omega arith) in rw e refl
 ]
 
-certificate_cut : (all : Bytes) → certificate (take (268435456 + 1) all) ≡ certificate all
+certificate_cut : (all : Bytes) → certificate (take (MAX_CERT_BYTES + 1) all) ≡ certificate all
 unfolding certificate
-certificate_cut all = elim (cases_lt 268435456 (length all)) [
-  | inl long ↦ let a : nat_lt 268435456 (length all) ≡ true = is_above 268435456 (length all) long in
-      let b : nat_lt 268435456 (length (take 268435457 all)) ≡ true = long_stays 268435456 268435457 all refl long in rw (a, b) refl
-  | inr short ↦ let e : take 268435457 all ≡ all = take_all 268435457 all (omega arith) in rw e refl
+certificate_cut all = elim (cases_lt MAX_CERT_BYTES (length all)) [
+  | inl long ↦ let a : nat_lt MAX_CERT_BYTES (length all) ≡ true = is_above MAX_CERT_BYTES (length all) long in
+      let b : nat_lt MAX_CERT_BYTES (length (take (MAX_CERT_BYTES + 1) all)) ≡ true = long_stays MAX_CERT_BYTES (MAX_CERT_BYTES + 1) all refl long in rw (a, b) refl
+  | inr short ↦ let e : take (MAX_CERT_BYTES + 1) all ≡ all = take_all (MAX_CERT_BYTES + 1) all (omega arith) in rw e refl
 ]
 
 -- ---- what was read
 
-pub ok_answer : {T F : Type 0} (answer_to : F → Answer) (r : Result T F) (x : T) → r ≡ Ok x → or_answer answer_to r ≡ Ok x
-ok_answer answer_to r x e = ap (or_answer answer_to) e
+pub read_ok : {T F : Type 0} (halt_of : F → Halt) (r : Result T F) (x : T) → r ≡ Ok x → or_halt halt_of r ≡ Ok x
+read_ok halt_of r x e = ap (or_halt halt_of) e
 
-pub bad_answer : {T F : Type 0} (number_of : F → ℕ) (refusal : ℕ → ℕ → Answer) (r : Result T (F × ℕ)) (number line : ℕ)
-    → IsErrAnd r (λ bad. (number ≡ number_of bad.0) × (line ≡ bad.1)) → or_answer (λ fault. refusal (number_of fault.0) fault.1) r ≡ Err (refusal number line)
-bad_answer number_of refusal (Ok x) number line h = absurd h
-bad_answer number_of refusal (Err fault) number line h =
-    ap (λ (n : ℕ). Err (refusal n fault.1)) (sym h.0) ∙ ap (λ (l : ℕ). Err (refusal number l)) (sym h.1)
+pub read_bad : {T F : Type 0} (number_of : F → ℕ) (halt_of : ℕ → ℕ → Halt) (r : Result T (F × ℕ)) (number line : ℕ)
+    → IsErrAnd r (λ bad. (number ≡ number_of bad.0) × (line ≡ bad.1)) → or_halt (λ fault. halt_of (number_of fault.0) fault.1) r ≡ Err (halt_of number line)
+read_bad number_of halt_of (Ok x) number line h = absurd h
+read_bad number_of halt_of (Err fault) number line h =
+    ap (λ (n : ℕ). Err (halt_of n fault.1)) (sym h.0) ∙ ap (λ (l : ℕ). Err (halt_of number l)) (sym h.1)
 
-whole_game : (o : Option Bytes) (text : Bytes) → IsWhole o 4194304 text → game_held o ≡ game_held (Some text)
+whole_game : (o : Option Bytes) (text : Bytes) → IsWhole o MAX_GAME_BYTES text → game_held o ≡ game_held (Some text)
 whole_game None text whole = absurd whole
 whole_game (Some all) text whole = let e : game all ≡ game text = sym (game_cut all) ∙ sym (ap game whole) in rw e refl
 
-whole_certificate : (o : Option Bytes) (text : Bytes) → IsWhole o 268435456 text → certificate_held o ≡ certificate_held (Some text)
+whole_certificate : (o : Option Bytes) (text : Bytes) → IsWhole o MAX_CERT_BYTES text → certificate_held o ≡ certificate_held (Some text)
 whole_certificate None text whole = absurd whole
 whole_certificate (Some all) text whole = let e : certificate all ≡ certificate text = sym (certificate_cut all) ∙ sym (ap certificate whole) in rw e refl
 
-pub opens_game : (h : Option Holding) (name text : Bytes) (r : Result Game Refusal) → IsFile h name 4194304 text → game_held (Some text) ≡ game_seen r → OpensGame h name r
+pub opens_game : (h : Option Holding) (name text : Bytes) (r : Result Game Halt) → IsFile h name MAX_GAME_BYTES text → IsReadAs entry (game_held (Some text)) r → OpensGame h name r
 opens_game None name text r whole is = tt
-opens_game (Some held) name text r whole is = whole_game (held name) text whole ∙ is
+opens_game (Some held) name text r whole is = subst (λ (o : Result GameEntry Halt). IsReadAs entry o r) (sym (whole_game (held name) text whole)) is
 
-pub opens_certificate : (h : Option Holding) (name text : Bytes) (r : Result Cert Refusal) → IsFile h name 268435456 text → certificate_held (Some text) ≡ certificate_seen r → OpensCertificate h name r
+pub opens_certificate : (h : Option Holding) (name text : Bytes) (r : Result Cert Halt) → IsFile h name MAX_CERT_BYTES text → IsReadAs (λ x. x) (certificate_held (Some text)) r → OpensCertificate h name r
 opens_certificate None name text r whole is = tt
-opens_certificate (Some held) name text r whole is = whole_certificate (held name) text whole ∙ is
+opens_certificate (Some held) name text r whole is = subst (λ (o : Result Cert Halt). IsReadAs (λ x. x) o r) (sym (whole_certificate (held name) text whole)) is
 
 -- ---- both names
 
-pub refused_game : (h : Option Holding) (g c : Bytes) (refusal : Refusal) → OpensGame h g (Err refusal) → OpensBoth h g c (Err refusal)
-refused_game None g c refusal opens = tt
-refused_game (Some held) g c refusal opens = ap (λ (r : Result GameEntry Answer). both r (certificate_held (held c))) opens
+-- what stands against the game stands against both
+pub refused_game : (h : Option Holding) (g c : Bytes) (halt : Halt) → OpensGame h g (Err halt) → OpensBoth h g c (Err halt)
+refused_game None g c halt opens = tt
+refused_game (Some held) g c (Refused refusal) opens = ap (λ (r : Result GameEntry Halt). both r (certificate_held (held c))) opens
+refused_game (Some held) g c (Stopped stop) opens = tt
 
-pub opens_both : (h h' : Option Holding) (g c : Bytes) (played : Game) (r : Result Cert Refusal) (b : Result (Game × Cert) Refusal) → h' ≡ h
-    → OpensGame h g (Ok played) → OpensCertificate h' c r → both (game_seen (Ok played)) (certificate_seen r) ≡ both_seen b → OpensBoth h g c b
-opens_both h h' g c played r b same game_opens certificate_opens is =
-    go h game_opens (subst (λ (h : Option Holding). OpensCertificate h c r) same certificate_opens) where
-      go : (h : Option Holding) → OpensGame h g (Ok played) → OpensCertificate h c r → OpensBoth h g c b
-      go None game_opens certificate_opens = tt
-      go (Some held) game_opens certificate_opens =
-          ap (λ (p : Result GameEntry Answer). both p (certificate_held (held c))) game_opens ∙ ap (λ (q : Result Cert Answer). both (game_seen (Ok played)) q) certificate_opens ∙ is
+-- what stands against the certificate stands against both where the game was read
+pub refused_certificate : (h h' : Option Holding) (g c : Bytes) (played : Game) (halt : Halt) → h' ≡ h → OpensGame h g (Ok played) → OpensCertificate h' c (Err halt) → OpensBoth h g c (Err halt)
+refused_certificate h h' g c played halt same opens other = go h halt opens (subst (λ (h : Option Holding). OpensCertificate h c (Err halt)) same other) where
+  go : (h : Option Holding) (halt : Halt) → OpensGame h g (Ok played) → OpensCertificate h c (Err halt) → OpensBoth h g c (Err halt)
+  go None halt opens other = tt
+  go (Some held) (Refused refusal) opens other = ap (λ (r : Result GameEntry Halt). both r (certificate_held (held c))) opens ∙ ap (both (Ok (entry played))) other
+  go (Some held) (Stopped stop) opens other = tt
 
-pub lacks_game : (h : Option Holding) (g c : Bytes) → IsAbsent h g → AreLacking h g c
+pub opens_both : (h h' : Option Holding) (g c : Bytes) (played : Game) (checked : Cert) → h' ≡ h → OpensGame h g (Ok played) → OpensCertificate h' c (Ok checked) → OpensBoth h g c (Ok (played, checked))
+opens_both h h' g c played checked same opens other = go h opens (subst (λ (h : Option Holding). OpensCertificate h c (Ok checked)) same other) where
+  go : (h : Option Holding) → OpensGame h g (Ok played) → OpensCertificate h c (Ok checked) → OpensBoth h g c (Ok (played, checked))
+  go None opens other = tt
+  go (Some held) opens other = ap (λ (r : Result GameEntry Halt). both r (certificate_held (held c))) opens ∙ ap (both (Ok (entry played))) other
+
+lacks_game : (h : Option Holding) (g c : Bytes) → IsAbsent h g → AreLacking h g c
 lacks_game None g c absent = absurd absent
 lacks_game (Some held) g c absent = ap (λ (o : Option Bytes). both (game_held o) (certificate_held (held c))) absent
 
-pub lacks_certificate : (h h' : Option Holding) (g c : Bytes) (played : Game) → h' ≡ h → OpensGame h g (Ok played) → IsAbsent h' c → AreLacking h g c
+lacks_certificate : (h h' : Option Holding) (g c : Bytes) (played : Game) → h' ≡ h → OpensGame h g (Ok played) → IsAbsent h' c → AreLacking h g c
 lacks_certificate h h' g c played same opens absent = go h opens (subst (λ (h : Option Holding). IsAbsent h c) same absent) where
   go : (h : Option Holding) → OpensGame h g (Ok played) → IsAbsent h c → AreLacking h g c
   go None opens absent = absurd absent
   go (Some held) opens absent =
-      ap (λ (p : Result GameEntry Answer). both p (certificate_held (held c))) opens ∙ ap (λ (o : Option Bytes). both (game_seen (Ok played)) (certificate_held o)) absent
+      ap (λ (p : Result GameEntry Halt). both p (certificate_held (held c))) opens ∙ ap (λ (o : Option Bytes). both (Ok (entry played)) (certificate_held o)) absent
 
--- the causes of a second step's fault are those of both
-pub Causes-then : (P Q : Type 0) (reads mid now writes writes_mid writes_now : ℕ) (stop : Stop) → mid ≡ reads → writes_mid ≡ writes → (P → Q)
-    → StopCauses P mid now writes_mid writes_now stop → StopCauses Q reads now writes writes_now stop
-Causes-then P Q reads mid now writes writes_mid writes_now Read same same' more (inl rose) = inl (subst (λ n. Rose n now) same rose)
-Causes-then P Q reads mid now writes writes_mid writes_now Read same same' more (inr p) = inr (more p)
-Causes-then P Q reads mid now writes writes_mid writes_now Write same same' more h = subst (λ n. Rose n writes_now) same' h
-Causes-then P Q reads mid now writes writes_mid writes_now Memory same same' more h = (h.0 ∙ same, h.1 ∙ same')
+-- causes of an earlier part, or of a later one, are those of the whole
+causes_more : {P Q : Type 0} (before mid now : Faults) (halt : Halt) → mid ≡ before → (P → Q) → HaltCauses {T = ℕ} P mid now (Err halt) → HaltCauses {T = ℕ} Q before now (Err halt)
+causes_more before mid now (Refused refusal) same more h = h ∙ same
+causes_more before mid now (Stopped Read) same more (inl rose) = inl (subst (λ (f : Faults). Rose f.reads now.reads) same rose)
+causes_more before mid now (Stopped Read) same more (inr p) = inr (more p)
+causes_more before mid now (Stopped Write) same more h = subst (λ (f : Faults). Rose f.writes now.writes) same h
+causes_more before mid now (Stopped Memory) same more h = h ∙ same
+
+pub lacks-game : (h : Option Holding) (g c : Bytes) (before now : Faults) (halt : Halt) → HaltCauses {T = ℕ} (IsAbsent h g) before now (Err halt) → HaltCauses {T = ℕ} (AreLacking h g c) before now (Err halt)
+lacks-game h g c before now halt causes = causes_more before before now halt refl (lacks_game h g c) causes
+
+pub lacks-certificate : (h h' : Option Holding) (g c : Bytes) (played : Game) (before mid now : Faults) (halt : Halt) → h' ≡ h → OpensGame h g (Ok played) → mid ≡ before
+    → HaltCauses {T = ℕ} (IsAbsent h' c) mid now (Err halt) → HaltCauses {T = ℕ} (AreLacking h g c) before now (Err halt)
+lacks-certificate h h' g c played before mid now halt kept opens same causes = causes_more before mid now halt same (lacks_certificate h h' g c played kept opens) causes

@@ -1,7 +1,9 @@
 -- Runs that only read files and talk.
-use Rattle.std.proofs.Common.{◌≡◌, ℕ, List, [], ◌∷◌, map, Option, Some, None, Result, Ok, Err, refl, sym, subst, inl, inr, IfOk}
-use Rattle.pg_io.specs.Files.{Bytes, Holding}
-use Rattle.pg_io.specs.Console.{Grows}
+use Rattle.std.proofs.Common.{◌≡◌, ◌≢◌, ℕ, List, [], ◌∷◌, map, Option, Some, None, Result, Ok, Err, refl, sym, ◌∙◌, subst, inl, inr}
+use Rattle.std.specs.Prelude.{IfSome}
+use Rattle.pg_io.specs.Causes.{Faults, Rose}
+use Rattle.pg_io.specs.Console.{ConsoleTold, Grows}
+use Rattle.pg_io.specs.Files.{Bytes, Holding, FilesTold}
 use Rattle.pg_io.specs.declared.entry.Entry.{Entry}
 use Rattle.pg_io.specs.declared.entry.Entry.TheVariants.{Said}
 use Rattle.pg_io.specs.declared.stop.Stop.{Stop}
@@ -10,123 +12,173 @@ use Rattle.pg_base.specs.declared.side.Side.{Side}
 use Rattle.pg_game.specs.declared.game.Game.{Game}
 use Rattle.pg_files.specs.GameFile.{Entry as GameEntry}
 use Rattle.pg_cert.specs.declared.cert.Cert.{Cert}
-use Rattle.pg_cert.specs.declared.cert.Claim.{Claim}
-use Rattle.pg_cert.specs.Valid.{IsValid, IsFirstFault}
-use Rattle.pg_cli.specs.Answer.{Answer, answer_of, refusal_status, accepting, Answers, Judges, Checks, ChecksTo, both_held, both_seen, OpensBoth}
-use Rattle.pg_cli.specs.Causes.{Speaks}
+use Rattle.pg_texts.specs.declared.refusal.Refusal.{Refusal}
+use Rattle.pg_words.specs.Words.{Command, Solve, Check, Play, Gen, Report}
+use Rattle.pg_cli.specs.Checking.{RefusesCheck, AcceptsAll}
+use Rattle.pg_cli.specs.Commands.{Quiets}
+use Rattle.pg_cli.specs.Done.{Done, End, Finished, Failed, Starved, Talked, Changes, Performs, Keeps, nothing, talk, stop_end}
+use Rattle.pg_cli.specs.Halts.{Calm, HaltCauses, BothCauses}
 use Rattle.pg_cli.specs.Hearing.{Hearing, InOrder}
-use Rattle.pg_cli.specs.Run.{End, Finished, Failed, Starved, end_of, Plays, PlaysOut, Allows, Keeps, Ran, Told, told}
-use Rattle.pg_cli.specs.Texts.{no_meaning, accepted_text}
-use Rattle.pg_cli.specs.Words.{Command, Check, Play}
-use Rattle.pg_cli.specs.Work.{Search}
-use Rattle.pg_cli.specs.declared.refusal.Refusal.{Refusal}
-use Rattle.pg_cli.specs.declared.refusal.Refusal.TheVariants.{Rejected}
+use Rattle.pg_cli.specs.Playing.{RefusesPlay, PlaysOn}
+use Rattle.pg_cli.specs.Reading.{both_held, pair_entry, read_of, IsReadAs, OpensBoth}
+use Rattle.pg_cli.specs.Run.{Refuses, Acts, CarriesOn, Carries}
+use Rattle.pg_pns.specs.Expanded.{Expanded}
+use Rattle.pg_cli.specs.declared.halt.Halt.{Halt}
+use Rattle.pg_cli.specs.declared.halt.Halt.TheVariants.{Refused, Stopped}
 use Rattle.pg_cli.proofs.Speaking.{Grows-nothing}
 
--- ---- answers
-
-pub Answers-weaker : (P Q : Answer → Type 0) (log after : Option (List Entry)) (r : Result ℕ Stop) → ((a : Answer) → P a → Q a) → Answers P log after r → Answers Q log after r
-Answers-weaker P Q log after (Ok status) weaker h = (h.0, weaker h.0 h.1, h.2, h.3)
-Answers-weaker P Q log after (Err stop) weaker (inl quiet) = inl quiet
-Answers-weaker P Q log after (Err stop) weaker (inr h) = inr (h.0, weaker h.0 h.1, h.2)
-
--- an answer whose texts are said
-pub answers_spoken : (P : Answer → Type 0) (a : Answer) (log after : Option (List Entry)) (r : Result ℕ Stop) → P a → Speaks a.texts log after r → IfOk r (λ status. status ≡ a.status) → Answers P log after r
-answers_spoken P a log after (Ok status) is says given = (a, is, given, says)
-answers_spoken P a log after (Err stop) is says given = inr (a, is, says)
-
--- the texts that accept all claims of a valid certificate are said
-pub judged_accepts : (g : Game) (c : Cert) (claims : List Claim) (log after : Option (List Entry)) (r : Result ℕ Stop) → IsValid g c → claims ≡ c.claims
-    → Speaks (map accepted_text claims) log after r → IfOk r (λ status. status ≡ 0) → Answers (λ a. Judges g c a) log after r
-judged_accepts g c claims log after r valid same says given =
-    answers_spoken (λ a. Judges g c a) (accepting c) log after r (inl (valid, refl)) (subst (λ (l : List Claim). Speaks (map accepted_text l) log after r) same says) given
-
--- the text of the first fault is said
-pub judged_rejects : (g : Game) (c : Cert) (claim node why : ℕ) (log after : Option (List Entry)) (r : Result ℕ Stop) → IsFirstFault g c claim node why
-    → Speaks (answer_of (Rejected claim node why)).texts log after r → IfOk r (λ status. status ≡ refusal_status (Rejected claim node why)) → Answers (λ a. Judges g c a) log after r
-judged_rejects g c claim node why log after r fault says given =
-    answers_spoken (λ a. Judges g c a) (answer_of (Rejected claim node why)) log after r (inr (claim, node, why, fault, refl)) says given
-
--- ---- runs
-
-kept : (held : Holding) (h' : Option Holding) → h' ≡ Some held → Keeps held [] h'
-kept held h' same = subst (λ (h : Option Holding). Keeps held [] h) (sym same) (λ name. refl)
+-- ---- what was said and heard
 
 InOrder-texts : (left : Bytes) (texts : List Bytes) → InOrder left (map Said texts) left
 InOrder-texts left [] = refl
 InOrder-texts left (text ∷ texts) = InOrder-texts left texts
 
-pub Hearing-texts : (left : Option Bytes) (texts : List Bytes) → Hearing left (map Said texts) left
-Hearing-texts None texts = tt
-Hearing-texts (Some left) texts = InOrder-texts left texts
+-- where texts alone were said, nothing was heard
+pub Hearing-texts : (left left' : Option Bytes) (texts : List Bytes) → left' ≡ left → Hearing left (map Said texts) left'
+Hearing-texts left left' texts same = subst (λ (l : Option Bytes). Hearing left (map Said texts) l) (sym same) (go left) where
+  go : (left : Option Bytes) → Hearing left (map Said texts) left
+  go None = tt
+  go (Some left) = InOrder-texts left texts
 
-module _ (h h' : Option Holding) (same : h' ≡ h) (log after : Option (List Entry)) (left left' : Option Bytes) (work : Search) where
-  -- where files are only read, and texts are said
-  ran_saying : (command : Option Command) (texts : List Bytes) (end : End) → Grows log after (map Said texts)
-      → ((held : Holding) → h ≡ Some held → Allows held command work (record { entries = map Said texts; stored = [] }) end)
-      → Ran command (told h log left) (told h' after left') work end
-  ran_saying command texts end grows allows = go h same allows where
-    go : (h : Option Holding) → h' ≡ h → ((held : Holding) → h ≡ Some held → Allows held command work (record { entries = map Said texts; stored = [] }) end)
-        → Ran command (told h log left) (told h' after left') work end
-    go None same allows = tt
-    go (Some held) same allows = record {
-      done = record { entries = map Said texts; stored = [] };
-      allowed = allows held refl;
-      logged = grows;
-      heard = (left, Hearing-texts left texts);
-      names = kept held h' same;
-    }
+pub talked_texts : (end : End) (before after : ConsoleTold) (texts : List Bytes) → Grows before.log after.log (map Said texts) → after.left ≡ before.left → Talked before after (map Said texts) end
+talked_texts (Finished status) before after texts grows same = record { logged = grows; heard = Hearing-texts before.left after.left texts same }
+talked_texts Failed before after texts grows same = record { logged = grows; heard = (after.left, Hearing-texts before.left after.left texts same) }
+talked_texts Starved before after texts grows same = record { logged = grows; heard = Hearing-texts before.left after.left texts same }
 
-  pub ran_meaningless : (r : Result ℕ Stop) → Speaks (no_meaning ∷ []) log after r → IfOk r (λ status. status ≡ 2) → Ran None (told h log left) (told h' after left') work (end_of r)
-  ran_meaningless (Ok status) says is = ran_saying None (no_meaning ∷ []) (Finished status) says (λ held e. (refl, is, refl))
-  ran_meaningless (Err Read) says is = ran_saying None says.0 Failed says.3 (λ held e. ((says.0, says.1, says.2, refl), refl))
-  ran_meaningless (Err Write) says is = ran_saying None says.0 Failed says.3 (λ held e. ((says.0, says.1, says.2, refl), refl))
-  ran_meaningless (Err Memory) says is = ran_saying None says.0 Starved says.3 (λ held e. ((says.0, says.1, says.2, refl), refl))
+pub silent : (end : End) (before after : ConsoleTold) → after.log ≡ before.log → after.left ≡ before.left → Talked before after [] end
+silent end before after same left = talked_texts end before after [] (subst (λ (l : Option (List Entry)). Grows before.log l []) (sym same) (Grows-nothing before.log)) left
 
-  nothing_yet : (held : Holding) (command : Option Command) (stop : Stop) → Allows held command work (record { entries = []; stored = [] }) (end_of (Err stop))
-  nothing_yet held None Read = (([], no_meaning ∷ [], refl, refl), refl)
-  nothing_yet held None Write = (([], no_meaning ∷ [], refl, refl), refl)
-  nothing_yet held None Memory = (([], no_meaning ∷ [], refl, refl), refl)
-  nothing_yet held (Some (Check g c)) Read = inl (refl, refl)
-  nothing_yet held (Some (Check g c)) Write = inl (refl, refl)
-  nothing_yet held (Some (Check g c)) Memory = inl (refl, refl)
-  nothing_yet held (Some (Play g c side)) Read = (inl refl, refl)
-  nothing_yet held (Some (Play g c side)) Write = (inl refl, refl)
-  nothing_yet held (Some (Play g c side)) Memory = (refl, refl)
+-- ---- names
 
-  pub ran_silent : (command : Option Command) (stop : Stop) → after ≡ log → Ran command (told h log left) (told h' after left') work (end_of (Err stop))
-  ran_silent command stop quiet =
-      ran_saying command [] (end_of (Err stop)) (subst (λ (l : Option (List Entry)). Grows log l []) (sym quiet) (Grows-nothing log)) (λ held e. nothing_yet held command stop)
+pub kept : (held : Holding) (h' : Option Holding) → h' ≡ Some held → Keeps held [] h'
+kept held h' same = subst (λ (h : Option Holding). Keeps held [] h) (sym same) (λ name. refl)
 
-  checks_to : (g c : Bytes) (b : Result (Game × Cert) Refusal) (a : Answer) → OpensBoth h g c b → Checks (both_seen b) a → (held : Holding) → h ≡ Some held → ChecksTo (held g) (held c) a
-  checks_to g c b a opens checks held e =
-      let read : both_held (held g) (held c) ≡ both_seen b = subst (λ (h : Option Holding). OpensBoth h g c b) e opens in
-      subst (λ r. Checks r a) (sym read) checks
+-- ---- a command that only reads and talks
 
-  pub ran_check : (g c : Bytes) (b : Result (Game × Cert) Refusal) (r : Result ℕ Stop) → OpensBoth h g c b → Answers (λ a. Checks (both_seen b) a) log after r
-      → Ran (Some (Check g c)) (told h log left) (told h' after left') work (end_of r)
-  ran_check g c b (Ok status) opens (a, is, given, grows) =
-      ran_saying (Some (Check g c)) a.texts (Finished status) grows (λ held e. (a, checks_to g c b a opens is held e, (refl, given, refl)))
-  ran_check g c b (Err stop) opens (inl quiet) = ran_silent (Some (Check g c)) stop quiet
-  ran_check g c b (Err Read) opens (inr (a, is, cut)) =
-      ran_saying (Some (Check g c)) cut.0 Failed cut.3 (λ held e. inr (a, checks_to g c b a opens is held e, ((cut.0, cut.1, cut.2, refl), refl)))
-  ran_check g c b (Err Write) opens (inr (a, is, cut)) =
-      ran_saying (Some (Check g c)) cut.0 Failed cut.3 (λ held e. inr (a, checks_to g c b a opens is held e, ((cut.0, cut.1, cut.2, refl), refl)))
-  ran_check g c b (Err Memory) opens (inr (a, is, cut)) =
-      ran_saying (Some (Check g c)) cut.0 Starved cut.3 (λ held e. inr (a, checks_to g c b a opens is held e, ((cut.0, cut.1, cut.2, refl), refl)))
+module _ (Against : Refusal → Type 0) (Act : List Entry → End → Type 0) (held : Holding) (command : Option Command) (work : Expanded) (files' : FilesTold) (before after : ConsoleTold)
+    (refuses : (refusal : Refusal) → Against refusal → Refuses held command refusal) (acts : (entries : List Entry) (end : End) → Act entries end → Acts held command work (talk entries) end)
+    (same : files'.held ≡ Some held) where
+  changes : (entries : List Entry) (end : End) → Talked before after entries end → Changes held files' before after (talk entries) end
+  changes entries end talked = record { talked = talked; names = kept held files'.held same }
 
-  pub ran_play : (g c : Bytes) (side : Side) (b : Result (Game × Cert) Refusal) (end : End) → OpensBoth h g c b → PlaysOut side (both_seen b) log after left end
-      → Ran (Some (Play g c side)) (told h log left) (told h' after left') work end
-  ran_play g c side b end opens out = go h same opens where
-    go : (h : Option Holding) → h' ≡ h → OpensBoth h g c b → Ran (Some (Play g c side)) (told h log left) (told h' after left') work end
-    go None same opens = tt
-    go (Some held) same opens = record {
-      done = record { entries = out.entries; stored = [] };
-      allowed = (subst (λ (r : Result (GameEntry × Cert) Answer). Plays side r out.entries end) (sym opens) out.allowed, refl);
-      logged = out.logged;
-      heard = out.heard;
-      names = kept held h' same;
-    }
+  pub carries_on : (r : Result ℕ Halt) → Performs Against Act before after r → CarriesOn held command work files' before after r
+  carries_on (Ok status) (entries, act, talked) = (talk entries, acts entries (Finished status) act, changes entries (Finished status) talked)
+  carries_on (Err (Refused refusal)) (against, talked) = (refuses refusal against, changes [] Starved talked)
+  carries_on (Err (Stopped stop)) (entries, inl none, talked) = (talk entries, inl (none, refl), changes entries (stop_end stop) talked)
+  carries_on (Err (Stopped stop)) (entries, inr act, talked) = (talk entries, inr (acts entries (stop_end stop) act), changes entries (stop_end stop) talked)
 
-pub ran_at : (command : Option Command) (before after : Told) (work : Search) (stop kind : Stop) → stop ≡ kind → Ran command before after work (end_of (Err stop)) → Ran command before after work (end_of (Err kind))
-ran_at command before after work stop kind same h = subst (λ (s : Stop). Ran command before after work (end_of (Err s))) same h
+-- the same of a game and a certificate that were read, for a check and for a play
+module _ (files files' : FilesTold) (g c : Bytes) (pair : Game × Cert) (before after : ConsoleTold) (same : files'.held ≡ files.held)
+    (opens : OpensBoth files.held g c (Ok pair)) where
+  pub carries_check : (work : Expanded) (r : Result ℕ Halt) → Performs (RefusesCheck (read_of pair.0 pair.1)) (AcceptsAll (read_of pair.0 pair.1)) before after r
+      → Carries (Some (Check g c)) work files files' before after r
+  carries_check work r performs = go files.held refl opens where
+    go : (h : Option Holding) → files.held ≡ h → OpensBoth h g c (Ok pair) → IfSome h (λ held. CarriesOn held (Some (Check g c)) work files' before after r)
+    go None is opens = tt
+    go (Some held) is opens =
+        carries_on (RefusesCheck (read_of pair.0 pair.1)) (AcceptsAll (read_of pair.0 pair.1)) held (Some (Check g c)) work files' before after
+        (λ refusal against. subst (λ (read : Result (GameEntry × Cert) Halt). RefusesCheck read refusal) (sym opens) against)
+        (λ entries end act. (subst (λ (read : Result (GameEntry × Cert) Halt). AcceptsAll read entries end) (sym opens) act, refl))
+        (same ∙ is) r performs
+
+  pub carries_play : (side : Side) (work : Expanded) (r : Result ℕ Halt) → Performs (RefusesPlay side (read_of pair.0 pair.1)) (PlaysOn side (read_of pair.0 pair.1)) before after r
+      → Carries (Some (Play g c side)) work files files' before after r
+  carries_play side work r performs = go files.held refl opens where
+    go : (h : Option Holding) → files.held ≡ h → OpensBoth h g c (Ok pair) → IfSome h (λ held. CarriesOn held (Some (Play g c side)) work files' before after r)
+    go None is opens = tt
+    go (Some held) is opens =
+        carries_on (RefusesPlay side (read_of pair.0 pair.1)) (PlaysOn side (read_of pair.0 pair.1)) held (Some (Play g c side)) work files' before after
+        (λ refusal against. subst (λ (read : Result (GameEntry × Cert) Halt). RefusesPlay side read refusal) (sym opens) against)
+        (λ entries end act. (subst (λ (read : Result (GameEntry × Cert) Halt). PlaysOn side read entries end) (sym opens) act, refl))
+        (same ∙ is) r performs
+
+-- ---- a command that ends while it reads
+
+module _ (files files' : FilesTold) (console : ConsoleTold) (same : files'.held ≡ files.held) where
+  -- nothing was said, and what stands against the command was read
+  pub carries_halt : (command : Option Command) (work : Expanded) (halt : Halt) → ((held : Holding) (refusal : Refusal) → files.held ≡ Some held → halt ≡ Refused refusal → Refuses held command refusal)
+      → Carries command work files files' console console (Err halt)
+  carries_halt command work halt against = go files.held refl halt against where
+    go : (h : Option Holding) → files.held ≡ h → (halt : Halt) → ((held : Holding) (refusal : Refusal) → files.held ≡ Some held → halt ≡ Refused refusal → Refuses held command refusal)
+        → IfSome h (λ held. CarriesOn held command work files' console console (Err halt))
+    go None is halt against = tt
+    go (Some held) is (Refused refusal) against =
+        (against held refusal is refl, record { talked = silent Starved console console refl refl; names = kept held files'.held (same ∙ is) })
+    go (Some held) is (Stopped stop) against =
+        (nothing, inl (refl, refl), record { talked = silent (stop_end stop) console console refl refl; names = kept held files'.held (same ∙ is) })
+
+  -- what was read stands against both commands that read a game and a certificate
+  pub read_refusal : (h : Option Holding) (held : Holding) (g c : Bytes) (halt : Halt) (refusal : Refusal) → h ≡ Some held → halt ≡ Refused refusal → OpensBoth h g c (Err halt)
+      → both_held (held g) (held c) ≡ Err (Refused refusal)
+  read_refusal h held g c halt refusal is this opens =
+      let here = subst (λ (h : Option Holding). OpensBoth h g c (Err halt)) is opens in
+      subst (λ (k : Halt). IsReadAs {A = Game × Cert} pair_entry (both_held (held g) (held c)) (Err k)) this here
+
+  pub halted_check : (g c : Bytes) (work : Expanded) (halt : Halt) → OpensBoth files.held g c (Err halt) → Carries (Some (Check g c)) work files files' console console (Err halt)
+  halted_check g c work halt opens = carries_halt (Some (Check g c)) work halt
+      (λ held refusal is this. let e = read_refusal files.held held g c halt refusal is this opens in subst (λ (read : Result (GameEntry × Cert) Halt). RefusesCheck read refusal) (sym e) refl)
+
+  pub halted_play : (g c : Bytes) (side : Side) (work : Expanded) (halt : Halt) → OpensBoth files.held g c (Err halt) → Carries (Some (Play g c side)) work files files' console console (Err halt)
+  halted_play g c side work halt opens = carries_halt (Some (Play g c side)) work halt
+      (λ held refusal is this. let e = read_refusal files.held held g c halt refusal is this opens in subst (λ (read : Result (GameEntry × Cert) Halt). RefusesPlay side read refusal) (sym e) refl)
+
+-- ---- quiet
+
+pub quiet_halt : (command : Option Command) (console : ConsoleTold) (halt : Halt) → Quiets command console console (Err halt)
+quiet_halt command console (Refused refusal) = Grows-nothing console.log
+quiet_halt (Some (Play g c side)) console (Stopped Read) = tt
+quiet_halt None console (Stopped Read) = Grows-nothing console.log
+quiet_halt (Some (Check g c)) console (Stopped Read) = Grows-nothing console.log
+quiet_halt (Some (Solve g c positions)) console (Stopped Read) = Grows-nothing console.log
+quiet_halt (Some (Gen which g c)) console (Stopped Read) = Grows-nothing console.log
+quiet_halt (Some (Report g c)) console (Stopped Read) = Grows-nothing console.log
+quiet_halt command console (Stopped Write) = tt
+quiet_halt command console (Stopped Memory) = Grows-nothing console.log
+
+grew_nothing : (before after : Option (List Entry)) (entries : List Entry) → entries ≡ [] → Grows before after entries → Grows before after []
+grew_nothing before after entries none grows = subst (λ (l : List Entry). Grows before after l) none grows
+
+pub quiet_check : (g c : Bytes) (pair : Game × Cert) (before after : ConsoleTold) (r : Result ℕ Halt)
+    → Performs (RefusesCheck (read_of pair.0 pair.1)) (AcceptsAll (read_of pair.0 pair.1)) before after r → r ≢ Err (Stopped Read) → Quiets (Some (Check g c)) before after r
+quiet_check g c pair before after (Ok status) performs deaf = tt
+quiet_check g c pair before after (Err (Refused refusal)) performs deaf = performs.1.logged
+quiet_check g c pair before after (Err (Stopped Read)) performs deaf = absurd (deaf refl)
+quiet_check g c pair before after (Err (Stopped Write)) performs deaf = tt
+quiet_check g c pair before after (Err (Stopped Memory)) (entries, inl none, talked) deaf = grew_nothing before.log after.log entries none talked.logged
+quiet_check g c pair before after (Err (Stopped Memory)) (entries, inr act, talked) deaf = absurd act.3
+
+pub quiet_play : (g c : Bytes) (side : Side) (pair : Game × Cert) (before after : ConsoleTold) (r : Result ℕ Halt)
+    → Performs (RefusesPlay side (read_of pair.0 pair.1)) (PlaysOn side (read_of pair.0 pair.1)) before after r → Quiets (Some (Play g c side)) before after r
+quiet_play g c side pair before after (Ok status) performs = tt
+quiet_play g c side pair before after (Err (Refused refusal)) performs = performs.1.logged
+quiet_play g c side pair before after (Err (Stopped Read)) performs = tt
+quiet_play g c side pair before after (Err (Stopped Write)) performs = tt
+quiet_play g c side pair before after (Err (Stopped Memory)) (entries, inl none, talked) = grew_nothing before.log after.log entries none talked.logged
+quiet_play g c side pair before after (Err (Stopped Memory)) (entries, inr act, talked) = absurd act.3
+
+-- ---- causes
+
+-- a command that ends while it reads
+pub causes_read : (absent : Type 0) (files files' : FilesTold) (console : ConsoleTold) (halt : Halt) → HaltCauses {T = Game × Cert} absent files.faults files'.faults (Err halt)
+    → BothCauses absent files files' console console (Err halt)
+causes_read absent files files' console (Refused refusal) same = record { on_files = same; on_console = refl }
+causes_read absent files files' console (Stopped Read) (inl rose) = inl (inl rose)
+causes_read absent files files' console (Stopped Read) (inr p) = inr p
+causes_read absent files files' console (Stopped Write) rose = inl rose
+causes_read absent files files' console (Stopped Memory) same = record { on_files = same; on_console = refl }
+
+-- a command that has read, and then worked on the console
+pub causes_talked : (absent : Type 0) (files files' : FilesTold) (before after : ConsoleTold) (r : Result ℕ Halt) → files'.faults ≡ files.faults → HaltCauses ⊥ before.faults after.faults r
+    → BothCauses absent files files' before after r
+causes_talked absent files files' before after (Ok status) same causes = record { on_files = same; on_console = causes }
+causes_talked absent files files' before after (Err (Refused refusal)) same causes = record { on_files = same; on_console = causes }
+causes_talked absent files files' before after (Err (Stopped Read)) same (inl rose) = inl (inr rose)
+causes_talked absent files files' before after (Err (Stopped Read)) same (inr none) = absurd none
+causes_talked absent files files' before after (Err (Stopped Write)) same rose = inr rose
+causes_talked absent files files' before after (Err (Stopped Memory)) same causes = record { on_files = same; on_console = causes }
+
+-- ---- words
+
+-- memory for the words is wanting
+pub carries_memory : (files : FilesTold) (console : ConsoleTold) (command : Option Command) (work : Expanded) → Carries command work files files console console (Err (Stopped Memory))
+carries_memory files console command work = carries_halt files files console refl command work (Stopped Memory) (λ held refusal is this. absurd (cc this))

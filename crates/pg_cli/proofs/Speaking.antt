@@ -7,7 +7,7 @@ use Rattle.pg_io.specs.Console.{Grows}
 use Rattle.pg_io.specs.declared.entry.Entry.{Entry}
 use Rattle.pg_io.specs.declared.entry.Entry.TheVariants.{Said}
 use Rattle.pg_io.specs.declared.stop.Stop.{Stop}
-use Rattle.pg_cli.specs.Causes.{Speaks, IsCut}
+use Rattle.pg_cli.specs.Checking.{Speaks, IsCut}
 
 pub Grows-nothing : (log : Option (List Entry)) → Grows log log []
 Grows-nothing None = tt
@@ -19,10 +19,6 @@ Grows-then (Some entries) None c xs ys h k = absurd (cc h)
 Grows-then (Some entries) (Some more) c xs ys h k =
     let e : more ≡ entries ++ xs = search (rules, h) in
     k ∙ ap (λ (l : List Entry). Some l) (ap (λ (l : List Entry). l ++ ys) e ∙ append_assoc entries xs ys)
-
--- where nothing was said, the first none of the texts were
-pub cut_nothing : (texts : List Bytes) (log after : Option (List Entry)) → after ≡ log → IsCut texts log after
-cut_nothing texts log after quiet = ([], texts, refl, subst (λ (l : Option (List Entry)). Grows log l []) (sym quiet) (Grows-nothing log))
 
 pub Speaks-from_err : {T : Type 0} (texts : List Bytes) (log after : Option (List Entry)) (r : Result T Stop) → IsErr r → IsCut texts log after → Speaks texts log after r
 Speaks-from_err texts log after (Ok x) e cut = absurd (cc e)
@@ -39,16 +35,11 @@ module _ {A : Type 0} (f : A → Bytes) (xs : List A) (k : ℕ) (x : A) (in_rang
       let e : map Said (map f (take k xs)) ++ map Said (f x ∷ []) ≡ map Said (map f (take (k + 1) xs)) = sym (map-append Said (map f (take k xs)) (f x ∷ [])) ∙ ap (map Said) (sym one_more) in
       subst (λ (l : List Entry). Grows log after l) e (Grows-then log mid after _ _ before now)
 
-  -- the texts of the first members were said, and of the next one as much as this
-  pub cut_more : IsCut (f x ∷ []) mid after → IsCut (map f xs) log after
-  cut_more cut =
-      let others = map f (drop (k + 1) xs) in
-      let first = map f (take k xs) in
-      let whole : map f xs ≡ map f (take (k + 1) xs) ++ others = sym (ap (map f) (take-append-drop (k + 1) xs)) ∙ map-append f (take (k + 1) xs) (drop (k + 1) xs) in
-      let here : map f (take (k + 1) xs) ≡ first ++ (cut.0 ++ cut.1) = one_more ∙ ap (λ (l : List Bytes). first ++ l) cut.2 in
-      let parts : (first ++ (cut.0 ++ cut.1)) ++ others ≡ (first ++ cut.0) ++ (cut.1 ++ others) = ap (λ (l : List Bytes). l ++ others) (sym (append_assoc first cut.0 cut.1)) ∙ append_assoc (first ++ cut.0) cut.1 others in (
-        first ++ cut.0,
-        cut.1 ++ others,
-        whole ∙ ap (λ (l : List Bytes). l ++ others) here ∙ parts,
-        subst (λ (l : List Entry). Grows log after l) (sym (map-append Said first cut.0)) (Grows-then log mid after _ _ before cut.3),
-      )
+-- the texts of the first members were said, and nothing more
+pub cut_here : {A : Type 0} (f : A → Bytes) (xs : List A) (k : ℕ) (log mid after : Option (List Entry)) → Grows log mid (map Said (map f (take k xs))) → after ≡ mid → IsCut (map f xs) log after
+cut_here f xs k log mid after before quiet = (
+  map f (take k xs),
+  map f (drop k xs),
+  sym (ap (map f) (take-append-drop k xs)) ∙ map-append f (take k xs) (drop k xs),
+  subst (λ (l : Option (List Entry)). Grows log l (map Said (map f (take k xs)))) (sym quiet) before,
+)

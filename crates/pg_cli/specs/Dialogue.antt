@@ -10,18 +10,22 @@ use Rattle.pg_game.specs.declared.position.Position.{Position}
 use Rattle.pg_game.specs.Game.{point_count, after, is_over, outcome}
 use Rattle.pg_game.specs.Position.{is_free}
 use Rattle.pg_cli.specs.Reply.{replied_point}
-use Rattle.pg_cli.specs.Texts.{move_text, result_text, not_a_number}
+use Rattle.pg_cli.specs.declared.dialogue.TheConstants.{MAX_REFUSALS}
+use Rattle.pg_texts.specs.Texts.{move_text, reply_text, result_text}
+use Rattle.pg_texts.specs.declared.message.ReplyFault.{ReplyFault}
+use Rattle.pg_texts.specs.declared.message.ReplyFault.TheVariants.{NoNumber}
+use Rattle.pg_texts.specs.declared.statuses.TheConstants.{DONE, INPUT_ENDED, OUT_OF_REPLIES}
 
--- where a dialogue stands: at a position, after so many refusals; there, before the text of a refusal; or at its end, with the last position and a status
+-- where a dialogue stands: at a position, after so many refusals; there, before a refusal is said; or at its end, with the last position and a status
 pub data Stage : Type 0 where
   At : (position : Position) (refusals : ℕ) → Stage
-  Owes : (position : Position) (refusals : ℕ) (text : Bytes) → Stage
+  Owes : (position : Position) (refusals : ℕ) (fault : ReplyFault) → Stage
   Over : (position : Position) (status : ℕ) → Stage
 
 -- the position of a stage
 abbrev pub position_at : Stage → Position
 position_at (At p refusals) = p
-position_at (Owes p refusals text) = p
+position_at (Owes p refusals fault) = p
 position_at (Over p status) = p
 
 -- whether something was heard, or the input had ended
@@ -31,14 +35,14 @@ is_heard (Heard line) = true
 is_heard (Skipped line) = true
 is_heard Ended = true
 
--- after the text of a refusal: the hundredth ends the dialogue with status 9
+-- after a refusal is said: the last one that is allowed ends the dialogue
 abbrev pub after_refusal : Position → ℕ → Stage
-after_refusal p refusals = if refusals + 1 == 100 then Over p 9 else At p (refusals + 1)
+after_refusal p refusals = if refusals + 1 == MAX_REFUSALS then Over p OUT_OF_REPLIES else At p (refusals + 1)
 
 -- after a line that says a free point, and after one that is refused
-abbrev pub after_reply : Game → Position → ℕ → Result ℕ Bytes → Stage
+abbrev pub after_reply : Game → Position → ℕ → Result ℕ ReplyFault → Stage
 after_reply g p refusals (Ok v) = At (after g p v) refusals
-after_reply g p refusals (Err text) = Owes p refusals text
+after_reply g p refusals (Err fault) = Owes p refusals fault
 
 -- the game goes on and the other side is to move
 abbrev pub IsTheirs : Game → Side → Position → Type 0
@@ -46,22 +50,22 @@ IsTheirs g side p = (is_over g p ≡ false) × (p.turn ≡ other side)
 
 -- the game is over, and the text says its outcome
 abbrev pub SaysResult : Game → Position → Bytes → Stage → Type 0
-SaysResult g p text next = (is_over g p ≡ true) × (text ≡ result_text g.kind (outcome g p)) × (next ≡ Over p 0)
+SaysResult g p text next = (is_over g p ≡ true) × (text ≡ result_text g.kind (outcome g p)) × (next ≡ Over p DONE)
 
 -- the side is to move, and the text says a legal move of its own
 abbrev pub SaysMove : Game → Side → Position → ℕ → Bytes → Stage → Type 0
 SaysMove g side p refusals text next = (v : ℕ) × (is_over g p ≡ false) × (p.turn ≡ side) × (v < point_count g) × (is_free p v ≡ true) × (text ≡ move_text v) × (next ≡ At (after g p v) refusals)
 
--- THE RULES: the entry that may come next, and where it leads. The end of the input ends the dialogue with status 8
+-- THE RULES: the entry that may come next, and where it leads. The end of the input ends the dialogue
 abbrev pub Steps : Game → Side → Stage → Entry → Stage → Type 0
 Steps g side (At p refusals) (Said text) next = SaysResult g p text next ⊎ SaysMove g side p refusals text next
 Steps g side (At p refusals) (Heard line) next = IsTheirs g side p × (next ≡ after_reply g p refusals (replied_point g p line))
-Steps g side (At p refusals) (Skipped line) next = IsTheirs g side p × (next ≡ Owes p refusals not_a_number)
-Steps g side (At p refusals) Ended next = IsTheirs g side p × (next ≡ Over p 8)
-Steps g side (Owes p refusals text) (Said said) next = (said ≡ text) × (next ≡ after_refusal p refusals)
-Steps g side (Owes p refusals text) (Heard line) next = ⊥
-Steps g side (Owes p refusals text) (Skipped line) next = ⊥
-Steps g side (Owes p refusals text) Ended next = ⊥
+Steps g side (At p refusals) (Skipped line) next = IsTheirs g side p × (next ≡ Owes p refusals NoNumber)
+Steps g side (At p refusals) Ended next = IsTheirs g side p × (next ≡ Over p INPUT_ENDED)
+Steps g side (Owes p refusals fault) (Said text) next = (text ≡ reply_text fault) × (next ≡ after_refusal p refusals)
+Steps g side (Owes p refusals fault) (Heard line) next = ⊥
+Steps g side (Owes p refusals fault) (Skipped line) next = ⊥
+Steps g side (Owes p refusals fault) Ended next = ⊥
 Steps g side (Over p status) entry next = ⊥
 
 -- the entries lead from one stage to another
@@ -72,7 +76,7 @@ Leads g side s (entry ∷ entries) t = (m : Stage) × Steps g side s entry m × 
 -- the dialogue hasn't ended
 abbrev pub IsOpen : Stage → Type 0
 IsOpen (At p refusals) = ⊤
-IsOpen (Owes p refusals text) = ⊤
+IsOpen (Owes p refusals fault) = ⊤
 IsOpen (Over p status) = ⊥
 
 -- the entries are a whole dialogue of the side from the position, with no refusals before; it ends at the last position with the status
@@ -87,6 +91,6 @@ IsOpenDialogue g side p entries = (stage : Stage) × IsOpen stage × Leads g sid
 abbrev pub IsOwnMove : Game → Position → Entry → Type 0
 IsOwnMove g p entry = (v : ℕ) × (v < point_count g) × (is_free p v ≡ true) × (entry ≡ Said (move_text v))
 
--- at status 0 the game is over; it goes on where the input has ended, at 8, and where a hundred replies were refused, at 9
+-- where it is done the game is over; it goes on where the input has ended, and where too many replies were refused
 abbrev pub EndsWith : Game → Position → ℕ → Type 0
-EndsWith g last status = ((is_over g last ≡ true) × (status ≡ 0)) ⊎ ((is_over g last ≡ false) × ((status ≡ 8) ⊎ (status ≡ 9)))
+EndsWith g last status = ((is_over g last ≡ true) × (status ≡ DONE)) ⊎ ((is_over g last ≡ false) × ((status ≡ INPUT_ENDED) ⊎ (status ≡ OUT_OF_REPLIES)))

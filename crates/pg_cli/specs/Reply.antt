@@ -6,7 +6,8 @@ use Rattle.pg_game.specs.declared.game.Game.{Game}
 use Rattle.pg_game.specs.declared.position.Position.{Position}
 use Rattle.pg_game.specs.Game.{point_count}
 use Rattle.pg_game.specs.Position.{is_free}
-use Rattle.pg_cli.specs.Texts.{not_a_number, no_such_point, taken}
+use Rattle.pg_texts.specs.declared.message.ReplyFault.{ReplyFault}
+use Rattle.pg_texts.specs.declared.message.ReplyFault.TheVariants.{NoNumber, NoPoint, Taken}
 
 -- a space, a tab, or a carriage return
 abbrev pub is_blank : ℕ → Bool
@@ -25,11 +26,11 @@ trimmed_end text = reverse (trimmed_start (reverse text))
 abbrev pub said_number : Bytes → Option ℕ
 said_number line = number (trimmed_end (trimmed_start line))
 
--- the free point that the number is, or the text by which it is refused
-abbrev pub point_or_refusal : Game → Position → Option ℕ → Result ℕ Bytes
-point_or_refusal g p None = Err not_a_number
-point_or_refusal g p (Some v) = if nat_lt v (point_count g) then (if is_free p v then Ok v else Err taken) else Err no_such_point
+-- the free point that the number is, or why it is refused
+abbrev pub point_or_refusal : Game → Position → Option ℕ → Result ℕ ReplyFault
+point_or_refusal g p None = Err NoNumber
+point_or_refusal g p (Some v) = if nat_lt v (point_count g) then (if is_free p v then Ok v else Err Taken) else Err NoPoint
 
 -- the same of a line
-abbrev pub replied_point : Game → Position → Bytes → Result ℕ Bytes
+abbrev pub replied_point : Game → Position → Bytes → Result ℕ ReplyFault
 replied_point g p line = point_or_refusal g p (said_number line)

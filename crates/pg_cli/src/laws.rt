@@ -1,35 +1,30 @@
-//! What a check that accepts says of the game, and what a dialogue says of the play.
+//! What the claims that are said tell of the game, and what a dialogue tells of the play.
 ghost use Rattle.std.specs.Prelude.{◌≡◌, ◌+◌, ◌≤◌, ℕ, false, List, Option, length, count_by};
 ghost use Rattle.pg_base.specs.declared.side.Side.{Side};
-ghost use Rattle.pg_io.specs.Files.{Bytes};
+ghost use Rattle.pg_io.specs.Files.{Holding};
 ghost use Rattle.pg_io.specs.declared.entry.Entry.{Entry};
 ghost use Rattle.pg_game.specs.Game.{free_points, is_over};
 ghost use Rattle.pg_game.specs.Play.{IsLegalPlay, played};
 ghost use Rattle.pg_game.specs.declared.game.Game.{Game};
 ghost use Rattle.pg_game.specs.declared.position.Position.{Position};
-ghost use Rattle.pg_cert.specs.declared.cert.Claim.{Claim};
-ghost use Rattle.pg_cli.specs.Accepted.{AreForced, IsForcedOf};
-ghost use Rattle.pg_cli.specs.Answer.{Answer, ChecksTo, both_held};
+ghost use Rattle.pg_words.specs.Words.{Command};
+ghost use Rattle.pg_cli.specs.Commands.{game_read};
+ghost use Rattle.pg_cli.specs.declared.dialogue.TheConstants.{MAX_REFUSALS};
 ghost use Rattle.pg_cli.specs.Dialogue.{Stage, At, Steps, Leads, IsDialogue, EndsWith, IsOwnMove, position_at, is_heard};
-ghost use Rattle.pg_cli.specs.Run.{IsPlayedBy};
+ghost use Rattle.pg_cli.specs.Done.{Done, End};
+ghost use Rattle.pg_cli.specs.Forced.{AreForced};
+ghost use Rattle.pg_cli.specs.Run.{Allows};
+ghost use Rattle.pg_pns.specs.Expanded.{Expanded};
 
 use pg_cert_files::reads_within_limits;
 use pg_check::valid_claims_are_forced;
 use pg_game::laws::games_end;
 
-/// Where the answer of a check has status 0, its texts accept the claims of the certificate in order, and each claim is
-/// forced: its side reaches its goal by best play from the game's marks with the claim's turn.
-pub fn accepted_claims_are_forced()
-    ensures { (game certificate : Option Bytes) (a : Answer) → ChecksTo game certificate a → a.status ≡ 0 → AreForced game certificate a.texts }
-{
-    reads_within_limits();
-    valid_claims_are_forced();
-}
-
-/// Where a side is played by a claim of a certificate, the claim is one of that side which is forced from the game's
-/// position: its side reaches its goal by best play.
-pub fn played_claims_are_forced()
-    ensures { (game certificate : Option Bytes) (side : Side) (g : Game) (claim : Claim) → IsPlayedBy side (both_held game certificate) g claim → IsForcedOf game certificate side claim }
+/// Whatever a command does, each claim that it says to be accepted is forced: its side reaches its goal by best play from
+/// the game's marks with the claim's turn. A claim that is played is forced from the game's position.
+pub fn announced_claims_are_forced()
+    ensures { (held : Holding) (command : Option Command) (work : Expanded) (done : Done) (end : End) →
+        Allows held command work done end → AreForced (game_read held command) done.entries }
 {
     reads_within_limits();
     valid_claims_are_forced();
@@ -52,9 +47,9 @@ pub fn dialogues_end()
     ensures { (g : Game) (side : Side) (p : Position) (entries : List Entry) (last : Position) (status : ℕ) → IsDialogue g side p entries last status → EndsWith g last status }
 {}
 
-/// In a dialogue something is heard at most as often as points are free at its beginning, and a hundred times more.
+/// In a dialogue something is heard at most as often as points are free at its beginning, and as often more as replies may be refused.
 pub fn little_is_heard()
-    ensures { (g : Game) (side : Side) (p : Position) (entries : List Entry) (stage : Stage) → Leads g side (At p 0) entries stage → count_by is_heard entries ≤ length (free_points g p) + 100 }
+    ensures { (g : Game) (side : Side) (p : Position) (entries : List Entry) (stage : Stage) → Leads g side (At p 0) entries stage → count_by is_heard entries ≤ length (free_points g p) + MAX_REFUSALS }
 {
     games_end();
 }

@@ -1,22 +1,22 @@
-//! The top call: the meaning of the words, what each command says, and the status.
+//! The top call: what each command says, and the status.
 #![tactic(auto)]
 
 mod checking;
 mod dialogue;
+mod halt;
 mod laws;
-mod opening;
 mod playing;
-mod refusal;
+mod reading;
 mod reply;
-mod texts;
-mod top;
-mod voice;
-mod words;
-mod work;
+mod reporting;
+mod running;
+mod saying;
+mod solving;
 
+pub use dialogue::{MAX_REFUSALS, MAX_REPLY};
 pub use laws::{
-    accepted_claims_are_forced, dialogues_are_legal_plays, dialogues_end, little_is_heard,
-    own_moves_come_first, played_claims_are_forced,
+    announced_claims_are_forced, dialogues_are_legal_plays, dialogues_end, little_is_heard,
+    own_moves_come_first,
 };
-pub use top::run;
-pub use work::Work;
+pub use running::run;
+pub use solving::DEFAULT_POSITIONS;

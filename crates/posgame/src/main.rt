@@ -1,17 +1,13 @@
 //! The program: it does what the words of its command line ask for, and ends with a status.
 #![tactic(auto)]
 
-use pg_cli::{Work, run};
+use pg_cli::run;
 use pg_io::{HostConsole, HostFiles};
+use pg_pns::Work;
+use pg_texts::{NO_MEMORY, NO_WORDS};
 use std::env;
 use std::io::ErrorKind;
 use std::process::ExitCode;
-
-/// The status where memory for the words is wanting.
-const NO_MEMORY: u8 = 7;
-
-/// The status where the system refuses the words for another cause.
-const NO_WORDS: u8 = 11;
 
 fn main(rt: HostRuntime) -> ExitCode {
     let arguments = match env::args(&rt) {

@@ -1,38 +1,33 @@
-use Rattle.std.proofs.Common.{Ok, Err, refl, ap, inr, ◌∷◌, []}
+use Rattle.std.proofs.Common.{Ok, Err, refl, ap}
 use Rattle.std.proofs.lemmas.Result.{err_from_is_err_and}
-use Rattle.pg_io.specs.declared.stop.Stop.TheVariants.{Memory}
-use Rattle.pg_files.specs.Views.{entry}
-use Rattle.pg_cli.specs.Answer.{answer}
 use Rattle.pg_player.specs.declared.player.OpenFault.{OpenFault}
-use Rattle.pg_cli.specs.Texts.{no_claim_text}
-use Rattle.pg_cli.proofs.Plays.{plays_silent, plays_refused, plays_opened}
+use Rattle.pg_cli.specs.declared.halt.Halt.TheVariants.{Stopped}
+use Rattle.pg_cli.proofs.Plays.{nothing_played, plays_opened, play_unclaimed}
 use Rattle.pg_cli.proofs.playing.play_checked.Goals as goal
 
-pub returns-in_err-say_claim-in-Ok-clause-played : goal.returns-in_err-say_claim-in-Ok-clause-played
-returns-in_err-say_claim-in-Ok-clause-played g c =
-    let e = err_from_is_err_and c.from_residual.result c.from_residual.ensures.1 in
-    rw e.1 (plays_silent c.args.side (Ok (entry c.args.checked.game.now, c.args.checked.cert.now)) _ _ _ e.0 c.in_err-say_claim-in-Ok.ensures.said)
+pub returns-in-Err-NoClaim-clause-played : goal.returns-in-Err-NoClaim-clause-played
+returns-in-Err-NoClaim-clause-played g c =
+    play_unclaimed c.args.side c.args.checked.game.now c.args.checked.cert.now (g.C.Console.told c.args.console.now) c.requires.single c.requires.valid
+    (c.in-Err-NoClaim.ensures.none (ap (λ (f : OpenFault). Err f) c.in-Err-NoClaim.field-0-is))
 
-pub returns-in_err-say_no_claim-in-Err-NoClaim-clause-played : goal.returns-in_err-say_no_claim-in-Err-NoClaim-clause-played
-returns-in_err-say_no_claim-in-Err-NoClaim-clause-played g c =
-    let e = err_from_is_err_and c.from_residual-in_err-say_no_claim-in-Err-NoClaim.result c.from_residual-in_err-say_no_claim-in-Err-NoClaim.ensures.1 in
-    rw e.1 (plays_silent c.args.side (Ok (entry c.args.checked.game.now, c.args.checked.cert.now)) _ _ _ e.0 c.in_err-say_no_claim-in-Err-NoClaim.ensures.said)
+pub returns-in_err-say-clause-played : goal.returns-in_err-say-clause-played
+returns-in_err-say-clause-played g c =
+    let p = err_from_is_err_and c.from_residual.result c.from_residual.ensures.1 in
+    rw (p.1, p.2) (nothing_played c.args.side c.args.checked.game.now c.args.checked.cert.now (g.C.Console.told c.args.console.now) (g.C.Console.told c.say.new.console) _ c.in_err-say.ensures.said c.in_err-say.ensures.left)
 
-pub returns-in_ok-say_claim-in-Ok-clause-played : goal.returns-in_ok-say_claim-in-Ok-clause-played
-returns-in_ok-say_claim-in-Ok-clause-played g c =
-    let play = c.in-Ok.player in
+pub returns-in_err-play_to_the_end-clause-played : goal.returns-in_err-play_to_the_end-clause-played
+returns-in_err-play_to_the_end-clause-played g c =
+    let p = err_from_is_err_and c.from_residual-in_err-play_to_the_end.result c.from_residual-in_err-play_to_the_end.ensures.1 in
     let opened = c.in-Ok.ensures in
-    let said = rw c.goal.ensures at c.in_ok-say_claim-in-Ok.ensures.said in
-    plays_opened c.args.side c.args.checked.game.now c.args.checked.cert.now play _ _ _ _ _ _ _ c.play_to_the_end.result
-    c.requires.single c.requires.valid opened.chosen opened.game opened.position opened.side
-    said c.in_ok-say_claim-in-Ok.ensures.left c.play_to_the_end.ensures.memory c.play_to_the_end.ensures.reached c.play_to_the_end.ensures.talk
+    let stop = c.in_err-play_to_the_end.field-0.0 in
+    rw (p.1, p.2) (plays_opened c.args.side c.args.checked.game.now c.args.checked.cert.now (g.C.Console.told c.args.console.now) (g.C.Console.told c.say.new.console) (g.C.Console.told c.play_to_the_end.new.console) c.in-Ok.player c.goal-goal.result c.play_to_the_end.new.player.position (Err stop)
+    c.requires.single c.requires.valid opened.chosen opened.game opened.position opened.side c.goal-goal.ensures
+    c.in_ok-say.ensures.said c.in_ok-say.ensures.left c.in_err-play_to_the_end.ensures.memory tt c.in_err-play_to_the_end.ensures.talk (Err (Stopped stop)) tt refl)
 
-pub returns-in_ok-say_no_claim-in-Err-NoClaim-clause-played : goal.returns-in_ok-say_no_claim-in-Err-NoClaim-clause-played
-returns-in_ok-say_no_claim-in-Err-NoClaim-clause-played g c =
-    let game = c.args.checked.game.now in
-    let none = c.in-Err-NoClaim.ensures.none (ap (λ (f : OpenFault). Err f) c.in-Err-NoClaim.field-0-is) in
-    plays_refused c.args.side (Ok (entry game, c.args.checked.cert.now)) _ _ _ (answer (no_claim_text c.args.side ∷ []) 2) (Ok 2)
-    (game, (refl, c.requires.single), inr (c.requires.valid, none, refl)) c.in_ok-say_no_claim-in-Err-NoClaim.ensures.said tt refl
-
-pub returns-in-Err-Memory-clause-played : goal.returns-in-Err-Memory-clause-played
-returns-in-Err-Memory-clause-played g c = plays_silent c.args.side (Ok (entry c.args.checked.game.now, c.args.checked.cert.now)) _ _ _ Memory refl
+pub returns-clause-played : goal.returns-clause-played
+returns-clause-played g c =
+    let opened = c.in-Ok.ensures in
+    let status = c.in_ok-play_to_the_end.field-0 in
+    plays_opened c.args.side c.args.checked.game.now c.args.checked.cert.now (g.C.Console.told c.args.console.now) (g.C.Console.told c.say.new.console) (g.C.Console.told c.play_to_the_end.new.console) c.in-Ok.player c.goal-goal.result c.play_to_the_end.new.player.position (Ok status)
+    c.requires.single c.requires.valid opened.chosen opened.game opened.position opened.side c.goal-goal.ensures
+    c.in_ok-say.ensures.said c.in_ok-say.ensures.left c.in_ok-play_to_the_end.ensures.memory c.in_ok-play_to_the_end.ensures.reached c.in_ok-play_to_the_end.ensures.talk (Ok status) refl tt

@@ -1,0 +1,267 @@
+-- How a run ends.
+use Rattle.std.proofs.Common.{◌≡◌, ◌≢◌, ℕ, List, [], ◌∷◌, Option, Some, None, Result, Ok, Err, refl, sym, ◌∙◌, ap, subst, inl, inr, arith}
+use Rattle.std.specs.Prelude.{IfSome}
+use Rattle.std.specs.List.{Contains}
+use Rattle.pg_io.specs.Causes.{Faults, Rose}
+use Rattle.pg_io.specs.Console.{ConsoleTold, Grows}
+use Rattle.pg_io.specs.Files.{Bytes, Holding, FilesTold}
+use Rattle.pg_io.specs.declared.entry.Entry.{Entry}
+use Rattle.pg_io.specs.declared.entry.Entry.TheVariants.{Said}
+use Rattle.pg_io.specs.declared.stop.Stop.{Stop}
+use Rattle.pg_io.specs.declared.stop.Stop.TheVariants.{Read, Write, Memory}
+use Rattle.pg_texts.specs.Statuses.{refusal_status}
+use Rattle.pg_texts.specs.Texts.{refusal_text}
+use Rattle.pg_texts.specs.declared.refusal.Refusal.{Refusal}
+use Rattle.pg_texts.specs.declared.refusal.Refusal.TheVariants.{NoMeaning, NoClaim, Game, Certificate, Rejected}
+use Rattle.pg_texts.specs.declared.statuses.TheConstants.{DONE, UNKNOWN, REFUSED, INPUT_ENDED, OUT_OF_REPLIES, NO_MEANING, READ_FAILED, WRITE_FAILED, NO_MEMORY}
+use Rattle.pg_words.specs.Words.{Command, Solve, Check, Play, Gen, Report}
+use Rattle.pg_cli.specs.Commands.{Gives, Quiets, Silences, SaysNoMeaning, statuses_of}
+use Rattle.pg_cli.specs.Done.{Done, End, Finished, Failed, Starved, Talked, Hears, Changes, Keeps, ending, nothing, talk, stop_end}
+use Rattle.pg_cli.specs.Halts.{BothCauses, Calm, IsGameHalt, IsReadHalt, IsPlayHalt, IsPlayEnd, stop_status}
+use Rattle.pg_cli.specs.Hearing.{Hearing}
+use Rattle.pg_cli.specs.Run.{Allows, Declines, Acts, RanOn, Ran, CarriesOn, Carries, Ends, HasCause}
+use Rattle.pg_pns.specs.Expanded.{Expanded}
+use Rattle.pg_cli.specs.declared.halt.Halt.{Halt}
+use Rattle.pg_cli.specs.declared.halt.Halt.TheVariants.{Refused, Stopped}
+use Rattle.pg_cli.proofs.Speaking.{Grows-nothing, Grows-then}
+use Rattle.pg_cli.proofs.Talking.{Hearing-then, Hearing-said}
+
+-- ---- statuses
+
+-- a command that is done has a status of its own
+pub finishes : (command : Option Command) (status : ℕ) → Gives command (Ok status) → ending status ≡ Finished status
+finishes None status gives = absurd gives
+finishes (Some (Solve g c positions)) status (inl is) = subst (λ (s : ℕ). ending s ≡ Finished s) (sym is) refl
+finishes (Some (Solve g c positions)) status (inr is) = subst (λ (s : ℕ). ending s ≡ Finished s) (sym is) refl
+finishes (Some (Check g c)) status gives = subst (λ (s : ℕ). ending s ≡ Finished s) (sym gives) refl
+finishes (Some (Play g c side)) status (inl is) = subst (λ (s : ℕ). ending s ≡ Finished s) (sym is) refl
+finishes (Some (Play g c side)) status (inr (inl is)) = subst (λ (s : ℕ). ending s ≡ Finished s) (sym is) refl
+finishes (Some (Play g c side)) status (inr (inr is)) = subst (λ (s : ℕ). ending s ≡ Finished s) (sym is) refl
+finishes (Some (Gen which g c)) status gives = absurd gives
+finishes (Some (Report g c)) status (inl is) = subst (λ (s : ℕ). ending s ≡ Finished s) (sym is) refl
+finishes (Some (Report g c)) status (inr is) = subst (λ (s : ℕ). ending s ≡ Finished s) (sym is) refl
+
+refusal_finishes : (refusal : Refusal) → ending (refusal_status refusal) ≡ Finished (refusal_status refusal)
+refusal_finishes NoMeaning = refl
+refusal_finishes (NoClaim side) = refl
+refusal_finishes (Game number line) = refl
+refusal_finishes (Certificate number line) = refl
+refusal_finishes (Rejected claim node why) = refl
+
+stop_ends : (stop : Stop) → ending (stop_status stop) ≡ stop_end stop
+stop_ends Read = refl
+stop_ends Write = refl
+stop_ends Memory = refl
+
+-- a status of its own tells neither of a failed call nor of memory
+other_status : (status : ℕ) → ending status ≡ Finished status → (status ≢ READ_FAILED) × (status ≢ WRITE_FAILED) × (status ≢ NO_MEMORY)
+other_status status own = (
+  λ is. let e : Failed ≡ Finished status = sym (ap ending is) ∙ own in cc e,
+  λ is. let e : Failed ≡ Finished status = sym (ap ending is) ∙ own in cc e,
+  λ is. let e : Starved ≡ Finished status = sym (ap ending is) ∙ own in cc e,
+)
+
+-- ---- what was done
+
+module _ (command : Option Command) (work : Expanded) (files files' : FilesTold) where
+  pub ran_done : (before after : ConsoleTold) (status : ℕ) → Carries command work files files' before after (Ok status) → Gives command (Ok status) → Ran command work files files' before after status
+  ran_done before after status carries gives = go files.held carries where
+    go : (h : Option Holding) → IfSome h (λ held. CarriesOn held command work files' before after (Ok status)) → IfSome h (λ held. RanOn held command work files' before after (ending status))
+    go None on = tt
+    go (Some held) (done, acts, changes) =
+        subst (λ (end : End). RanOn held command work files' before after end) (sym (finishes command status gives)) (done, inr acts, changes)
+
+  module _ (held : Holding) (before mid after : ConsoleTold) where
+    declined : (stop : Stop) (done : Done) → (done.entries ≡ []) × (done.stored ≡ []) → Declines held command done (stop_end stop)
+    declined Read done none = none
+    declined Write done none = none
+    declined Memory done none = none
+
+    -- what stands against the command is said, or that fails; or the run was stopped
+    ended : (halt : Halt) (status : ℕ) → CarriesOn held command work files' before mid (Err halt) → Ends halt mid after status → RanOn held command work files' before after (ending status)
+    ended (Refused refusal) status (refuses, changes) (inl (is, says, left, calm)) =
+        let heard : Hearing before.left (Said (refusal_text refusal) ∷ []) after.left = subst (λ (l : Option Bytes). Hearing before.left (Said (refusal_text refusal) ∷ []) l) (sym left)
+        (Hearing-then before.left mid.left mid.left [] (Said (refusal_text refusal) ∷ []) changes.talked.heard (Hearing-said mid.left (refusal_text refusal))) in
+        let grown : Grows before.log after.log (Said (refusal_text refusal) ∷ []) = Grows-then before.log mid.log after.log [] (Said (refusal_text refusal) ∷ []) changes.talked.logged says in
+        let own : ending status ≡ Finished (refusal_status refusal) = ap ending is ∙ refusal_finishes refusal in
+        subst (λ (end : End). RanOn held command work files' before after end) (sym own)
+        (talk (Said (refusal_text refusal) ∷ []), inl (refusal, refuses, refl, refl, refl), record { talked = record { logged = grown; heard = heard }; names = changes.names })
+    ended (Refused refusal) status (refuses, changes) (inr (is, quiet, left, rose)) =
+        subst (λ (end : End). RanOn held command work files' before after end) (sym (ap ending is)) (
+          nothing,
+          inl (refl, refl),
+          record {
+            talked = record { logged = subst (λ (l : Option (List Entry)). Grows before.log l []) (sym quiet) changes.talked.logged; heard = (mid.left, changes.talked.heard) };
+            names = changes.names;
+          },
+        )
+    ended (Stopped stop) status (done, how, changes) (is, same) =
+        let own : ending status ≡ stop_end stop = ap ending is ∙ stop_ends stop in
+        subst (λ (end : End). RanOn held command work files' before after end) (sym own) (
+          done,
+          elim how as (λ _. Allows held command work done (stop_end stop)) [ inl none ↦ inl (declined stop done none) | inr acts ↦ inr acts ],
+          subst (λ (c : ConsoleTold). Changes held files' before c done (stop_end stop)) (sym same) changes,
+        )
+
+  pub ran_early : (before mid after : ConsoleTold) (halt : Halt) (status : ℕ) → Carries command work files files' before mid (Err halt) → Ends halt mid after status → Ran command work files files' before after status
+  ran_early before mid after halt status carries ends = go files.held carries where
+    go : (h : Option Holding) → IfSome h (λ held. CarriesOn held command work files' before mid (Err halt)) → IfSome h (λ held. RanOn held command work files' before after (ending status))
+    go None on = tt
+    go (Some held) on = ended held before mid after halt status on ends
+
+-- ---- what was said at a failed read, and for want of memory
+
+pub silent_done : (command : Option Command) (before after : ConsoleTold) (status : ℕ) → Gives command (Ok status) → Silences command before after status
+silent_done command before after status gives =
+    let other = other_status status (finishes command status gives) in
+    record { at_read = λ is. absurd (other.0 is); at_memory = λ is. absurd (other.2 is) }
+
+pub silent_early : (command : Option Command) (before mid after : ConsoleTold) (halt : Halt) (status : ℕ) → Quiets command before mid (Err halt) → Ends halt mid after status → Silences command before after status
+silent_early command before mid after (Refused refusal) status quiets (inl (is, says, left, calm)) =
+    let other = other_status status (subst (λ (s : ℕ). ending s ≡ Finished s) (sym is) (refusal_finishes refusal)) in
+    record { at_read = λ e. absurd (other.0 e); at_memory = λ e. absurd (other.2 e) }
+silent_early command before mid after (Refused refusal) status quiets (inr (is, quiet, left, rose)) =
+    record { at_read = λ e. let f : WRITE_FAILED ≡ READ_FAILED = sym is ∙ e in absurd (cc f); at_memory = λ e. let f : WRITE_FAILED ≡ NO_MEMORY = sym is ∙ e in absurd (cc f) }
+silent_early command before mid after (Stopped Read) status quiets (is, same) =
+    record { at_read = λ e. subst (λ (c : ConsoleTold). Quiets command before c (Err (Stopped Read))) (sym same) quiets; at_memory = λ e. let f : READ_FAILED ≡ NO_MEMORY = sym is ∙ e in absurd (cc f) }
+silent_early command before mid after (Stopped Write) status quiets (is, same) =
+    record { at_read = λ e. let f : WRITE_FAILED ≡ READ_FAILED = sym is ∙ e in absurd (cc f); at_memory = λ e. let f : WRITE_FAILED ≡ NO_MEMORY = sym is ∙ e in absurd (cc f) }
+silent_early command before mid after (Stopped Memory) status quiets (is, same) =
+    record { at_read = λ e. let f : NO_MEMORY ≡ READ_FAILED = sym is ∙ e in absurd (cc f); at_memory = λ e. subst (λ (c : ConsoleTold). Quiets command before c (Err (Stopped Memory))) (sym same) quiets }
+
+-- ---- which statuses
+
+at_place : (l : List ℕ) (n m : ℕ) → n ≡ m → Contains l m → Contains l n
+at_place l n m is there = subst (λ (s : ℕ). Contains l s) (sym is) there
+
+pub status_done : (command : Option Command) (status : ℕ) → Gives command (Ok status) → Contains (statuses_of command) status
+status_done None status gives = absurd gives
+status_done (Some (Solve g c positions)) status (inl is) = at_place (statuses_of (Some (Solve g c positions))) status DONE is (0, omega arith, refl)
+status_done (Some (Solve g c positions)) status (inr is) = at_place (statuses_of (Some (Solve g c positions))) status UNKNOWN is (1, omega arith, refl)
+status_done (Some (Check g c)) status is = at_place (statuses_of (Some (Check g c))) status DONE is (0, omega arith, refl)
+status_done (Some (Play g c side)) status (inl is) = at_place (statuses_of (Some (Play g c side))) status DONE is (0, omega arith, refl)
+status_done (Some (Play g c side)) status (inr (inl is)) = at_place (statuses_of (Some (Play g c side))) status INPUT_ENDED is (7, omega arith, refl)
+status_done (Some (Play g c side)) status (inr (inr is)) = at_place (statuses_of (Some (Play g c side))) status OUT_OF_REPLIES is (8, omega arith, refl)
+status_done (Some (Gen which g c)) status gives = absurd gives
+status_done (Some (Report g c)) status (inl is) = at_place (statuses_of (Some (Report g c))) status DONE is (0, omega arith, refl)
+status_done (Some (Report g c)) status (inr is) = at_place (statuses_of (Some (Report g c))) status REFUSED is (2, omega arith, refl)
+
+-- a write that fails ends every command
+write_fails : (command : Option Command) → Contains (statuses_of command) WRITE_FAILED
+write_fails None = (1, omega arith, refl)
+write_fails (Some (Solve g c positions)) = (4, omega arith, refl)
+write_fails (Some (Check g c)) = (4, omega arith, refl)
+write_fails (Some (Play g c side)) = (5, omega arith, refl)
+write_fails (Some (Gen which g c)) = (1, omega arith, refl)
+write_fails (Some (Report g c)) = (4, omega arith, refl)
+
+refuses : (command : Option Command) (refusal : Refusal) → Gives command (Err (Refused refusal)) → Contains (statuses_of command) (refusal_status refusal)
+refuses (Some (Check g c)) NoMeaning gives = absurd gives
+refuses (Some (Check g c)) (NoClaim side) gives = absurd gives
+refuses (Some (Check g c)) (Game number line) gives = (1, omega arith, refl)
+refuses (Some (Check g c)) (Certificate number line) gives = (2, omega arith, refl)
+refuses (Some (Check g c)) (Rejected claim node why) gives = (2, omega arith, refl)
+refuses (Some (Play g c side)) NoMeaning gives = absurd gives
+refuses (Some (Play g c side)) (NoClaim other) gives = (1, omega arith, refl)
+refuses (Some (Play g c side)) (Game number line) gives = (2, omega arith, refl)
+refuses (Some (Play g c side)) (Certificate number line) gives = (3, omega arith, refl)
+refuses (Some (Play g c side)) (Rejected claim node why) gives = (3, omega arith, refl)
+refuses None refusal (inl is) = let e : refusal ≡ NoMeaning = cc is in subst (λ (r : Refusal). Contains (statuses_of None) (refusal_status r)) (sym e) (0, omega arith, refl)
+refuses None refusal (inr is) = absurd (cc is)
+refuses (Some (Solve g c positions)) NoMeaning gives = absurd gives
+refuses (Some (Solve g c positions)) (NoClaim side) gives = absurd gives
+refuses (Some (Solve g c positions)) (Game number line) gives = (2, omega arith, refl)
+refuses (Some (Solve g c positions)) (Certificate number line) gives = absurd gives
+refuses (Some (Solve g c positions)) (Rejected claim node why) gives = absurd gives
+refuses (Some (Gen which g c)) refusal (inl is) = let e : refusal ≡ NoMeaning = cc is in subst (λ (r : Refusal). Contains (statuses_of None) (refusal_status r)) (sym e) (0, omega arith, refl)
+refuses (Some (Gen which g c)) refusal (inr is) = absurd (cc is)
+refuses (Some (Report g c)) NoMeaning gives = absurd gives
+refuses (Some (Report g c)) (NoClaim side) gives = absurd gives
+refuses (Some (Report g c)) (Game number line) gives = (1, omega arith, refl)
+refuses (Some (Report g c)) (Certificate number line) gives = (2, omega arith, refl)
+refuses (Some (Report g c)) (Rejected claim node why) gives = (2, omega arith, refl)
+
+stops : (command : Option Command) (stop : Stop) → Gives command (Err (Stopped stop)) → Contains (statuses_of command) (stop_status stop)
+stops (Some (Check g c)) Read gives = (3, omega arith, refl)
+stops (Some (Check g c)) Write gives = (4, omega arith, refl)
+stops (Some (Check g c)) Memory gives = (5, omega arith, refl)
+stops (Some (Play g c side)) Read gives = (4, omega arith, refl)
+stops (Some (Play g c side)) Write gives = (5, omega arith, refl)
+stops (Some (Play g c side)) Memory gives = (6, omega arith, refl)
+stops None stop (inl is) = absurd (cc is)
+stops None stop (inr is) = let e : stop ≡ Memory = cc is in subst (λ (s : Stop). Contains (statuses_of None) (stop_status s)) (sym e) (2, omega arith, refl)
+stops (Some (Solve g c positions)) Read gives = (3, omega arith, refl)
+stops (Some (Solve g c positions)) Write gives = (4, omega arith, refl)
+stops (Some (Solve g c positions)) Memory gives = (5, omega arith, refl)
+stops (Some (Gen which g c)) stop (inl is) = absurd (cc is)
+stops (Some (Gen which g c)) stop (inr is) = let e : stop ≡ Memory = cc is in subst (λ (s : Stop). Contains (statuses_of None) (stop_status s)) (sym e) (2, omega arith, refl)
+stops (Some (Report g c)) Read gives = (3, omega arith, refl)
+stops (Some (Report g c)) Write gives = (4, omega arith, refl)
+stops (Some (Report g c)) Memory gives = (5, omega arith, refl)
+
+pub status_early : (command : Option Command) (before after : ConsoleTold) (halt : Halt) (status : ℕ) → Gives command (Err halt) → Ends halt before after status → Contains (statuses_of command) status
+status_early command before after (Refused refusal) status gives (inl ends) = at_place (statuses_of command) status (refusal_status refusal) ends.0 (refuses command refusal gives)
+status_early command before after (Refused refusal) status gives (inr ends) = at_place (statuses_of command) status WRITE_FAILED ends.0 (write_fails command)
+status_early command before after (Stopped stop) status gives ends = at_place (statuses_of command) status (stop_status stop) ends.0 (stops command stop gives)
+
+-- ---- words without a meaning
+
+pub meaningless_done : (command : Option Command) (before after : ConsoleTold) (status : ℕ) → Gives command (Ok status) → command ≡ None → SaysNoMeaning before after status
+meaningless_done command before after status gives none = absurd (subst (λ (c : Option Command). Gives c (Ok status)) none gives)
+
+pub meaningless_early : (command : Option Command) (before mid after : ConsoleTold) (halt : Halt) (status : ℕ) → Gives command (Err halt) → Quiets command before mid (Err halt) → Ends halt mid after status
+    → command ≡ None → SaysNoMeaning before after status
+meaningless_early command before mid after halt status gives quiets ends none =
+    go halt (subst (λ (c : Option Command). Gives c (Err halt)) none gives) (subst (λ (c : Option Command). Quiets c before mid (Err halt)) none quiets) ends
+  where
+    go : (halt : Halt) → Gives None (Err halt) → Quiets None before mid (Err halt) → Ends halt mid after status → SaysNoMeaning before after status
+    go (Refused refusal) (inl is) quiets (inl (same, says, left, calm)) =
+        let e : refusal ≡ NoMeaning = cc is in
+        let status_is : status ≡ NO_MEANING = same ∙ ap refusal_status e in
+        let grown = Grows-then before.log mid.log after.log [] (Said (refusal_text refusal) ∷ []) quiets says in
+        record { said = λ _. subst (λ (r : Refusal). Grows before.log after.log (Said (refusal_text r) ∷ [])) e grown; stopped = λ other. absurd (other status_is) }
+    go (Refused refusal) (inl is) quiets (inr (same, quiet, left, rose)) = record {
+      said = λ e. let f : WRITE_FAILED ≡ NO_MEANING = sym same ∙ e in absurd (cc f);
+      stopped = λ _. subst (λ (l : Option (List Entry)). Grows before.log l []) (sym quiet) quiets;
+    }
+    go (Refused refusal) (inr is) quiets ends = absurd (cc is)
+    go (Stopped stop) (inl is) quiets ends = absurd (cc is)
+    go (Stopped stop) (inr is) quiets ends =
+        let e : stop ≡ Memory = cc is in
+        let status_is : status ≡ NO_MEMORY = ends.0 ∙ ap stop_status e in
+        let quiet = subst (λ (s : Stop). Quiets None before mid (Err (Stopped s))) e quiets in
+        record { said = λ f. let h : NO_MEMORY ≡ NO_MEANING = sym status_is ∙ f in absurd (cc h); stopped = λ _. subst (λ (c : ConsoleTold). Grows before.log c.log []) (sym ends.1) quiet }
+
+-- ---- causes
+
+pub cause_done : (absent : Type 0) (command : Option Command) (files files' : FilesTold) (before after : ConsoleTold) (status : ℕ) → BothCauses absent files files' before after (Ok status) → Gives command (Ok status)
+    → HasCause absent files files' before after status
+cause_done absent command files files' before after status calm gives =
+    let other = other_status status (finishes command status gives) in
+    record { read = λ is. absurd (other.0 is); write = λ is. absurd (other.1 is); other = λ _ _. calm }
+
+pub cause_early : (absent : Type 0) (files files' : FilesTold) (before mid after : ConsoleTold) (halt : Halt) (status : ℕ) → BothCauses absent files files' before mid (Err halt) → Ends halt mid after status
+    → HasCause absent files files' before after status
+cause_early absent files files' before mid after (Refused refusal) status calm (inl (is, says, left, same)) =
+    let other = other_status status (subst (λ (s : ℕ). ending s ≡ Finished s) (sym is) (refusal_finishes refusal)) in
+    record { read = λ e. absurd (other.0 e); write = λ e. absurd (other.1 e); other = λ _ _. record { on_files = calm.on_files; on_console = same ∙ calm.on_console } }
+cause_early absent files files' before mid after (Refused refusal) status calm (inr (is, quiet, left, rose)) = record {
+  read = λ e. let f : WRITE_FAILED ≡ READ_FAILED = sym is ∙ e in absurd (cc f);
+  write = λ _. inr (subst (λ (f : Faults). Rose f.writes after.faults.writes) calm.on_console rose);
+  other = λ _ unwritten. absurd (unwritten is);
+}
+cause_early absent files files' before mid after (Stopped Read) status cause (is, same) = record {
+  read = λ _. subst (λ (c : ConsoleTold). BothCauses absent files files' before c (Err (Stopped Read))) (sym same) cause;
+  write = λ e. let f : READ_FAILED ≡ WRITE_FAILED = sym is ∙ e in absurd (cc f);
+  other = λ unread _. absurd (unread is);
+}
+cause_early absent files files' before mid after (Stopped Write) status cause (is, same) = record {
+  read = λ e. let f : WRITE_FAILED ≡ READ_FAILED = sym is ∙ e in absurd (cc f);
+  write = λ _. subst (λ (c : ConsoleTold). BothCauses absent files files' before c (Err (Stopped Write))) (sym same) cause;
+  other = λ _ unwritten. absurd (unwritten is);
+}
+cause_early absent files files' before mid after (Stopped Memory) status calm (is, same) = record {
+  read = λ e. let f : NO_MEMORY ≡ READ_FAILED = sym is ∙ e in absurd (cc f);
+  write = λ e. let f : NO_MEMORY ≡ WRITE_FAILED = sym is ∙ e in absurd (cc f);
+  other = λ _ _. subst (λ (c : ConsoleTold). Calm files files' before c) (sym same) calm;
+}

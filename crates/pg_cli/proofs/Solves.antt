@@ -1,0 +1,122 @@
+-- Solving, put together.
+use Rattle.std.proofs.Common.{◌≡◌, ◌⊎◌, ℕ, Bool, false, List, [], ◌∷◌, map, Option, Some, None, Result, Ok, Err, refl, sym, ◌∙◌, ap, subst, inl, inr}
+use Rattle.std.specs.Prelude.{IfOk, IfSome}
+use Rattle.pg_base.specs.declared.score.Score.{Score}
+use Rattle.pg_io.specs.Causes.{Faults, Rose}
+use Rattle.pg_io.specs.Console.{ConsoleTold, Grows}
+use Rattle.pg_io.specs.Files.{Bytes, Holding, FilesTold, ReadsOnly}
+use Rattle.pg_io.specs.declared.entry.Entry.{Entry}
+use Rattle.pg_io.specs.declared.entry.Entry.TheVariants.{Said}
+use Rattle.pg_io.specs.declared.stop.Stop.{Stop}
+use Rattle.pg_io.specs.declared.stop.Stop.TheVariants.{Read, Write, Memory}
+use Rattle.pg_game.specs.Fit.{is_switching}
+use Rattle.pg_game.specs.declared.game.Game.{Game}
+use Rattle.pg_files.specs.GameFile.{Entry as GameEntry}
+use Rattle.pg_cert.specs.Limits.{IsWithinLimits}
+use Rattle.pg_cert.specs.Print.{printed_certificate}
+use Rattle.pg_cert.specs.Valid.{IsValid}
+use Rattle.pg_cert.specs.declared.cert.Cert.{Cert}
+use Rattle.pg_pns.specs.Expanded.{Expanded}
+use Rattle.pg_solve.specs.Due.{heading}
+use Rattle.pg_solve.specs.Left.{budget, IsLeftOpen}
+use Rattle.pg_solve.specs.Solved.{certificate_of, due, is_class, IsTrueOf}
+use Rattle.pg_solve.specs.declared.solution.Solution.{Solution}
+use Rattle.pg_texts.specs.Texts.{unknown_text}
+use Rattle.pg_texts.specs.declared.refusal.Refusal.{Refusal}
+use Rattle.pg_texts.specs.declared.statuses.TheConstants.{UNKNOWN}
+use Rattle.pg_words.specs.Words.{Command, Solve}
+use Rattle.pg_cli.specs.Done.{Done, End, Finished, Failed, Starved, Changes, Follows, nothing, talk, stop_end}
+use Rattle.pg_cli.specs.Halts.{BothCauses, Calm}
+use Rattle.pg_cli.specs.Reading.{IsSaidBy, OpensGame, game_held}
+use Rattle.pg_cli.specs.Run.{Refuses, CarriesOn, Carries}
+use Rattle.pg_cli.specs.Solving.{Shows, StaysOpen, DeliversSolution, SolvesGame, Solves, solution_text}
+use Rattle.pg_cli.specs.Storing.{Delivers, KeepOthers, StoresAt}
+use Rattle.pg_cli.specs.declared.halt.Halt.{Halt}
+use Rattle.pg_cli.specs.declared.halt.Halt.TheVariants.{Refused, Stopped}
+use Rattle.pg_cli.proofs.Delivering.{follows_more}
+use Rattle.pg_cli.proofs.Runs.{carries_halt, kept, talked_texts}
+
+shows_it : (g : Game) (solution : Solution) (c : Cert) → certificate_of solution ≡ Some c → is_class solution ≡ is_switching g.kind → IsTrueOf g solution
+    → IfSome (certificate_of solution) (IsValid g) → IfSome (certificate_of solution) IsWithinLimits → IfSome (certificate_of solution) (λ c. map heading c.claims ≡ due g.turn solution) → Shows g solution c
+shows_it g solution c own kind holds valid limits claims = record {
+  own = own;
+  kind = kind;
+  holds = holds;
+  valid = subst (λ (o : Option Cert). IfSome o (IsValid g)) own valid;
+  limits = subst (λ (o : Option Cert). IfSome o IsWithinLimits) own limits;
+  claims = subst (λ (o : Option Cert). IfSome o (λ c. map heading c.claims ≡ due g.turn solution)) own claims;
+}
+
+-- what was found is shown by its certificate
+pub shows : (g : Game) (found solution : Solution) (c : Cert) → found ≡ solution → certificate_of solution ≡ Some c → is_class found ≡ is_switching g.kind → IsTrueOf g found
+    → IfSome (certificate_of found) (IsValid g) → IfSome (certificate_of found) IsWithinLimits → IfSome (certificate_of found) (λ c. map heading c.claims ≡ due g.turn found) → Shows g solution c
+shows g found solution c same own kind holds valid limits claims = shows_it g solution c own
+    (subst (λ (s : Solution). is_class s ≡ is_switching g.kind) same kind) (subst (λ (s : Solution). IsTrueOf g s) same holds)
+    (subst (λ (s : Solution). IfSome (certificate_of s) (IsValid g)) same valid) (subst (λ (s : Solution). IfSome (certificate_of s) IsWithinLimits) same limits)
+    (subst (λ (s : Solution). IfSome (certificate_of s) (λ c. map heading c.claims ≡ due g.turn s)) same claims)
+
+-- what delivers the certificate of what was found solves the game
+pub delivers_solution : (g : Game) (name : Bytes) (positions : ℕ) (work : Expanded) (solution : Solution) (c : Cert) (text : Bytes) (files files' : FilesTold) (before after : ConsoleTold) (r : Result ℕ Halt)
+    → Shows g solution c → text ≡ solution_text g solution
+    → IfSome files.held (λ held. Follows (λ _. ⊥) (Delivers (name, printed_certificate c) text) held files' before after r)
+    → IfSome files.held (λ held. Follows (λ _. ⊥) (SolvesGame g name positions work) held files' before after r)
+delivers_solution g name positions work solution c text files files' before after r shown is h =
+    follows_more (Delivers (name, printed_certificate c) text) (SolvesGame g name positions work) files files' before after r more h
+  where
+    more : (done : Done) (end : End) → Delivers (name, printed_certificate c) text done end → SolvesGame g name positions work done end
+    more done (Finished status) act = inr (solution, c, shown, subst (λ (t : Bytes). Delivers (name, printed_certificate c) t done (Finished status)) is act)
+    more done Failed act = (solution, c, shown, act)
+    more done Starved act = absurd act
+
+-- the question stays open, and that is said
+pub stays_open : (g : Game) (name : Bytes) (positions : ℕ) (work : Expanded) (said : Bytes) (files files' : FilesTold) (before after : ConsoleTold) → is_switching g.kind ≡ false → IsLeftOpen g (budget g positions) work
+    → said ≡ unknown_text (budget g positions) → files'.held ≡ files.held → Grows before.log after.log (Said said ∷ []) → after.left ≡ before.left
+    → IfSome files.held (λ held. Follows (λ _. ⊥) (SolvesGame g name positions work) held files' before after (Ok UNKNOWN))
+stays_open g name positions work said files files' before after lines left_open is same says left = go files.held same where
+  go : (b : Option Holding) → files'.held ≡ b → IfSome b (λ held. Follows (λ _. ⊥) (SolvesGame g name positions work) held files' before after (Ok UNKNOWN))
+  go None same = tt
+  go (Some held) same = (
+    talk (Said said ∷ []),
+    inl (record { on_lines = lines; left_open = left_open; said = ap (λ (t : Bytes). Said t ∷ []) is; stored = refl; status_is = refl }),
+    record { talked = talked_texts (Finished UNKNOWN) before after (said ∷ []) says left; names = kept held files'.held same },
+  )
+
+-- ---- after the game was read
+
+pub carries_solve : (g c : Bytes) (positions : ℕ) (played : Game) (work : Expanded) (files mid files' : FilesTold) (before after : ConsoleTold) (r : Result ℕ Halt) → mid.held ≡ files.held → OpensGame files.held g (Ok played) → played.bias ≡ 1
+    → IfSome mid.held (λ held. Follows (λ _. ⊥) (SolvesGame played c positions work) held files' before after r) → Carries (Some (Solve g c (Some positions))) work files files' before after r
+carries_solve g c positions played work files mid files' before after r same opens single h =
+    go files.held opens r (subst (λ (b : Option Holding). IfSome b (λ held. Follows (λ _. ⊥) (SolvesGame played c positions work) held files' before after r)) same h)
+  where
+    act : (held : Holding) → OpensGame (Some held) g (Ok played) → (done : Done) (end : End) → SolvesGame played c positions work done end → Solves (game_held (held g)) c positions work done end
+    act held opens done end solves = subst (λ (read : Result GameEntry Halt). Solves read c positions work done end) (sym opens) (played, (refl, single), solves)
+
+    go : (b : Option Holding) → OpensGame b g (Ok played) → (r : Result ℕ Halt) → IfSome b (λ held. Follows (λ _. ⊥) (SolvesGame played c positions work) held files' before after r)
+        → IfSome b (λ held. CarriesOn held (Some (Solve g c (Some positions))) work files' before after r)
+    go None opens r h = tt
+    go (Some held) opens (Ok status) (done, solves, changes) = (done, act held opens done (Finished status) solves, changes)
+    go (Some held) opens (Err (Refused refusal)) (none, changes) = absurd none
+    go (Some held) opens (Err (Stopped stop)) (done, inl none, changes) = (done, inl none, changes)
+    go (Some held) opens (Err (Stopped stop)) (done, inr solves, changes) = (done, inr (act held opens done (stop_end stop) solves), changes)
+
+pub halted_solve : (g c : Bytes) (positions : ℕ) (work : Expanded) (files files' : FilesTold) (console : ConsoleTold) (halt : Halt) → files'.held ≡ files.held → OpensGame files.held g (Err halt)
+    → Carries (Some (Solve g c (Some positions))) work files files' console console (Err halt)
+halted_solve g c positions work files files' console halt same opens = carries_halt files files' console same (Some (Solve g c (Some positions))) work halt against where
+  against : (held : Holding) (refusal : Refusal) → files.held ≡ Some held → halt ≡ Refused refusal → Refuses held (Some (Solve g c (Some positions))) refusal
+  against held refusal is this = subst (λ (k : Halt). OpensGame (Some held) g (Err k)) this (subst (λ (b : Option Holding). OpensGame b g (Err halt)) is opens)
+
+-- ---- files and causes
+
+pub stores_then : (name : Bytes) (files mid files' : FilesTold) → ReadsOnly files mid → StoresAt name mid files' → StoresAt name files files'
+stores_then name files mid files' reads (inl more) = inl (record { held = more.held ∙ reads.held; making = more.making ∙ reads.making; busy = more.busy ∙ reads.busy })
+stores_then name files mid files' reads (inr (idle, others)) = inr (idle, subst (λ (b : Option Holding). KeepOthers name b files'.held) reads.held others)
+
+pub causes_then : (absent : Type 0) (files mid files' : FilesTold) (before after : ConsoleTold) (r : Result ℕ Halt) → mid.faults ≡ files.faults → BothCauses ⊥ mid files' before after r → BothCauses absent files files' before after r
+causes_then absent files mid files' before after (Ok status) same calm = record { on_files = calm.on_files ∙ same; on_console = calm.on_console }
+causes_then absent files mid files' before after (Err (Refused refusal)) same calm = record { on_files = calm.on_files ∙ same; on_console = calm.on_console }
+causes_then absent files mid files' before after (Err (Stopped Read)) same (inl (inl rose)) = inl (inl (subst (λ (f : Faults). Rose f.reads files'.faults.reads) same rose))
+causes_then absent files mid files' before after (Err (Stopped Read)) same (inl (inr rose)) = inl (inr rose)
+causes_then absent files mid files' before after (Err (Stopped Read)) same (inr none) = absurd none
+causes_then absent files mid files' before after (Err (Stopped Write)) same (inl rose) = inl (subst (λ (f : Faults). Rose f.writes files'.faults.writes) same rose)
+causes_then absent files mid files' before after (Err (Stopped Write)) same (inr rose) = inr rose
+causes_then absent files mid files' before after (Err (Stopped Memory)) same calm = record { on_files = calm.on_files ∙ same; on_console = calm.on_console }

@@ -1,0 +1,12 @@
+use Rattle.std.proofs.lemmas.Result.{err_from_is_err_and}
+use Rattle.pg_cli.proofs.Reports.{carries_report, halted_report}
+use Rattle.pg_cli.proofs.reporting.report.Goals as goal
+
+pub returns-in_err-both-clause-ran : goal.returns-in_err-both-clause-ran
+returns-in_err-both-clause-ran g c =
+    let p = err_from_is_err_and c.from_residual.result c.from_residual.ensures.1 in
+    λ work. rw (p.1, p.2) (halted_report (g.F.Files.told c.args.files.now) (g.F.Files.told c.open_both.new.files) (g.C.Console.told c.args.console.now) c.open_both.ensures.kept.held c.args.game.now c.args.certificate.now work _ c.in_err-both.ensures.opened)
+
+pub returns-clause-ran : goal.returns-clause-ran
+returns-clause-ran g c =
+    λ work. carries_report (g.F.Files.told c.args.files.now) (g.F.Files.told c.open_both.new.files) c.args.game.now c.args.certificate.now c.in_ok-both.both (g.C.Console.told c.args.console.now) (g.C.Console.told c.report_on.new.console) c.open_both.ensures.kept.held c.in_ok-both.ensures.opened work c.report_on.result c.report_on.ensures.reported

@@ -1,0 +1,109 @@
+-- What each command reads, and what it leaves.
+use Rattle.std.specs.Prelude.{◌≡◌, ◌≢◌, ◌⊎◌, ℕ, List, [], ◌∷◌, Option, Some, None, option_and_then, option_map, Result, Ok, Err, ⊤}
+use Rattle.pg_io.specs.Console.{ConsoleTold, Grows}
+use Rattle.pg_io.specs.Files.{Bytes, Holding, FilesTold, ReadsOnly}
+use Rattle.pg_io.specs.declared.entry.Entry.TheVariants.{Said}
+use Rattle.pg_texts.specs.Texts.{no_meaning_text}
+use Rattle.pg_texts.specs.declared.refusal.Refusal.TheVariants.{NoMeaning}
+use Rattle.pg_texts.specs.declared.statuses.TheConstants.{DONE, UNKNOWN, NO_MEANING, FAULTY_GAME, REFUSED, READ_FAILED, WRITE_FAILED, NO_MEMORY, INPUT_ENDED, OUT_OF_REPLIES}
+use Rattle.pg_words.specs.Words.{Command, Solve, Check, Play, Gen, Report, meaning_of}
+use Rattle.pg_cli.specs.Halts.{IsGameHalt, IsReadHalt, IsPlayHalt, IsPlayEnd}
+use Rattle.pg_cli.specs.Reading.{both_held, game_held, lacking}
+use Rattle.pg_cli.specs.Reporting.{IsReportEnd}
+use Rattle.pg_cli.specs.Solving.{positions_for}
+use Rattle.pg_cli.specs.Storing.{StoresAt}
+use Rattle.pg_pns.specs.Expanded.{Expanded}
+use Rattle.pg_io.specs.declared.stop.Stop.TheVariants.{Read, Write, Memory}
+use Rattle.pg_cli.specs.declared.halt.Halt.{Halt}
+use Rattle.pg_cli.specs.declared.halt.Halt.TheVariants.{Refused, Stopped}
+
+-- a command that is built; the others have no meaning yet
+abbrev pub built : Command → Option Command
+built (Solve g c positions) = option_map (λ n. Solve g c (Some n)) (positions_for positions)
+built (Check g c) = Some (Check g c)
+built (Play g c side) = Some (Play g c side)
+built (Gen which g c) = None
+built (Report g c) = Some (Report g c)
+
+-- what words ask for
+abbrev pub asked : List Bytes → Option Command
+asked words = option_and_then built (meaning_of words)
+
+-- the statuses with which a command may end
+abbrev pub statuses_of : Option Command → List ℕ
+statuses_of (Some (Solve g c positions)) = DONE ∷ UNKNOWN ∷ FAULTY_GAME ∷ READ_FAILED ∷ WRITE_FAILED ∷ NO_MEMORY ∷ []
+statuses_of (Some (Check g c)) = DONE ∷ FAULTY_GAME ∷ REFUSED ∷ READ_FAILED ∷ WRITE_FAILED ∷ NO_MEMORY ∷ []
+statuses_of (Some (Play g c side)) = DONE ∷ NO_MEANING ∷ FAULTY_GAME ∷ REFUSED ∷ READ_FAILED ∷ WRITE_FAILED ∷ NO_MEMORY ∷ INPUT_ENDED ∷ OUT_OF_REPLIES ∷ []
+statuses_of (Some (Report g c)) = DONE ∷ FAULTY_GAME ∷ REFUSED ∷ READ_FAILED ∷ WRITE_FAILED ∷ NO_MEMORY ∷ []
+statuses_of _ = NO_MEANING ∷ WRITE_FAILED ∷ NO_MEMORY ∷ []
+
+-- what is said where a read has failed: nothing, but in play
+abbrev pub QuietAtRead : Option Command → ConsoleTold → ConsoleTold → Type 0
+QuietAtRead (Some (Play g c side)) before after = ⊤
+QuietAtRead _ before after = Grows before.log after.log []
+
+-- what is said where memory is wanting: nothing, so it isn't wanting once a claim was accepted or is played
+abbrev pub QuietAtMemory : Option Command → ConsoleTold → ConsoleTold → Type 0
+QuietAtMemory _ before after = Grows before.log after.log []
+
+-- what is said by a command before what stands against it is said, and where it was stopped
+abbrev pub Quiets : Option Command → ConsoleTold → ConsoleTold → Result ℕ Halt → Type 0
+Quiets command before after (Ok status) = ⊤
+Quiets command before after (Err (Refused refusal)) = Grows before.log after.log []
+Quiets command before after (Err (Stopped Read)) = QuietAtRead command before after
+Quiets command before after (Err (Stopped Write)) = ⊤
+Quiets command before after (Err (Stopped Memory)) = QuietAtMemory command before after
+
+-- where a command is done or ends early, so it may end
+abbrev pub Gives : Option Command → Result ℕ Halt → Type 0
+Gives (Some (Solve g c positions)) (Ok status) = (status ≡ DONE) ⊎ (status ≡ UNKNOWN)
+Gives (Some (Solve g c positions)) (Err halt) = IsGameHalt halt
+Gives (Some (Check g c)) (Ok status) = status ≡ DONE
+Gives (Some (Check g c)) (Err halt) = IsReadHalt halt
+Gives (Some (Play g c side)) (Ok status) = IsPlayEnd status
+Gives (Some (Play g c side)) (Err halt) = IsPlayHalt halt
+Gives (Some (Report g c)) (Ok status) = IsReportEnd status
+Gives (Some (Report g c)) (Err halt) = IsReadHalt halt
+Gives _ (Ok status) = ⊥
+Gives _ (Err halt) = (halt ≡ Refused NoMeaning) ⊎ (halt ≡ Stopped Memory)
+
+-- what was said at a status that tells of a failed read, or of want of memory
+pub record Silences (command : Option Command) (before after : ConsoleTold) (status : ℕ) : Type 0 where
+  pub at_read : status ≡ READ_FAILED → QuietAtRead command before after
+  pub at_memory : status ≡ NO_MEMORY → QuietAtMemory command before after
+
+-- words that ask for nothing: that is said; where the run was stopped, nothing
+pub record SaysNoMeaning (before after : ConsoleTold) (status : ℕ) : Type 0 where
+  pub said : status ≡ NO_MEANING → Grows before.log after.log (Said no_meaning_text ∷ [])
+  pub stopped : status ≢ NO_MEANING → Grows before.log after.log []
+
+-- what a command leaves of the files: it only reads, or stores under one name alone
+abbrev pub LeavesFiles : Option Command → FilesTold → FilesTold → Type 0
+LeavesFiles (Some (Solve g c positions)) before after = StoresAt c before after
+LeavesFiles _ before after = ReadsOnly before after
+
+-- what a command leaves of the work of a search: all, unless it solves
+abbrev pub LeavesWork : Option Command → Expanded → Expanded → Type 0
+LeavesWork (Some (Solve g c positions)) before after = ⊤
+LeavesWork _ before after = after ≡ before
+
+-- a name that the command reads, in the order of its work, isn't held
+abbrev pub Lacks : Holding → Option Command → Type 0
+Lacks held (Some (Solve g c positions)) = game_held (held g) ≡ Err lacking
+Lacks held (Some (Check g c)) = both_held (held g) (held c) ≡ Err lacking
+Lacks held (Some (Play g c side)) = both_held (held g) (held c) ≡ Err lacking
+Lacks held (Some (Report g c)) = both_held (held g) (held c) ≡ Err lacking
+Lacks held _ = ⊥
+
+-- the same where it is told what the names hold
+abbrev pub IsLacking : Option Holding → Option Command → Type 0
+IsLacking None command = ⊥
+IsLacking (Some held) command = Lacks held command
+
+-- the bytes of the game that the command reads
+abbrev pub game_read : Holding → Option Command → Option Bytes
+game_read held (Some (Solve g c positions)) = held g
+game_read held (Some (Check g c)) = held g
+game_read held (Some (Play g c side)) = held g
+game_read held (Some (Report g c)) = held g
+game_read held _ = None

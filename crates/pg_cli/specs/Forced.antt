@@ -1,0 +1,41 @@
+-- What it means that a claim is accepted, or played.
+use Rattle.std.specs.Prelude.{◌≡◌, List, ◌++◌, Option, Some, Ok}
+use Rattle.std.specs.List.{Contains}
+use Rattle.pg_base.specs.declared.goal.Goal.{Goal}
+use Rattle.pg_base.specs.declared.side.Side.{Side}
+use Rattle.pg_io.specs.Files.{Bytes, Holding}
+use Rattle.pg_io.specs.declared.entry.Entry.{Entry}
+use Rattle.pg_io.specs.declared.entry.Entry.TheVariants.{Said}
+use Rattle.pg_game.specs.Game.{with_turn, start}
+use Rattle.pg_game.specs.Value.{Forces}
+use Rattle.pg_game.specs.declared.game.Game.{Game}
+use Rattle.pg_files.specs.GameFile.{game}
+use Rattle.pg_files.specs.Views.{entry}
+use Rattle.pg_texts.specs.Texts.{accepted_text, claim_text}
+use Rattle.pg_words.specs.Words.{Command}
+use Rattle.pg_cli.specs.Commands.{game_read}
+
+-- these bytes say this game: Y claims one point a turn
+pub record SaysGame (bytes : Option Bytes) (g : Game) : Type 0 where
+  pub text : Bytes
+  pub held : bytes ≡ Some text
+  pub said : game text ≡ Ok (entry g)
+  pub single : g.bias ≡ 1
+
+-- these bytes say a game, and the side forces the goal from its marks with this turn
+abbrev pub IsForcedFrom : Option Bytes → Side → Side → Goal → Type 0
+IsForcedFrom bytes turn side goal = (g : Game) × SaysGame bytes g × Forces g (with_turn g turn) side goal
+
+-- the same from its position
+abbrev pub IsForced : Option Bytes → Side → Goal → Type 0
+IsForced bytes side goal = (g : Game) × SaysGame bytes g × Forces g (start g) side goal
+
+-- each claim that is accepted among what was said, and each that is played, is forced
+pub record AreForced (bytes : Option Bytes) (entries : List Entry) : Type 0 where
+  pub accepted : (turn side : Side) (goal : Goal) → Contains entries (Said (accepted_text turn side goal)) → IsForcedFrom bytes turn side goal
+  pub claimed : (side : Side) (goal : Goal) → Contains entries (Said (claim_text side goal)) → IsForced bytes side goal
+
+-- of all that a command has said, where it is told what the names hold and what was said
+abbrev pub AnnouncesForced : Option Holding → Option Command → Option (List Entry) → Option (List Entry) → Type 0
+AnnouncesForced told command log after = (held : Holding) (earlier entries : List Entry) → told ≡ Some held → log ≡ Some earlier → after ≡ Some (earlier ++ entries)
+    → AreForced (game_read held command) entries

@@ -1,0 +1,144 @@
+//! The top call.
+ghost use Rattle.std.specs.Prelude.{◌≡◌, [], map, string_bytes, IfOk, None};
+ghost use Rattle.std.specs.List.{Contains};
+ghost use Rattle.pg_cli.specs.Commands.{Gives, IsLacking, LeavesFiles, LeavesWork, Quiets, SaysNoMeaning, Silences, asked, statuses_of};
+ghost use Rattle.pg_cli.specs.Done.{Finished, ending};
+ghost use Rattle.pg_cli.specs.Forced.{AnnouncesForced};
+ghost use Rattle.pg_cli.specs.Halts.{BothCauses};
+ghost use Rattle.pg_cli.specs.Run.{Carries, Ends, HasCause, Ran};
+
+use crate::checking::check;
+use crate::halt::Halt;
+use crate::laws::announced_claims_are_forced;
+use crate::playing::play;
+use crate::reporting::report;
+use crate::saying::say;
+use crate::solving::{positions_for, solve};
+use pg_io::{Console, Files, Stop};
+use pg_pns::Work;
+use pg_texts::{Message, NO_MEMORY, READ_FAILED, Refusal, WRITE_FAILED};
+use pg_words::{Command, meaning};
+use std::alloc::Global;
+
+/// Does what the words ask for.
+fn carry_out<F: Files, C: Console>(
+    alloc: Global,
+    words: &[String],
+    files: &mut F,
+    console: &mut C,
+    work: &mut Work,
+) -> Result<u8, Halt>
+    ensures ran { Carries (asked (map string_bytes words.now)) work.new
+        (F.told files.old) (F.told files.new) (C.told console.old) (C.told console.new) result }
+    ensures causes { BothCauses (IsLacking (F.told files.old).held (asked (map string_bytes words.now)))
+        (F.told files.old) (F.told files.new) (C.told console.old) (C.told console.new) result }
+    ensures quiet { Quiets (asked (map string_bytes words.now)) (C.told console.old) (C.told console.new) result }
+    ensures files { LeavesFiles (asked (map string_bytes words.now)) (F.told files.old) (F.told files.new) }
+    ensures work { LeavesWork (asked (map string_bytes words.now)) work.old work.new }
+    ensures gives { Gives (asked (map string_bytes words.now)) result }
+{
+    match meaning(alloc, words)? {
+        Some(
+            Command::Solve {
+                game,
+                certificate,
+                positions,
+            },
+        ) => match positions_for(positions) {
+            Some(positions) => solve(
+                alloc,
+                game.as_str(),
+                certificate.as_str(),
+                positions,
+                files,
+                console,
+                work,
+            ),
+            None => Err(Halt::Refused(Refusal::NoMeaning)),
+        },
+        Some(Command::Check { game, certificate }) => {
+            check(alloc, game.as_str(), certificate.as_str(), files, console)
+        }
+        Some(
+            Command::Play {
+                game,
+                certificate,
+                side,
+            },
+        ) => play(
+            alloc,
+            game.as_str(),
+            certificate.as_str(),
+            side,
+            files,
+            console,
+        ),
+        Some(Command::Report { game, certificate }) => {
+            report(alloc, game.as_str(), certificate.as_str(), files, console)
+        }
+        _ => Err(Halt::Refused(Refusal::NoMeaning)),
+    }
+}
+
+/// Says what stands against a command, where that ended it, and gives its status.
+fn end_early<C: Console>(console: &mut C, halt: Halt) -> u8
+    ensures { Ends halt (C.told console.old) (C.told console.new) result }
+{
+    match halt {
+        Halt::Refused(refusal) => match say(console, Message::Refused(refusal)) {
+            Ok(()) => refusal.status(),
+            Err(_) => WRITE_FAILED,
+        },
+        Halt::Stopped(Stop::Read) => READ_FAILED,
+        Halt::Stopped(Stop::Write) => WRITE_FAILED,
+        Halt::Stopped(Stop::Memory) => NO_MEMORY,
+    }
+}
+
+/// Does what the words of the command line ask for, and gives the status.
+///
+/// | status | when |
+/// |---|---|
+/// | 0 | done: the game is solved and its certificate stored, each claim of the certificate is accepted, the game that was played is over, or the report of a valid certificate is said |
+/// | 1 | the question that was asked last of a game on lines is open after as many positions as the budget allows |
+/// | 2 | the words have no meaning, or the certificate has no claim of the side to play with the game's turn |
+/// | 3 | the game file has a fault |
+/// | 4 | the certificate file has a fault, or the certificate isn't valid for the game; a report says the latter as JSON |
+/// | 5 | a call that reads has failed, or a name isn't held; nothing is said of it |
+/// | 6 | a call that writes has failed; nothing is said of it |
+/// | 7 | memory is wanting; nothing is said of it |
+/// | 8 | the input has ended before the game that is played |
+/// | 9 | the hundredth reply was refused |
+///
+/// The first failing call on files or console ends the run. Where the files tell what they hold, `ran` says what is said
+/// and stored at each status, by the command; in play, that the log is a dialogue of the side to its end, and that at 0
+/// the outcome reaches the goal of the claim. `forced` says that at any status every claim that is accepted or played is
+/// forced by its side. The other clauses hold for all files and consoles: `silent` says what is said at 5 and 7,
+/// `files` and `work` what is left as it was, `statuses` which statuses the command may give, `words` what is said of
+/// words without a meaning, and `causes` when a status comes from a failed call.
+pub fn run<F: Files, C: Console>(
+    alloc: Global,
+    words: &[String],
+    files: &mut F,
+    console: &mut C,
+    work: &mut Work,
+) -> u8
+    requires { work.old.positions ≡ [] }
+    ensures ran { Ran (asked (map string_bytes words.now)) work.new
+        (F.told files.old) (F.told files.new) (C.told console.old) (C.told console.new) result }
+    ensures forced { AnnouncesForced (F.told files.old).held (asked (map string_bytes words.now))
+        (C.told console.old).log (C.told console.new).log }
+    ensures silent { Silences (asked (map string_bytes words.now)) (C.told console.old) (C.told console.new) result }
+    ensures files { LeavesFiles (asked (map string_bytes words.now)) (F.told files.old) (F.told files.new) }
+    ensures work { LeavesWork (asked (map string_bytes words.now)) work.old work.new }
+    ensures statuses { Contains (statuses_of (asked (map string_bytes words.now))) result }
+    ensures words { asked (map string_bytes words.now) ≡ None → SaysNoMeaning (C.told console.old) (C.told console.new) result }
+    ensures causes { HasCause (IsLacking (F.told files.old).held (asked (map string_bytes words.now)))
+        (F.told files.old) (F.told files.new) (C.told console.old) (C.told console.new) result }
+{
+    announced_claims_are_forced();
+    match carry_out(alloc, words, files, console, work) {
+        Ok(status) => status,
+        Err(halt) => end_early(console, halt),
+    }
+}
