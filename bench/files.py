@@ -1,7 +1,7 @@
 #!/usr/bin/env python3
 """Measures how long reading and printing the greatest game files takes, and the peak memory.
 
-Usage: files.py PROGRAM, where PROGRAM is crates/reprint/out/reprint (`rt run` in crates/reprint builds it).
+Usage: files.py PROGRAM, where PROGRAM is crates/bench_files/out/bench_files (`rt run` in crates/bench_files builds it).
 Each file is made in a temporary folder, read and printed again; what is printed must be the file.
 """
 import os

@@ -2,7 +2,7 @@
 """Refuses each allocation of three short runs in turn, and counts how the runs end.
 
 Usage: memory.py
-It is run in a clone, with the kit's `rt` on the PATH. `rt try` builds the program alloc_runs once, without proofs, and
+It is run in a clone, with the kit's `rt` on the PATH. `rt try` builds the program bench_memory once, without proofs, and
 refuses the allocation with one number; the program makes so many allocations before the run that it is each one of the
 run in turn. The first that matters is where the run isn't as due for want of what it is run on, the last where it fails
 to say its last text. The status is 1 where a run ended as none may.
@@ -26,7 +26,7 @@ def endings(folder):
             case.touch()
             case.with_suffix(".args").write_text(f"{row}\n{count}\n")
     words = ["rt", "try", "--cases", folder, "--fail-alloc", str(REFUSED)]
-    crate = pathlib.Path(__file__).parent.parent / "crates" / "alloc_runs"
+    crate = pathlib.Path(__file__).parent.parent / "crates" / "bench_memory"
     tried = subprocess.run(words, cwd=crate, stdout=subprocess.PIPE, stderr=subprocess.STDOUT, text=True)
     found = {}
     for row, count, said in re.findall(r"^== (\d)-(\d+)\n(.*)\n", tried.stdout, re.M):
