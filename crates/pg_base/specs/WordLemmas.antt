@@ -12,6 +12,7 @@ use Rattle.std.specs.Int.Count.{ones, ones_in}
 use Rattle.std.specs.Ordering.{nat_cmp}
 use Rattle.std.specs.Cmp.{nat_cmp_total, unsigned_tied}
 use Rattle.std.specs.FinSet.{FinSet, empty, insert, remove, contains, contains-empty, contains-insert, contains-remove, same_set, len, len-insert, len-empty, nat_cmp-IsAntisymmetric}
+use Rattle.pg_base.specs.Points.{AreBelow}
 use Rattle.pg_base.specs.Words.{has_bit, members_below, AreWords, word_below, word_of, words_of}
 
 -- ---- sets of numbers
@@ -78,12 +79,13 @@ has_bit-at ws i j h =
     let column : (64 * i + j) % 64 ≡ j = omega arith in
     rw (row, column) refl
 
-word_of-members : (ws : List ℕ) (h : AreWords ws) (i : ℕ) → i < 16 → word_of (members_below ws 1024) i ≡ get_or ws i 0
+-- the word of a row of the set that rows of words stand for
+pub word_of-members : (ws : List ℕ) (rows i : ℕ) → get_or ws i 0 < 2 ^ 64 → i < rows → word_of (members_below ws (64 * rows)) i ≡ get_or ws i 0
 unfolding word_of
-word_of-members ws h i lt =
-    same_from_bits_below 64 _ _ (word_below-lt _ 64) (h.fit i) (λ j in_word.
-    bit_at-word_below (λ j. contains (members_below ws 1024) (64 * i + j)) 64 j in_word
-    ∙ ap (λ b. cond b 1 0) (in_members_below ws 1024 (64 * i + j) ∙ ap (λ b. b && has_bit ws (64 * i + j)) (lt-ltb (64 * i + j) 1024 (omega arith)) ∙ has_bit-at ws i j in_word)
+word_of-members ws rows i fits lt =
+    same_from_bits_below 64 _ _ (word_below-lt _ 64) fits (λ j in_word.
+    bit_at-word_below (λ j. contains (members_below ws (64 * rows)) (64 * i + j)) 64 j in_word
+    ∙ ap (λ b. cond b 1 0) (in_members_below ws (64 * rows) (64 * i + j) ∙ ap (λ b. b && has_bit ws (64 * i + j)) (lt-ltb (64 * i + j) (64 * rows) (omega arith)) ∙ has_bit-at ws i j in_word)
     ∙ bit_from_test _ (bit_at-lt (get_or ws i 0) j))
 
 pub words_of-members : (ws : List ℕ) → AreWords ws → words_of (members_below ws 1024) ≡ ws
@@ -93,7 +95,45 @@ words_of-members ws h =
     let len : length (words_of s) ≡ 16 = length-map-range_with_len (word_of s) 0 16 in
     ext_get_or 0 _ _ (len ∙ sym h.count) (λ i lt.
     let within : i < 16 = omega arith in
-    get_or-map-range_with_len (word_of s) 0 16 i i 0 within (omega arith) ∙ word_of-members ws h i within)
+    get_or-map-range_with_len (word_of s) 0 16 i i 0 within (omega arith) ∙ word_of-members ws 16 i (h.fit i) within)
+
+test_of_bit : (b : Bool) → nat_eq (cond b 1 0) 1 ≡ b
+test_of_bit true = refl
+test_of_bit false = refl
+
+-- a set within some rows is the one that its words in these rows stand for
+pub members-of_words : (s : FinSet nat_cmp) (ws : List ℕ) (rows : ℕ) → AreBelow s (64 * rows) → ((i : ℕ) → i < rows → get_or ws i 0 ≡ word_of s i) → members_below ws (64 * rows) ≡ s
+unfolding word_of
+members-of_words s ws rows below words = same_points (members_below ws (64 * rows)) s (λ q. in_members_below ws (64 * rows) q ∙ elim (cases_lt q (64 * rows)) [
+  | inl lt ↦
+      let i = q / 64 in
+      let j = q % 64 in
+      let column : j < 64 = omega arith in
+      let row : i < rows = omega (arith, lt) in
+      let place : 64 * i + j ≡ q = omega arith in
+      ap (λ b. b && has_bit ws q) (lt-ltb q (64 * rows) lt) ∙ ap (has_bit ws) (sym place) ∙ has_bit-at ws i j column
+      ∙ ap (λ w. nat_eq (bit_at w j) 1) (words i row) ∙ ap (λ b. nat_eq b 1) (bit_at-word_below (λ c. contains s (64 * i + c)) 64 j column)
+      ∙ test_of_bit (contains s (64 * i + j)) ∙ ap (contains s) place
+  | inr ge ↦
+      ap (λ b. b && has_bit ws q) (le-ltb q (64 * rows) ge)
+      ∙ elim (cases_Bool (contains s q)) [ inl on ↦ let lt = below q on in absurd (omega (arith, lt, ge)) | inr off ↦ sym off ]
+])
+
+-- rows of equal words stand for the same set
+pub members-same : (ws vs : List ℕ) (rows : ℕ) → ((i : ℕ) → i < rows → get_or ws i 0 ≡ get_or vs i 0) → members_below ws (64 * rows) ≡ members_below vs (64 * rows)
+members-same ws vs rows words = same_points (members_below ws (64 * rows)) (members_below vs (64 * rows)) (λ q. in_members_below ws (64 * rows) q ∙ elim (cases_lt q (64 * rows)) [
+  | inl lt ↦
+      let i = q / 64 in
+      let j = q % 64 in
+      let column : j < 64 = omega arith in
+      let row : i < rows = omega (arith, lt) in
+      let place : 64 * i + j ≡ q = omega arith in
+      let bit : has_bit ws q ≡ has_bit vs q = ap (has_bit ws) (sym place) ∙ has_bit-at ws i j column ∙ ap (λ w. nat_eq (bit_at w j) 1) (words i row) ∙ sym (has_bit-at vs i j column) ∙ ap (has_bit vs) place in
+      ap (λ b. ltb q (64 * rows) && b) bit ∙ sym (in_members_below vs (64 * rows) q)
+  | inr ge ↦
+      let out = le-ltb q (64 * rows) ge in
+      ap (λ b. b && has_bit ws q) out ∙ sym (in_members_below vs (64 * rows) q ∙ ap (λ b. b && has_bit vs q) out)
+])
 
 -- ---- one bit set or cleared
 

@@ -12,6 +12,7 @@ mod point_set;
 mod points;
 mod score;
 mod side;
+mod signs;
 
 pub use goal::Goal;
 pub use grid::Grid;
@@ -24,3 +25,4 @@ pub use point_set::PointSet;
 pub use points::Points;
 pub use score::Score;
 pub use side::Side;
+pub use signs::{BAR, LINE_FEED, SPACE};

@@ -1,7 +1,8 @@
 //! A set of points below 1,024, a bit for each.
-ghost use Rattle.std.specs.Prelude.{◌≡◌, ℕ, ◌<◌, ◌≤◌, ◌+◌, ◌*◌, ◌==◌, nat_lt, true, false, not, ◌&&◌, ◌||◌, IfSome, IfNone, IsTrue, ◌↔◌};
+ghost use Rattle.std.specs.Prelude.{◌≡◌, ℕ, ◌<◌, ◌≤◌, ◌+◌, ◌*◌, ◌==◌, nat_lt, length, true, false, not, ◌&&◌, ◌||◌, IfSome, IfNone, IsTrue, ◌↔◌};
 ghost use Rattle.std.specs.List.{All, list_any, list_all};
 ghost use Rattle.std.specs.FinSet as set;
+ghost use Rattle.pg_base.specs.Words.{words_of};
 ghost use Rattle.pg_base.specs.Points.{IsLeastFrom, AreBelow, ShareNone, AreWithin};
 
 use crate::limits::MAX_MEMBERS;
@@ -111,6 +112,14 @@ impl PointSet {
         ensures { result ≡ set.contains self.now p }
     {
         self.words[(p / 64) as usize] >> (p % 64) & 1 == 1
+    }
+
+    /// The set as machine words of 64 points each: bit b of word i stands for the point `64 * i + b`.
+    pub fn words(&self) -> &[u64]
+        ensures words { result.now ≡ words_of self.now }
+        ensures count { length result.now ≡ 16 }
+    {
+        &self.words
     }
 
     /// Whether one of the points is in the set.

@@ -4,6 +4,7 @@ use Rattle.std.specs.List.{list_all}
 use Rattle.std.specs.Str.{bytes_eq}
 use Rattle.std.specs.FinSet.{FinSet, empty}
 use Rattle.std.specs.Ordering.{nat_cmp}
+use Rattle.pg_base.specs.declared.signs.TheConstants.{SPACE}
 use Rattle.pg_base.specs.declared.grid.Grid.{Grid}
 use Rattle.pg_base.specs.declared.kind.Kind.{Kind}
 use Rattle.pg_base.specs.declared.kind.Kind.TheVariants as kinds
@@ -252,7 +253,7 @@ is_header (word ∷ version ∷ other ∷ others) = false
 
 -- a byte that may stand in a line
 abbrev pub is_printable : ℕ → Bool
-is_printable b = nat_le 32 b && nat_le b 126
+is_printable b = nat_le SPACE b && nat_le b 126
 
 -- a line whose first byte is `#`
 abbrev pub begins_comment : Bytes → Bool

@@ -2,6 +2,7 @@
 use Rattle.std.specs.Prelude.{ℕ, List, [], ◌∷◌, ◌++◌, map, codes, Option, Some, None}
 use Rattle.std.specs.List.{flat_map}
 use Rattle.std.specs.Fmt.{decimal}
+use Rattle.pg_base.specs.declared.signs.TheConstants.{LINE_FEED}
 use Rattle.pg_base.specs.declared.grid.Grid.{Grid}
 use Rattle.pg_game.specs.declared.field.Field.{Field}
 use Rattle.pg_game.specs.declared.field.Field.TheVariants as fields
@@ -16,7 +17,7 @@ use Rattle.pg_files.specs.declared.key.Key.TheVariants as keys
 
 -- a line of words with its line feed
 abbrev pub spelled : List Bytes → Bytes
-spelled ws = spaced ws ++ 10 ∷ []
+spelled ws = spaced ws ++ LINE_FEED ∷ []
 
 -- the words of a key and numbers
 abbrev pub numbered : Key → List ℕ → List Bytes

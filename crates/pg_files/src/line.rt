@@ -15,7 +15,7 @@ use crate::draft::Draft;
 use crate::fault::Fault;
 use crate::key::Key;
 use crate::sets::{are_below, line_of, repeats, set_of};
-use pg_base::{Grid, Kind, MAX_EDGES, PointSet, Side};
+use pg_base::{Grid, Kind, MAX_EDGES, PointSet, SPACE, Side};
 use pg_game::{MAX_LINE_POINTS, MAX_LINES, MAX_POINTS, MAX_SUMMED_POINTS, MAX_VERTICES};
 use pg_poly::{Shape, ShapeFault, placed};
 use pg_text::{LineError, number, number_list, word_list};
@@ -464,7 +464,7 @@ fn is_header(words: &[&[u8]]) -> bool
 fn is_printable(line: &[u8]) -> bool
     ensures { result ≡ list_all is_printable line.now }
 {
-    line.iter().all(|b| 32 <= *b && *b <= 126)
+    line.iter().all(|b| SPACE <= *b && *b <= 126)
 }
 
 fn begins_comment(line: &[u8]) -> bool

@@ -1,6 +1,7 @@
 -- What calls on a console add to its log, and what they take from its input.
 use Rattle.std.specs.Prelude.{Bool, true, false, ◌≡◌, ℕ, ◌+◌, ◌<◌, ◌≤◌, ◌==◌, List, [], ◌∷◌, ◌++◌, length, take, drop, Option, Some, None, Result, Ok, Err, nat_lt, ⊤}
 use Rattle.std.specs.List.{position}
+use Rattle.pg_base.specs.declared.signs.TheConstants.{LINE_FEED}
 use Rattle.pg_io.specs.declared.entry.Entry.{Entry}
 use Rattle.pg_io.specs.declared.entry.Entry.TheVariants.{Said, Heard, Skipped, Ended}
 use Rattle.pg_io.specs.declared.entry.Heard.{Heard as Answer}
@@ -34,10 +35,10 @@ abbrev pub line_of : ℕ → Bytes → Option ℕ → Reply
 line_of room left (Some k) = record { entry = Heard (take k left); taken = k + 1 }
 line_of room left None = unended room left (nat_lt (length left) room)
 
--- what one hear with this room takes of this input; a line feed is byte 10
+-- what one hear with this room takes of this input
 unfoldable pub reply : ℕ → Bytes → Reply
 reply room [] = record { entry = Ended; taken = 0 }
-reply room (b ∷ left) = line_of room (b ∷ left) (position (λ c. c == 10) (take room (b ∷ left)))
+reply room (b ∷ left) = line_of room (b ∷ left) (position (λ c. c == LINE_FEED) (take room (b ∷ left)))
 
 -- the answer, with this buffer, stands for the entry
 abbrev pub Stands : Answer → Bytes → Entry → Type 0

@@ -4,6 +4,7 @@ ghost use Rattle.std.specs.Prelude.{◌≡◌};
 use crate::console::Console;
 use crate::entry::Heard;
 use crate::files::Failed;
+use pg_base::LINE_FEED;
 use std::io;
 use std::io::{Input, Print, Read, Write};
 
@@ -57,7 +58,7 @@ impl<'a, R: Input + Print> Console for HostConsole<'a, R> {
         for count in 0..buf.len() {
             match bytes.next() {
                 None if count == 0 => return Ok(Heard::End),
-                None | Some(Ok(b'\n')) => return Ok(Heard::Line(count)),
+                None | Some(Ok(LINE_FEED)) => return Ok(Heard::Line(count)),
                 Some(Ok(byte)) => buf[count] = byte,
                 Some(Err(_)) => {
                     self.reads = self.reads.saturating_add(1);

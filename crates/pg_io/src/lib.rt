@@ -10,6 +10,7 @@ mod host_files;
 mod mem_console;
 mod mem_files;
 mod reading;
+mod sink;
 mod stop;
 mod text;
 
@@ -20,6 +21,7 @@ pub use host_console::HostConsole;
 pub use host_files::HostFiles;
 pub use mem_console::MemConsole;
 pub use mem_files::MemFiles;
-pub use reading::{read_whole, store};
+pub use reading::{pour, read_whole, store};
+pub use sink::Sink;
 pub use stop::Stop;
 pub use text::Text;

@@ -1,6 +1,7 @@
 //! A console in memory.
 ghost use Rattle.std.specs.Prelude.{◌≡◌, ◌<◌, ◌≤◌, ◌+◌, ◌^◌, ◌==◌, ◌++◌, ◌∷◌, [], length, IfOk, IsErr, OnOk, OnErr};
 ghost use Rattle.std.specs.List.{position};
+ghost use Rattle.pg_base.specs.declared.signs.TheConstants.{LINE_FEED};
 ghost use Rattle.pg_io.specs.Causes.{faults, BlamesReads, BlamesWrites};
 ghost use Rattle.pg_io.specs.Console.{Says, Hears, Fits, reply};
 ghost use Rattle.pg_io.specs.Failing.{FailsNext, CountsOne};
@@ -11,7 +12,7 @@ use crate::entry::{Entry, Heard};
 use crate::failing::Failing;
 use crate::files::Failed;
 use crate::text::Text;
-use pg_base::Memory;
+use pg_base::{LINE_FEED, Memory};
 use std::alloc::Global;
 
 /// A console in memory, of which listed calls fail. It tells its unread input and its log.
@@ -28,9 +29,9 @@ pub struct MemConsole {
 
 /// Where the first line feed stands.
 fn feed_at(text: &[u8]) -> Option<usize>
-    ensures { result ≡ position (λ b. b == 10) text.now }
+    ensures { result ≡ position (λ b. b == LINE_FEED) text.now }
 {
-    text.iter().position(|b| *b == b'\n')
+    text.iter().position(|b| *b == LINE_FEED)
 }
 
 /// What a hear takes of the input: the entry, the number of bytes, and the answer.

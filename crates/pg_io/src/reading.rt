@@ -1,10 +1,11 @@
-//! Reading a file whole, and storing one.
+//! Reading a file, and storing one.
 ghost use Rattle.std.specs.Prelude.{◌≡◌, ◌≢◌, false, Err, ◌+◌, ◌<◌, length, take, IfOk, IfSome};
 ghost use Rattle.pg_io.specs.Files.{IsAbsent, ReadsOnly};
 ghost use Rattle.pg_io.specs.Stop.{Causes};
-ghost use Rattle.pg_io.specs.Reading.{IsFile, Stored};
+ghost use Rattle.pg_io.specs.Reading.{Goes, IsFile, Pours, Stored};
 
 use crate::files::Files;
+use crate::sink::Sink;
 use crate::stop::Stop;
 use std::alloc::{AllocError, Global};
 
@@ -18,31 +19,58 @@ fn piece(alloc: Global) -> Result<Vec<u8>, AllocError>
     vec![in alloc; 0; PIECE]
 }
 
-/// Reads the open file to its end, or to one byte more than the limit.
-fn read_open<F: Files>(
+/// Pours the open file into the sink, to its end or to one byte more than the limit.
+fn pour_open<F: Files, S: Sink>(
     alloc: Global,
     files: &mut F,
     limit: usize,
     buf: &mut [u8],
-) -> Result<Vec<u8>, Stop>
+    sink: &mut S,
+) -> Result<(), Stop>
     requires room { 0 < length buf.old }
-    ensures bytes { IfOk result (λ bytes. IfSome (F.told files.old).left (λ left. bytes.items ≡ take (limit + 1) left)) }
+    requires ready { S.ready sink.old }
+    ensures ready { IfOk result (λ _. S.ready sink.new) }
+    ensures poured { IfOk result (λ _. IfSome (F.told files.old).left (λ left. Goes S.took sink.old sink.new (take (limit + 1) left))) }
     ensures causes { Causes ⊥ (F.told files.old).faults (F.told files.new).faults result }
     ensures kept { ReadsOnly (F.told files.old) (F.told files.new) }
 {
-    let mut bytes = Vec::new(alloc);
-    while bytes.len() <= limit {
-        let wanted = (limit - bytes.len()).saturating_add(1);
-        let room = buf.len().min(wanted);
+    let mut spare = Some(limit);
+    while let Some(within) = spare {
+        let room = buf.len().min(within.saturating_add(1));
         let Ok(count) = files.next(&mut buf[..room]) else {
             return Err(Stop::Read);
         };
         if count == 0 {
             break;
         }
-        bytes.extend_from_slice(&buf[..count])?;
+        sink.take(alloc, &buf[..count])?;
+        spare = within.checked_sub(count);
     }
-    Ok(bytes)
+    Ok(())
+}
+
+/// Pours the file of this name into a sink as it comes, to its end or to one byte more than the limit.
+///
+/// The sink gets pieces of up to 65,536 bytes, and more bytes than the limit only where the file is too long. `Stop::Read`
+/// means that a call has failed, or that the name isn't held; `Stop::Memory` means that memory was refused.
+pub fn pour<F: Files, S: Sink>(
+    alloc: Global,
+    files: &mut F,
+    name: &str,
+    limit: usize,
+    sink: &mut S,
+) -> Result<(), Stop>
+    requires { S.ready sink.old }
+    ensures ready { IfOk result (λ _. S.ready sink.new) }
+    ensures poured { IfOk result (λ _. Pours (F.told files.old).held name.now limit S.took sink.old sink.new) }
+    ensures causes { Causes (IsAbsent (F.told files.old).held name.now) (F.told files.old).faults (F.told files.new).faults result }
+    ensures kept { ReadsOnly (F.told files.old) (F.told files.new) }
+{
+    let mut buf = piece(alloc)?;
+    if files.open(name).is_err() {
+        return Err(Stop::Read);
+    }
+    pour_open(alloc, files, limit, &mut buf, sink)
 }
 
 /// Reads the file of this name to its end, or to one byte more than the limit.
@@ -59,11 +87,9 @@ pub fn read_whole<F: Files>(
     ensures causes { Causes (IsAbsent (F.told files.old).held name.now) (F.told files.old).faults (F.told files.new).faults result }
     ensures kept { ReadsOnly (F.told files.old) (F.told files.new) }
 {
-    let mut buf = piece(alloc)?;
-    if files.open(name).is_err() {
-        return Err(Stop::Read);
-    }
-    read_open(alloc, files, limit, &mut buf)
+    let mut bytes = Vec::new(alloc);
+    pour(alloc, files, name, limit, &mut bytes)?;
+    Ok(bytes)
 }
 
 /// Stores these bytes under the name, in place of what it held.

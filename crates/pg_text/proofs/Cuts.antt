@@ -8,6 +8,7 @@ use Rattle.std.proofs.lemmas.List.{take_all, length-take, length-drop, get_or-ta
 use Rattle.std.proofs.lemmas.List.Quantifiers.{position-Some}
 use Rattle.std.proofs.lemmas.List.Sums.{fails_before_first, passes_at_first, position_or_len_is, split_at_first}
 use Rattle.std.proofs.lemmas.List.Splits.{slice_split_at, slice_split_none, length-slice_split}
+use Rattle.pg_base.specs.declared.signs.TheConstants.{SPACE}
 use Rattle.pg_text.specs.Text.{Bytes, Lacks, parts, pair_of, two_parts, Four, four_of, four_parts}
 
 abbrev is_sign : ℕ → ℕ → Bool
@@ -63,11 +64,11 @@ too_many sign word a b c d e lacks f lacking =
 
 -- ---- words
 
-pub first_and_others : (text word others : Bytes) → text ≡ word ++ 32 ∷ others → Lacks 32 word → parts 32 text ≡ word ∷ parts 32 others
-first_and_others text word others e lacks = cut_parts 32 text word others e lacks
+pub first_and_others : (text word others : Bytes) → text ≡ word ++ SPACE ∷ others → Lacks SPACE word → parts SPACE text ≡ word ∷ parts SPACE others
+first_and_others text word others e lacks = cut_parts SPACE text word others e lacks
 
-pub only_word : (text : Bytes) → Lacks 32 text → parts 32 text ≡ text ∷ []
-only_word text lacks = slice_split_none (is_sign 32) text lacks
+pub only_word : (text : Bytes) → Lacks SPACE text → parts SPACE text ≡ text ∷ []
+only_word text lacks = slice_split_none (is_sign SPACE) text lacks
 
 -- a text has at least one part
 pub some_part : (sign : ℕ) (text : Bytes) → 0 < length (parts sign text)

@@ -7,11 +7,12 @@ use Rattle.std.proofs.lemmas.Bool.Decides.{nat_tests}
 use Rattle.std.proofs.lemmas.List.{take_all, drop_all, length-append, length-drop}
 use Rattle.std.proofs.lemmas.List.Splits.{slice_split_at, slice_split_first, slice_split_none, length-slice_split}
 use Rattle.std.proofs.lemmas.List.Sums.{fails_before_first}
+use Rattle.pg_base.specs.declared.signs.TheConstants.{LINE_FEED}
 use Rattle.pg_text.proofs.Cuts.{first_is, first_is_past}
 use Rattle.pg_text.specs.Text.{Bytes, Lacks, without_empty_end, lines}
 
 abbrev pub is_feed : ℕ → Bool
-is_feed b = b == 10
+is_feed b = b == LINE_FEED
 
 without_empty_end-cons : (part : Bytes) (parts : List Bytes) → 0 < length parts → without_empty_end (part ∷ parts) ≡ part ∷ without_empty_end parts
 without_empty_end-cons part [] h = absurd (omega arith)
@@ -49,9 +50,9 @@ lines_cut text some =
     ]
 
 -- a whole line, and then the text behind its line feed
-pub lines_feed : (line behind : Bytes) → Lacks 10 line → lines (line ++ 10 ∷ behind) ≡ line ∷ lines behind
+pub lines_feed : (line behind : Bytes) → Lacks LINE_FEED line → lines (line ++ LINE_FEED ∷ behind) ≡ line ∷ lines behind
 unfolding lines
-lines_feed line behind lacks = ap without_empty_end (slice_split_at is_feed line 10 behind lacks refl) ∙ without_empty_end-cons line (slice_split is_feed behind) (omega (arith, length-slice_split is_feed behind))
+lines_feed line behind lacks = ap without_empty_end (slice_split_at is_feed line LINE_FEED behind lacks refl) ∙ without_empty_end-cons line (slice_split is_feed behind) (omega (arith, length-slice_split is_feed behind))
 
 -- a text without bytes has no line
 pub no_lines : (text : Bytes) → length text ≡ 0 → lines text ≡ []
@@ -60,7 +61,7 @@ no_lines [] none = refl
 no_lines (b ∷ bs) none = absurd (omega arith)
 
 -- a text without a line feed is a line
-pub last_line : (text : Bytes) → 0 < length text → Lacks 10 text → lines text ≡ text ∷ lines []
+pub last_line : (text : Bytes) → 0 < length text → Lacks LINE_FEED text → lines text ≡ text ∷ lines []
 unfolding lines
 last_line text some lacks = ap without_empty_end (slice_split_none is_feed text lacks) ∙ one_line text some
 

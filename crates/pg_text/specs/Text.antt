@@ -3,6 +3,7 @@ use Rattle.std.specs.Prelude.{◌≡◌, ℕ, ◌+◌, Bool, true, false, ◌&&�
 use Rattle.std.specs.Char.{is_ascii_digit}
 use Rattle.std.specs.List.{slice_split, list_all, flat_map, All}
 use Rattle.std.specs.Str.Parse.{digits_value}
+use Rattle.pg_base.specs.declared.signs.TheConstants.{LINE_FEED, SPACE}
 use Rattle.pg_text.specs.declared.numbers.TheConstants.{MAX_DIGITS}
 
 -- the bytes of a text
@@ -20,7 +21,7 @@ without_empty_end (part ∷ []) = if length part == 0 then [] else part ∷ []
 without_empty_end (part ∷ next ∷ parts) = part ∷ without_empty_end (next ∷ parts)
 
 unfoldable pub lines : Bytes → List Bytes
-lines text = without_empty_end (slice_split (λ b. b == 10) text)
+lines text = without_empty_end (slice_split (λ b. b == LINE_FEED) text)
 
 -- two parts, and no more
 abbrev pub pair_of : List Bytes → Option (Bytes × Bytes)
@@ -50,11 +51,11 @@ four_parts sign text = four_of (parts sign text)
 -- the words of a text, of which there may be none at all; a space stands between each two, and words may be empty
 abbrev pub words_of : Option Bytes → List Bytes
 words_of None = []
-words_of (Some text) = parts 32 text
+words_of (Some text) = parts SPACE text
 
 -- A word is a longest run of bytes other than a space: any number of spaces stands between words.
 unfoldable pub words : Bytes → List Bytes
-words line = filter (λ w. not (length w == 0)) (slice_split (λ b. b == 32) line)
+words line = filter (λ w. not (length w == 0)) (slice_split (λ b. b == SPACE) line)
 
 -- one to nine digits, the first of several not 0
 abbrev pub is_numeral : Bytes → Bool
@@ -87,7 +88,7 @@ Lacks sign text = All (λ b. (b == sign) ≡ false) text
 
 -- words, each behind a space
 abbrev pub behind_spaces : List Bytes → Bytes
-behind_spaces ws = flat_map (λ w. 32 ∷ w) ws
+behind_spaces ws = flat_map (λ w. SPACE ∷ w) ws
 
 -- words with a space between each two
 abbrev pub spaced : List Bytes → Bytes

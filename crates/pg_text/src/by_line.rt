@@ -4,6 +4,7 @@ ghost use Rattle.std.specs.Iterator.{YieldsFirstRef, item_count};
 ghost use Rattle.pg_text.specs.Text.{lines};
 
 use crate::parts::cut_at;
+use pg_base::LINE_FEED;
 use std::marker::Model;
 
 /// The lines of a text, cut at each line feed. One that ends the text begins no further line.
@@ -57,7 +58,7 @@ fn first_line(text: &[u8]) -> Option<(&[u8], &[u8])>
     if text.is_empty() {
         return None;
     }
-    match cut_at(b'\n', text) {
+    match cut_at(LINE_FEED, text) {
         Some((line, behind)) => Some((line, behind)),
         None => Some((text, &[])),
     }

@@ -1,11 +1,13 @@
 //! The words of a line.
 ghost use Rattle.std.specs.Prelude.{◌≡◌, [], List, ℕ, Result, map, IfOk};
 ghost use Rattle.std.specs.Iterator.{YieldsFirstRef, item_count};
+ghost use Rattle.pg_base.specs.declared.signs.TheConstants.{SPACE};
 ghost use Rattle.pg_text.specs.Faults.{Gives, IsReader, each_of};
 ghost use Rattle.pg_text.specs.Text.{parts, words};
 
 use crate::error::LineError;
 use crate::parts::first_word;
+use pg_base::SPACE;
 use std::alloc::{AllocError, Global};
 use std::marker::Model;
 
@@ -31,7 +33,7 @@ impl<'a> Model for Words<'a> {
 impl<'a> Words<'a> {
     /// The words of a text: at least one.
     pub fn of(text: &'a [u8]) -> Words<'a>
-        ensures { result ≡ parts 32 text.now }
+        ensures { result ≡ parts SPACE text.now }
     {
         Words { text: Some(text) }
     }
@@ -87,7 +89,7 @@ impl<'a> Iterator for Words<'a> {
 pub fn word_list(alloc: Global, line: &[u8]) -> Result<Vec<&[u8]>, AllocError>
     ensures { IfOk result (λ found. map (λ w. w.now) found.items ≡ words line.now) }
 {
-    line.split(|b| *b == b' ')
+    line.split(|b| *b == SPACE)
         .filter(|w| !w.is_empty())
         .collect(alloc)
 }

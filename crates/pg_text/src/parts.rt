@@ -1,7 +1,10 @@
 //! Text that is cut at a sign.
 ghost use Rattle.std.specs.Prelude.{◌≡◌, ◌==◌, ◌++◌, ◌∷◌, IfSome, IfNone, option_map};
 ghost use Rattle.std.specs.List.{list_any, position};
+ghost use Rattle.pg_base.specs.declared.signs.TheConstants.{SPACE};
 ghost use Rattle.pg_text.specs.Text.{parts, two_parts, four_parts, words_of, Lacks};
+
+use pg_base::SPACE;
 
 /// Where the first sign stands.
 fn sign_at(sign: u8, text: &[u8]) -> Option<usize>
@@ -57,9 +60,9 @@ pub fn four_parts(sign: u8, text: &[u8]) -> Option<(&[u8], &[u8], &[u8], &[u8])>
 /// The first word, and the text of the others if there are any.
 #[tactic(auto, using(crate::proofs::Cuts::first_and_others, crate::proofs::Cuts::only_word))]
 pub fn first_word(text: &[u8]) -> (&[u8], Option<&[u8]>)
-    ensures { parts 32 text.now ≡ result.0.now ∷ words_of (option_map (λ w. w.now) result.1) }
+    ensures { parts SPACE text.now ≡ result.0.now ∷ words_of (option_map (λ w. w.now) result.1) }
 {
-    match cut_at(b' ', text) {
+    match cut_at(SPACE, text) {
         Some((word, others)) => (word, Some(others)),
         None => (text, None),
     }
