@@ -1,21 +1,9 @@
 //! Whether Avoider's potential holds.
 ghost use Rattle.std.specs.Prelude.{◌≡◌, ◌↔◌, ◌≤◌, IsTrue};
 ghost use Rattle.pg_game.specs.Game.{IsPosition};
-ghost use Rattle.pg_game.specs.Avoider.{x_takes_last, avoider_ends, AvoiderHolds};
+ghost use Rattle.pg_game.specs.Avoider.{avoider_ends, AvoiderHolds};
 
-use pg_base::Side;
-use pg_game::{Game, MAX_BIAS, Position, full_weight, weigh};
-
-/// Whether X takes the last of so many free points, where a side is to move and still claims so many in its turn.
-fn x_takes_last(bias: u16, turn: Side, left: u16, free: u16) -> bool
-    requires { bias ≤ MAX_BIAS }
-    ensures { result ≡ x_takes_last bias turn left free }
-{
-    match turn {
-        Side::X => 0 < free && (free - 1) % (bias + 1) == 0,
-        Side::Y => left < free && (free - left - 1) % (bias + 1) == 0,
-    }
-}
+use pg_game::{Game, Position, full_weight, total_weight, x_takes_last};
 
 /// Whether Avoider takes the last free point.
 fn avoider_ends(g: &Game, p: &Position) -> bool
@@ -42,7 +30,7 @@ pub fn holds(g: &Game, p: &Position) -> bool
     requires { IsPosition g.now p.now }
     ensures exact { IsTrue result ↔ AvoiderHolds g.now p.now }
 {
-    let total = weigh(g, 2, &p.y, p).total;
+    let total = total_weight(g, 2, &p.y, p);
     let risk = if avoider_ends(g, p) { 2 * total } else { total };
     risk < full_weight(g, 2)
 }

@@ -23,3 +23,4 @@ pub mod ThreatLaws
 pub mod ThreatSearch
 pub mod LineWeights
 pub mod WeightWalks
+pub mod SettledLaws

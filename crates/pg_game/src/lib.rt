@@ -2,6 +2,7 @@
 #![tactic(auto)]
 
 mod bounds;
+mod ending;
 mod field;
 mod fit;
 mod game;
@@ -17,9 +18,10 @@ pub use bounds::{
     MAX_BIAS, MAX_BIASED_LINE_POINTS, MAX_LINE_POINTS, MAX_LINES, MAX_POINTS, MAX_SUMMED_POINTS,
     MAX_VERTICES,
 };
+pub use ending::{at_least, defender, is_over_by, may_attack, outcome_by, x_takes_last};
 pub use field::{Field, LineField};
 pub use game::{Game, Misfit};
 pub use judge::{Judge, joiner_for};
 pub use position::{Illegal, Position};
 pub use value::reaches;
-pub use weights::{Weights, full_weight, greatest_length, lowest_with, weigh};
+pub use weights::{Weights, full_weight, greatest_length, lowest_with, total_weight, weigh};

@@ -5,7 +5,7 @@ ghost use Rattle.std.specs.List.Sorted.{IsStrictlyIncreasing};
 ghost use Rattle.pg_base.specs.declared.kind.Kind.TheVariants.{Switching};
 ghost use Rattle.pg_game.specs.Position.{is_free};
 ghost use Rattle.pg_game.specs.Game.{free_points};
-ghost use Rattle.pg_game.specs.Potential.{greatest_length, is_on, line_weight, full_weight, IsBaseOf};
+ghost use Rattle.pg_game.specs.Potential.{greatest_length, is_on, line_weight, total_weight, full_weight, IsBaseOf};
 ghost use Rattle.pg_game.specs.Weights.{AreWeights};
 
 use crate::bounds::{MAX_LINE_POINTS, MAX_POINTS};
@@ -36,15 +36,22 @@ pub fn greatest_length(lines: &[Line]) -> usize
     longest
 }
 
-/// How many points of the line are free.
-fn free_count(p: &Position, line: &Line) -> usize
-    requires { All (λ v. v < MAX_POINTS) line.now }
-    ensures { result ≡ count_by (is_free p.now) line.now }
+/// The base to the power of the exponent.
+fn power(base: u128, exponent: usize) -> u128
+    requires some { 1 ≤ base }
+    requires few { exponent ≤ MAX_LINE_POINTS }
+    requires fits { base ^ exponent ≤ 2 ^ MAX_LINE_POINTS }
+    ensures { result ≡ base ^ exponent }
 {
-    line.as_slice().iter().filter(|v| p.is_free(**v)).count()
+    if base == 2 {
+        1 << exponent
+    } else {
+        base.pow(exponent as u32)
+    }
 }
 
 /// The weight of a line: 0 where it has one of the points, else the base to the power of `longest` less its free points.
+/// It takes one walk over the line, up to the first of the points.
 fn line_weight(base: u128, longest: usize, own: &PointSet, p: &Position, line: &Line) -> u128
     requires range { All (λ v. v < MAX_POINTS) line.now }
     requires some { 1 ≤ base }
@@ -53,11 +60,16 @@ fn line_weight(base: u128, longest: usize, own: &PointSet, p: &Position, line: &
     requires fits { base ^ longest ≤ 2 ^ MAX_LINE_POINTS }
     ensures { result ≡ line_weight base longest own.now p.now line.now }
 {
-    if own.meets(line.as_slice()) {
-        0
-    } else {
-        base.pow((longest - free_count(p, line)) as u32)
+    let mut free = 0;
+    for v in line.as_slice() {
+        if own.has(*v) {
+            return 0;
+        }
+        if p.is_free(*v) {
+            free += 1;
+        }
     }
+    power(base, longest - free)
 }
 
 /// Adds the weight to that of each point of the line.
@@ -91,6 +103,23 @@ pub fn weigh(g: &Game, base: u128, own: &PointSet, p: &Position) -> Weights
         add_weight(&mut points, line, weight);
     }
     Weights { total, points }
+}
+
+/// The sum of the weights of all lines at a position to the given base, where a line with one of the points weighs nothing.
+///
+/// One walk over the lines: the time is linear in the points of all lines. It takes no memory.
+pub fn total_weight(g: &Game, base: u128, own: &PointSet, p: &Position) -> u128
+    requires { IsBaseOf base g.now }
+    ensures total { result ≡ total_weight base g.now own.now p.now }
+    ensures few { result ≤ 2 ^ 115 }
+{
+    let lines = g.lines();
+    let longest = greatest_length(lines);
+    let mut total = 0;
+    for line in lines {
+        total += line_weight(base, longest, own, p, line);
+    }
+    total
 }
 
 /// What a line without free points weighs.

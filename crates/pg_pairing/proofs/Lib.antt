@@ -4,3 +4,4 @@ pub mod OpenPairs
 pub mod LeftOut
 pub mod AnswerLaws
 pub mod PairLaws
+pub mod PartnerSteps

@@ -10,7 +10,8 @@ ghost use Rattle.pg_game.specs.Pairs.{PairsHold, PairsLeaveNone, AreOpenPairs, H
 ghost use Rattle.pg_game.specs.Value.{Forces};
 ghost use Rattle.pg_pairing.specs.Taking.{CanTake};
 
-use pg_base::{Kind, Line, MAX_MEMBERS, Pair, PointSet, Side};
+use crate::partners::{is_safe, partners_of};
+use pg_base::{Kind, MAX_MEMBERS, Pair, PointSet, Side};
 use pg_game::{Game, Position};
 
 /// Puts a free point of the game that isn't taken to those that are, and tells whether it could.
@@ -97,23 +98,6 @@ fn leave_none(g: &Game, p: &Position, pairs: &[Pair], paired: &PointSet) -> bool
     count_outside(g, p, paired) == unpaired_due(p.turn)
 }
 
-/// Whether both points of some pair are in the set.
-fn has_both(points: &PointSet, pairs: &[Pair]) -> bool
-    requires { All (λ s. (s.a < MAX_MEMBERS) × (s.b < MAX_MEMBERS)) pairs.now }
-    ensures { result ≡ list_any (λ s. set.contains points.now s.a && set.contains points.now s.b) pairs.now }
-{
-    pairs.iter().any(|s| points.has(s.a) && points.has(s.b))
-}
-
-/// Whether the line has one of the points, or holds both points of some pair.
-fn is_safe(own: &PointSet, line: &Line, pairs: &[Pair]) -> bool
-    requires line_range { All (λ v. v < MAX_MEMBERS) line.now }
-    requires pairs_range { All (λ s. (s.a < MAX_MEMBERS) × (s.b < MAX_MEMBERS)) pairs.now }
-    ensures { IsTrue result ↔ IsSafe own.now pairs.now line.now }
-{
-    own.meets(line.as_slice()) || has_both(&PointSet::from_points(line.as_slice()), pairs)
-}
-
 /// The side whose points make a line harmless to the claimer.
 fn breaker_of(kind: Kind, side: Side) -> Side
     ensures { result ≡ breaker_of kind side }
@@ -126,11 +110,17 @@ fn breaker_of(kind: Kind, side: Side) -> Side
 
 /// Whether every line meant holds both points of some pair.
 fn hold_lines(g: &Game, p: &Position, side: Side, pairs: &[Pair]) -> bool
-    requires { All (λ s. (s.a < MAX_MEMBERS) × (s.b < MAX_MEMBERS)) pairs.now }
+    requires { AreOpenPairs g.now p.now pairs.now }
     ensures { IsTrue result ↔ HoldLines g.now p.now side pairs.now }
 {
     let own = p.points_of(breaker_of(g.kind, side));
-    g.lines().iter().all(|line| is_safe(own, line, pairs))
+    let partners = partners_of(pairs);
+    for line in g.lines() {
+        if !is_safe(own, line, &partners) {
+            return false;
+        }
+    }
+    true
 }
 
 /// Whether the pairs are of free points, all different, and every line without a point of the side that makes lines

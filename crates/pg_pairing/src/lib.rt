@@ -4,6 +4,7 @@
 mod answers;
 mod condition;
 pub mod laws;
+mod partners;
 
 pub use answers::answer;
 pub use condition::holds;

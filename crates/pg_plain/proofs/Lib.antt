@@ -5,3 +5,4 @@ pub mod NearLines
 pub mod ThreatSearches
 pub mod PairSearches
 pub mod CriteriaLaws
+pub mod SettleSteps

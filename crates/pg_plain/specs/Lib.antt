@@ -1,3 +1,4 @@
 pub mod Classes
 pub mod Attacks
 pub mod PairSearch
+pub mod Known

@@ -1,2 +1,3 @@
 pub mod GreatestWeight
 pub mod PotentialLaws
+pub mod Raised

@@ -1,5 +1,5 @@
 //! Whether the potential holds.
-ghost use Rattle.std.specs.Prelude.{◌≡◌, ◌≢◌, ◌+◌, ◌↔◌, ◌<◌, ◌≤◌, ◌^◌, ℕ, IsTrue, length, get_or, map, true, if◌then◌else◌};
+ghost use Rattle.std.specs.Prelude.{◌≡◌, ◌≢◌, ◌+◌, ◌&&◌, nat_lt, ◌↔◌, ◌<◌, ◌≤◌, ◌^◌, ℕ, IsTrue, length, get_or, map, true, if◌then◌else◌};
 ghost use Rattle.pg_base.specs.declared.goal.Goal.TheVariants.{Win, Draw};
 ghost use Rattle.pg_base.specs.declared.kind.Kind.TheVariants.{Switching};
 ghost use Rattle.pg_game.specs.Position.{is_free};
@@ -8,7 +8,7 @@ ghost use Rattle.pg_game.specs.Potential.{total, weight, limit, greatest, greate
 ghost use Rattle.pg_game.specs.Value.{Forces};
 
 use pg_base::{Kind, Side};
-use pg_game::{Game, MAX_BIAS, MAX_POINTS, Position, Weights, full_weight, weigh};
+use pg_game::{Game, MAX_BIAS, MAX_POINTS, Position, Weights, full_weight, total_weight, weigh};
 
 /// The weights for a claimer.
 pub(crate) fn weights_for(g: &Game, p: &Position, side: Side) -> Weights
@@ -21,13 +21,21 @@ pub(crate) fn weights_for(g: &Game, p: &Position, side: Side) -> Weights
 }
 
 /// The sum of the weights of the lines without a point of the side.
+fn total_for(g: &Game, p: &Position, side: Side) -> u128
+    ensures total { result ≡ total g.now p.now side }
+    ensures few { result ≤ 2 ^ 115 }
+{
+    total_weight(g, 1 + u128::from(g.bias), p.points_of(side), p)
+}
+
+/// The sum of the weights of the lines without a point of the side.
 ///
 /// A line weighs `1 + q` to the power of the greatest length of a line less its free points, where Y claims q points a turn.
 pub fn total(g: &Game, p: &Position, side: Side) -> u128
     requires { IsPosition g.now p.now }
     ensures { result ≡ total g.now p.now side }
 {
-    weights_for(g, p, side).total
+    total_for(g, p, side)
 }
 
 /// The sum of the weights of those lines through a free point.
@@ -48,14 +56,15 @@ pub fn limit(g: &Game) -> u128
     full_weight(g, 1 + u128::from(g.bias))
 }
 
-/// What a point weighs where it is free, and 0 where it isn't.
-fn free_weight(p: &Position, points: &[u128; MAX_POINTS], v: u16) -> u128
+/// What a point weighs where it is free and weighs more than `least`, and 0 otherwise.
+fn free_weight(p: &Position, points: &[u128; MAX_POINTS], v: u16, least: u128) -> u128
     requires count { length points.now ≡ MAX_POINTS }
     requires small { v < MAX_POINTS }
-    ensures { result ≡ (if is_free p.now v then get_or points.now v 0 else 0) }
+    ensures { result ≡ (if nat_lt least (get_or points.now v 0) && is_free p.now v then get_or points.now v 0 else 0) }
 {
-    if p.is_free(v) {
-        points[usize::from(v)]
+    let weight = points[usize::from(v)];
+    if weight > least && p.is_free(v) {
+        weight
     } else {
         0
     }
@@ -69,7 +78,7 @@ pub(crate) fn greatest_free(g: &Game, p: &Position, points: &[u128; MAX_POINTS])
 {
     let mut greatest = 0;
     for v in 0..g.points() {
-        let weight = free_weight(p, points, v);
+        let weight = free_weight(p, points, v, greatest);
         if weight > greatest {
             greatest = weight;
         }
@@ -91,6 +100,33 @@ fn times_counted(g: &Game, p: &Position, side: Side) -> u8
     }
 }
 
+/// The greatest weight of a free point, by the weights of all points.
+fn greatest_weight(g: &Game, p: &Position, side: Side) -> u128
+    requires { g.now.kind ≢ Switching }
+    ensures { result ≡ greatest_weight g.now p.now side }
+{
+    greatest_free(g, p, &weights_for(g, p, side).points)
+}
+
+/// Whether the total, with the greatest weight of a free point as often as it counts, is below the limit. No point weighs
+/// more than all lines, so the weights of points are often not needed.
+fn is_low(g: &Game, p: &Position, side: Side) -> bool
+    requires lines { g.now.kind ≢ Switching }
+    requires position { IsPosition g.now p.now }
+    ensures { IsTrue result ↔ PotentialHolds g.now p.now side }
+{
+    let limit = limit(g);
+    let total = total_for(g, p, side);
+    if total >= limit {
+        return false;
+    }
+    let times = u128::from(times_counted(g, p, side));
+    if total + times * total < limit {
+        return true;
+    }
+    total + times * greatest_weight(g, p, side) < limit
+}
+
 /// Whether the potential is low enough for the side: the total, with the greatest weight of a free point as often as it
 /// counts, is below the limit.
 ///
@@ -106,8 +142,5 @@ pub fn holds(g: &Game, p: &Position, side: Side) -> bool
     ensures breaker { IsTrue result → g.now.kind ≡ Kind.MakerBreaker → side ≡ Side.Y → Forces g.now p.now side Win }
     ensures draw { IsTrue result → g.now.kind ≡ Kind.MakerMaker → Forces g.now p.now side Draw }
 {
-    let weights = weights_for(g, p, side);
-    let greatest = greatest_free(g, p, &weights.points);
-    let times = u128::from(times_counted(g, p, side));
-    weights.total + times * greatest < limit(g)
+    is_low(g, p, side)
 }

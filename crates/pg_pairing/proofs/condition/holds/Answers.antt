@@ -3,12 +3,12 @@ use Rattle.pg_base.specs.declared.goal.Goal.TheVariants.{Win}
 use Rattle.pg_base.specs.declared.side.Side.{Side}
 use Rattle.pg_game.specs.Pairs.{PairsHold}
 use Rattle.pg_game.specs.Value.{Forces}
-use Rattle.pg_pairing.proofs.PairLoops.{PairsHold-from, pairs-few}
+use Rattle.pg_pairing.proofs.PairLoops.{PairsHold-from}
 use Rattle.pg_pairing.proofs.PairLaws.{Forces-pairs_breaker, Forces-pairs_draw, Forces-pairs_avoider}
 use Rattle.pg_pairing.proofs.condition.holds.Goals as goal
 
 pub hold_lines-requires : goal.hold_lines-requires
-hold_lines-requires c = pairs-few c.args.g.now c.args.pairs.now (c.in-Some.ensures.open.0 refl).range
+hold_lines-requires c = c.in-Some.ensures.open.0 refl
 
 pub returns-then-leave_none-clause-exact : goal.returns-then-leave_none-clause-exact
 returns-then-leave_none-clause-exact c = (

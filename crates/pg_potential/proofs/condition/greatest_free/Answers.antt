@@ -2,6 +2,7 @@ use Rattle.std.proofs.Common.{◌≡◌, get_or, sym, ◌∙◌, arith}
 use Rattle.pg_game.specs.Position.{is_free}
 use Rattle.pg_game.proofs.Greatest.{running-none, running-next, running-all}
 use Rattle.pg_game.proofs.WeightBounds.{few_points-lines}
+use Rattle.pg_potential.proofs.Raised.{weight-raised}
 use Rattle.pg_potential.proofs.condition.greatest_free.Goals.{then-weight-greatest, else-weight-greatest}
 use Rattle.pg_potential.proofs.condition.greatest_free.Goals as goal
 
@@ -14,9 +15,10 @@ free_weight-weight-requires-clause-small c = omega (arith, c.loop-v-test.true, c
 pub loop-v-preserved : goal.loop-v-preserved
 loop-v-preserved c =
     let next = running-next (is_free c.args.p.now) (λ v. get_or c.args.points.now v 0) c.loop-v.v in
+    let raised = weight-raised (is_free c.args.p.now c.loop-v.v) c.loop-v.greatest (get_or c.args.points.now c.loop-v.v 0) in
     elim c.if-weight-greatest.branch [
-      | then-weight-greatest w ↦ omega (arith, next, c.loop-v.invariant, c.free_weight-weight.ensures, w.greatest-is, w.if-weight-greatest.true)
-      | else-weight-greatest w ↦ omega (arith, next, c.loop-v.invariant, c.free_weight-weight.ensures, w.greatest-is, w.if-weight-greatest.false)
+      | then-weight-greatest w ↦ omega (arith, next, raised, c.loop-v.invariant, c.free_weight-weight.ensures, w.greatest-is, w.if-weight-greatest.true)
+      | else-weight-greatest w ↦ omega (arith, next, raised, c.loop-v.invariant, c.free_weight-weight.ensures, w.greatest-is, w.if-weight-greatest.false)
     ]
 
 pub returns : goal.returns

@@ -2,7 +2,7 @@ use Rattle.std.proofs.Common.{sym, ap, ◌∙◌}
 use Rattle.pg_base.specs.declared.side.Side.{Side}
 use Rattle.pg_game.specs.Avoider.{x_takes_last}
 use Rattle.pg_game.proofs.LastPoint.{takes-x, takes-x_none, takes-y, takes-y_none}
-use Rattle.pg_avoider.proofs.condition.x_takes_last.Goals as goal
+use Rattle.pg_game.proofs.ending.x_takes_last.Goals as goal
 
 pub returns-then-free-gt0 : goal.returns-then-free-gt0
 returns-then-free-gt0 c = takes-x c.args.bias c.args.left c.args.free c.if-free-gt0.true ∙ ap (λ (s : Side). x_takes_last c.args.bias s c.args.left c.args.free) (sym c.in-X.is)
