@@ -2,7 +2,7 @@
 """Makes the table of families in crates/test_match, by a program that shares nothing with the crates.
 
 Whether private pairs exist is found by trying all choices: each pair of free points of the first line, and then the rest.
-A row is POINTS:LINES:X:Y:ANSWER, a position of Maker-Breaker: lines with a point of Y aren't wanted, and points of
+A row is a position of Maker-Breaker, as `maker-breaker POINTS x 1:LINES:X:Y:ANSWER`: lines with a point of Y aren't wanted, and points of
 neither side are free. Families are of 2 to 7 lines on 4 to 12 points. Half have no private pairs, and most of these pass both counts (enough free points for all, two for each line);
 half of the others block a matcher that keeps its first choices.
 """
@@ -65,7 +65,7 @@ def main():
         if due.get(kind, 0) > 0 and (len(lines) > 2 or draw.random() < 0.3):
             due[kind] -= 1
             answer = "yes" if kind in ("plain", "blocked") else "no"
-            print(f"{points}:{','.join(map(words, lines))}:{words(taken)}:{words(own)}:{answer};\\")
+            print(f"maker-breaker {points} x 1:{','.join(map(words, lines))}:{words(taken)}:{words(own)}:{answer};\\")
 
 
 main()

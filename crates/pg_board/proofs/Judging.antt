@@ -29,6 +29,11 @@ use Rattle.pg_board.proofs.Walks.{disjoint-is}
 use Rattle.pg_board.proofs.Deciding.{turn-is, left-is, touched-is}
 use Rattle.pg_board.proofs.Digits.{count-first, count-all}
 
+-- the lines through a point are those of its game
+pub through-of : (g : Game) (v : ℕ) → lines_through (shape_of g) v ≡ lines_holding (lines_of g) v
+unfolding lines_through
+through-of g v = refl
+
 -- ---- what the weighing requires
 
 pub agree-is : (r : Rules) (t : Cells) (x y free : List (List ℕ)) → Fits r t x y free → Agree r.shape t.cells

@@ -12,15 +12,16 @@ ghost use Rattle.pg_game.specs.Avoider.{avoider_total, avoider_weight, avoider_h
 ghost use Rattle.pg_game.specs.Decided.{by_end, defends};
 ghost use Rattle.pg_board.specs.Board.{line_at, degree, count_of, live_lines, live_with};
 ghost use Rattle.pg_board.specs.Near.{IsNearest, NoneNear};
+ghost use Rattle.pg_board.specs.Shape.{lines_holding};
 
-use crate::decided::{self, at_least, draw_side, has_filled, is_over_by, outcome_by};
+use crate::decided::{self, has_filled};
 use crate::layout::Layout;
 use crate::opening::{blank_cells, open_marks, turn_code, whole_room};
 use crate::plays::{Played, play_point, undo_play};
 use crate::points::{free_point, is_unmarked, left, marked, turn};
 use crate::totals;
 use pg_base::{Kind, Memory, Score, Side};
-use pg_game::{Game, Position};
+use pg_game::{Game, Position, at_least, defender, is_over_by, outcome_by};
 use pg_links::Ring;
 use pg_trail::Trail;
 use std::alloc::Global;
@@ -216,7 +217,7 @@ impl<'a> Board<'a> {
         requires { line < length (lines_of self.now.game) }
         ensures { result ≡ length (line_at self.now.game line) }
     {
-        self.layout.line(line).len() as u16
+        self.layout.line_len(line) as u16
     }
 
     /// The point of the line at a place, ascending.
@@ -228,6 +229,14 @@ impl<'a> Board<'a> {
     {
         let points = self.layout.line(line);
         points[usize::from(i)] as u16
+    }
+
+    /// The lines through the point, ascending.
+    pub fn through(&self, v: u16) -> &[u32]
+        requires { v < point_count self.now.game }
+        ensures { result.now ≡ lines_holding (lines_of self.now.game) v }
+    {
+        self.layout.through(v)
     }
 
     /// How many points of the line the side has.
@@ -242,6 +251,7 @@ impl<'a> Board<'a> {
     pub fn first_live(&self, side: Side) -> Option<u32>
         ensures line { result ≡ slice_get (live_lines self.now.game self.now.stand.position side) 0 }
         ensures disjoint { ShareNone self.now.stand.position.x self.now.stand.position.y }
+        ensures fits { IsPosition self.now.game self.now.stand.position }
     {
         match side {
             Side::X => self.live_x.first(),
@@ -379,7 +389,7 @@ impl<'a> Board<'a> {
     {
         match self.game.kind {
             Kind::MakerBreaker => self.potential_holds(Side::Y),
-            Kind::MakerMaker => self.potential_holds(draw_side(wanted)),
+            Kind::MakerMaker => self.potential_holds(defender(Kind::MakerMaker, wanted)),
             Kind::AvoiderEnforcer => self.avoider_holds(),
             Kind::Switching => false,
         }

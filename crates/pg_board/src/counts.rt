@@ -14,20 +14,23 @@ use pg_base::Side;
 use pg_game::MAX_LINES;
 use pg_trail::Trail;
 
-/// Where the line has none of the side's points: one line fewer of the side's with so many free points.
-fn leave(layout: &Layout, trail: &mut Trail, side: Side, own: u32, free: u32)
+/// Where the line has none of the side's points: one line fewer of the side's with so many free points, by their cell.
+fn leave(layout: &Layout, trail: &mut Trail, side: Side, own: u32, free: u32) -> usize
     requires width { length trail.old.cells ≡ cell_count layout.now }
     requires short { free ≤ layout.now.longest }
     requires some { own ≡ 0 → 1 ≤ lines_in layout.now trail.old.cells side free }
     requires room { 1 ≤ trail.old.spare }
     ensures lines { IsMoved layout.now side (λ f. one_if ((own == 0) && (free == f))) (λ f. 0) trail.old.cells trail.new.cells }
     ensures trail { Extends 1 trail.old trail.new }
+    ensures cell { own ≡ 0 → result ≡ free_cell layout.now side free }
 {
-    if own == 0 {
-        let cell = layout.free_cell(side, free);
-        let lines = trail.get(cell);
-        trail.set(cell, lines - 1);
+    if own != 0 {
+        return 0;
     }
+    let cell = layout.free_cell(side, free);
+    let lines = trail.get(cell);
+    trail.set(cell, lines - 1);
+    cell
 }
 
 /// Where the line has none of the side's points: it has one free point fewer.
@@ -42,19 +45,19 @@ fn narrow(layout: &Layout, trail: &mut Trail, side: Side, own: u32, free: u32)
     ensures trail { Extends 2 trail.old trail.new }
 {
     if own == 0 {
-        leave(layout, trail, side, own, free);
-        let cell = layout.free_cell(side, free - 1);
+        let cell = leave(layout, trail, side, own, free) - 1;
         let lines = trail.get(cell);
         trail.set(cell, lines + 1);
     }
 }
 
-/// One more point of the side in the line.
-pub(crate) fn claim(layout: &Layout, trail: &mut Trail, side: Side, line: u32)
+/// One more point of the side in the line. Tells whether it had none before.
+pub(crate) fn claim(layout: &Layout, trail: &mut Trail, side: Side, line: u32) -> bool
     requires counted { AreCounted layout.now trail.old.cells }
     requires range { line < length layout.now.lines }
     requires free { count_in layout.now trail.old.cells X line + count_in layout.now trail.old.cells Y line < length (line_in layout.now line) }
     requires room { 4 ≤ trail.old.spare }
+    ensures clear { result ≡ (count_in layout.now trail.old.cells side line == 0) }
     ensures counted { AreCounted layout.now trail.new.cells }
     ensures more { IsCountedMore layout.now side line trail.old.cells trail.new.cells }
     ensures trail { Extends 4 trail.old trail.new }
@@ -63,8 +66,9 @@ pub(crate) fn claim(layout: &Layout, trail: &mut Trail, side: Side, line: u32)
     let own = trail.get(cell);
     let enemy = side.other();
     let theirs = trail.get(layout.count_cell(enemy, line));
-    let free = layout.line(line).len() as u32 - (own + theirs);
+    let free = layout.line_len(line) - (own + theirs);
     leave(layout, trail, side, own, free);
     narrow(layout, trail, enemy, theirs, free);
     trail.set(cell, own + 1);
+    own == 0
 }

@@ -1,12 +1,10 @@
 //! Whether a potential decides a board's position, and whether the game is over, by counts.
-ghost use Rattle.std.specs.Prelude.{◌≡◌, ◌≢◌, ◌<◌, ◌≤◌, ◌+◌, ◌^◌, Bool, length, get_or};
+ghost use Rattle.std.specs.Prelude.{◌≡◌, ◌<◌, ◌≤◌, ◌+◌, ◌^◌, length, get_or};
 ghost use Rattle.std.specs.List.{list_any};
-ghost use Rattle.pg_base.specs.declared.kind.Kind.TheVariants.{MakerMaker, Switching};
 ghost use Rattle.pg_game.specs.Position.{points_of};
-ghost use Rattle.pg_game.specs.Game.{is_filled, is_over_by, outcome_by};
+ghost use Rattle.pg_game.specs.Game.{is_filled};
 ghost use Rattle.pg_base.specs.Side.{is_same_side};
 ghost use Rattle.pg_game.specs.Avoider.{x_takes_last};
-ghost use Rattle.pg_game.specs.Decided.{at_least, defender};
 ghost use Rattle.pg_board.specs.Shape.{turn_cell};
 ghost use Rattle.pg_board.specs.Fits.{position_of, free_points_in};
 ghost use Rattle.pg_board.specs.Totals.{times_in, potential_in, avoider_in, Agree, IsBase};
@@ -14,7 +12,8 @@ ghost use Rattle.pg_board.specs.Totals.{times_in, potential_in, avoider_in, Agre
 use crate::layout::Layout;
 use crate::points::{left, turn};
 use crate::totals::{greatest_weight, live_with, total};
-use pg_base::{Kind, Score, Side};
+use pg_base::Side;
+use pg_game::x_takes_last;
 use pg_trail::Trail;
 
 /// How often the greatest weight counts for the side.
@@ -52,17 +51,6 @@ pub(crate) fn potential_holds(layout: &Layout, trail: &Trail, bias: u8, side: Si
         return true;
     }
     total + times * greatest_weight(layout, trail, side, base) < limit
-}
-
-/// Whether X takes the last of so many free points, where a side is to move and still claims so many in its turn.
-fn x_takes_last(bias: u16, turn: Side, left: u16, free: u16) -> bool
-    requires { bias ≤ 7 }
-    ensures { result ≡ x_takes_last bias turn left free }
-{
-    match turn {
-        Side::X => 0 < free && (free - 1) % (bias + 1) == 0,
-        Side::Y => left < free && (free - left - 1) % (bias + 1) == 0,
-    }
 }
 
 /// Whether Avoider takes the last of so many free points.
@@ -106,56 +94,4 @@ pub(crate) fn has_filled(layout: &Layout, trail: &Trail, side: Side) -> bool
     ensures { result ≡ list_any (is_filled (points_of (position_of layout.now trail.now.cells) side)) layout.now.lines }
 {
     live_with(layout, trail, side.other(), 0) != 0
-}
-
-/// Whether a game on lines is over, by what X and Y have filled, whether Y has a point of every line, and whether no
-/// point is free.
-pub(crate) fn is_over_by(
-    kind: Kind,
-    x_filled: bool,
-    y_filled: bool,
-    touched: bool,
-    full: bool,
-) -> bool
-    ensures { (joined joinable : Bool) → kind ≢ Switching → result ≡ is_over_by kind x_filled y_filled touched full joined joinable }
-{
-    match kind {
-        Kind::MakerMaker => x_filled || y_filled || full,
-        _ => x_filled || touched || full,
-    }
-}
-
-/// The outcome of a game on lines that is over.
-pub(crate) fn outcome_by(kind: Kind, x_filled: bool, y_filled: bool) -> Score
-    ensures { (joined : Bool) → kind ≢ Switching → result ≡ outcome_by kind x_filled y_filled joined }
-{
-    match kind {
-        Kind::MakerBreaker if x_filled => Score::XWins,
-        Kind::AvoiderEnforcer if !x_filled => Score::XWins,
-        Kind::MakerMaker if x_filled => Score::XWins,
-        Kind::MakerMaker if !y_filled => Score::Draw,
-        _ => Score::YWins,
-    }
-}
-
-/// Whether the second score is at least the first.
-pub(crate) fn at_least(wanted: Score, score: Score) -> bool
-    ensures { result ≡ at_least wanted score }
-{
-    match wanted {
-        Score::XWins => score == Score::XWins,
-        Score::Draw => score != Score::YWins,
-        Score::YWins => true,
-    }
-}
-
-/// The side that wants no less than a draw in Maker-Maker, where it is asked whether X reaches the score.
-pub(crate) fn draw_side(wanted: Score) -> Side
-    ensures { result ≡ defender MakerMaker wanted }
-{
-    if wanted == Score::XWins {
-        Side::Y
-    } else {
-        Side::X
-    }
 }

@@ -72,6 +72,15 @@ impl Layout {
         self.longest
     }
 
+    /// How many points a line has.
+    pub(crate) fn line_len(&self, i: u32) -> u32
+        requires { i < length self.now.lines }
+        ensures count { result ≡ length (line_in self.now i) }
+        ensures shape { IsShape self.now }
+    {
+        self.lines.row_len(i as usize) as u32
+    }
+
     /// The points of a line, ascending.
     pub(crate) fn line(&self, i: u32) -> &[u32]
         requires { i < length self.now.lines }

@@ -22,10 +22,9 @@ fn claim_line(layout: &Layout, trail: &mut Trail, live: &mut Ring, side: Side, l
     requires room { 4 ≤ trail.old.spare }
     ensures { Claims layout.now side (line ∷ []) trail.old trail.new live.old live.new }
 {
-    if trail.get(layout.count_cell(side, line)) == 0 {
+    if claim(layout, trail, side, line) {
         live.unlink(line);
     }
-    claim(layout, trail, side, line);
 }
 
 /// One more point of the side in each line through the point.

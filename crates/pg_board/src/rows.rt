@@ -60,6 +60,14 @@ impl Rows {
         self.starts.len() - 1
     }
 
+    /// How long the row of a number is.
+    pub(crate) fn row_len(&self, i: usize) -> usize
+        requires { i < length self.now }
+        ensures { result ≡ length (get_or self.now i []) }
+    {
+        len_of(self.starts.as_slice(), i)
+    }
+
     /// The row of a number.
     pub(crate) fn row(&self, i: usize) -> &[u32]
         requires { i < length self.now }
@@ -108,6 +116,15 @@ impl Row {
     {
         self.items.as_slice()
     }
+}
+
+/// How long the row of a number is.
+fn len_of(starts: &[usize], i: usize) -> usize
+    requires within { i + 1 < length starts.now }
+    requires ascending { get_or starts.now i 0 ≤ get_or starts.now (i + 1) 0 }
+    ensures { result ≡ get_or starts.now (i + 1) 0 - get_or starts.now i 0 }
+{
+    starts[i + 1] - starts[i]
 }
 
 /// The row of a number.

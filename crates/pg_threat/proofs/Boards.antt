@@ -1,8 +1,9 @@
 -- A board after a play, and after the play was taken back.
-use Rattle.std.proofs.Common.{◌≡◌, ◌≤◌, List, [], ◌∷◌, ◌++◌, length, refl, sym, ap, ◌∙◌, subst, arith}
+use Rattle.std.proofs.Common.{◌≡◌, ◌≤◌, ℕ, List, [], ◌∷◌, ◌++◌, length, refl, sym, ap, ◌∙◌, subst, arith}
 use Rattle.std.proofs.lemmas.List.{length_push}
 use Rattle.pg_game.specs.declared.game.Game.{Game}
 use Rattle.pg_game.specs.declared.position.Position.{Position}
+use Rattle.pg_game.specs.Game.{after}
 use Rattle.pg_board.specs.Board.{Stand, View}
 
 -- what holds of a game and a position holds of equal ones
@@ -31,3 +32,8 @@ taken-back before played later after same push kept game pop =
     let games = game ∙ ap (λ (b : View). b.game) kept ∙ same in
     let rest = push-same after.earlier before.earlier after.stand before.stand (sym pop ∙ ap (λ (b : View). b.earlier) kept ∙ push) in
     λ i. record { game = games i; stand = rest.1 i; earlier = rest.0 i }
+
+-- after two plays
+pub two-played : (before first second : View) (v u : ℕ) → first.game ≡ before.game → first.stand.position ≡ after before.game before.stand.position v → second.game ≡ first.game → second.stand.position ≡ after first.game first.stand.position u
+    → (second.game ≡ before.game) × (second.stand.position ≡ after before.game (after before.game before.stand.position v) u)
+two-played before first second v u game position game_two position_two = (game_two ∙ game, position_two ∙ (λ i. after (game i) (position i) u))

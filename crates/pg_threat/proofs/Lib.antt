@@ -5,3 +5,5 @@ mod Scans
 mod Attacks
 mod Searching
 pub mod Deciding
+mod Partners
+mod Gains

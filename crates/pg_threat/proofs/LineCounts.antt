@@ -1,6 +1,6 @@
 -- How many points of a line a side lacks, by the points themselves.
 use Rattle.std.proofs.Common.{◌≡◌, ◌≢◌, ℕ, ◌+◌, ◌<◌, ◌≤◌, Bool, true, false, cond, not, ◌&&◌, ◌||◌, ◌==◌, List, [], ◌∷◌, length, refl, sym, ap, ap₂, ◌∙◌, subst, inl, inr, arith, eqb-true, eq-eqb, ne_eqb}
-use Rattle.std.proofs.lemmas.Bool.{cases_Bool, cases_eq, and_parts, and_from, or_parts, not-true, not_from_false}
+use Rattle.std.proofs.lemmas.Bool.{cases_Bool, cases_eq, and_left, and_parts, and_from, or_parts, not-true, not_from_false}
 use Rattle.std.proofs.lemmas.List.Sums.{sum_by-cons, count_by-le-length, get_or-le-sum_by}
 use Rattle.std.specs.List.{Contains, count_by, list_all, list_any}
 use Rattle.std.specs.FinSet.{FinSet, contains, insert}
@@ -21,6 +21,7 @@ use Rattle.pg_game.proofs.Moves.{free-of}
 use Rattle.pg_game.proofs.WeightBounds.{line-fit}
 use Rattle.pg_game.proofs.ThreatLaws.{Near, filled_but, filled-with, filled-without, untouched, near-range}
 use Rattle.pg_board.specs.Board.{is_live_with, live_with}
+use Rattle.pg_board.proofs.Answering.{clear-any}
 use Rattle.pg_threat.specs.Lacking.{lacks, lacks_at, is_lacking}
 
 -- ---- counts of members
@@ -32,14 +33,14 @@ one_of b = cond b 1 0
 once : (g : Game) (line : List ℕ) → Contains (lines_of g) line → (v : ℕ) → count_by (λ q. q == v) line ≤ 1
 once g line c v = count-ascending v line (line-fit g line c).ascending
 
-some-counted : {X : Type 0} (t : X → Bool) (line : List X) → list_any t line ≡ true → 1 ≤ count_by t line
+pub some-counted : {X : Type 0} (t : X → Bool) (line : List X) → list_any t line ≡ true → 1 ≤ count_by t line
 some-counted t line on =
     let found = member-from_any t line on in
     let at : one_of (t found.0) ≡ 1 = ap one_of found.2 in
     let le : one_of (t found.0) ≤ count_by t line = subst (λ q. one_of (t q) ≤ count_by t line) found.1.2 (get_or-le-sum_by (λ q. one_of (t q)) line found.1.0 found.0 found.1.1) in
     omega (arith, at, le)
 
-count-insert : (s : FinSet nat_cmp) (v : ℕ) (line : List ℕ) → contains s v ≡ false → count_by (contains s) line + count_by (λ q. q == v) line ≡ count_by (contains (insert s v)) line
+pub count-insert : (s : FinSet nat_cmp) (v : ℕ) (line : List ℕ) → contains s v ≡ false → count_by (contains s) line + count_by (λ q. q == v) line ≡ count_by (contains (insert s v)) line
 count-insert s v [] off = omega arith
 count-insert s v (q ∷ line) off =
     let rest = count-insert s v line off in
@@ -76,7 +77,7 @@ all-counted t (q ∷ line) all =
     let rest = all-counted t line parts.1 in
     omega (arith, here, rest, sum_by-cons (λ r. one_of (t r)) q line)
 
-counted-all : (t : ℕ → Bool) (line : List ℕ) → count_by t line ≡ length line → list_all t line ≡ true
+pub counted-all : (t : ℕ → Bool) (line : List ℕ) → count_by t line ≡ length line → list_all t line ≡ true
 counted-all t [] e = refl
 counted-all t (q ∷ line) e = elim (cases_Bool (t q)) [
   | inl on ↦
@@ -99,6 +100,15 @@ pub lacks-to : (p : Position) (side : Side) (missing : ℕ) (line : List ℕ) �
     → lacks p side missing line ≡ true
 unfolding lacks
 lacks-to p side missing line clear count = and_from _ _ (not_from_false _ clear) (eq-eqb _ _ count)
+
+-- by the counts of both sides
+pub lacks-off : (p : Position) (side : Side) (missing : ℕ) (line : List ℕ) → count_by (contains (points_of p (other side))) line ≢ 0 → false ≡ lacks p side missing line
+unfolding lacks
+lacks-off p side missing line some = sym (and_left _ _ (sym (clear-any (contains (points_of p (other side))) line) ∙ ne_eqb _ 0 some))
+
+pub lacks-on : (p : Position) (side : Side) (missing : ℕ) (line : List ℕ) → count_by (contains (points_of p (other side))) line ≡ 0 → (count_by (contains (points_of p side)) line + missing) == length line ≡ lacks p side missing line
+unfolding lacks
+lacks-on p side missing line none = sym (ap (λ b. b && (count_by (contains (points_of p side)) line + missing) == length line) (sym (clear-any (contains (points_of p (other side))) line) ∙ eq-eqb _ 0 none))
 
 module _ (g : Game) (p : Position) (side : Side) (disjoint : ShareNone p.x p.y) where
   -- a line that lacks one point lacks it by its count
@@ -152,7 +162,7 @@ free-by p X q off = ap (λ b. not (contains p.x q) && not b) off ∙ and_true (n
 free-by p Y q off = ap (λ b. not b && not (contains p.y q)) off
 
 -- of a line that the other side hasn't touched the side has all but the free points
-own-and_free : (p : Position) (side : Side) (line : List ℕ) → is_touched (points_of p (other side)) line ≡ false → count_by (contains (points_of p side)) line + count_by (is_free p) line ≡ length line
+pub own-and_free : (p : Position) (side : Side) (line : List ℕ) → is_touched (points_of p (other side)) line ≡ false → count_by (contains (points_of p side)) line + count_by (is_free p) line ≡ length line
 own-and_free p side [] clear = refl
 own-and_free p side (q ∷ line) clear =
     let parts = or_parts (contains (points_of p (other side)) q) _ clear in

@@ -2,7 +2,7 @@
 use Rattle.std.specs.Prelude.{◌↔◌, ◌==◌, if◌then◌else◌, Option, Some, None, IfSome, IfNone}
 use Rattle.std.proofs.Common.{◌≡◌, ◌≢◌, ℕ, ◌+◌, ◌-◌, ◌*◌, ◌<◌, ◌≤◌, true, false, List, [], ◌∷◌, length, refl, sym, ap, ◌∙◌, subst, inl, inr, arith, eqb-true}
 use Rattle.std.proofs.lemmas.Bool.{cases_Bool, cases_eq, cases_lt, false≢true}
-use Rattle.std.specs.FinSet.{FinSet, contains}
+use Rattle.std.specs.FinSet.{FinSet, contains, empty, contains-empty}
 use Rattle.std.specs.Ordering.{nat_cmp}
 use Rattle.pg_base.specs.Points.{IsLeastFrom, ShareNone}
 use Rattle.pg_base.specs.declared.side.Side.{Side}
@@ -10,14 +10,15 @@ use Rattle.pg_game.specs.declared.game.Game.{Game}
 use Rattle.pg_game.specs.declared.position.Position.{Position}
 use Rattle.pg_game.specs.Position.{is_free}
 use Rattle.pg_game.specs.Game.{lines_of, point_count, after, is_over, IsPosition}
-use Rattle.pg_game.specs.Threat.{depth_of, may_attack, ComesFirst, LeadsToLine, IsAttacking, IsThreatLine, AreDeeper}
+use Rattle.pg_game.specs.Threat.{depth_of, may_attack, ComesFirst, IsAttack, LeadsToLine, IsAttacking, IsThreatLine, AreDeeper}
 use Rattle.pg_game.proofs.Limits.{point_count-le}
 use Rattle.pg_game.proofs.ThreatLaws.{Near, near-from, near-to, near-range, near-stays, near-filling, IsForced, attacking-after, unfilled-going}
 use Rattle.pg_threat.specs.declared.line.ThreatLine.{ThreatLine}
-use Rattle.pg_threat.specs.Lacking.{is_lacking, IsLackedTwice, come_to, left_to}
+use Rattle.pg_threat.specs.Lacking.{is_lacking, is_partner, IsLackedTwice, come_to, left_to}
 use Rattle.pg_threat.specs.Search.{Begins, points_of_line, IsFirstOf, NoneBelow, IsFound, IsAnswering, Replied, IsTried, IsSearching}
 use Rattle.pg_threat.specs.Forced.{IsAnswer}
 use Rattle.pg_threat.proofs.LineCounts.{one-lacked, one-near, lacking-free}
+use Rattle.pg_threat.proofs.Partners.{partner-lacking}
 use Rattle.pg_threat.proofs.Attacks.{fork-twice, filling-near, none-near, near-was, answering-after, leads-length, replied-length, replied-depth, attack-depth, replied-leads, leads-tried}
 
 -- the list that was found is this one
@@ -33,6 +34,9 @@ first-less v w points others le rest = elim (cases_eq w v) [ inl e ↦ inr (sym 
 module _ (g : Game) (p : Position) (side : Side) (attacking : IsAttacking g p side) (depth : ℕ) (some : 1 ≤ depth) (least : NoneBelow (LeadsToLine g p side) depth) where
   far : (v : ℕ) → Near g p side v → ⊥
   far = none-near g p side depth attacking some least
+
+  pub far-lacked : (v : ℕ) → is_lacking g p side 1 v ≡ false
+  far-lacked v = elim (cases_Bool (is_lacking g p side 1 v)) [ inl on ↦ absurd (far v (one-near g p side attacking.position.disjoint v on)) | inr off ↦ off ]
 
   -- a list that leads to a line begins with one of all attacks that are tried
   pub begins-all : (attacks : FinSet nat_cmp) → ((v : ℕ) → (contains attacks v ≡ true) ↔ IsTried g p side v) → Begins g p side depth attacks
@@ -58,15 +62,15 @@ module _ (g : Game) (p : Position) (side : Side) (attacking : IsAttacking g p si
     }
 
     -- an attack is a free point of the game
-    pub attack-free : (v : ℕ) → contains attacks v ≡ true → (v < point_count g) × (is_free p v ≡ true)
-    attack-free v member = lacking-free g p side 2 v (tried v member).two
+    pub attack-free : (v : ℕ) → contains attacks v ≡ true → IsAttack g p v
+    attack-free v member = let free = lacking-free g p side 2 v (tried v member).two in record { range = free.0; free = free.1 }
 
     module _ (one : g.bias ≡ 1) (v : ℕ) (member : contains attacks v ≡ true) where
       pub attack-answering : IsAnswering g (after g p v) side
       attack-answering = answering-after g side one p attacking v far (tried v member)
 
       leads-on : (points : List ℕ) → Replied g (after g p v) side points → LeadsToLine g p side (v ∷ points)
-      leads-on points h = let at = attack-free v member in replied-leads g p side v points at.0 at.1 attack-answering h
+      leads-on points h = let at = attack-free v member in replied-leads g p side v points at.range at.free attack-answering h
 
       -- after it no list of less depth goes on
       pub attack-least : NoneBelow (Replied g (after g p v) side) depth
@@ -110,9 +114,13 @@ module _ (g : Game) (p : Position) (side : Side) (attacking : IsAttacking g p si
     search-over searching [] leads deep = leads
     search-over searching (w ∷ points) leads deep =
         let at = attack-free w (begins w points deep leads) in
-        searching.none w points (omega (arith, at.0, point_count-le g)) deep leads
+        searching.none w points (omega (arith, at.range, point_count-le g)) deep leads
 
 -- ---- replies
+
+-- where the side lacks more than one point of each line, an attack's replies are the other points of the lines through it
+pub replies-are : (g : Game) (p : Position) (side : Side) (v : ℕ) → IsAttacking g p side → ((u : ℕ) → is_lacking g p side 1 u ≡ false) → IsAttack g p v → (u : ℕ) → is_partner g p side v u ≡ is_lacking g (after g p v) side 1 u
+replies-are g p side v attacking far at = partner-lacking g side p attacking.turn attacking.position.disjoint (λ w n. false≢true (sym (far w) ∙ one-lacked g p side attacking.position.disjoint w n)) v at
 
 module _ (g : Game) (q : Position) (side : Side) (one : g.bias ≡ 1) (answering : IsAnswering g q side) where
   -- where the side lacks a point the other side must take it, and the side is then to move again
@@ -208,6 +216,17 @@ module _ (g : Game) (q : Position) (side : Side) (one : g.bias ≡ 1) (answering
             let leads = subst (λ (x : ℕ). LeadsToLine g (after g q x) side points) same h.1 in
             fails points leads (omega (arith, deep, replied-depth g side v points q h))
 
+        -- where no line is left after it of which the side lacks two
+        pub reply-barren : ((w : ℕ) → is_lacking g (after g q u) side 2 w ≡ false) → IsFound (Replied g q side) depth None
+        reply-barren barren = reply-fails no-list
+          where
+            no-list : (points : List ℕ) → LeadsToLine g (after g q u) side points → depth_of points ≡ depth - 1 → ⊥
+            no-list [] leads deep = leads
+            no-list (w ∷ points) leads deep =
+                let h = reply-attacking u least.member in
+                let far = none-near g (after g q u) side (depth - 1) h (omega arith) reply-least in
+                false≢true (sym (barren w) ∙ (leads-tried g (after g q u) side w points h.turn h.position.disjoint h.unfilled.mine far leads).0.two)
+
         pub reply-found : (found t : ThreatLine) → IsFound (LeadsToLine g (after g q u) side) (depth - 1) (Some found) → points_of_line t ≡ u ∷ points_of_line found → IsFound (Replied g q side) depth (Some t)
         reply-found found t h same =
             let points = points_of_line found in
@@ -286,6 +305,12 @@ forced-none g p side depth may disjoint going turn wins is none all tried empty 
     no-list (v ∷ others) leads =
         let mine = (unfilled-going g side may p going).mine in
         false≢true (sym (empty v (omega arith)) ∙ (tried v).1 (leads-tried g p side v others turn disjoint mine far-off leads).0)
+
+-- where the side lacks more than two points of each line, there is none
+pub forced-far : (g : Game) (p : Position) (side : Side) (depth : ℕ) → may_attack g.kind side ≡ true → ShareNone p.x p.y → is_over g p ≡ false → p.turn ≡ side
+    → ((v : ℕ) → is_lacking g p side 1 v ≡ false) → ((v : ℕ) → is_lacking g p side 2 v ≡ false) → AreDeeper g p side depth
+forced-far g p side depth may disjoint going turn one two = forced-none g p side depth may disjoint going turn empty (λ v. contains-empty nat_cmp v ∙ sym (one v)) (λ v _. contains-empty nat_cmp v)
+    empty (λ v. (λ on. absurd (false≢true (sym (contains-empty nat_cmp v) ∙ on)), λ tried. absurd (false≢true (sym (two v) ∙ tried.two)))) (λ v _. contains-empty nat_cmp v)
 
 module _ (g : Game) (p : Position) (side : Side) (one : g.bias ≡ 1) (may : may_attack g.kind side ≡ true) (position : IsPosition g p) (going : is_over g p ≡ false) (turn : p.turn ≡ side) where
   pub forced-attacking : IsAttacking g p side

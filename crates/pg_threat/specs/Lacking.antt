@@ -35,6 +35,14 @@ lacks_at p side missing v line = lacks p side missing line && is_open_on p line 
 unfoldable pub is_lacking : Game → Position → Side → ℕ → ℕ → Bool
 is_lacking g p side missing v = list_any (lacks_at p side missing v) (lines_of g)
 
+-- whether another free point is on a line through the point that the other side hasn't touched and of which the side lacks two
+unfoldable pub is_partner : Game → Position → Side → ℕ → ℕ → Bool
+is_partner g p side v u = not (u == v) && list_any (λ line. is_on v line && lacks_at p side 2 u line) (lines_of g)
+
+-- whether the side lacks three points of the line, which the other side hasn't touched and which misses the point
+abbrev pub is_gained : Position → Side → ℕ → List ℕ → Bool
+is_gained p side u line = lacks p side 3 line && not (is_on u line)
+
 -- ---- a walk along the lines without a point of a side
 
 -- no line from one number up to another is without a point of the side

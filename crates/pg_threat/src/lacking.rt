@@ -1,14 +1,14 @@
 //! The free points of lines of which a side lacks few points.
-ghost use Rattle.std.specs.Prelude.{◌≡◌, ◌<◌, ◌≤◌, ◌||◌, ℕ, true, length};
+ghost use Rattle.std.specs.Prelude.{◌≡◌, ◌<◌, ◌≤◌, ◌||◌, ℕ, List, true, false, length};
+ghost use Rattle.std.specs.List.{Contains};
 ghost use Rattle.std.specs.FinSet.{contains, insert};
-ghost use Rattle.pg_base.specs.Points.{ShareNone};
-ghost use Rattle.pg_game.specs.Game.{lines_of, IsPosition};
+ghost use Rattle.pg_game.specs.Game.{lines_of, point_count, IsPosition};
+ghost use Rattle.pg_game.specs.Potential.{is_on};
 ghost use Rattle.pg_board.specs.Board.{line_at};
-ghost use Rattle.pg_threat.specs.Lacking.{is_open_on, is_lacking, IsLackedTwice};
+ghost use Rattle.pg_threat.specs.Lacking.{is_gained, is_open_on, is_lacking, is_partner, lacks, IsLackedTwice};
 
 use pg_base::{MAX_MEMBERS, PointSet, Side};
 use pg_board::Board;
-use pg_game::Position;
 
 /// Points that a side lacks.
 #[derive(Clone, Copy, Debug)]
@@ -35,15 +35,15 @@ impl Lacked {
 }
 
 /// Puts the free points of the line to the others.
-fn put_open(b: &Board<'_>, p: &Position, line: u32, lacked: &mut Lacked)
+fn put_open(b: &Board<'_>, line: u32, lacked: &mut Lacked)
     requires { line < length (lines_of b.now.game) }
-    ensures points { (v : ℕ) → contains lacked.new.points v ≡ (contains lacked.old.points v || is_open_on p.now (line_at b.now.game line) v) }
+    ensures points { (v : ℕ) → contains lacked.new.points v ≡ (contains lacked.old.points v || is_open_on b.now.stand.position (line_at b.now.game line) v) }
     ensures kept { (v : ℕ) → contains lacked.old.twice v ≡ true → contains lacked.new.twice v ≡ true }
-    ensures again { (v : ℕ) → contains lacked.old.points v ≡ true → is_open_on p.now (line_at b.now.game line) v ≡ true → contains lacked.new.twice v ≡ true }
+    ensures again { (v : ℕ) → contains lacked.old.points v ≡ true → is_open_on b.now.stand.position (line_at b.now.game line) v ≡ true → contains lacked.new.twice v ≡ true }
 {
     for i in 0..b.line_len(line) {
         let v = b.line_point(line, i);
-        if p.is_free(v) {
+        if b.is_free(v) {
             lacked.put(v);
         }
     }
@@ -57,8 +57,7 @@ pub(crate) fn lacking(b: &Board<'_>, side: Side, missing: u16) -> Lacked
     requires { missing ≤ 2 }
     ensures points { (v : ℕ) → contains result.points v ≡ is_lacking b.now.game b.now.stand.position side missing v }
     ensures twice { (v : ℕ) → IsLackedTwice b.now.game b.now.stand.position side missing (length (lines_of b.now.game)) v → contains result.twice v ≡ true }
-    ensures disjoint { ShareNone b.now.stand.position.x b.now.stand.position.y }
-    ensures fits { (v : ℕ) → contains result.points v ≡ true → IsPosition b.now.game b.now.stand.position }
+    ensures fits { IsPosition b.now.game b.now.stand.position }
 {
     let mut lacked = Lacked {
         points: PointSet::empty(),
@@ -69,12 +68,96 @@ pub(crate) fn lacking(b: &Board<'_>, side: Side, missing: u16) -> Lacked
     if b.live_with(enemy, missing) == 0 {
         return lacked;
     }
-    let p = b.position();
     while let Some(line) = next {
         if b.count(line, side) + missing == b.line_len(line) {
-            put_open(b, &p, line, &mut lacked);
+            put_open(b, line, &mut lacked);
         }
         next = b.next_live(enemy, line);
     }
     lacked
+}
+
+/// Whether the board's counts show that the side lacks more than two points of each line that the other side hasn't touched.
+pub(crate) fn is_far(b: &Board<'_>, side: Side) -> bool
+    ensures one { result ≡ true → (v : ℕ) → is_lacking b.now.game b.now.stand.position side 1 v ≡ false }
+    ensures two { result ≡ true → (v : ℕ) → is_lacking b.now.game b.now.stand.position side 2 v ≡ false }
+    ensures fits { IsPosition b.now.game b.now.stand.position }
+{
+    let enemy = side.other();
+    let Some(_) = b.first_live(enemy) else {
+        return false;
+    };
+    if b.live_with(enemy, 1) != 0 {
+        return false;
+    }
+    b.live_with(enemy, 2) == 0
+}
+
+/// Whether the other side hasn't touched the line and the side lacks so many points of it.
+fn lacks(b: &Board<'_>, side: Side, missing: u16, line: u32) -> bool
+    requires range { line < length (lines_of b.now.game) }
+    requires few { missing ≤ 3 }
+    ensures { result ≡ lacks b.now.stand.position side missing (line_at b.now.game line) }
+{
+    if b.count(line, side.other()) != 0 {
+        return false;
+    }
+    b.count(line, side) + missing == b.line_len(line)
+}
+
+/// The other free points of the lines through the point that the other side hasn't touched and of which the side lacks two.
+pub(crate) fn partners(b: &Board<'_>, side: Side, v: u16) -> PointSet
+    requires range { v < point_count b.now.game }
+    requires few { v < MAX_MEMBERS }
+    ensures { (u : ℕ) → contains result u ≡ is_partner b.now.game b.now.stand.position side v u }
+{
+    let mut lacked = Lacked {
+        points: PointSet::empty(),
+        twice: PointSet::empty(),
+    };
+    for line in b.through(v) {
+        if lacks(b, side, 2, *line) {
+            put_open(b, *line, &mut lacked);
+        }
+    }
+    lacked.points.take(v);
+    lacked.points
+}
+
+/// Whether the point is one of the line.
+fn holds(b: &Board<'_>, line: u32, u: u16) -> bool
+    requires { line < length (lines_of b.now.game) }
+    ensures { result ≡ is_on u (line_at b.now.game line) }
+{
+    for i in 0..b.line_len(line) {
+        if b.line_point(line, i) == u {
+            return true;
+        }
+    }
+    false
+}
+
+/// Whether the other side hasn't touched the line, the side lacks three points of it, and it misses the point.
+fn is_gained(b: &Board<'_>, side: Side, u: u16, line: u32) -> bool
+    requires { line < length (lines_of b.now.game) }
+    ensures { result ≡ is_gained b.now.stand.position side u (line_at b.now.game line) }
+{
+    if !lacks(b, side, 3, line) {
+        return false;
+    }
+    !holds(b, line, u)
+}
+
+/// Whether the side lacks three points of a line through the point that the other side hasn't touched and that misses the
+/// other point.
+pub(crate) fn gains(b: &Board<'_>, side: Side, v: u16, u: u16) -> bool
+    requires { v < point_count b.now.game }
+    ensures { result ≡ false → (line : List ℕ) → Contains (lines_of b.now.game) line → is_on v line ≡ true → is_gained b.now.stand.position side u line ≡ false }
+{
+    for line in b.through(v) {
+        if is_gained(b, side, u, *line) {
+            return true;
+        }
+    }
+    false
 }

@@ -1,14 +1,14 @@
 //! The search for a threat line.
 ghost use Rattle.std.specs.Prelude.{◌≡◌, ◌≤◌, ◌<◌, ◌+◌, ◌*◌, ◌↔◌, ℕ, true, false, Some, IfSome, length, [], ◌∷◌, ◌==◌, ◌&&◌, if◌then◌else◌};
 ghost use Rattle.std.specs.FinSet.{contains};
-ghost use Rattle.pg_game.specs.Game.{is_over, lines_of, IsPosition};
-ghost use Rattle.pg_game.specs.Threat.{may_attack, LeadsToLine, IsAttacking};
+ghost use Rattle.pg_game.specs.Game.{after, is_over, lines_of, IsPosition};
+ghost use Rattle.pg_game.specs.Threat.{may_attack, IsAttack, LeadsToLine, IsAttacking};
 ghost use Rattle.pg_base.specs.Points.{IsLeastFrom};
 ghost use Rattle.pg_threat.specs.Forced.{IsAnswer};
-ghost use Rattle.pg_threat.specs.Lacking.{is_lacking, IsLackedTwice};
+ghost use Rattle.pg_threat.specs.Lacking.{is_lacking, is_partner, IsLackedTwice};
 ghost use Rattle.pg_threat.specs.Search.{Begins, IsAnswering, IsFound, IsTried, NoneBelow, Replied};
 
-use crate::lacking::lacking;
+use crate::lacking::{gains, is_far, lacking, partners};
 use crate::line::ThreatLine;
 use pg_base::{Kind, MAX_MEMBERS, PointSet, Side};
 use pg_board::Board;
@@ -80,7 +80,7 @@ fn attacks_at(b: &Board<'_>, side: Side) -> Attacks
     ensures all { (v : ℕ) → contains result.all v ≡ true ↔ IsTried b.now.game b.now.stand.position side v }
     ensures forks { (v : ℕ) → contains result.forks v ≡ true → contains result.all v ≡ true }
     ensures twice { (v : ℕ) → contains result.all v ≡ true → IsLackedTwice b.now.game b.now.stand.position side 2 (length (lines_of b.now.game)) v → contains result.forks v ≡ true }
-    ensures fits { (v : ℕ) → contains result.all v ≡ true → IsPosition b.now.game b.now.stand.position }
+    ensures fits { IsPosition b.now.game b.now.stand.position }
 {
     let lacked = lacking(b, side, 2);
     let all = tried(b, side, lacked.points);
@@ -88,6 +88,22 @@ fn attacks_at(b: &Board<'_>, side: Side) -> Attacks
         all,
         forks: both(&all, &lacked.twice),
     }
+}
+
+/// Whether no line is left of which the side lacks two after an attack that forces the reply, by two counts: the attack's
+/// line is the only one of which it lacks two, and of each line through the attack of which it lacks three the reply takes
+/// a point.
+fn leaves_none(b: &Board<'_>, side: Side, v: u16, u: u16) -> bool
+    requires attacking { IsAttacking b.now.game b.now.stand.position side }
+    requires single { b.now.game.bias ≡ 1 }
+    requires attack { IsAttack b.now.game b.now.stand.position v }
+    requires reply { is_partner b.now.game b.now.stand.position side v u ≡ true }
+    ensures { result ≡ true → (w : ℕ) → is_lacking b.now.game (after b.now.game (after b.now.game b.now.stand.position v) u) side 2 w ≡ false }
+{
+    if b.live_with(side.other(), 2) != 1 {
+        return false;
+    }
+    !gains(b, side, v, u)
 }
 
 /// The first list of exactly that depth that leads to a line, where none of less depth does.
@@ -111,10 +127,7 @@ fn first_of_depth(
 {
     let mut next = attacks.first_from(0);
     while let Some(v) = next {
-        b.play(v);
-        let found = answered(b, side, depth);
-        b.undo();
-        if let Some(line) = found {
+        if let Some(line) = answered(b, side, v, depth) {
             return Some(line.behind(v));
         }
         next = attacks.first_from(v + 1);
@@ -122,21 +135,26 @@ fn first_of_depth(
     None
 }
 
-/// The first list of exactly that depth that goes on after an attack, by a forced reply, where none of less depth does.
+/// The first list of exactly that depth that goes on after the attack at the point, by a forced reply, where none of less
+/// depth does.
 ///
-/// Its last attack needs no play: it is a second point of which the side lacks no other.
+/// The replies are read off the lines through the attack, and the last attack is a second point of them: for depth 1 nothing
+/// is played.
 #[cycle(attacks_and_replies)]
-fn answered(b: &mut Board<'_>, side: Side, depth: u8) -> Option<ThreatLine>
-    requires answering { IsAnswering b.old.game b.old.stand.position side }
+fn answered(b: &mut Board<'_>, side: Side, v: u16, depth: u8) -> Option<ThreatLine>
+    requires attacking { IsAttacking b.old.game b.old.stand.position side }
+    requires far { (u : ℕ) → is_lacking b.old.game b.old.stand.position side 1 u ≡ false }
+    requires attack { IsAttack b.old.game b.old.stand.position v }
+    requires answering { IsAnswering b.old.game (after b.old.game b.old.stand.position v) side }
     requires single { b.old.game.bias ≡ 1 }
-    requires least { NoneBelow (Replied b.old.game b.old.stand.position side) depth }
+    requires least { NoneBelow (Replied b.old.game (after b.old.game b.old.stand.position v) side) depth }
     requires some { 1 ≤ depth }
     requires few { depth ≤ 3 }
-    ensures found { IsFound (Replied b.old.game b.old.stand.position side) depth result }
+    ensures found { IsFound (Replied b.old.game (after b.old.game b.old.stand.position v) side) depth result }
     ensures len { IfSome result (λ t. t.len ≡ 2 * depth) }
     ensures kept { b.new ≡ b.old }
 {
-    let replies = lacking(b, side, 1).points;
+    let replies = partners(b, side, v);
     let Some(u) = replies.first_from(0) else {
         return None;
     };
@@ -146,9 +164,14 @@ fn answered(b: &mut Board<'_>, side: Side, depth: u8) -> Option<ThreatLine>
             None => None,
         };
     }
+    if leaves_none(b, side, v, u) {
+        return None;
+    }
+    b.play(v);
     b.play(u);
     let attacks = attacks_at(b, side);
     let found = first_of_depth(b, side, attacks.of_depth(depth - 1), depth - 1);
+    b.undo();
     b.undo();
     match found {
         Some(line) => Some(line.behind(u)),
@@ -174,6 +197,9 @@ pub fn forced(b: &mut Board<'_>, side: Side, depth: u8) -> Option<ThreatLine>
     ensures answer { IsAnswer b.old.game b.old.stand.position side depth result }
     ensures kept { b.new ≡ b.old }
 {
+    if is_far(b, side) {
+        return None;
+    }
     if let Some(v) = lacking(b, side, 1).points.first_from(0) {
         return Some(ThreatLine::last(v));
     }

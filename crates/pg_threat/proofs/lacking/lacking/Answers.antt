@@ -1,5 +1,4 @@
 use Rattle.std.proofs.Common.{arith, sym, ◌∙◌, ◌≡◌, ◌+◌, subst, ap}
-use Rattle.std.proofs.lemmas.Bool.{false≢true}
 use Rattle.std.specs.FinSet.{FinSet, contains, contains-empty}
 use Rattle.std.specs.Ordering.{nat_cmp}
 use Rattle.std.specs.List.{Contains}
@@ -41,8 +40,7 @@ loop-next-preserved c =
     elim c.if-count-missing.branch [
       | then-count-missing w ↦ rw w.lacked-is
           (twice-lacked g p c.args.side c.args.missing c.loop-next.lacked.points c.loop-next.lacked.twice line c.next_live-next.result scan on w.put_open.new.lacked.points w.put_open.new.lacked.twice
-          (omega (arith, lines, c.line_len.ensures, w.if-count-missing.true)) (λ v. rw c.position-p.ensures.exact at (w.put_open.ensures.points v)) w.put_open.ensures.kept
-          (λ v. rw c.position-p.ensures.exact at (w.put_open.ensures.again v)))
+          (omega (arith, lines, c.line_len.ensures, w.if-count-missing.true)) w.put_open.ensures.points w.put_open.ensures.kept w.put_open.ensures.again)
       | else-count-missing w ↦ rw w.lacked-is
           (twice-other g p c.args.side c.args.missing c.loop-next.lacked.points c.loop-next.lacked.twice line c.next_live-next.result scan on (λ e. w.if-count-missing.false (omega (arith, lines, c.line_len.ensures, e))))
     ]
@@ -76,6 +74,3 @@ returns-then-live_with-eq0-clause-twice c =
     let p = c.args.b.now.stand.position in
     let none = subst (λ (s : Side). live_with g p s c.args.missing ≡ 0) c.other-enemy.ensures (sym c.live_with.ensures ∙ c.if-live_with-eq0.true) in
     λ v t. absurd (twice-none g p c.args.side c.args.missing (none-lacking g p c.args.side c.args.missing none) v t)
-
-pub returns-then-live_with-eq0-clause-fits : goal.returns-then-live_with-eq0-clause-fits
-returns-then-live_with-eq0-clause-fits c = λ v on. absurd (false≢true (sym (ap (λ (s : FinSet nat_cmp). contains s v) c.empty.ensures ∙ contains-empty nat_cmp v) ∙ on))

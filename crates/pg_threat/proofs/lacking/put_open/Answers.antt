@@ -1,4 +1,9 @@
-use Rattle.std.proofs.Common.{arith, sym, ◌∙◌, ◌<◌, length}
+use Rattle.std.proofs.Common.{arith, [], ◌≡◌, true, sym, ◌∙◌, ◌<◌, ◌==◌, length, eq-eqb}
+use Rattle.std.proofs.lemmas.List.Elements.{Contains-get_or}
+use Rattle.std.proofs.lemmas.List.Folds.{list_any_at}
+use Rattle.pg_game.specs.Game.{lines_of}
+use Rattle.pg_game.specs.Potential.{is_on}
+use Rattle.pg_game.proofs.ThreatLaws.{near-range}
 use Rattle.pg_board.specs.Board.{line_at}
 use Rattle.pg_threat.proofs.Scans.{put-step, skip-step, again-put, again-skip}
 use Rattle.pg_threat.proofs.lacking.put_open.Goals as goal
@@ -6,7 +11,7 @@ use Rattle.pg_threat.proofs.lacking.put_open.Goals.{then-is_free, else-is_free}
 
 pub loop-i-preserved : goal.loop-i-preserved
 loop-i-preserved c =
-    let p = c.args.p.now in
+    let p = c.args.b.now.stand.position in
     let line = line_at c.args.b.now.game c.args.line in
     let within : c.loop-i.i < length line = omega (arith, c.line_len-i-end.ensures, c.loop-i-test.true) in
     let q = c.line_point-v.result in
@@ -26,3 +31,11 @@ loop-i-preserved c =
         again = λ v h on. again-skip old now c.loop-i.lacked.twice p line c.loop-i.i q v within at h (inv.points v) (inv.again v h) (sym c.is_free.ensures ∙ w.if-is_free.false) on;
       })
     ]
+
+pub is_free-requires : goal.is_free-requires
+is_free-requires c =
+    let g = c.args.b.now.game in
+    let line = line_at g c.args.line in
+    let within : c.loop-i.i < length line = omega (arith, c.line_len-i-end.ensures, c.loop-i-test.true) in
+    let on : is_on c.line_point-v.result line ≡ true = list_any_at (λ q. q == c.line_point-v.result) line c.loop-i.i 0 within (eq-eqb _ _ (sym c.line_point-v.ensures.exact)) in
+    near-range g line c.line_point-v.result (Contains-get_or (lines_of g) c.args.line [] c.requires) on
