@@ -1,13 +1,11 @@
 -- The claimer's own move at a node of its claim: where a player stands, what it moves there, and where it stands after a reply.
-use Rattle.std.specs.Prelude.{ℕ, Bool, false, ◌==◌, List, [], ◌∷◌, Option, Some, None, find, slice_get, if◌then◌else◌}
+use Rattle.std.specs.Prelude.{ℕ, false, ◌==◌, List, [], ◌∷◌, Option, Some, None, find, slice_get, if◌then◌else◌}
 use Rattle.std.specs.Option.{option_map}
-use Rattle.std.specs.FinSet.{FinSet, insert}
+use Rattle.std.specs.FinSet.{FinSet}
 use Rattle.std.specs.Ordering.{nat_cmp}
 use Rattle.pg_base.specs.declared.kind.Kind.{Kind}
 use Rattle.pg_base.specs.declared.kind.Kind.TheVariants.{AvoiderEnforcer}
 use Rattle.pg_base.specs.declared.side.Side.{Side}
-use Rattle.pg_graph.specs.declared.graph.Graph.{Graph}
-use Rattle.pg_graph.specs.Graph.{edge_count}
 use Rattle.pg_game.specs.declared.field.Field.{Field}
 use Rattle.pg_game.specs.declared.field.Field.TheVariants.{Lines, Graph as OnGraph}
 use Rattle.pg_game.specs.declared.game.Game.{Game}
@@ -16,6 +14,7 @@ use Rattle.pg_game.specs.Pairs.{pairs_answer}
 use Rattle.pg_game.specs.Potential.{potential_answer}
 use Rattle.pg_game.specs.Avoider.{avoider_answer}
 use Rattle.pg_game.specs.Trees.{Answered, trees_answer, cuts_answer}
+use Rattle.pg_cert.specs.Valid.{with_e_named}
 use Rattle.pg_cert.specs.declared.node.Node.{Node}
 use Rattle.pg_cert.specs.declared.node.Body.{Body}
 use Rattle.pg_cert.specs.declared.node.Body.TheVariants.{Over, Move, All, Pairs, Potential, Trees, Cuts, Threat}
@@ -44,18 +43,14 @@ abbrev pub potential_point : Kind → Game → Position → Side → ℕ
 potential_point AvoiderEnforcer g p side = avoider_answer g p
 potential_point _ g p side = potential_answer g p side
 
--- the first set, with the edge between the terminals where it is named
-abbrev pub with_further : Graph → Bool → FinSet nat_cmp → FinSet nat_cmp
-with_further h with_e first = if with_e then insert first (edge_count h) else first
-
 -- the answer by trees, or by cuts, of a game on a graph: the edge, and the sets that are left
-abbrev pub trees_point : Field → Position → Bool → FinSet nat_cmp → FinSet nat_cmp → Option ℕ → Option Answered
-trees_point (Lines f) p with_e first second last = None
-trees_point (OnGraph h) p with_e first second last = Some (trees_answer h p (with_further h with_e first) second last)
+abbrev pub trees_point : Field → Position → FinSet nat_cmp → FinSet nat_cmp → Option ℕ → Option Answered
+trees_point (Lines f) p first second last = None
+trees_point (OnGraph h) p first second last = Some (trees_answer h p first second last)
 
-abbrev pub cuts_point : Field → Position → Bool → FinSet nat_cmp → FinSet nat_cmp → Option ℕ → Option Answered
-cuts_point (Lines f) p with_e first second last = None
-cuts_point (OnGraph h) p with_e first second last = Some (cuts_answer h p (with_further h with_e first) second last)
+abbrev pub cuts_point : Field → Position → FinSet nat_cmp → FinSet nat_cmp → Option ℕ → Option Answered
+cuts_point (Lines f) p first second last = None
+cuts_point (OnGraph h) p first second last = Some (cuts_answer h p first second last)
 
 -- by trees and by cuts the player stays with the sets that are left
 abbrev pub stays_with_trees : Option Answered → Option ℕ → Option OwnMove
@@ -73,8 +68,8 @@ own_move_by (Move point child) last g nodes side p = Some (record { point = poin
 own_move_by (All replies) last g nodes side p = None
 own_move_by (Pairs pairs) last g nodes side p = stays (pairs_answer g p pairs last) (Pairs pairs) last
 own_move_by Potential last g nodes side p = stays (potential_point g.kind g p side) Potential last
-own_move_by (Trees with_e first second) last g nodes side p = stays_with_trees (trees_point g.field p with_e first second last) last
-own_move_by (Cuts with_e first second) last g nodes side p = stays_with_cuts (cuts_point g.field p with_e first second last) last
+own_move_by (Trees with_e first second) last g nodes side p = stays_with_trees (trees_point g.field p (with_e_named g with_e first) second last) last
+own_move_by (Cuts with_e first second) last g nodes side p = stays_with_cuts (cuts_point g.field p (with_e_named g with_e first) second last) last
 own_move_by (Threat []) last g nodes side p = None
 own_move_by (Threat (v ∷ others)) last g nodes side p = stays v (Threat others) last
 

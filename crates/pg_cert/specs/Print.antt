@@ -4,6 +4,7 @@ use Rattle.std.specs.FinSet.{FinSet}
 use Rattle.std.specs.Fmt.{decimal}
 use Rattle.std.specs.List.{flat_map}
 use Rattle.std.specs.Ordering.{nat_cmp}
+use Rattle.pg_base.specs.declared.signs.TheConstants.{BAR, LINE_FEED, SPACE}
 use Rattle.pg_base.specs.Side.{side_word}
 use Rattle.pg_base.specs.Goal.{goal_word}
 use Rattle.pg_base.specs.Points.{members}
@@ -19,7 +20,7 @@ use Rattle.pg_cert.specs.declared.cert.Cert.{Cert}
 -- the first number, behind a space if others stand before it
 abbrev pub separated : Bool → List ℕ → Bytes
 separated begun [] = []
-separated true (n ∷ ns) = 32 ∷ decimal n
+separated true (n ∷ ns) = SPACE ∷ decimal n
 separated false (n ∷ ns) = decimal n
 
 -- the points of a set as words
@@ -71,7 +72,7 @@ body_text body = spaced (body_name body ∷ body_words body)
 
 -- a node line with its line feed
 unfoldable pub node_text : Node → Bytes
-node_text n = spaced (set_words n.x) ++ 124 ∷ (spaced (set_words n.y) ++ 124 ∷ (side_word n.turn ++ 124 ∷ (body_text n.body ++ 10 ∷ [])))
+node_text n = spaced (set_words n.x) ++ BAR ∷ (spaced (set_words n.y) ++ BAR ∷ (side_word n.turn ++ BAR ∷ (body_text n.body ++ LINE_FEED ∷ [])))
 
 -- the words of a claim line
 abbrev pub claim_words : Claim → List Bytes
@@ -83,7 +84,7 @@ count_words n = codes "nodes" ∷ decimal n ∷ []
 
 -- a claim line, its `nodes` line and its node lines
 unfoldable pub claim_text : Claim → Bytes
-claim_text c = spaced (claim_words c) ++ 10 ∷ (spaced (count_words (length c.nodes)) ++ 10 ∷ flat_map node_text c.nodes)
+claim_text c = spaced (claim_words c) ++ LINE_FEED ∷ (spaced (count_words (length c.nodes)) ++ LINE_FEED ∷ flat_map node_text c.nodes)
 
 -- the first line
 abbrev pub header : Bytes
@@ -91,4 +92,4 @@ header = codes "posgame-cert 1"
 
 -- the text of a certificate
 unfoldable pub printed_certificate : Cert → Bytes
-printed_certificate c = header ++ 10 ∷ flat_map claim_text c.claims
+printed_certificate c = header ++ LINE_FEED ∷ flat_map claim_text c.claims

@@ -14,7 +14,7 @@ use Rattle.pg_base.specs.declared.goal.Goal.TheVariants as goals
 use Rattle.pg_text.specs.Text.{Bytes, Lacks, two_parts, four_parts, spaced}
 use Rattle.pg_cert_files.specs.Form.{has_bar}
 use Rattle.pg_cert_files.specs.Lines.{cut, head_of, count_of, count_of_two}
-use Rattle.pg_cert_files.specs.CertFile.{start, behind, step, Seen, listed, taken, seen, end_fault, outcome, fault_of, parts_of, Gathered, closed, with_part, none_gathered, gathered, unless_faulty, certificate}
+use Rattle.pg_cert_files.specs.CertFile.{start, behind, step, Seen, listed, taken, seen, end_fault, outcome, fault_of, text_parts, Gathered, closed, with_part, none_gathered, gathered, unless_faulty, certificate}
 use Rattle.pg_cert.specs.Limits.{IsNode, IsClaim, IsWithinLimits, node_count}
 use Rattle.pg_base.specs.Side.{side_word}
 use Rattle.pg_base.specs.Goal.{goal_word}
@@ -197,15 +197,15 @@ at_outcome : (s : Seen) (p : Progress) → s.fault ≡ None → s.progress ≡ p
 at_outcome s p fault progress ends = rw (fault, progress, ends) refl
 
 closed_none : (text : Bytes) (p : Progress) (g : Gathered) (claims : List Claim) → IsAt text p g → p.due ≡ due.Claim → 0 < p.claims → closed g ≡ claims → length text ≤ 268435456 → certificate text ≡ Ok (record { claims = claims })
-unfolding fault_of parts_of
+unfolding fault_of text_parts
 closed_none text p g claims at e some is few =
     let all = at_feed text at.rest in
     let t : (p.claims == 0) ≡ false = grind (arith, nat_tests) in
     let ends : end_fault p p.due ≡ None = rw (e, t) refl in
     let fault : outcome (told text) ≡ None = at_outcome (told text) p at.fault at.progress ends in
     let none : fault_of text ≡ None = ap outcome all ∙ fault in
-    let gives : closed (gathered (parts_of text)) ≡ claims = ap (λ (s : Seen). closed (gathered s.parts)) all ∙ ap (λ (x : Gathered). closed x) at.parts ∙ is in
-    fits_file text few ∙ ap (λ (o : Option (Fault × ℕ)). unless_faulty o (parts_of text)) none ∙ ap (λ (cs : List Claim). cert_of cs) gives
+    let gives : closed (gathered (text_parts text)) ≡ claims = ap (λ (s : Seen). closed (gathered s.parts)) all ∙ ap (λ (x : Gathered). closed x) at.parts ∙ is in
+    fits_file text few ∙ ap (λ (o : Option (Fault × ℕ)). unless_faulty o (text_parts text)) none ∙ ap (λ (cs : List Claim). cert_of cs) gives
 
 -- a printed certificate is read as itself
 pub reads_back : (c : Cert) → IsWithinLimits c → length (printed_certificate c) ≤ 268435456 → certificate (printed_certificate c) ≡ Ok c

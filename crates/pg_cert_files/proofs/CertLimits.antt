@@ -1,6 +1,6 @@
 -- A certificate that is read is within the limits.
 use Rattle.std.proofs.Common.{◌≡◌, ℕ, zero, suc, ◌+◌, ◌-◌, ◌<◌, ◌≤◌, false, cond, ◌||◌, inl, inr, List, [], ◌∷◌, ◌++◌, length, arith, refl, sym, ap, subst, ◌∙◌, Option, Some, None, Result, Ok, Err}
-use Rattle.std.specs.Prelude.{◌==◌, nat_lt, nat_le, fold, codes, IfNone}
+use Rattle.std.specs.Prelude.{◌==◌, nat_lt, nat_le, fold, codes}
 use Rattle.std.specs.List.{AllByRecursion}
 use Rattle.std.specs.Str.{bytes_eq}
 use Rattle.std.proofs.lemmas.Bool.{ltb-false, or_parts}
@@ -12,7 +12,7 @@ use Rattle.pg_text.specs.Text.{Bytes, number, lines}
 use Rattle.pg_cert_files.specs.Form.{has_bar}
 use Rattle.pg_cert_files.specs.NodeLine.{node_line}
 use Rattle.pg_cert_files.specs.Lines.{head_of, count_of}
-use Rattle.pg_cert_files.specs.CertFile.{Step, header_step, claimed, claim_step, numbered, counted, behind, node_step, step_due, step, Seen, nothing, listed, taken, goes_on, after, seen, end_fault, or_at_end, fault_of, parts_of, Gathered, last_claim, closed, with_part, none_gathered, gathered, unless_faulty, certificate, at_number}
+use Rattle.pg_cert_files.specs.CertFile.{Step, header_step, claimed, claim_step, numbered, counted, behind, node_step, step_due, step, Seen, nothing, listed, taken, goes_on, after, seen, end_fault, or_at_end, fault_of, text_parts, Gathered, last_claim, closed, with_part, none_gathered, gathered, unless_faulty, certificate, at_number}
 use Rattle.pg_cert.specs.Limits.{IsNode, IsClaim, IsWithinLimits, node_count}
 use Rattle.pg_cert_files.specs.declared.fault.Fault.{Fault}
 use Rattle.pg_cert_files.specs.declared.fault.Fault.TheVariants as faults
@@ -50,13 +50,14 @@ pub record AreComing (others : ℕ) (p : Progress) (g : Gathered) : Type 0 where
   pub sum : p.nodes ≡ before + (length g.nodes + (others + 1))
   pub room : p.nodes ≤ 200000
 
-abbrev IsSound : Due → Progress → Gathered → Type 0
+-- what was gathered, by which line is due
+abbrev pub IsSound : Due → Progress → Gathered → Type 0
 IsSound due.Header p g = (g ≡ none_gathered) × (p.claims ≡ 0) × (p.nodes ≡ 0)
 IsSound due.Claim p g = AreTold p.claims p.nodes (closed g)
 IsSound (due.Count head) p g = (n : ℕ) × (p.claims ≡ n + 1) × (n < 8) × AreTold n p.nodes (closed g)
 IsSound (due.Node others) p g = AreComing others p g
 
-abbrev Next : Type 0
+abbrev pub Next : Type 0
 Next = Progress × Option Part
 
 -- what was gathered with the part of a line fits what is due after it
@@ -119,7 +120,7 @@ sound_counted : (head : Head) (p : Progress) (g : Gathered) (word : Option Bytes
 sound_counted head p g None next sound e = absurd cc
 sound_counted head p g (Some word) next sound e = sound_numbered head p g (number word) next sound e
 
-push_each : {A : Type 0} (P : A → Type 0) (as_were : List A) (a : A) → AllByRecursion P as_were → P a → AllByRecursion P (as_were ++ a ∷ [])
+pub push_each : {A : Type 0} (P : A → Type 0) (as_were : List A) (a : A) → AllByRecursion P as_were → P a → AllByRecursion P (as_were ++ a ∷ [])
 push_each P [] a h f = (f, tt)
 push_each P (b ∷ bs) a h f = (h.0, push_each P bs a h.1 f)
 
@@ -141,7 +142,7 @@ node_comes others p q g node e f h fits =
       room = omega (arith, h.room, f);
     }
 
-abbrev claim_with : Head → List Node → Claim
+abbrev pub claim_with : Head → List Node → Claim
 claim_with head nodes = record { turn = head.turn; side = head.side; goal = head.goal; nodes = nodes }
 
 -- the last node of a claim
@@ -184,32 +185,33 @@ sound_due due.Claim p g line next sound e = sound_claim p g line next sound e
 sound_due (due.Count head) p g line next sound e = sound_counted head p g (count_of line) next sound e
 sound_due (due.Node others) p g line next sound e = sound_node others p g line next sound e
 
-sound_step : (p : Progress) (g : Gathered) (line : Bytes) (next : Next) → IsSound p.due p g → step p line ≡ Ok next → IsKept g next
+pub sound_step : (p : Progress) (g : Gathered) (line : Bytes) (next : Next) → IsSound p.due p g → step p line ≡ Ok next → IsKept g next
 unfolding step
 sound_step p g line next sound e = sound_due p.due p g line next sound e
 
 -- ---- lines
 
-abbrev IsSeen : Seen → Type 0
-IsSeen s = IfNone s.fault (IsSound s.progress.due s.progress (gathered s.parts))
+-- the same after the lines so far; a faulty line changes neither
+abbrev pub IsSeen : Seen → Type 0
+IsSeen s = IsSound s.progress.due s.progress (gathered s.parts)
 
-sound_taken : (s : Seen) (r : Step) → ((next : Next) → r ≡ Ok next → IsKept (gathered s.parts) next) → IsSeen (taken s r)
-sound_taken s (Ok next) h = subst (λ (g : Gathered). IsSound next.0.due next.0 g) (sym (gathered_more s.parts (listed next.1))) (h next refl)
-sound_taken s (Err fault) h = tt
+sound_taken : (s : Seen) (r : Step) → IsSeen s → ((next : Next) → r ≡ Ok next → IsKept (gathered s.parts) next) → IsSeen (taken s r)
+sound_taken s (Ok next) seen h = subst (λ (g : Gathered). IsSound next.0.due next.0 g) (sym (gathered_more s.parts (listed next.1))) (h next refl)
+sound_taken s (Err fault) seen h = seen
 
-sound_goes : (s : Seen) (line : Bytes) (fault : Option (Fault × ℕ)) → IsSeen s → IfNone fault (IsSound s.progress.due s.progress (gathered s.parts)) → IsSeen (goes_on fault s line)
-sound_goes s line None seen sound = sound_taken s (step s.progress line) (λ next e. sound_step s.progress (gathered s.parts) line next sound e)
-sound_goes s line (Some fault) seen sound = seen
+sound_goes : (s : Seen) (line : Bytes) (fault : Option (Fault × ℕ)) → IsSeen s → IsSeen (goes_on fault s line)
+sound_goes s line None seen = sound_taken s (step s.progress line) seen (λ next e. sound_step s.progress (gathered s.parts) line next seen e)
+sound_goes s line (Some fault) seen = seen
 
-sound_after : (s : Seen) (line : Bytes) → IsSeen s → IsSeen (after s line)
+pub sound_after : (s : Seen) (line : Bytes) → IsSeen s → IsSeen (after s line)
 unfolding after
-sound_after s line h = sound_goes s line s.fault h h
+sound_after s line h = sound_goes s line s.fault h
 
 sound_lines : (ls : List Bytes) (s : Seen) → IsSeen s → IsSeen (fold after s ls)
 sound_lines [] s h = h
 sound_lines (line ∷ ls) s h = sound_lines ls (after s line) (sound_after s line h)
 
-sound_seen : (ls : List Bytes) → IsSeen (seen ls)
+pub sound_seen : (ls : List Bytes) → IsSeen (seen ls)
 unfolding seen
 sound_seen ls = sound_lines ls nothing (gathered_none, refl, refl)
 
@@ -224,21 +226,21 @@ end_of due.Claim p g sound e = elim (chosen (p.claims == 0) (Some faults.Form) N
 end_of (due.Count head) p g sound e = absurd cc
 end_of (due.Node others) p g sound e = absurd cc
 
-none_at : (n : ℕ) (o : Option Fault) → at_number n o ≡ None → o ≡ None
+pub none_at : (n : ℕ) (o : Option Fault) → at_number n o ≡ None → o ≡ None
 none_at n None e = refl
 none_at n (Some fault) e = absurd cc
 
-told_within : (claims nodes : ℕ) (cs : List Claim) → AreTold claims nodes cs → 0 < claims → IsWithinLimits (record { claims = cs })
+pub told_within : (claims nodes : ℕ) (cs : List Claim) → AreTold claims nodes cs → 0 < claims → IsWithinLimits (record { claims = cs })
 told_within claims nodes cs told some = record { some = omega (arith, told.count); few = omega (arith, told.count, told.few); claims = All-from_recursion IsClaim cs told.each; nodes = omega (arith, told.sum, told.room) }
 
-ended : (s : Seen) (fault : Option (Fault × ℕ)) → IfNone fault (IsSound s.progress.due s.progress (gathered s.parts)) → or_at_end s fault ≡ None → IsWithinLimits (record { claims = closed (gathered s.parts) })
+ended : (s : Seen) (fault : Option (Fault × ℕ)) → IsSeen s → or_at_end s fault ≡ None → IsWithinLimits (record { claims = closed (gathered s.parts) })
 ended s None sound e =
     let t = end_of s.progress.due s.progress (gathered s.parts) sound (none_at (s.count + 1) (end_fault s.progress s.progress.due) e) in
     told_within s.progress.claims s.progress.nodes (closed (gathered s.parts)) t.0 t.1
 ended s (Some fault) sound e = absurd cc
 
-without_fault : (text : Bytes) → fault_of text ≡ None → IsWithinLimits (record { claims = closed (gathered (parts_of text)) })
-unfolding fault_of parts_of
+without_fault : (text : Bytes) → fault_of text ≡ None → IsWithinLimits (record { claims = closed (gathered (text_parts text)) })
+unfolding fault_of text_parts
 without_fault text e = ended (seen (lines text)) (seen (lines text)).fault (sound_seen (lines text)) e
 
 abbrev whole : Cert → Result Cert (Fault × ℕ)
@@ -258,7 +260,7 @@ within (Some fault) ps c h e = absurd cc
 -- what reading gives is within the limits
 pub read_within : (text : Bytes) (c : Cert) → certificate text ≡ Ok c → IsWithinLimits c
 unfolding certificate
-read_within text c e = elim (chosen (nat_lt 268435456 (length text)) (Err (faults.Size, 0)) (unless_faulty (fault_of text) (parts_of text)) (Ok c) e) [
+read_within text c e = elim (chosen (nat_lt 268435456 (length text)) (Err (faults.Size, 0)) (unless_faulty (fault_of text) (text_parts text)) (Ok c) e) [
   | inl h ↦ absurd (cc h.1)
-  | inr h ↦ within (fault_of text) (parts_of text) c (λ none. without_fault text none) h.1
+  | inr h ↦ within (fault_of text) (text_parts text) c (λ none. without_fault text none) h.1
 ]

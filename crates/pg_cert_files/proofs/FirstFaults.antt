@@ -3,7 +3,7 @@ use Rattle.std.proofs.Common.{◌≡◌, ℕ, suc, ◌+◌, ◌⊎◌, inl, inr,
 use Rattle.std.specs.Prelude.{fold, nat_lt}
 use Rattle.std.proofs.lemmas.Bool.{ltb-true}
 use Rattle.pg_text.specs.Text.{Bytes, lines}
-use Rattle.pg_cert_files.specs.CertFile.{Step, Seen, nothing, taken, after, seen, step, end_fault, at_number, or_at_end, fault_of, parts_of, unless_faulty, certificate}
+use Rattle.pg_cert_files.specs.CertFile.{Step, Seen, nothing, taken, after, seen, step, end_fault, at_number, or_at_end, fault_of, text_parts, unless_faulty, certificate}
 use Rattle.pg_cert_files.specs.FirstFault.{IsFaultOfLine, IsFaultOfEnd, IsFirstFault}
 use Rattle.pg_cert_files.specs.declared.fault.Fault.{Fault}
 use Rattle.pg_cert_files.specs.declared.fault.Fault.TheVariants as faults
@@ -117,9 +117,9 @@ bad_is (Some found) ps b e = ap (λ (x : Bad). Some x) (ap (bad_or found) e)
 -- a fault that reading gives is the first
 pub first_fault : (text : Bytes) (fault : Fault) (number : ℕ) → certificate text ≡ Err (fault, number) → IsFirstFault text fault number
 unfolding certificate
-first_fault text fault number e = elim (chosen (nat_lt 268435456 (length text)) (failed (faults.Size, 0)) (unless_faulty (fault_of text) (parts_of text)) (failed (fault, number)) e) [
+first_fault text fault number e = elim (chosen (nat_lt 268435456 (length text)) (failed (faults.Size, 0)) (unless_faulty (fault_of text) (text_parts text)) (failed (fault, number)) e) [
   | inl h ↦
       let p : bad faults.Size 0 ≡ bad fault number = ap (bad_or (bad faults.Size 0)) h.1 in
       inl (record { large = ltb-true 268435456 (length text) h.0; fault_is = sym (ap (λ (x : Bad). x.0) p); whole_file = sym (ap (λ (x : Bad). x.1) p) })
-  | inr h ↦ inr (fault_is text fault number (bad_is (fault_of text) (parts_of text) (fault, number) h.1))
+  | inr h ↦ inr (fault_is text fault number (bad_is (fault_of text) (text_parts text) (fault, number) h.1))
 ]

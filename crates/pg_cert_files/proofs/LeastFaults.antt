@@ -41,7 +41,7 @@ only_onto (Err fault) rs h hs = h
 only_onto (Ok a) (Err fault) h hs = hs
 only_onto (Ok a) (Ok others) h hs = tt
 
-only_each : {A : Type 0} (read : Bytes → Result A Fault) → ((w : Bytes) → OnlyNumber (read w)) → (ws : List Bytes) → OnlyNumber (each_of read ws)
+pub only_each : {A : Type 0} (read : Bytes → Result A Fault) → ((w : Bytes) → OnlyNumber (read w)) → (ws : List Bytes) → OnlyNumber (each_of read ws)
 only_each read h [] = tt
 only_each read h (w ∷ ws) = only_onto (read w) (each_of read ws) (h w) (only_each read h ws)
 
@@ -54,7 +54,7 @@ only_below : (limit : ℕ) (n : Option ℕ) → OnlyNumber (below limit n)
 only_below limit None = refl
 only_below limit (Some n) = elim (cases_Bool (nat_lt n limit)) [ inl on ↦ rw on tt | inr off ↦ rw off refl ]
 
-only_point : (w : Bytes) → OnlyNumber (point_of w)
+pub only_point : (w : Bytes) → OnlyNumber (point_of w)
 only_point w = only_below 1024 (number w)
 
 only_child : (w : Bytes) → OnlyNumber (child_of w)
@@ -63,7 +63,7 @@ only_child w = only_below 100000 (number w)
 only_ascending : {A : Type 0} (ps : List ℕ) (a : A) → OnlyNumber (if_ascending ps a)
 only_ascending ps a = elim (cases_Bool (ascend_from 0 ps)) [ inl on ↦ rw on tt | inr off ↦ rw off refl ]
 
-only_points : (ws : List Bytes) → OnlyNumber (ascending_of ws)
+pub only_points : (ws : List Bytes) → OnlyNumber (ascending_of ws)
 only_points ws = only_then (each_of point_of ws) (λ ps. if_ascending ps ps) (only_each point_of only_point ws) (λ ps. only_ascending ps ps)
 
 only_reply : (p : Option (Bytes × Bytes)) → OnlyNumber (reply_of p)
@@ -81,7 +81,7 @@ only_move (Some p) = only_both (λ v j. bodies.Move v j) (point_of p.0) (child_o
 only_edges : (with_e : Bool) (ws : List Bytes) → OnlyNumber (edges_with with_e ws)
 only_edges with_e ws = only_then (ascending_of (before_slash ws)) _ (only_points (before_slash ws)) (λ first. only_then (ascending_of (after_slash ws)) _ (only_points (after_slash ws)) (λ second. tt))
 
-only_body : (form : Form) (ws : List Bytes) → OnlyNumber (body_of form ws)
+pub only_body : (form : Form) (ws : List Bytes) → OnlyNumber (body_of form ws)
 only_body forms.Over ws = tt
 only_body forms.Move ws = only_move (pair_of ws)
 only_body forms.All ws = only_then (replies_of ws) _ (only_then (each_of word_reply ws) _ (only_each word_reply (λ w. only_reply (two_parts 58 w)) ws) (λ rs. only_ascending (map (λ r. r.point) rs) rs)) (λ rs. tt)

@@ -4,9 +4,15 @@ pub mod Stands
 pub mod WholeFile
 pub mod NodeLimits
 pub mod CertLimits
+pub mod PartsBegin
 pub mod LeastFaults
 pub mod FirstFaults
 pub mod Words
 pub mod NodeBack
 pub mod Back
 pub mod Within
+pub mod ReadsWhole
+pub mod DigitRuns
+pub mod Gathering
+pub mod Outlines
+pub mod Scanning

@@ -6,7 +6,7 @@ use Rattle.std.proofs.lemmas.List.{append-nil, length-append}
 use Rattle.std.proofs.Math.Seq.{take-append_seam}
 use Rattle.pg_text.specs.Text.{Bytes, Lacks, without_empty_end, lines}
 use Rattle.pg_cert_files.specs.Lines.{Cut, cut}
-use Rattle.pg_cert_files.specs.CertFile.{Seen, nothing, step, taken, after, seen, listed, outcome, at_number, end_fault, fault_of, parts_of}
+use Rattle.pg_cert_files.specs.CertFile.{Seen, nothing, step, taken, after, seen, listed, outcome, at_number, end_fault, fault_of, text_parts}
 use Rattle.pg_cert_files.specs.Reader.{StandsFor, told, IsBad}
 use Rattle.pg_cert_files.specs.Views.{number_of}
 use Rattle.pg_cert_files.specs.declared.fault.Fault.{Fault}
@@ -206,8 +206,8 @@ unfolding fault_of
 end_bad r text bad stands some = ap outcome (seen_cases text (cut text).rest refl bad (stands.fault ∙ some)) ∙ outcome_at_some r text bad stands some
 
 -- no line is unfinished
-pub end_whole : (r : LineReader) (text : Bytes) (o : Option (Fault × ℕ)) → StandsFor r text → r.fault ≡ None → r.pending.items ≡ [] → o ≡ outcome (told text) → (fault_of text ≡ o) × (parts_of text ≡ (told text).parts ++ [])
-unfolding fault_of parts_of
+pub end_whole : (r : LineReader) (text : Bytes) (o : Option (Fault × ℕ)) → StandsFor r text → r.fault ≡ None → r.pending.items ≡ [] → o ≡ outcome (told text) → (fault_of text ≡ o) × (text_parts text ≡ (told text).parts ++ [])
+unfolding fault_of text_parts
 end_whole r text o stands none empty is =
     let line : r.pending.items ≡ (cut text).rest = at_none r.fault _ none stands.pending in
     let all = at_feed text (sym line ∙ empty) in
@@ -215,8 +215,8 @@ end_whole r text o stands none empty is =
 
 -- the last line lacks its line feed
 pub end_unfinished : (r : LineReader) (text : Bytes) (o : Option (Fault × ℕ)) (part : Option Part) → StandsFor r text → r.fault ≡ None → 0 < length r.pending.items → o ≡ outcome (told (text ++ 10 ∷ [])) → (told (text ++ 10 ∷ [])).parts ≡ (told text).parts ++ listed part
-    → (fault_of text ≡ o) × (parts_of text ≡ (told text).parts ++ listed part)
-unfolding fault_of parts_of
+    → (fault_of text ≡ o) × (text_parts text ≡ (told text).parts ++ listed part)
+unfolding fault_of text_parts
 end_unfinished r text o part stands none some is parts =
     let line : r.pending.items ≡ (cut text).rest = at_none r.fault _ none stands.pending in
     let all = unfinished text (omega (arith, ap length line)) in

@@ -1,16 +1,25 @@
 -- A text that grows, within the limit of a file and past it.
-use Rattle.std.proofs.Common.{◌≡◌, ℕ, ◌+◌, ◌-◌, ◌<◌, ◌≤◌, true, false, inl, inr, List, [], ◌++◌, length, take, arith, refl, sym, ap, subst, ◌∙◌, Option, Some, None}
-use Rattle.std.specs.Prelude.{nat_lt, is_some, IfSome, IfNone}
+use Rattle.std.proofs.Common.{◌≡◌, ℕ, ◌+◌, ◌-◌, ◌<◌, ◌≤◌, true, false, inl, inr, List, [], ◌++◌, length, take, arith, refl, sym, ap, subst, ◌∙◌, Option, Some, None, Result, Ok, Err}
+use Rattle.std.specs.Prelude.{nat_lt, is_some, IfOk, IfSome, IfNone, IsErrAnd}
 use Rattle.std.proofs.lemmas.Bool.{cases_lt}
 use Rattle.std.proofs.lemmas.Bool.Decides.{nat_tests}
 use Rattle.std.proofs.lemmas.List.{append-nil, take_all, length-append, length-take-le, take-append-le, take-take}
 use Rattle.std.proofs.Math.Seq.{take-append-add}
 use Rattle.pg_text.specs.Text.{Bytes}
 use Rattle.pg_cert.specs.declared.part.Part.{Part}
-use Rattle.pg_cert_files.specs.CertFile.{listed, fault_of, file_fault}
-use Rattle.pg_cert_files.specs.Reader.{StandsFor, told}
-use Rattle.pg_cert_files.specs.Pieces.{parts_told, size_of, IsFed}
+use Rattle.pg_cert.specs.Parts.{BeginCert}
+use Rattle.pg_text.specs.declared.error.FileError.{FileError}
+use Rattle.pg_text.specs.declared.error.FileError.TheVariants as outcomes
+use Rattle.pg_cert_files.specs.CertFile.{listed, fault_of, file_fault, text_parts, gathered, closed, unless_faulty, certificate}
+use Rattle.pg_cert_files.specs.Lines.{cut}
+use Rattle.pg_cert_files.specs.Reader.{StandsFor, told, IsBad, IsLinesEnd}
+use Rattle.pg_cert_files.specs.Pieces.{parts_told, size_of, IsFed, IsEnd}
+use Rattle.pg_cert_files.specs.Views.{number_of}
+use Rattle.pg_cert_files.specs.declared.fault.Fault.{Fault}
 use Rattle.pg_cert_files.specs.declared.fault.Fault.TheVariants as faults
+use Rattle.pg_cert_files.proofs.WholeFile.{too_large, fits_file, err_from, cert_of}
+use Rattle.pg_cert_files.proofs.CertLimits.{read_within}
+use Rattle.pg_cert_files.proofs.PartsBegin.{begin_seen, all_made}
 use Rattle.pg_cert_files.specs.declared.cert_state.CertReader.{CertReader}
 use Rattle.pg_cert_files.specs.declared.limits.TheConstants.{MAX_CERT_BYTES}
 
@@ -138,3 +147,54 @@ pub none_given : (text piece : Bytes) (ps : List Part) (room used : ℕ) (part :
     → parts_told (text ++ take used (take room piece)) ≡ ps ++ listed part → parts_told (text ++ take room piece) ≡ ps ++ []
 none_given text piece ps room used None none all h = subst (λ (t : Bytes). parts_told (text ++ t) ≡ ps ++ []) (ap (λ k. take k (take room piece)) all ∙ take_all (length (take room piece)) (take room piece) (omega arith)) h
 none_given text piece ps room used (Some part) none all h = absurd cc
+
+-- ---- the parts given begin a certificate, and are all of it at a good end
+
+pub begins : (text piece : Bytes) (used : ℕ) (part : Option Part) → parts_told (text ++ take used piece) ≡ parts_told text ++ listed part → BeginCert (parts_told text ++ listed part)
+begins text piece used part e = subst BeginCert e (begin_seen (cut (take MAX_CERT_BYTES (text ++ take used piece))).whole)
+
+cert_read : (text : Bytes) → file_fault text ≡ None → certificate text ≡ cert_of (closed (gathered (text_parts text)))
+cert_read text none = elim (cases_lt MAX_CERT_BYTES (length text)) [
+  | inl past ↦ absurd (cc (sym (fault_past text past) ∙ none))
+  | inr within ↦ fits_file text within ∙ ap (λ (o : Option (Fault × ℕ)). unless_faulty o (text_parts text)) (sym (fault_within text within) ∙ none)
+]
+
+none_of : (text : Bytes) → file_fault text ≡ None → fault_of text ≡ None
+none_of text none = elim (cases_lt MAX_CERT_BYTES (length text)) [
+  | inl past ↦ absurd (cc (sym (fault_past text past) ∙ none))
+  | inr within ↦ sym (fault_within text within) ∙ none
+]
+
+bad_read : (text : Bytes) (number line : ℕ) → IsBad number line (file_fault text) → IsErrAnd (certificate text) (λ bad. (number ≡ number_of bad.0) × (line ≡ bad.1))
+bad_read text number line bad = elim (cases_lt MAX_CERT_BYTES (length text)) [
+  | inl past ↦ let found : IsBad number line (Some (faults.Size, 0)) = subst (IsBad number line) (fault_past text past) bad in let same = too_large text past in rw same found
+  | inr within ↦
+      let found : IsBad number line (fault_of text) = subst (IsBad number line) (fault_within text within) bad in
+      let same = fits_file text within in
+      rw same (err_from (fault_of text) (text_parts text) number line found)
+]
+
+-- what callers get at the end
+pub end_is : (text : Bytes) (result : Result (Option Part) FileError) → IsLinesEnd result (file_fault text) (text_parts text) (parts_told text) → IsEnd result text
+end_is text (Ok last) h =
+    let read = cert_read text h.0 in
+    record { cert = record { claims = closed (gathered (text_parts text)) }; read = read; limits = read_within text (record { claims = closed (gathered (text_parts text)) }) read; parts = sym h.1 ∙ all_made text (none_of text h.0) }
+end_is text (Err outcomes.Memory) h = tt
+end_is text (Err (outcomes.Bad number line)) h = bad_read text number line h
+
+pub end_within : (r : CertReader) (result : Result (Option Part) FileError) → r.size ≤ MAX_CERT_BYTES → ((text : Bytes) → StandsFor r.lines text → IsLinesEnd result (fault_of text) (text_parts text) (told text).parts)
+    → (text : Bytes) → IsFed r text → IsEnd result text
+end_within r result few ends text fed =
+    let within = is_within text r.size fed.size few in
+    end_is text result (subst (λ (o : Option (Fault × ℕ)). IsLinesEnd result o (text_parts text) (parts_told text)) (sym (fault_within text within.0))
+    (subst (λ (ps : List Part). IsLinesEnd result (fault_of text) (text_parts text) ps) (sym (told_within text within.0)) (ends text (fed.lines within.0))))
+
+pub end_past : (r : CertReader) (error : FileError) → MAX_CERT_BYTES < r.size → error ≡ outcomes.Bad 1 0 → (text : Bytes) → IsFed r text → IsEnd (Err error) text
+end_past r error more is text fed =
+    let bad : IsLinesEnd (Err (outcomes.Bad 1 0)) (file_fault text) (text_parts text) (parts_told text) = rw (fault_past text (is_past text r.size fed.size more)) (refl, refl) in
+    end_is text (Err error) (subst (λ (e : FileError). IsLinesEnd (Err e) (file_fault text) (text_parts text) (parts_told text)) (sym is) bad)
+
+-- the last part too
+pub last_begins : (r : CertReader) (result : Result (Option Part) FileError) → ((text : Bytes) → IsFed r text → IsEnd result text) → IfOk result (λ last. (text : Bytes) → IsFed r text → BeginCert (parts_told text ++ listed last))
+last_begins r (Ok last) h = λ text fed. let e = h text fed in record { cert = e.cert; limits = e.limits; rest = []; parts = append-nil (parts_told text ++ listed last) ∙ e.parts }
+last_begins r (Err error) h = tt

@@ -138,8 +138,8 @@ unfoldable pub fault_of : Bytes → Option (Fault × ℕ)
 fault_of text = outcome (seen (lines text))
 
 -- the parts of a text
-unfoldable pub parts_of : Bytes → List Part
-parts_of text = (seen (lines text)).parts
+unfoldable pub text_parts : Bytes → List Part
+text_parts text = (seen (lines text)).parts
 
 -- claims that are whole, and one whose nodes are gathered
 pub record Gathered : Type 0 where
@@ -176,7 +176,7 @@ unless_faulty None ps = Ok (record { claims = closed (gathered ps) })
 
 -- the certificate of a file, or its first fault with the number of the line
 unfoldable pub certificate : Bytes → Result Cert (Fault × ℕ)
-certificate text = if nat_lt MAX_CERT_BYTES (length text) then Err (faults.Size, 0) else unless_faulty (fault_of text) (parts_of text)
+certificate text = if nat_lt MAX_CERT_BYTES (length text) then Err (faults.Size, 0) else unless_faulty (fault_of text) (text_parts text)
 
 -- the first fault of a file: C1 before all others
 abbrev pub file_fault : Bytes → Option (Fault × ℕ)

@@ -2,6 +2,7 @@
 use Rattle.std.specs.Prelude.{ℕ, Bool, true, false, not, ◌==◌, if◌then◌else◌, List, [], ◌∷◌, Option, Some, None, is_some, codes}
 use Rattle.std.specs.List.{list_all, list_any}
 use Rattle.std.specs.Str.{bytes_eq}
+use Rattle.pg_base.specs.declared.signs.TheConstants.{BAR, SPACE}
 use Rattle.pg_base.specs.declared.side.Side.{Side}
 use Rattle.pg_base.specs.Side.{side_of}
 use Rattle.pg_text.specs.Text.{Bytes, Four, parts, pair_of, two_parts, four_parts}
@@ -10,7 +11,7 @@ use Rattle.pg_cert_files.specs.declared.form.Form.TheVariants as forms
 
 -- whether a bar stands in the line
 abbrev pub has_bar : Bytes → Bool
-has_bar line = list_any (λ b. b == 124) line
+has_bar line = list_any (λ b. b == BAR) line
 
 -- the body that a word begins
 abbrev pub form_of : Bytes → Option Form
@@ -86,9 +87,9 @@ with_body x y _ _ = None
 
 -- the same by the four fields
 abbrev pub with_fields : Option Four → Option Shape
-with_fields (Some f) = with_body f.first f.second (side_of f.third) (parts 32 f.fourth)
+with_fields (Some f) = with_body f.first f.second (side_of f.third) (parts SPACE f.fourth)
 with_fields None = None
 
 -- a line that has the form of a node line
 unfoldable pub shape_of : Bytes → Option Shape
-shape_of line = with_fields (four_parts 124 line)
+shape_of line = with_fields (four_parts BAR line)

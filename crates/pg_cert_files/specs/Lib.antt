@@ -2,6 +2,8 @@ pub mod Views
 pub mod Form
 pub mod NodeLine
 pub mod Lines
+pub mod Numerals
+pub mod Outline
 pub mod CertFile
 pub mod Steps
 pub mod Reader

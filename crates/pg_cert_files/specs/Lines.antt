@@ -1,6 +1,7 @@
 -- A text as its whole lines and what stands behind them, and what claim lines and `nodes` lines say.
 use Rattle.std.specs.Prelude.{ℕ, ◌==◌, if◌then◌else◌, List, [], ◌∷◌, ◌++◌, fold, Option, Some, None, codes}
 use Rattle.std.specs.Str.{bytes_eq}
+use Rattle.pg_base.specs.declared.signs.TheConstants.{LINE_FEED, SPACE}
 use Rattle.pg_base.specs.declared.side.Side.{Side}
 use Rattle.pg_base.specs.declared.goal.Goal.{Goal}
 use Rattle.pg_base.specs.Goal.{goal_of}
@@ -16,7 +17,7 @@ pub record Cut : Type 0 where
 
 -- one byte more
 abbrev pub with_byte : Cut → ℕ → Cut
-with_byte c b = if b == 10 then record { whole = c.whole ++ c.rest ∷ []; rest = [] } else record c { rest = c.rest ++ b ∷ [] }
+with_byte c b = if b == LINE_FEED then record { whole = c.whole ++ c.rest ∷ []; rest = [] } else record c { rest = c.rest ++ b ∷ [] }
 
 -- the text, byte for byte
 unfoldable pub cut : Bytes → Cut
@@ -34,7 +35,7 @@ head_of_four (Some f) = if bytes_eq f.first (codes "claim") then head_with (side
 
 -- what a claim line says, if it has the form of one
 unfoldable pub head_of : Bytes → Option Head
-head_of line = head_of_four (four_parts 32 line)
+head_of line = head_of_four (four_parts SPACE line)
 
 -- the second of two words of which the first is `nodes`
 abbrev pub count_of_two : Option (Bytes × Bytes) → Option Bytes
@@ -43,4 +44,4 @@ count_of_two (Some p) = if bytes_eq p.0 (codes "nodes") then Some p.1 else None
 
 -- the word of a `nodes` line in which its number stands, if it has the form of one
 unfoldable pub count_of : Bytes → Option Bytes
-count_of line = count_of_two (two_parts 32 line)
+count_of line = count_of_two (two_parts SPACE line)

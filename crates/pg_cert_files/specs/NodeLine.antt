@@ -4,6 +4,7 @@ use Rattle.std.specs.List.{list_any}
 use Rattle.std.specs.Str.{bytes_eq}
 use Rattle.std.specs.FinSet.{FinSet, contains, from_list}
 use Rattle.std.specs.Ordering.{nat_cmp}
+use Rattle.pg_base.specs.declared.signs.TheConstants.{SPACE}
 use Rattle.pg_text.specs.Faults.{and_then, each_of}
 use Rattle.pg_base.specs.declared.limits.TheConstants.{MAX_MEMBERS}
 use Rattle.pg_base.specs.declared.pair.Pair.{Pair}
@@ -49,7 +50,7 @@ ascending_of ws = and_then (each_of point_of ws) (λ ps. if_ascending ps ps)
 
 -- the words of a field: none where it is empty
 abbrev pub field_words : Bytes → List Bytes
-field_words field = if length field == 0 then [] else parts 32 field
+field_words field = if length field == 0 then [] else parts SPACE field
 
 -- a point and a child
 abbrev pub reply_of : Option (Bytes × Bytes) → Result Reply Fault

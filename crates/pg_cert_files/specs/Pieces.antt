@@ -1,8 +1,15 @@
 -- What a reader of a certificate that comes in pieces stands for.
-use Rattle.std.specs.Prelude.{◌≡◌, ℕ, ◌+◌, ◌≤◌, nat_lt, if◌then◌else◌, List, length, take}
+use Rattle.std.specs.Prelude.{◌≡◌, ℕ, ◌+◌, ◌≤◌, nat_lt, if◌then◌else◌, List, ◌++◌, length, take, Option, Result, Ok, Err, IsErrAnd}
 use Rattle.pg_text.specs.Text.{Bytes}
+use Rattle.pg_text.specs.declared.error.FileError.{FileError}
+use Rattle.pg_text.specs.declared.error.FileError.TheVariants as outcomes
+use Rattle.pg_cert.specs.Limits.{IsWithinLimits}
+use Rattle.pg_cert.specs.Parts.{parts_of}
+use Rattle.pg_cert.specs.declared.cert.Cert.{Cert}
 use Rattle.pg_cert.specs.declared.part.Part.{Part}
+use Rattle.pg_cert_files.specs.CertFile.{certificate, listed}
 use Rattle.pg_cert_files.specs.Reader.{StandsFor, told}
+use Rattle.pg_cert_files.specs.Views.{number_of}
 use Rattle.pg_cert_files.specs.declared.cert_state.CertReader.{CertReader}
 use Rattle.pg_cert_files.specs.declared.limits.TheConstants.{MAX_CERT_BYTES}
 
@@ -18,3 +25,17 @@ size_of text = if nat_lt MAX_CERT_BYTES (length text) then MAX_CERT_BYTES + 1 el
 pub record IsFed (r : CertReader) (text : Bytes) : Type 0 where
   pub size : r.size ≡ size_of text
   pub lines : length text ≤ MAX_CERT_BYTES → StandsFor r.lines text
+
+-- the text says a certificate, and these are all its parts
+pub record AreAllParts (text : Bytes) (all : List Part) : Type 0 where
+  pub cert : Cert
+  pub read : certificate text ≡ Ok cert
+  pub limits : IsWithinLimits cert
+  pub parts : all ≡ parts_of cert
+
+-- What the end of the input gives: the last part, where its line feed was lacking, and then all parts have been given; or the text's
+-- fault, unless memory ran out.
+abbrev pub IsEnd : Result (Option Part) FileError → Bytes → Type 0
+IsEnd (Ok last) text = AreAllParts text (parts_told text ++ listed last)
+IsEnd (Err outcomes.Memory) text = Unit {0}
+IsEnd (Err (outcomes.Bad number line)) text = IsErrAnd (certificate text) (λ bad. (number ≡ number_of bad.0) × (line ≡ bad.1))

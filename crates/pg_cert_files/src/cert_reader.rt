@@ -1,9 +1,9 @@
 //! A certificate that is read as its bytes come.
 
 ghost use Rattle.std.specs.Prelude.{◌≡◌, ◌+◌, ◌-◌, ◌<◌, ◌≤◌, ◌++◌, [], List, ℕ, take, length, IfOk, IfSome, IfNone};
-ghost use Rattle.pg_cert_files.specs.CertFile.{listed, file_fault, parts_of};
-ghost use Rattle.pg_cert_files.specs.Reader.{IsEnd};
-ghost use Rattle.pg_cert_files.specs.Pieces.{IsFed, parts_told};
+ghost use Rattle.pg_cert.specs.Parts.{BeginCert};
+ghost use Rattle.pg_cert_files.specs.CertFile.{listed};
+ghost use Rattle.pg_cert_files.specs.Pieces.{IsFed, IsEnd, parts_told};
 ghost use Rattle.pg_cert_files.specs.declared.limits.TheConstants.{MAX_CERT_BYTES};
 
 use crate::cert_state::CertReader;
@@ -19,7 +19,8 @@ use std::alloc::Global;
 impl CertReader {
     /// A reader to which nothing was fed.
     pub fn new(alloc: Global) -> CertReader
-        ensures { IsFed result [] }
+        ensures fed { IsFed result [] }
+        ensures parts { parts_told [] ≡ [] }
     {
         CertReader {
             lines: LineReader::new(alloc),
@@ -45,8 +46,9 @@ impl CertReader {
 
     /// Uses bytes of the piece until a part is whole, and none behind it, or else all of them.
     ///
-    /// No part is given of a file's bytes behind its limit, nor of those behind its first fault of form. After want of
-    /// memory the reader can only be dropped.
+    /// No part is given of a file's bytes behind its limit, nor of those behind its first fault of form. The parts that
+    /// have been given begin those of a certificate within the limits, also where a fault comes later. After want of memory
+    /// the reader can only be dropped.
     pub fn feed(&mut self, alloc: Global, piece: &[u8]) -> Result<Fed, Memory>
         ensures used { IfOk result (λ fed. fed.used ≤ length piece.now) }
         ensures all { IfOk result (λ fed. IfNone fed.part (fed.used ≡ length piece.now)) }
@@ -77,7 +79,8 @@ impl CertReader {
 
     /// Ends the input: the last node, where its line feed was lacking, or the first fault of all that was fed.
     pub fn end(self, alloc: Global) -> Result<Option<Part>, FileError>
-        ensures { (text : List ℕ) → IsFed self text → IsEnd result (file_fault text) (parts_of text) (parts_told text) }
+        ensures end { (text : List ℕ) → IsFed self text → IsEnd result text }
+        ensures begins { IfOk result (λ last. (text : List ℕ) → IsFed self text → BeginCert (parts_told text ++ listed last)) }
     {
         if self.size > MAX_CERT_BYTES {
             return Err(FileError::at_line(Fault::Size, 0));

@@ -2,12 +2,14 @@
 
 ghost use Rattle.std.specs.Prelude.{◌≡◌, ◌==◌, option_map, is_some};
 ghost use Rattle.std.specs.List.{list_any};
-ghost use Rattle.pg_text.specs.Text.{two_parts, pair_of};
+ghost use Rattle.pg_text.specs.Text.{two_parts, pair_of, words_of};
 ghost use Rattle.pg_base.specs.Side.{side_of};
-ghost use Rattle.pg_cert_files.specs.Form.{form_of, are_none, are_two, are_odd, each_has_one, is_slash, has_one_slash, fits, shape_of};
+ghost use Rattle.pg_cert_files.specs.Form.{form_of, are_none, are_odd, each_has_one, is_slash, has_one_slash};
+ghost use Rattle.pg_cert_files.specs.Outline.{outline_of};
 
+use crate::scan::four_parts;
 use pg_base::Side;
-use pg_text::{Words, four_parts, two_parts};
+use pg_text::{Words, first_word, two_parts};
 
 /// The eight bodies of a node line.
 #[derive(Clone, Copy, Debug, PartialEq, Eq)]
@@ -30,9 +32,9 @@ pub(crate) enum Form {
     Threat,
 }
 
-/// A node line of the right form, cut where its signs stand.
+/// A node line, cut where its signs stand.
 #[derive(Drop)]
-pub(crate) struct Shape<'a> {
+pub(crate) struct Outline<'a> {
     /// The field of X's points.
     pub(crate) x: &'a [u8],
     /// The field of Y's points.
@@ -41,8 +43,8 @@ pub(crate) struct Shape<'a> {
     pub(crate) turn: Side,
     /// Which body it has.
     pub(crate) form: Form,
-    /// The words behind the first of the body.
-    pub(crate) words: Words<'a>,
+    /// The text of the words behind the first of the body, if there are any.
+    pub(crate) words: Option<&'a [u8]>,
 }
 
 /// The body that a word begins.
@@ -85,7 +87,7 @@ fn has_one(sign: u8, word: &[u8]) -> bool
 }
 
 /// Whether there is no word.
-fn are_none(words: Words) -> bool
+pub(crate) fn are_none(words: Words) -> bool
     ensures { result ≡ are_none words.entry }
 {
     let mut rest = words;
@@ -105,15 +107,8 @@ pub(crate) fn two<'a>(words: Words<'a>) -> Option<(&'a [u8], &'a [u8])>
     Some((first, second))
 }
 
-/// Whether there are just two words.
-fn are_two(words: Words) -> bool
-    ensures { result ≡ are_two words.entry }
-{
-    two(words).is_some()
-}
-
 /// Whether the number of words is odd.
-fn are_odd(words: Words) -> bool
+pub(crate) fn are_odd(words: Words) -> bool
     ensures { result ≡ are_odd words.entry }
 {
     let mut odd = false;
@@ -124,7 +119,7 @@ fn are_odd(words: Words) -> bool
 }
 
 /// Whether each word has the sign just once.
-fn each_has_one(sign: u8, words: Words) -> bool
+pub(crate) fn each_has_one(sign: u8, words: Words) -> bool
     ensures { result ≡ each_has_one sign words.entry }
 {
     let mut rest = words;
@@ -140,7 +135,7 @@ fn has_slash(words: Words) -> bool
 }
 
 /// Whether just one of the words is that one.
-fn has_one_slash(words: Words) -> bool
+pub(crate) fn has_one_slash(words: Words) -> bool
     ensures { result ≡ has_one_slash words.entry }
 {
     let mut rest = words;
@@ -152,35 +147,16 @@ fn has_one_slash(words: Words) -> bool
     false
 }
 
-impl Form {
-    /// Whether the words behind the first fit the body.
-    fn fits(self, words: Words) -> bool
-        ensures { result ≡ fits self words.entry }
-    {
-        match self {
-            Form::Over | Form::Potential => are_none(words),
-            Form::Move => are_two(words),
-            Form::All => each_has_one(b':', words),
-            Form::Pairs => each_has_one(b'-', words),
-            Form::Trees | Form::Cuts => has_one_slash(words),
-            Form::Threat => are_odd(words),
-        }
-    }
-}
-
-/// The parts of a line that has the form of a node line.
-#[tactic(auto, unfolding(crate::specs::Form::shape_of))]
-pub(crate) fn shape_of(line: &[u8]) -> Option<Shape>
-    ensures { option_map (λ s. record { x = s.x.now; y = s.y.now; turn = s.turn; form = s.form; words = s.words }) result ≡ shape_of line.now }
+/// The outline of a line: its fields and its body's words, whose form isn't tested yet.
+#[tactic(auto, unfolding(crate::specs::Outline::outline_of))]
+pub(crate) fn outline_of(line: &[u8]) -> Option<Outline>
+    ensures { option_map (λ s. record { x = s.x.now; y = s.y.now; turn = s.turn; form = s.form; words = words_of (option_map (λ w. w.now) s.words) }) result ≡ outline_of line.now }
 {
     let (x, y, turn, body) = four_parts(b'|', line)?;
     let turn = Side::from_word(turn)?;
-    let mut words = Words::of(body);
-    let form = form_of(words.next()?)?;
-    if !form.fits(words.again()) {
-        return None;
-    }
-    Some(Shape {
+    let (name, words) = first_word(body);
+    let form = form_of(name)?;
+    Some(Outline {
         x,
         y,
         turn,

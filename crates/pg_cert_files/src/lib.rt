@@ -10,9 +10,11 @@ mod head;
 mod laws;
 mod limits;
 mod line;
+mod numerals;
 mod progress;
 mod reader;
 mod reading;
+mod scan;
 mod values;
 
 pub use cert_state::CertReader;

@@ -1,19 +1,20 @@
 //! What single lines say.
 
-ghost use Rattle.std.specs.Prelude.{◌≡◌, ◌==◌, option_map};
+ghost use Rattle.std.specs.Prelude.{◌≡◌, ◌==◌, option_map, if◌then◌else◌, Ok, Err};
 ghost use Rattle.pg_text.specs.Faults.{Gives};
-ghost use Rattle.pg_text.specs.Text.{pair_of};
-ghost use Rattle.pg_cert_files.specs.Form.{has_bar};
-ghost use Rattle.pg_cert_files.specs.NodeLine.{move_of, body_of, node_of, node_line};
+ghost use Rattle.pg_text.specs.Text.{words_of};
+ghost use Rattle.pg_cert_files.specs.Form.{has_bar, are_none, has_one_slash};
+ghost use Rattle.pg_cert_files.specs.NodeLine.{edges_of, node_line};
+ghost use Rattle.pg_cert_files.specs.Outline.{formed_body, read_node, node_part};
 ghost use Rattle.pg_base.specs.Goal.{goal_of};
 ghost use Rattle.pg_cert_files.specs.Lines.{head_of, count_of};
 
 use crate::fault::Fault;
-use crate::form::{Form, Shape, shape_of, two};
+use crate::form::{Form, Outline, are_none, are_odd, has_one_slash, outline_of, two};
 use crate::head::Head;
-use crate::values::{ascending, child, field_words, pairs, point, points, replies, two_sets};
+use crate::values::{Edges, child, pairs, point, points, replies, set_apart, two_sets, words_in};
 use pg_base::{Goal, Pairs, PointSet, Points, Side};
-use pg_cert::{Body, Node, Replies};
+use pg_cert::{Body, Node, Part, Replies};
 use pg_text::{LineError, Words, four_parts, has_sign, two_parts};
 use std::alloc::Global;
 
@@ -51,36 +52,68 @@ pub(crate) fn count_of(line: &[u8]) -> Option<&[u8]>
     Some(count)
 }
 
+/// The body that has no words.
+fn bare(words: Words, body: Body) -> Result<Body, LineError<Fault>>
+    ensures { Gives (λ b. b) result (if are_none words.entry then Ok body else Err Fault.Form) }
+{
+    if are_none(words) {
+        Ok(body)
+    } else {
+        Err(LineError::Fault(Fault::Form))
+    }
+}
+
 /// The body of one move.
 fn move_of(words: Words) -> Result<Body, LineError<Fault>>
-    ensures { Gives (λ b. b) result (move_of (pair_of words.entry)) }
+    ensures { Gives (λ b. b) result (formed_body Form.Move words.entry) }
 {
     let Some((first, second)) = two(words) else {
-        return Err(LineError::Fault(Fault::Number));
+        return Err(LineError::Fault(Fault::Form));
     };
     let point = point(first)?;
     let child = child(second)?;
     Ok(Body::Move { point, child })
 }
 
-/// The body that the words say, where they have its form.
-fn body_of(alloc: Global, form: Form, words: Words) -> Result<Body, LineError<Fault>>
-    ensures { Gives (λ b. b) result (body_of form words.entry) }
+/// The two sets of edges of trees or cuts.
+fn edges_of(alloc: Global, words: Words) -> Result<Edges, LineError<Fault>>
+    ensures { Gives (λ e. e) result (if has_one_slash words.entry then edges_of words.entry else Err Fault.Form) }
+{
+    if !has_one_slash(words.again()) {
+        return Err(LineError::Fault(Fault::Form));
+    }
+    two_sets(alloc, words)
+}
+
+/// The points of a threat line.
+fn threat_of(alloc: Global, words: Words) -> Result<Body, LineError<Fault>>
+    ensures { Gives (λ b. b) result (formed_body Form.Threat words.entry) }
+{
+    if !are_odd(words.again()) {
+        return Err(LineError::Fault(Fault::Form));
+    }
+    let points = points(alloc, words)?;
+    Ok(Body::Threat(Points::from_vec(points)))
+}
+
+/// The body that the words of the text say: their form comes before their numbers.
+fn body_of(alloc: Global, form: Form, text: Option<&[u8]>) -> Result<Body, LineError<Fault>>
+    ensures { Gives (λ b. b) result (formed_body form (words_of (option_map (λ w. w.now) text.entry))) }
 {
     match form {
-        Form::Over => Ok(Body::Over),
-        Form::Move => move_of(words),
+        Form::Over => bare(words_in(text), Body::Over),
+        Form::Move => move_of(words_in(text)),
         Form::All => {
-            let replies = replies(alloc, words)?;
+            let replies = replies(alloc, text)?;
             Ok(Body::All(Replies::from_vec(replies)))
         }
         Form::Pairs => {
-            let pairs = pairs(alloc, words)?;
+            let pairs = pairs(alloc, text)?;
             Ok(Body::Pairs(Pairs::from_vec(pairs)))
         }
-        Form::Potential => Ok(Body::Potential),
+        Form::Potential => bare(words_in(text), Body::Potential),
         Form::Trees => {
-            let sets = two_sets(alloc, words)?;
+            let sets = edges_of(alloc, words_in(text))?;
             Ok(Body::Trees {
                 with_e: sets.with_e,
                 first: sets.first,
@@ -88,50 +121,50 @@ fn body_of(alloc: Global, form: Form, words: Words) -> Result<Body, LineError<Fa
             })
         }
         Form::Cuts => {
-            let sets = two_sets(alloc, words)?;
+            let sets = edges_of(alloc, words_in(text))?;
             Ok(Body::Cuts {
                 with_e: sets.with_e,
                 first: sets.first,
                 second: sets.second,
             })
         }
-        Form::Threat => {
-            let points = points(alloc, words)?;
-            Ok(Body::Threat(Points::from_vec(points)))
-        }
+        Form::Threat => threat_of(alloc, words_in(text)),
     }
 }
 
-/// The node of a line of the right form.
-fn node_of(alloc: Global, shape: Shape) -> Result<Node, LineError<Fault>>
-    ensures { Gives (λ n. n) result (node_of (record { x = shape.entry.x.now; y = shape.entry.y.now; turn = shape.entry.turn; form = shape.entry.form; words = shape.entry.words })) }
+/// The node of a line's outline: the body first, and then each point of its fields straight into a set.
+fn read_node(alloc: Global, outline: Outline) -> Result<Option<Part>, LineError<Fault>>
+    ensures { Gives (λ p. p) result (node_part (read_node (record { x = outline.entry.x.now; y = outline.entry.y.now; turn = outline.entry.turn; form = outline.entry.form; words = words_of (option_map (λ w. w.now) outline.entry.words) }))) }
 {
-    let x = ascending(alloc, field_words(shape.x))?;
-    let y = ascending(alloc, field_words(shape.y))?;
-    let body = body_of(alloc, shape.form, shape.words)?;
-    let taken = PointSet::from_points(&x);
-    if taken.meets(&y) {
-        return Err(LineError::Fault(Fault::Number));
-    }
-    Ok(Node {
-        x: taken,
-        y: PointSet::from_points(&y),
-        turn: shape.turn,
+    let body = body_of(alloc, outline.form, outline.words)?;
+    let x = set_apart(&PointSet::empty(), outline.x)?;
+    let y = set_apart(&x, outline.y)?;
+    Ok(Some(Part::Node(Node {
+        x,
+        y,
+        turn: outline.turn,
         left: 1,
         body,
-    })
+    })))
 }
 
-/// The node of a line.
-#[tactic(auto, unfolding(crate::specs::NodeLine::node_line))]
-pub(crate) fn node_line(alloc: Global, line: &[u8]) -> Result<Node, LineError<Fault>>
-    ensures { Gives (λ n. n) result (node_line line.now) }
+/// The node of a line, as a part.
+pub(crate) fn node_line(alloc: Global, line: &[u8]) -> Result<Option<Part>, LineError<Fault>>
+    ensures { Gives (λ p. p) result (node_part (node_line line.now)) }
 {
-    if !has_bar(line) {
-        return Err(LineError::Fault(Fault::Place));
+    match outline_of(line) {
+        Some(outline) => read_node(alloc, outline),
+        None => Err(LineError::Fault(no_node(line))),
     }
-    match shape_of(line) {
-        Some(shape) => node_of(alloc, shape),
-        None => Err(LineError::Fault(Fault::Form)),
+}
+
+/// The fault of a line that has no outline: without a bar it stands in the wrong place.
+fn no_node(line: &[u8]) -> Fault
+    ensures { result ≡ (if has_bar line.now then Fault.Form else Fault.Place) }
+{
+    if has_bar(line) {
+        Fault::Form
+    } else {
+        Fault::Place
     }
 }

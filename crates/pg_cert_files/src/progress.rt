@@ -104,6 +104,7 @@ impl Progress {
     }
 
     /// Reads a node line, behind which so many others stand.
+    #[tactic(auto, using(crate::proofs::Outlines::node_steps))]
     fn node(
         &mut self,
         alloc: Global,
@@ -112,13 +113,12 @@ impl Progress {
     ) -> Result<Option<Part>, LineError<Fault>>
         ensures { Steps result self.new (node_step others self.old line.now) }
     {
-        let node = node_line(alloc, line)?;
         self.due = if others == 0 {
             Due::Claim
         } else {
             Due::Node(others - 1)
         };
-        Ok(Some(Part::Node(node)))
+        node_line(alloc, line)
     }
 
     /// Reads the next line.

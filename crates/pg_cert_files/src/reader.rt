@@ -3,15 +3,16 @@
 ghost use Rattle.std.specs.Prelude.{◌≡◌, ◌+◌, ◌-◌, ◌<◌, ◌≤◌, ◌^◌, ◌++◌, ◌∷◌, [], List, ℕ, take, length, IfOk, IfSome, IfNone, IfErr, MatchResult};
 ghost use Rattle.pg_text.specs.Text.{Lacks};
 ghost use Rattle.pg_cert_files.specs.Steps.{Steps};
-ghost use Rattle.pg_cert_files.specs.CertFile.{step, listed, outcome, fault_of, parts_of};
-ghost use Rattle.pg_cert_files.specs.Reader.{StandsFor, told, IsEnd};
+ghost use Rattle.pg_cert_files.specs.CertFile.{step, listed, outcome, fault_of, text_parts};
+ghost use Rattle.pg_cert_files.specs.Reader.{StandsFor, told, IsLinesEnd};
 
 use crate::fault::Fault;
 use crate::fed::Fed;
 use crate::progress::Progress;
+use crate::scan::cut_at;
 use pg_base::Memory;
 use pg_cert::Part;
-use pg_text::{FileError, LineError, cut_at};
+use pg_text::{FileError, LineError};
 use std::alloc::Global;
 
 /// Lines that come in pieces: what the whole ones have said, and the line in hand.
@@ -140,7 +141,7 @@ impl LineReader {
     /// Ends the input: the last part, where its line feed was lacking, or the fault of all that was fed.
     pub(crate) fn end(self, alloc: Global) -> Result<Option<Part>, FileError>
         requires { self.count + 1 < 2 ^ 31 }
-        ensures { (text : List ℕ) → StandsFor self text → IsEnd result (fault_of text) (parts_of text) (told text).parts }
+        ensures { (text : List ℕ) → StandsFor self text → IsLinesEnd result (fault_of text) (text_parts text) (told text).parts }
     {
         if let Some((fault, line)) = self.fault {
             return Err(FileError::at_line(fault, line));

@@ -6,10 +6,8 @@ ghost use Rattle.pg_cert_files.specs.CertFile.{certificate, with_part, none_gath
 ghost use Rattle.pg_cert_files.specs.Gatherer.{view};
 ghost use Rattle.pg_cert.specs.Limits.{IsWithinLimits};
 
-use crate::fault::Fault;
+use crate::cert_state::CertReader;
 use crate::head::Head;
-use crate::limits::MAX_CERT_BYTES;
-use crate::reader::LineReader;
 use pg_cert::{Cert, Claim, Claims, Node, Nodes, Part};
 use pg_text::FileError;
 use std::alloc::{AllocError, Global};
@@ -85,10 +83,7 @@ pub fn read_cert(alloc: Global, bytes: &[u8]) -> Result<Cert, FileError>
     ensures read { IsReadAs result (certificate bytes.now) }
     ensures limits { IfOk result IsWithinLimits }
 {
-    if bytes.len() > MAX_CERT_BYTES {
-        return Err(FileError::at_line(Fault::Size, 0));
-    }
-    let mut reader = LineReader::new(alloc);
+    let mut reader = CertReader::new(alloc);
     let mut gatherer = Gatherer::new(alloc);
     let mut rest = bytes;
     while !rest.is_empty() {

@@ -1,17 +1,21 @@
 //! The numbers of a node line.
 
-ghost use Rattle.std.specs.Prelude.{◌≡◌, ℕ, ◌<◌, map, IfOk, option_map, length};
+ghost use Rattle.std.specs.Prelude.{◌≡◌, ℕ, ◌<◌, map, IfOk, IfSome, option_map, length};
+ghost use Rattle.std.specs.FinSet.{empty};
 ghost use Rattle.std.specs.List.{All};
-ghost use Rattle.pg_text.specs.Text.{number, two_parts, ascend_from};
+ghost use Rattle.pg_text.specs.Text.{number, parts, two_parts, words_of, ascend_from};
 ghost use Rattle.pg_base.specs.declared.limits.TheConstants.{MAX_MEMBERS};
 ghost use Rattle.pg_text.specs.Faults.{Gives, each_of};
-ghost use Rattle.pg_cert_files.specs.NodeLine.{below, point_of, child_of, ascending_of, field_words, word_reply, word_pair, replies_of, is_e, begins_with_e, after_e, before_slash, after_slash, edges_of};
+ghost use Rattle.pg_cert_files.specs.NodeLine.{below, point_of, child_of, ascending_of, field_words, word_reply, word_pair, is_e, begins_with_e, after_e, before_slash, after_slash, edges_of};
+ghost use Rattle.pg_cert_files.specs.Numerals.{SaysFirst};
+ghost use Rattle.pg_cert_files.specs.Outline.{IsFirstPoint, formed_each, formed_replies, gathered_from};
 
 use crate::fault::Fault;
-use crate::form::is_slash;
+use crate::form::{each_has_one, is_slash};
+use crate::numerals::{first_number, two_numbers};
 use pg_base::{MAX_MEMBERS, Pair, PointSet};
 use pg_cert::{MAX_CLAIM_NODES, Reply};
-use pg_text::{LineError, Words, ascend, number, two_parts};
+use pg_text::{LineError, Words, ascend, first_word, number, two_parts};
 use std::alloc::Global;
 
 /// Two sets of edges.
@@ -67,7 +71,7 @@ pub(crate) fn points(alloc: Global, words: Words) -> Result<Vec<u16>, LineError<
 }
 
 /// The points that the words name, if they ascend.
-pub(crate) fn ascending(alloc: Global, words: Words) -> Result<Vec<u16>, LineError<Fault>>
+fn ascending(alloc: Global, words: Words) -> Result<Vec<u16>, LineError<Fault>>
     ensures read { Gives (λ v. v.items) result (ascending_of words.entry) }
     ensures small { IfOk result (λ v. All (λ p. p < MAX_MEMBERS) v.items) }
 {
@@ -79,15 +83,55 @@ pub(crate) fn ascending(alloc: Global, words: Words) -> Result<Vec<u16>, LineErr
     }
 }
 
-/// The words of a field.
-pub(crate) fn field_words(field: &[u8]) -> Words
-    ensures { result ≡ field_words field.now }
+/// The text of a field's words, if it has any.
+fn field_text(field: &[u8]) -> Option<&[u8]>
+    ensures { words_of (option_map (λ w. w.now) result) ≡ field_words field.now }
 {
-    if field.is_empty() {
-        Words::none()
-    } else {
-        Words::of(field)
+    if field.is_empty() { None } else { Some(field) }
+}
+
+/// The words of a text, and none of no text.
+pub(crate) fn words_in(text: Option<&[u8]>) -> Words
+    ensures { result ≡ words_of (option_map (λ w. w.now) text.entry) }
+{
+    match text {
+        Some(text) => Words::of(text),
+        None => Words::none(),
     }
+}
+
+/// The point that the first word names, and the text of the other words if there are any.
+fn first_point(text: &[u8]) -> Result<(u16, Option<&[u8]>), LineError<Fault>>
+    ensures { IsFirstPoint result (parts 32 text.now) }
+{
+    if let Some((n, others)) = first_number(text) {
+        if n < u32::from(MAX_MEMBERS) {
+            return Ok((n as u16, others));
+        }
+    }
+    let (word, others) = first_word(text);
+    let p = point(word)?;
+    Ok((p, others))
+}
+
+/// The points of a field as a set, if they ascend and none of them is in the other set.
+#[tactic(auto, using(crate::proofs::Outlines::point_is_taken))]
+pub(crate) fn set_apart(other: &PointSet, field: &[u8]) -> Result<PointSet, LineError<Fault>>
+    ensures { Gives (λ s. s) result (gathered_from other.now empty 0 (field_words field.now)) }
+{
+    let mut found = PointSet::empty();
+    let mut least = 0;
+    let mut rest = field_text(field);
+    while let Some(text) = rest {
+        let (p, others) = first_point(text)?;
+        if p < least || other.has(p) {
+            return Err(LineError::Fault(Fault::Number));
+        }
+        found.put(p);
+        least = p + 1;
+        rest = others;
+    }
+    Ok(found)
 }
 
 /// The reply that a word says.
@@ -114,11 +158,92 @@ fn pair(word: &[u8]) -> Result<Pair, LineError<Fault>>
     Ok(Pair { a, b })
 }
 
-/// The pairs that the words say.
-pub(crate) fn pairs(alloc: Global, words: Words) -> Result<Vec<Pair>, LineError<Fault>>
-    ensures { Gives (λ v. v.items) result (each_of word_pair words.entry) }
+/// The pair that the first word says, if it is two points with a sign between them, and the text of the other words.
+#[tactic(auto, using(crate::proofs::Outlines::says_pair))]
+fn first_pair(text: &[u8]) -> Option<(Pair, Option<&[u8]>)>
+    ensures { IfSome result (λ p. SaysFirst 45 word_pair text.now p.0 (option_map (λ w. w.now) p.1)) }
 {
+    let (a, b, others) = two_numbers(b'-', text)?;
+    let limit = u32::from(MAX_MEMBERS);
+    if a >= limit || b >= limit {
+        return None;
+    }
+    let pair = Pair {
+        a: a as u16,
+        b: b as u16,
+    };
+    Some((pair, others))
+}
+
+/// The pairs that the words say, each read word by word.
+fn pairs_by_word(alloc: Global, words: Words) -> Result<Vec<Pair>, LineError<Fault>>
+    ensures { Gives (λ v. v.items) result (formed_each 45 word_pair words.entry) }
+{
+    if !each_has_one(b'-', words.again()) {
+        return Err(LineError::Fault(Fault::Form));
+    }
     words.each(alloc, |word| pair(word))
+}
+
+/// The pairs that the words of the text say. Where one isn't a pair of points, its fault is found word by word.
+#[tactic(auto, using(crate::proofs::Outlines::reads_begin, crate::proofs::Outlines::reads_on, crate::proofs::Outlines::reads_end))]
+pub(crate) fn pairs(alloc: Global, text: Option<&[u8]>) -> Result<Vec<Pair>, LineError<Fault>>
+    ensures { Gives (λ v. v.items) result (formed_each 45 word_pair (words_of (option_map (λ w. w.now) text.entry))) }
+{
+    let mut found = Vec::new(alloc);
+    let mut rest = text;
+    while let Some(words) = rest {
+        let Some((pair, others)) = first_pair(words) else {
+            return pairs_by_word(alloc, words_in(text));
+        };
+        found.push(pair)?;
+        rest = others;
+    }
+    Ok(found)
+}
+
+/// The reply that the first word says, if it is a point and a child with a sign between them, and the text of the other
+/// words.
+#[tactic(auto, using(crate::proofs::Outlines::says_reply))]
+fn first_reply(text: &[u8]) -> Option<(Reply, Option<&[u8]>)>
+    ensures { IfSome result (λ r. SaysFirst 58 word_reply text.now r.0 (option_map (λ w. w.now) r.1)) }
+{
+    let (point, child, others) = two_numbers(b':', text)?;
+    if point >= u32::from(MAX_MEMBERS) || child >= MAX_CLAIM_NODES {
+        return None;
+    }
+    let reply = Reply {
+        point: point as u16,
+        child,
+    };
+    Some((reply, others))
+}
+
+/// The replies that the words say, each read word by word.
+fn replies_by_word(alloc: Global, words: Words) -> Result<Vec<Reply>, LineError<Fault>>
+    ensures { Gives (λ v. v.items) result (formed_each 58 word_reply words.entry) }
+{
+    if !each_has_one(b':', words.again()) {
+        return Err(LineError::Fault(Fault::Form));
+    }
+    words.each(alloc, |word| reply(word))
+}
+
+/// The replies that the words of the text say. Where one isn't a reply, its fault is found word by word.
+#[tactic(auto, using(crate::proofs::Outlines::reads_begin, crate::proofs::Outlines::reads_on, crate::proofs::Outlines::reads_end))]
+fn reply_list(alloc: Global, text: Option<&[u8]>) -> Result<Vec<Reply>, LineError<Fault>>
+    ensures { Gives (λ v. v.items) result (formed_each 58 word_reply (words_of (option_map (λ w. w.now) text.entry))) }
+{
+    let mut found = Vec::new(alloc);
+    let mut rest = text;
+    while let Some(words) = rest {
+        let Some((reply, others)) = first_reply(words) else {
+            return replies_by_word(alloc, words_in(text));
+        };
+        found.push(reply)?;
+        rest = others;
+    }
+    Ok(found)
 }
 
 /// Whether the points of the replies ascend.
@@ -128,11 +253,11 @@ fn replies_ascend(replies: &[Reply]) -> bool
     replies.is_sorted_by(|a, b| a.point < b.point)
 }
 
-/// The replies that the words say, if their points ascend.
-pub(crate) fn replies(alloc: Global, words: Words) -> Result<Vec<Reply>, LineError<Fault>>
-    ensures { Gives (λ v. v.items) result (replies_of words.entry) }
+/// The replies that the words of the text say, if their points ascend.
+pub(crate) fn replies(alloc: Global, text: Option<&[u8]>) -> Result<Vec<Reply>, LineError<Fault>>
+    ensures { Gives (λ v. v.items) result (formed_replies (words_of (option_map (λ w. w.now) text.entry))) }
 {
-    let found = words.each(alloc, |word| reply(word))?;
+    let found = reply_list(alloc, text)?;
     if replies_ascend(&found) {
         Ok(found)
     } else {

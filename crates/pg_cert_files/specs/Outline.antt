@@ -1,0 +1,75 @@
+-- A node line that is cut where its signs stand, and read once: the body first, since its form comes before its numbers.
+use Rattle.std.specs.Borrow.{Bor}
+use Rattle.std.specs.Prelude.{◌≡◌, ℕ, ◌+◌, ◌||◌, nat_lt, if◌then◌else◌, List, [], ◌∷◌, map, Option, Some, None, option_map, Result, Ok, Err}
+use Rattle.std.specs.FinSet.{FinSet, contains, empty, insert}
+use Rattle.std.specs.Ordering.{nat_cmp}
+use Rattle.pg_base.specs.Side.{side_of}
+use Rattle.pg_base.specs.declared.side.Side.{Side}
+use Rattle.pg_cert.specs.declared.node.Body.{Body}
+use Rattle.pg_cert.specs.declared.node.Node.{Node}
+use Rattle.pg_cert.specs.declared.part.Part.{Part}
+use Rattle.pg_cert.specs.declared.part.Part.TheVariants as part
+use Rattle.pg_cert.specs.declared.reply.Reply.{Reply}
+use Rattle.pg_text.specs.Faults.{Fails, and_then, each_of}
+use Rattle.pg_text.specs.Text.{Bytes, Four, parts, four_parts, words_of}
+use Rattle.pg_text.specs.declared.error.LineError.{LineError}
+use Rattle.pg_cert_files.specs.Form.{form_of, each_has_one, fits, Shape}
+use Rattle.pg_cert_files.specs.NodeLine.{point_of, field_words, if_ascending, word_reply, body_of}
+use Rattle.pg_cert_files.specs.declared.fault.Fault.{Fault}
+use Rattle.pg_cert_files.specs.declared.fault.Fault.TheVariants as faults
+use Rattle.pg_cert_files.specs.declared.form.Form.{Form}
+
+-- the line with these fields, if its body begins with one of the eight words
+abbrev pub outline_form : Bytes → Bytes → Side → Option Form → List Bytes → Option Shape
+outline_form x y turn None ws = None
+outline_form x y turn (Some form) ws = Some (record { x = x; y = y; turn = turn; form = form; words = ws })
+
+-- the same by the words of the body
+abbrev pub outline_body : Bytes → Bytes → Option Side → List Bytes → Option Shape
+outline_body x y (Some turn) (name ∷ ws) = outline_form x y turn (form_of name) ws
+outline_body x y _ _ = None
+
+-- the same by the four fields
+abbrev pub outline_fields : Option Four → Option Shape
+outline_fields (Some f) = outline_body f.first f.second (side_of f.third) (parts 32 f.fourth)
+outline_fields None = None
+
+-- a line whose body may not have its form
+unfoldable pub outline_of : Bytes → Option Shape
+outline_of line = outline_fields (four_parts 124 line)
+
+-- what each word says, where each has the sign once
+abbrev pub formed_each : {A : Type 0} → ℕ → (Bytes → Result A Fault) → List Bytes → Result (List A) Fault
+formed_each sign read ws = if each_has_one sign ws then each_of read ws else Err faults.Form
+
+-- replies whose points ascend, where each word has the sign once
+abbrev pub formed_replies : List Bytes → Result (List Reply) Fault
+formed_replies ws = and_then (formed_each 58 word_reply ws) (λ rs. if_ascending (map (λ r. r.point) rs) rs)
+
+-- a body, where the words have its form
+abbrev pub formed_body : Form → List Bytes → Result Body Fault
+formed_body form ws = if fits form ws then body_of form ws else Err faults.Form
+
+-- the point of the first word and the words behind it, or that word's fault
+abbrev pub IsFirstPoint : Result (ℕ × Option (Bor Bytes)) (LineError Fault) → List Bytes → Type 0
+IsFirstPoint (Ok p) [] = ⊥
+IsFirstPoint (Err error) [] = ⊥
+IsFirstPoint (Ok p) (w ∷ ws) = (point_of w ≡ Ok p.0) × (ws ≡ words_of (option_map (λ b. b.now) p.1))
+IsFirstPoint (Err error) (w ∷ ws) = Fails error (point_of w)
+
+-- points that ascend from a least one and aren't in the other set, put into a set one after the other
+abbrev pub gathered_from : FinSet nat_cmp → FinSet nat_cmp → ℕ → List Bytes → Result (FinSet nat_cmp) Fault
+gathered_from other s least [] = Ok s
+gathered_from other s least (w ∷ ws) = and_then (point_of w) (λ p. if nat_lt p least || contains other p then Err faults.Number else gathered_from other (insert s p) (p + 1) ws)
+
+-- the node with this body
+abbrev pub read_fields : Shape → Body → Result Node Fault
+read_fields shape body = and_then (gathered_from empty empty 0 (field_words shape.x)) (λ x. and_then (gathered_from x empty 0 (field_words shape.y)) (λ y. Ok (record { x = x; y = y; turn = shape.turn; left = 1; body = body })))
+
+-- the node of an outline
+abbrev pub read_node : Shape → Result Node Fault
+read_node shape = and_then (formed_body shape.form shape.words) (read_fields shape)
+
+-- a node as a part
+abbrev pub node_part : Result Node Fault → Result (Option Part) Fault
+node_part read = and_then read (λ node. Ok (Some (part.Node node)))
