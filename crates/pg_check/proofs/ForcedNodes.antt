@@ -108,10 +108,10 @@ member P xs k x all at =
     let same : get_or xs k x ≡ x = cc in
     subst (λ y. P y) same (all k x within)
 
-claim_limits : (c : Cert) → IsWithinLimits c → (i : ℕ) (claim : Claim) → slice_get c.claims i ≡ Some claim → IsClaim claim
+pub claim_limits : (c : Cert) → IsWithinLimits c → (i : ℕ) (claim : Claim) → slice_get c.claims i ≡ Some claim → IsClaim claim
 claim_limits c limits i claim at = member IsClaim c.claims i claim limits.claims at
 
-node_limits : {c : Claim} → IsClaim c → (j : ℕ) (n : Node) → slice_get c.nodes j ≡ Some n → IsNode n
+pub node_limits : {c : Claim} → IsClaim c → (j : ℕ) (n : Node) → slice_get c.nodes j ≡ Some n → IsNode n
 node_limits {c = c} limits j n at = member IsNode c.nodes j n limits.nodes at
 
 -- the last node of a claim

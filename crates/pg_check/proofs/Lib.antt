@@ -1,7 +1,11 @@
-mod NodeTests
 mod ReplyLemmas
 mod NamedEdges
 pub mod ClaimLemmas
 pub mod ForcedNodes
 mod FirstFaults
 mod ThreatTests
+mod KnownNodes
+mod PartSteps
+mod CheckingSteps
+mod TakenParts
+mod FlatMarks

@@ -1,7 +1,8 @@
 -- Replies against the free points, one after the other.
-use Rattle.std.proofs.Common.{◌≡◌, ◌≢◌, ℕ, suc, ◌+◌, ◌-◌, ◌<◌, ◌≤◌, true, false, List, [], ◌∷◌, map, length, get_or, drop, refl, sym, ap, ◌∙◌, arith, drop-cons}
+use Rattle.std.proofs.Common.{◌≡◌, ◌≢◌, ℕ, suc, ◌+◌, ◌-◌, ◌<◌, ◌≤◌, true, false, List, [], ◌∷◌, map, length, get_or, drop, refl, sym, ap, subst, inl, inr, ◌∙◌, arith, drop-cons}
 use Rattle.std.specs.List.{filter, range_with_len}
-use Rattle.std.proofs.lemmas.List.{drop_all}
+use Rattle.std.proofs.lemmas.Bool.{cases_eq}
+use Rattle.std.proofs.lemmas.List.{drop_all, get_or_default}
 use Rattle.pg_game.specs.declared.game.Game.{Game}
 use Rattle.pg_game.specs.declared.position.Position.{Position}
 use Rattle.pg_game.specs.Position.{is_free}
@@ -65,3 +66,11 @@ other_head x y xs ys us vs ea eb ne e = let f : x ∷ xs ≡ y ∷ ys = sym ea �
 
 pub no_head : (y : ℕ) (ys us vs : List ℕ) → us ≡ [] → vs ≡ y ∷ ys → us ≡ vs → ⊥
 no_head y ys us vs ea eb e = let f : [] ≡ y ∷ ys = sym ea ∙ e ∙ eb in cc
+
+-- what holds of each member before a place, and of the one there
+pub each-more : {A : Type 0} (P : A → Type 0) (xs : List A) (i : ℕ) (x : A) → i < length xs → x ≡ get_or xs i x → P x → ((j : ℕ) (d : A) → j < i → P (get_or xs j d))
+    → (j : ℕ) (d : A) → j < i + 1 → P (get_or xs j d)
+each-more P xs i x lt is here before j d below = elim (cases_eq j i) [
+  | inl e ↦ subst P (is ∙ get_or_default xs i x d lt ∙ ap (λ n. get_or xs n d) (sym e)) here
+  | inr ne ↦ before j d (omega (arith, below, ne))
+]

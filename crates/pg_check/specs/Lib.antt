@@ -1,3 +1,5 @@
-pub mod Faulty
 pub mod Tester
 pub mod Lacked
+pub mod Marks
+pub mod Present
+pub mod Checking

@@ -7,8 +7,11 @@ ghost use Rattle.pg_cert.specs.Valid.{IsValid, IsFirstFault};
 ghost use Rattle.pg_cert.specs.Limits.{IsWithinLimits};
 ghost use Rattle.pg_cert.specs.declared.cert.Cert.{Cert};
 ghost use Rattle.pg_cert.specs.declared.cert.Claim.{Claim};
+ghost use Rattle.pg_check.specs.Checking.{IsVerdict};
 
-use crate::claims::first_of_game;
+use crate::checking::{Checking, Rejected};
+use crate::feeding::feed_claims;
+use pg_base::Memory;
 use pg_cert::Cert;
 use pg_game::Game;
 use std::alloc::Global;
@@ -41,6 +44,16 @@ pub enum CheckFault {
     Memory,
 }
 
+/// The verdict on a certificate, by a checking that is fed its parts.
+fn verdict(alloc: Global, g: &Game, c: &Cert) -> Result<Result<(), Rejected>, Memory>
+    requires { IsWithinLimits c.now }
+    ensures { IfOk result (λ found. IsVerdict found g.now c.now) }
+{
+    let mut checking = Checking::begin(alloc, g)?;
+    feed_claims(&mut checking, alloc, c.claims.as_slice())?;
+    Ok(checking.finish())
+}
+
 /// Checks a certificate against a game, node by node: each is tried by all tests of the table, and the first that fails
 /// is named. A certificate is accepted exactly where it is valid; then each claim is forced by its side.
 pub fn check<'a>(alloc: Global, g: &'a Game, c: &'a Cert) -> Result<Checked<'a>, CheckFault>
@@ -50,19 +63,19 @@ pub fn check<'a>(alloc: Global, g: &'a Game, c: &'a Cert) -> Result<Checked<'a>,
     ensures valid { IfOk result (λ _. IsValid g.now c.now) }
     ensures reject { (claim : ℕ) → (node : ℕ) → (why : ℕ) → result ≡ Err (CheckFault.Reject claim node why) → IsFirstFault g.now c.now claim node why }
 {
-    let Ok(found) = first_of_game(alloc, g, c.claims.as_slice()) else {
+    let Ok(found) = verdict(alloc, g, c) else {
         return Err(CheckFault::Memory);
     };
     match found {
-        None => Ok(Checked {
+        Ok(()) => Ok(Checked {
             game: g,
             cert: c,
             sealed: (),
         }),
-        Some((claim, faulty)) => Err(CheckFault::Reject {
-            claim,
-            node: faulty.node,
-            why: faulty.fault.number(),
+        Err(rejected) => Err(CheckFault::Reject {
+            claim: rejected.claim,
+            node: rejected.node,
+            why: rejected.why,
         }),
     }
 }

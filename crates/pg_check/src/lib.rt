@@ -3,12 +3,16 @@
 
 mod allowed;
 mod checked;
-mod claims;
+mod checking;
 mod edge_sets;
+mod feeding;
 mod leaves;
+mod marks;
 mod moves;
 mod node;
+mod present;
 mod tester;
 mod threats;
 
 pub use checked::{CheckFault, Checked, check, faults_are_told, valid_claims_are_forced};
+pub use checking::{Checking, Rejected};

@@ -1,12 +1,16 @@
 //! Nodes that move on to other nodes.
-ghost use Rattle.std.specs.Prelude.{◌≡◌, ◌<◌, ℕ, List, map, true, ◌↔◌, IsTrue};
+ghost use Rattle.std.specs.Prelude.{◌≡◌, ◌*◌, ◌<◌, ℕ, List, map, true, ◌↔◌, IsTrue};
 ghost use Rattle.std.specs.List.{All};
 ghost use Rattle.pg_cert.specs.Valid.{NamesEarlier, IsNodeOf, FollowsMove, FollowMoves, HasTurn, TakesFree};
-ghost use Rattle.pg_game.specs.Game.{point_count, free_points};
+ghost use Rattle.pg_base.specs.Points.{AreBelow};
+ghost use Rattle.pg_check.specs.Marks.{kept, AreFlat, AreMarksOf};
+ghost use Rattle.pg_check.specs.Present.{bare};
+ghost use Rattle.pg_game.specs.Game.{point_count, free_points, IsPosition};
 ghost use Rattle.pg_game.specs.Position.{is_free};
 
+use crate::marks::Marks;
 use pg_base::Side;
-use pg_cert::{Body, Node, Reply};
+use pg_cert::{Body, Reply};
 use pg_game::{Game, Position};
 
 /// Whether every child has a number below `k`.
@@ -27,19 +31,21 @@ pub(crate) fn names_earlier(k: usize, body: &Body) -> bool
     }
 }
 
-/// Whether the node of that number has the position.
-fn is_node_of(nodes: &[Node], child: u32, q: &Position) -> bool
-    ensures { IsTrue result ↔ IsNodeOf nodes.now child q.now }
+/// Whether a node of that number has been checked and has the position.
+fn is_node_of(marks: &Marks, child: u32, q: &Position) -> bool
+    requires flat { AreFlat marks.now }
+    requires x { AreBelow q.now.x (64 * marks.now.width) }
+    requires y { AreBelow q.now.y (64 * marks.now.width) }
+    ensures { IsTrue result ↔ IsNodeOf (map bare (kept marks.now)) child q.now }
 {
-    match nodes.get(child as usize) {
-        Some(node) => node.position() == *q,
-        None => false,
-    }
+    marks.is_at(child, q)
 }
 
 /// Whether the child has the position after the move, where the point is free.
-fn follows_move(g: &Game, nodes: &[Node], p: &Position, point: u16, child: u32) -> bool
-    ensures { IsTrue result ↔ FollowsMove g.now nodes.now p.now point child }
+fn follows_move(g: &Game, marks: &Marks, p: &Position, point: u16, child: u32) -> bool
+    requires made { AreMarksOf g.now marks.now }
+    requires position { IsPosition g.now p.now }
+    ensures { IsTrue result ↔ FollowsMove g.now (map bare (kept marks.now)) p.now point child }
 {
     if point >= g.points() {
         return true;
@@ -47,23 +53,32 @@ fn follows_move(g: &Game, nodes: &[Node], p: &Position, point: u16, child: u32) 
     if !p.is_free(point) {
         return true;
     }
-    is_node_of(nodes, child, &g.after(p, point))
+    is_node_of(marks, child, &g.after(p, point))
 }
 
 /// Whether the children of all free points have the positions after them.
-fn all_follow(g: &Game, nodes: &[Node], p: &Position, replies: &[Reply]) -> bool
-    ensures { IsTrue result ↔ All (λ r. FollowsMove g.now nodes.now p.now r.point r.child) replies.now }
+fn all_follow(g: &Game, marks: &Marks, p: &Position, replies: &[Reply]) -> bool
+    requires made { AreMarksOf g.now marks.now }
+    requires position { IsPosition g.now p.now }
+    ensures { IsTrue result ↔ All (λ r. FollowsMove g.now (map bare (kept marks.now)) p.now r.point r.child) replies.now }
 {
-    replies.iter().all(|reply| follows_move(g, nodes, p, reply.point, reply.child))
+    for reply in replies {
+        if !follows_move(g, marks, p, reply.point, reply.child) {
+            return false;
+        }
+    }
+    true
 }
 
 /// Whether the children of the free points that the body names have the positions after them.
-pub(crate) fn follow_moves(g: &Game, nodes: &[Node], p: &Position, body: &Body) -> bool
-    ensures { IsTrue result ↔ FollowMoves g.now nodes.now p.now body.now }
+pub(crate) fn follow_moves(g: &Game, marks: &Marks, p: &Position, body: &Body) -> bool
+    requires made { AreMarksOf g.now marks.now }
+    requires position { IsPosition g.now p.now }
+    ensures { IsTrue result ↔ FollowMoves g.now (map bare (kept marks.now)) p.now body.now }
 {
     match body {
-        Body::Move { point, child } => follows_move(g, nodes, p, *point, *child),
-        Body::All(replies) => all_follow(g, nodes, p, replies.as_slice()),
+        Body::Move { point, child } => follows_move(g, marks, p, *point, *child),
+        Body::All(replies) => all_follow(g, marks, p, replies.as_slice()),
         _ => true,
     }
 }

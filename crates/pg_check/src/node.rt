@@ -2,23 +2,26 @@
 ghost use Rattle.std.specs.Prelude.{◌≡◌, ◌≢◌, ◌<◌, ◌≤◌, ◌+◌, ℕ, ◌↔◌, IsTrue, IfSome, IfNone, length, slice_get, Some, true};
 ghost use Rattle.pg_base.specs.Points.{ShareNone};
 ghost use Rattle.pg_game.specs.Judge.{IsMadeForGame};
-ghost use Rattle.pg_game.specs.Game.{IsPosition, is_over, outcome};
+ghost use Rattle.pg_game.specs.Game.{IsPosition, is_over, outcome, with_turn};
 ghost use Rattle.pg_game.specs.Value.{reaches};
 ghost use Rattle.pg_cert.specs.Node.{position_of};
 ghost use Rattle.pg_check.specs.Tester.{IsReadyFor};
-ghost use Rattle.pg_cert.specs.Valid.{Passes, IsOwed, IsRoot, IsSound, IsLeastFault, EndsRight};
+ghost use Rattle.pg_cert.specs.Valid.{IsOwed, EndsRight};
+ghost use Rattle.pg_check.specs.Marks.{AreMarksOf};
+ghost use Rattle.pg_check.specs.Present.{PassesSoFar, IsSoundSoFar, IsLeastSoFar, known};
 
 use crate::allowed::{is_allowed, is_in_game};
 use crate::leaves::{has_cuts, has_pairs, has_potential, has_threat, has_trees};
 use crate::moves::{follow_moves, has_turn, names_earlier, takes_free};
+use crate::present::Present;
 use crate::tester::Tester;
 use pg_base::{Goal, Side};
-use pg_cert::{Body, Claim, Node, NodeFault};
+use pg_cert::{Body, Node, NodeFault};
 use pg_game::{Game, Judge, Position, reaches};
 
 /// Whether more than its marks, its children and its place is asked of the node.
-fn is_owed(g: &Game, claim: &Claim, node: &Node) -> bool
-    ensures { IsTrue result ↔ IsOwed g.now claim.now node.now }
+fn is_owed(g: &Game, claim: &Present, node: &Node) -> bool
+    ensures { IsTrue result ↔ IsOwed g.now (known claim.now) node.now }
 {
     is_allowed(g.kind, g.bias, claim.side, claim.goal, &node.body) && is_in_game(g, node)
 }
@@ -58,72 +61,73 @@ fn ends_right(
 }
 
 /// Whether the claim's last node is the game's marks with the claim's turn, where this is the last node.
-fn is_root(g: &Game, claim: &Claim, k: usize, node: &Node) -> bool
-    requires { k < length claim.now.nodes }
-    ensures { IsTrue result ↔ IsRoot g.now claim.now k node.now }
+fn is_root(g: &Game, claim: &Present, k: usize, p: &Position) -> bool
+    requires { k < claim.now.count }
+    ensures { IsTrue result ↔ (k + 1 ≡ claim.now.count → p.now ≡ with_turn g.now claim.now.turn) }
 {
-    let count = claim.nodes.as_slice().len();
+    let count = claim.count as usize;
     if k + 1 != count {
         return true;
     }
-    node.position() == g.with_turn(claim.turn)
+    *p == g.with_turn(claim.turn)
 }
 
-/// Whether the node owes nothing under the fault's name.
+/// Whether the node, which has the position, owes nothing under the fault's name.
 fn passes(
     tester: &mut Tester,
     g: &Game,
-    claim: &Claim,
+    claim: &Present,
     k: usize,
     node: &Node,
+    p: &Position,
     owed: bool,
     fault: NodeFault,
 ) -> bool
+    requires position { p.now ≡ position_of node.now }
     requires made { IsReadyFor tester.old g.now }
-    requires place { k < length claim.now.nodes }
+    requires kept { AreMarksOf g.now claim.now.marks }
+    requires place { k < claim.now.count }
     requires marks { ShareNone node.now.x node.now.y }
     requires left { 1 ≤ node.now.left }
-    requires owed { IsTrue owed ↔ IsOwed g.now claim.now node.now }
-    ensures passes { IsTrue result ↔ Passes g.now claim.now k node.now fault }
+    requires owed { IsTrue owed ↔ IsOwed g.now (known claim.now) node.now }
+    ensures passes { IsTrue result ↔ PassesSoFar g.now claim.now k node.now fault }
     ensures kept { tester.new ≡ tester.old }
 {
-    let p = node.position();
     match fault {
         NodeFault::Child => names_earlier(k, &node.body),
-        NodeFault::Marks => {
-            is_in_game(g, node) && follow_moves(g, claim.nodes.as_slice(), &p, &node.body)
-        }
-        NodeFault::Turn => !owed || has_turn(claim.side, &p, &node.body),
-        NodeFault::Moves => !owed || takes_free(g, &p, &node.body),
+        NodeFault::Marks => is_in_game(g, node) && follow_moves(g, &claim.marks, p, &node.body),
+        NodeFault::Turn => !owed || has_turn(claim.side, p, &node.body),
+        NodeFault::Moves => !owed || takes_free(g, p, &node.body),
         NodeFault::End => {
-            !owed || ends_right(&mut tester.judge, g, claim.side, claim.goal, &p, &node.body)
+            !owed || ends_right(&mut tester.judge, g, claim.side, claim.goal, p, &node.body)
         }
-        NodeFault::Pairs => !owed || has_pairs(g, claim.side, &p, &node.body),
-        NodeFault::Potential => !owed || has_potential(g, claim.side, &p, &node.body),
-        NodeFault::Trees => !owed || has_trees(&mut tester.joiner, g, &p, &node.body),
-        NodeFault::Cuts => !owed || has_cuts(&mut tester.joiner, g, &p, &node.body),
-        NodeFault::Threat => {
-            !owed || has_threat(&mut tester.judge, g, claim.side, &p, &node.body)
-        }
-        NodeFault::Root => is_root(g, claim, k, node),
+        NodeFault::Pairs => !owed || has_pairs(g, claim.side, p, &node.body),
+        NodeFault::Potential => !owed || has_potential(g, claim.side, p, &node.body),
+        NodeFault::Trees => !owed || has_trees(&mut tester.joiner, g, p, &node.body),
+        NodeFault::Cuts => !owed || has_cuts(&mut tester.joiner, g, p, &node.body),
+        NodeFault::Threat => !owed || has_threat(&mut tester.judge, g, claim.side, p, &node.body),
+        NodeFault::Root => is_root(g, claim, k, p),
         NodeFault::Body => is_allowed(g.kind, g.bias, claim.side, claim.goal, &node.body),
     }
 }
 
-/// The least fault of the node, or none where it owes nothing.
+/// The least fault of the node, which has the position, or none where it owes nothing.
 pub(crate) fn first_fault(
     tester: &mut Tester,
     g: &Game,
-    claim: &Claim,
+    claim: &Present,
     k: usize,
     node: &Node,
+    p: &Position,
 ) -> Option<NodeFault>
+    requires position { p.now ≡ position_of node.now }
     requires made { IsReadyFor tester.old g.now }
-    requires place { k < length claim.now.nodes }
+    requires kept { AreMarksOf g.now claim.now.marks }
+    requires place { k < claim.now.count }
     requires marks { ShareNone node.now.x node.now.y }
     requires left { 1 ≤ node.now.left }
-    ensures sound { IfNone result (IsSound g.now claim.now k node.now) }
-    ensures least { IfSome result (λ fault. IsLeastFault g.now claim.now k node.now fault) }
+    ensures sound { IfNone result (IsSoundSoFar g.now claim.now k node.now) }
+    ensures least { IfSome result (λ fault. IsLeastSoFar g.now claim.now k node.now fault) }
     ensures kept { tester.new ≡ tester.old }
 {
     let owed = is_owed(g, claim, node);
@@ -141,7 +145,7 @@ pub(crate) fn first_fault(
         NodeFault::Root,
         NodeFault::Body,
     ] {
-        if !passes(tester, g, claim, k, node, owed, fault) {
+        if !passes(tester, g, claim, k, node, p, owed, fault) {
             return Some(fault);
         }
     }

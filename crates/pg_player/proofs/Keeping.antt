@@ -292,12 +292,12 @@ planned g c p body next last v side kind is position mine allowed own within fre
 }
 
 trees_answered : (field : Field) (p : Position) (first second : FinSet nat_cmp) (last : Option ℕ) (a : Answered) → IsTreesAnswer field p first second last a
-    → stays_with_trees (trees_point field p false first second last) last ≡ stays a.edge (Trees false a.first a.second) last
+    → stays_with_trees (trees_point field p first second last) last ≡ stays a.edge (Trees false a.first a.second) last
 trees_answered (Lines f) p first second last a rule = absurd rule
 trees_answered (OnGraph h) p first second last a rule = ap (λ (b : Answered). stays b.edge (Trees false b.first b.second) last) (sym rule)
 
 cuts_answered : (field : Field) (p : Position) (first second : FinSet nat_cmp) (last : Option ℕ) (a : Answered) → IsCutsAnswer field p first second last a
-    → stays_with_cuts (cuts_point field p false first second last) last ≡ stays a.edge (Cuts false a.first a.second) last
+    → stays_with_cuts (cuts_point field p first second last) last ≡ stays a.edge (Cuts false a.first a.second) last
 cuts_answered (Lines f) p first second last a rule = absurd rule
 cuts_answered (OnGraph h) p first second last a rule = ap (λ (b : Answered). stays b.edge (Cuts false b.first b.second) last) (sym rule)
 
@@ -323,16 +323,6 @@ keeps-cuts g c p first second last v f s h going mine rule within free holds =
 
 -- ---- a plan with e put into its first set stands for the node's body
 
-trees_named : (field : Field) (p : Position) (with_e : Bool) (first second : FinSet nat_cmp) (last : Option ℕ)
-    → trees_point field p with_e first second last ≡ trees_point field p false (if with_e then insert first (field_points field) else first) second last
-trees_named (Lines f) p with_e first second last = refl
-trees_named (OnGraph h) p with_e first second last = refl
-
-cuts_named : (field : Field) (p : Position) (with_e : Bool) (first second : FinSet nat_cmp) (last : Option ℕ)
-    → cuts_point field p with_e first second last ≡ cuts_point field p false (if with_e then insert first (field_points field) else first) second last
-cuts_named (Lines f) p with_e first second last = refl
-cuts_named (OnGraph h) p with_e first second last = refl
-
 module _ (g : Game) (c : Claim) (p : Position) (with_e : Bool) (first second : FinSet nat_cmp) (last : Option ℕ) where
   pub InPlay-trees : InPlay g c p (record { body = Trees with_e first second; last = last }) → InPlay g c p (record { body = Trees false (with_e_named g with_e first) second; last = last })
   InPlay-trees h = record { sound = h.sound; reached = h.reached; forced = h.forced; stands = record { allowed = h.stands.allowed; ready = h.stands.ready; waiting = h.stands.waiting } }
@@ -342,11 +332,11 @@ module _ (g : Game) (c : Claim) (p : Position) (with_e : Bool) (first second : F
 
   pub KeepsUp-trees : (v : ℕ) (next : Standing) → KeepsUp g c p (record { body = Trees false (with_e_named g with_e first) second; last = last }) v next → KeepsUp g c p (record { body = Trees with_e first second; last = last }) v next
   unfolding own_move
-  KeepsUp-trees v next k = record { own = ap (λ (o : Option Answered). stays_with_trees o last) (trees_named g.field p with_e first second last) ∙ k.own; within = k.within; free = k.free; forced = k.forced; stands = k.stands }
+  KeepsUp-trees v next k = record { own = k.own; within = k.within; free = k.free; forced = k.forced; stands = k.stands }
 
   pub KeepsUp-cuts : (v : ℕ) (next : Standing) → KeepsUp g c p (record { body = Cuts false (with_e_named g with_e first) second; last = last }) v next → KeepsUp g c p (record { body = Cuts with_e first second; last = last }) v next
   unfolding own_move
-  KeepsUp-cuts v next k = record { own = ap (λ (o : Option Answered). stays_with_cuts o last) (cuts_named g.field p with_e first second last) ∙ k.own; within = k.within; free = k.free; forced = k.forced; stands = k.stands }
+  KeepsUp-cuts v next k = record { own = k.own; within = k.within; free = k.free; forced = k.forced; stands = k.stands }
 
 -- ---- a node's whole body
 

@@ -8,21 +8,20 @@ ghost use Rattle.serde_json.specs.Data.{array};
 ghost use Rattle.serde_json.specs.View.{view};
 
 use pg_base::Memory;
-use pg_cert::{Cert, Claim};
 use pg_game::{Field, Game};
+use pg_judge::ClaimHead;
 use serde_json::{Value, json};
 use std::alloc::{AllocError, Global};
 
 /// A claim: its goal, the number of its nodes, its side and its turn.
-fn claim_value(alloc: Global, claim: &Claim) -> Result<Value, AllocError>
+fn claim_value(alloc: Global, claim: &ClaimHead) -> Result<Value, AllocError>
     ensures { IfOk result (λ v. view v ≡ claim_data claim.now) }
 {
-    let nodes = claim.nodes.as_slice().len();
-    json!(in alloc; {"goal": claim.goal.word(), "nodes": nodes, "side": claim.side.word(), "turn": claim.turn.word()})
+    json!(in alloc; {"goal": claim.goal.word(), "nodes": claim.nodes, "side": claim.side.word(), "turn": claim.turn.word()})
 }
 
 /// The claims in order.
-fn claims_value(alloc: Global, claims: &[Claim]) -> Result<Value, AllocError>
+fn claims_value(alloc: Global, claims: &[ClaimHead]) -> Result<Value, AllocError>
     ensures { IfOk result (λ v. view v ≡ array (claims_data claims.now)) }
 {
     let mut values = Vec::new(alloc);
@@ -32,11 +31,11 @@ fn claims_value(alloc: Global, claims: &[Claim]) -> Result<Value, AllocError>
     Ok(Value::Array(values))
 }
 
-/// A valid certificate for a game.
-fn report_value(alloc: Global, game: &Game, certificate: &Cert) -> Result<Value, AllocError>
-    ensures { IfOk result (λ v. view v ≡ report_data game.now certificate.now) }
+/// A valid certificate for a game, with these claims.
+fn report_value(alloc: Global, game: &Game, claims: &[ClaimHead]) -> Result<Value, AllocError>
+    ensures { IfOk result (λ v. view v ≡ report_data game.now claims.now) }
 {
-    let claims = claims_value(alloc, certificate.claims.as_slice())?;
+    let claims = claims_value(alloc, claims)?;
     let kind = game.kind.word();
     match &game.field {
         Field::Lines(field) => {
@@ -50,7 +49,7 @@ fn report_value(alloc: Global, game: &Game, certificate: &Cert) -> Result<Value,
     }
 }
 
-/// What a report says of a valid certificate for a game: one line of compact JSON (RFC 8259) with its line feed.
+/// What a report says of a valid certificate for a game, with these claims: one line of compact JSON (RFC 8259) with its line feed.
 ///
 /// It is an object whose keys ascend: `claims`, `kind`, and `lines` and `points` of a line game, or `points` (its edges) and `vertices` of a switching
 /// game. Each claim is an object with the keys `goal`, `nodes` (their number), `side` and `turn`.
@@ -58,10 +57,10 @@ fn report_value(alloc: Global, game: &Game, certificate: &Cert) -> Result<Value,
 /// # Errors
 ///
 /// `Memory` where no memory is found.
-pub fn report(alloc: Global, game: &Game, certificate: &Cert) -> Result<String, Memory>
-    ensures { IfOk result (λ text. string_bytes text ≡ report_text game.now certificate.now) }
+pub fn report(alloc: Global, game: &Game, claims: &[ClaimHead]) -> Result<String, Memory>
+    ensures { IfOk result (λ text. string_bytes text ≡ report_text game.now claims.now) }
 {
-    let mut text = report_value(alloc, game, certificate)?.to_string(alloc)?;
+    let mut text = report_value(alloc, game, claims)?.to_string(alloc)?;
     text.push('\n')?;
     Ok(text)
 }

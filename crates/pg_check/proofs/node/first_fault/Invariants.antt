@@ -1,11 +1,11 @@
 use Rattle.std.proofs.Common.{◌≡◌, ◌<◌, ◌+◌}
 use Rattle.pg_cert.specs.declared.node_fault.NodeFault.{NodeFault}
 use Rattle.pg_cert.specs.NodeFault.{fault_number}
-use Rattle.pg_cert.specs.Valid.{Passes}
+use Rattle.pg_check.specs.Present.{PassesSoFar}
 use Rattle.pg_check.proofs.node.first_fault.Given as goal
 
 abbrev pub invariant-loop-fault : goal.invariant-loop-fault
 invariant-loop-fault l = record {
   kept : l.tester ≡ l.fn.tester;
-  passed : (before : NodeFault) → fault_number before < l.fault-index + 1 → Passes l.g l.claim l.k l.node before;
+  passed : (before : NodeFault) → fault_number before < l.fault-index + 1 → PassesSoFar l.g l.claim l.k l.node before;
 }

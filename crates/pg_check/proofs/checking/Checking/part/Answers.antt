@@ -1,0 +1,19 @@
+use Rattle.std.proofs.Common.{◌∷◌, ◌++◌, [], List, sym, subst}
+use Rattle.std.specs.Prelude.{IfOk}
+use Rattle.pg_check.specs.Checking.{StandsFor, AreNext}
+use Rattle.pg_cert.specs.declared.part.Part.{Part}
+use Rattle.pg_check.proofs.checking.Checking.part.Goals as goal
+
+pub claim-requires : goal.claim-requires
+claim-requires c = record { next = subst (λ (q : Part). AreNext c.args.self.now (q ∷ [])) c.in-Claim.is c.requires.next }
+
+pub returns-in-Claim-clause-stands : goal.returns-in-Claim-clause-stands
+returns-in-Claim-clause-stands c =
+    subst (λ (q : Part). (fed : List Part) → StandsFor c.args.self.now fed → StandsFor c.claim.new.self (fed ++ q ∷ [])) (sym c.in-Claim.is) c.claim.ensures.stands
+
+pub node-requires : goal.node-requires
+node-requires c = record { next = subst (λ (q : Part). AreNext c.args.self.now (q ∷ [])) c.in-Node.is c.requires.next }
+
+pub returns-in-Node-clause-stands : goal.returns-in-Node-clause-stands
+returns-in-Node-clause-stands c =
+    subst (λ (q : Part). IfOk c.node.result (λ _. (fed : List Part) → StandsFor c.args.self.now fed → StandsFor c.node.new.self (fed ++ q ∷ []))) (sym c.in-Node.is) c.node.ensures.stands

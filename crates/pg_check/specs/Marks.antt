@@ -1,0 +1,44 @@
+-- Positions in few words.
+use Rattle.std.specs.Prelude.{◌≡◌, ℕ, ◌+◌, ◌*◌, ◌^◌, ◌<◌, ◌≤◌, List, length, map, drop, get_or}
+use Rattle.std.specs.FinSet.{FinSet}
+use Rattle.std.specs.List.{range_with_len}
+use Rattle.std.specs.Ordering.{nat_cmp}
+use Rattle.pg_base.specs.Words.{members_below}
+use Rattle.pg_base.specs.declared.side.Side.TheVariants.{X}
+use Rattle.pg_game.specs.declared.game.Game.{Game}
+use Rattle.pg_game.specs.declared.position.Position.{Position}
+use Rattle.pg_game.specs.Game.{point_count}
+use Rattle.pg_check.specs.declared.marks.Marks.{Marks}
+use Rattle.pg_check.specs.declared.marks.Turn.{Turn}
+
+-- the set of a row, which takes so many words
+abbrev pub set_at : List ℕ → ℕ → ℕ → FinSet nat_cmp
+set_at words width row = members_below (drop (width * row) words) (64 * width)
+
+-- what stands for a turn where there is none
+abbrev pub no_turn : Turn
+no_turn = record { side = X; left = 0 }
+
+-- the position of a number: the rows of its two sets, and its turn
+abbrev pub position_at : List ℕ → ℕ → List Turn → ℕ → Position
+position_at words width turns k = record {
+  x = set_at words width (2 * k);
+  y = set_at words width (2 * k + 1);
+  turn = (get_or turns k no_turn).side;
+  left = (get_or turns k no_turn).left;
+}
+
+-- the positions in the order in which they came
+unfoldable pub kept : Marks → List Position
+kept m = map (position_at m.words.items m.width m.turns.items) (range_with_len 0 (length m.turns.items))
+
+-- two rows for each turn, of at most sixteen words
+pub record AreFlat (m : Marks) : Type 0 where
+  pub count : length m.words.items ≡ m.width * (2 * length m.turns.items)
+  pub few : m.width ≤ 16
+  pub fit : (i : ℕ) → get_or m.words.items i 0 < 2 ^ 64
+
+-- a row has a place for each point of the game
+pub record AreMarksOf (g : Game) (m : Marks) : Type 0 where
+  pub flat : AreFlat m
+  pub room : point_count g ≤ 64 * m.width

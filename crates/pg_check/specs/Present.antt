@@ -1,0 +1,45 @@
+-- The claim that is being checked: what it says, how many nodes it has, and the positions of those that were checked.
+use Rattle.std.specs.Prelude.{◌≡◌, ℕ, ◌+◌, ◌<◌, List, length, map, take}
+use Rattle.pg_game.specs.declared.game.Game.{Game}
+use Rattle.pg_game.specs.declared.position.Position.{Position}
+use Rattle.pg_game.specs.Game.{with_turn}
+use Rattle.pg_cert.specs.declared.cert.Claim.{Claim}
+use Rattle.pg_cert.specs.declared.node.Node.{Node}
+use Rattle.pg_cert.specs.declared.node.Body.TheVariants.{Over}
+use Rattle.pg_cert.specs.declared.node_fault.NodeFault.{NodeFault}
+use Rattle.pg_cert.specs.declared.node_fault.NodeFault.TheVariants as faults
+use Rattle.pg_cert.specs.Node.{position_of}
+use Rattle.pg_cert.specs.NodeFault.{fault_number}
+use Rattle.pg_cert.specs.Valid.{Passes}
+use Rattle.pg_check.specs.Marks.{kept}
+use Rattle.pg_check.specs.declared.present.Present.{Present}
+
+-- a node of which no more than its position is known
+abbrev pub bare : Position → Node
+bare p = record { x = p.x; y = p.y; turn = p.turn; left = p.left; body = Over }
+
+-- the claim as far as it is known
+abbrev pub known : Present → Claim
+known c = record { turn = c.turn; side = c.side; goal = c.goal; nodes = map bare (kept c.marks) }
+
+-- what a node owes under each fault's name, by what is known: the last node is told by the number of nodes
+abbrev pub PassesSoFar : Game → Present → ℕ → Node → NodeFault → Type 0
+PassesSoFar g c k n faults.Root = k + 1 ≡ c.count → position_of n ≡ with_turn g c.turn
+PassesSoFar g c k n fault = Passes g (known c) k n fault
+
+-- the node owes nothing
+abbrev pub IsSoundSoFar : Game → Present → ℕ → Node → Type 0
+IsSoundSoFar g c k n = (fault : NodeFault) → PassesSoFar g c k n fault
+
+-- the fault of least number
+pub record IsLeastSoFar (g : Game) (c : Present) (k : ℕ) (n : Node) (fault : NodeFault) : Type 0 where
+  pub fails : PassesSoFar g c k n fault → ⊥
+  pub lesser : (before : NodeFault) → fault_number before < fault_number fault → PassesSoFar g c k n before
+
+-- this is what is known of the claim when its first k nodes have been checked
+pub record IsKnownOf (c : Present) (claim : Claim) (k : ℕ) : Type 0 where
+  pub turn : c.turn ≡ claim.turn
+  pub side : c.side ≡ claim.side
+  pub goal : c.goal ≡ claim.goal
+  pub count : c.count ≡ length claim.nodes
+  pub marks : (kept c.marks) ≡ map position_of (take k claim.nodes)
