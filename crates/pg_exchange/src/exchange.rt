@@ -127,7 +127,7 @@ impl<G: Ground> Exchange<G> {
         ensures members { IsMoved (G.base self.old.first) (G.base self.old.second) (G.base self.new.first) (G.base self.new.second) result y }
     {
         let mut at = y;
-        for _i in 0..1024u16 {
+        for _i in 0..MAX_MEMBERS {
             if from.has(at) {
                 return at;
             }
@@ -159,8 +159,8 @@ impl<G: Ground> Exchange<G> {
         ensures closed { IfNone result (IsClosed (G.matroid self.old.first) (G.base self.old.first) (G.base self.old.second) (contains from.now) (contains to.now)) }
         ensures unchanged { IfNone result ((G.base self.new.first ≡ G.base self.old.first) × (G.base self.new.second ≡ G.base self.old.second)) }
     {
-        let mut up = [0u16; 1024];
-        let mut second = [false; 1024];
+        let mut up = [0u16; MAX_MEMBERS as usize];
+        let mut second = [false; MAX_MEMBERS as usize];
         let mut seen = *from;
         let mut level = *from;
         let mut later = PointSet::empty();

@@ -109,7 +109,7 @@ pub(crate) fn members<G: Ground>(ground: &G) -> PointSet
     ensures { contains result ≡ G.base ground.now }
 {
     let mut result = PointSet::empty();
-    for f in 0..1024u16 {
+    for f in 0..MAX_MEMBERS {
         if ground.member(f) {
             result.put(f);
         }

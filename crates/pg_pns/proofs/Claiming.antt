@@ -6,14 +6,16 @@ use Rattle.std.proofs.lemmas.List.{length-take-le}
 use Rattle.std.specs.List.{Contains, count_by}
 use Rattle.pg_game.specs.declared.position.Position.{Position}
 use Rattle.pg_base.specs.declared.side.Side.{Side}
+use Rattle.pg_cert.specs.declared.node.Body.{Body}
+use Rattle.pg_cert.specs.declared.node.Body.TheVariants.{Over, Move, All as AllReplies, Pairs, Potential, Trees, Cuts, Threat}
 use Rattle.pg_cert.specs.declared.node.Node.{Node}
-use Rattle.pg_pns.proofs.Nodes.{nodes-cut}
+use Rattle.pg_prune.proofs.Nodes.{nodes-cut}
 use Rattle.pg_pns.proofs.ValidNodes.{valid-claim, within-limits}
 use Rattle.pg_game.specs.declared.game.Game.{Game}
 use Rattle.pg_base.specs.declared.goal.Goal.{Goal}
 use Rattle.pg_base.specs.declared.score.Score.{Score}
 use Rattle.pg_game.specs.Game.{free_points, start, with_turn}
-use Rattle.pg_pns.specs.Sound.{NodesHold}
+use Rattle.pg_prune.specs.Sound.{NodesHold}
 use Rattle.pg_cert.specs.Node.{position_of}
 use Rattle.pg_pns.specs.declared.known.Answered.{Answered}
 use Rattle.pg_pns.specs.declared.table.Table.{Table}
@@ -21,14 +23,14 @@ use Rattle.pg_cert.specs.declared.cert.Claim.{Claim}
 use Rattle.pg_pns.specs.Claims.{nodes_of}
 use Rattle.pg_game.specs.Decided.{claimer, claimed_goal, first_criterion}
 use Rattle.pg_pns.specs.Leaf.{criterion_of}
-use Rattle.pg_pns.specs.Pruned.{AreMarked, IsMarked, IsMoved, IsPruned, IsUsed}
+use Rattle.pg_prune.specs.Pruned.{AreMarked, IsMarked, IsMoved, IsPruned, IsUsed, Renumbers}
 use Rattle.pg_pns.specs.Search.{Follows, IsSearch}
 use Rattle.pg_pns.specs.Found.{IsClaimOf}
-use Rattle.pg_pns.proofs.KeptNodes.{names-earlier, renumbers-names}
+use Rattle.pg_prune.proofs.KeptNodes.{names-earlier, renumbers-names}
 use Rattle.std.specs.Option.{is_none}
 use Rattle.std.proofs.Common.{add-one}
 use Rattle.pg_pns.proofs.Showing.{number_of}
-use Rattle.pg_pns.proofs.Stands.{one_at, from_take, in_take}
+use Rattle.pg_prune.proofs.Stands.{one_at, from_take, in_take}
 
 same_some : {A : Type 0} {x y : A} → Some x ≡ Some y → x ≡ y
 same_some e = cc
@@ -96,6 +98,17 @@ cut-nodes g t list s a is few root = record {
 
 -- ---- those that the root reaches
 
+-- a body with new numbers is by the same criterion
+renumbers-kind : (numbers : List ℕ) (old new : Body) → Renumbers numbers old new → criterion_of new ≡ criterion_of old
+renumbers-kind numbers Over new h = ap criterion_of h
+renumbers-kind numbers (Move point child) new h = ap criterion_of h.2
+renumbers-kind numbers (AllReplies replies) new h = ap criterion_of h.2
+renumbers-kind numbers (Pairs pairs) new h = ap criterion_of h
+renumbers-kind numbers Potential new h = ap criterion_of h
+renumbers-kind numbers (Trees e first second) new h = ap criterion_of h
+renumbers-kind numbers (Cuts e first second) new h = ap criterion_of h
+renumbers-kind numbers (Threat points) new h = ap criterion_of h
+
 module _ (g : Game) (t : Score) (list : List Position) (b : Bool) (nodes out : List Node) (marks : List Bool) (numbers : List ℕ) (are : AreNodesOf g t list b nodes) (marked : AreMarked nodes 0 marks) (is : IsPruned nodes marks (length nodes) numbers out) where
   out-hold : NodesHold g (claimer b) (claimed_goal g.kind t b) out
   out-hold = is.hold g (claimer b) (claimed_goal g.kind t b) are.hold
@@ -117,7 +130,7 @@ module _ (g : Game) (t : Score) (list : List Position) (b : Bool) (nodes out : L
   pruned-nodes = record {
     hold = out-hold;
     limit = omega (arith, is.few, are.limit);
-    leaf = λ i m at. let f = is.source i m at in f.kind ∙ are.leaf f.from f.node f.at ∙ ap (first_criterion g t) (sym f.position);
+    leaf = λ i m at. let f = is.source i m at in renumbers-kind numbers f.node.body m.body f.body ∙ are.leaf f.from f.node f.at ∙ ap (first_criterion g t) (sym f.position);
     root = (get_or numbers are.root.0 0, root-moved.node, root-last ∙ add-one (get_or numbers are.root.0 0), root-moved.at, root-moved.position ∙ are.root.4);
     different = λ i k m n m_at n_at e.
         let fm = is.source i m m_at in

@@ -24,8 +24,9 @@ use Rattle.pg_pns.specs.Settles.{by_answers}
 use Rattle.pg_pns.specs.Search.{IsSearch, IsNext}
 use Rattle.pg_pns.specs.Search.IsNext.{at_root, below}
 use Rattle.pg_pns.proofs.Closing.{open-move}
-use Rattle.pg_pns.proofs.SettleLaws.{some≢none, in_free_points, Contains-map, option_cases}
-use Rattle.pg_pns.proofs.Spreading.{contains_push}
+use Rattle.pg_pns.proofs.SettleLaws.{Contains-map, option_cases}
+use Rattle.pg_game.proofs.SettledLaws.{in_free_points}
+use Rattle.pg_prune.proofs.Stands.{some≢none, contains_push}
 
 same_some : {A : Type 0} {x y : A} → Some x ≡ Some y → x ≡ y
 same_some e = cc

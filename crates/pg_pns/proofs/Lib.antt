@@ -1,10 +1,8 @@
-pub mod Stands
 pub mod ByMoves
 pub mod SettleLaws
 pub mod KnownLemmas
 pub mod FirstCriterion
 pub mod ShortCounts
-pub mod Nodes
 pub mod ValidNodes
 pub mod Showing
 pub mod Spreading
@@ -13,7 +11,6 @@ pub mod TableLaws
 pub mod Growing
 pub mod Meeting
 pub mod Searching
-pub mod KeptNodes
 pub mod Claiming
 pub mod Expanding
 pub mod Moving

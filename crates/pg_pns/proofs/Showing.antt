@@ -21,12 +21,12 @@ use Rattle.pg_text.specs.Text.{ascend_from}
 use Rattle.pg_cert.specs.Valid.{IsNodeOf}
 use Rattle.pg_game.proofs.Limits.{point_count-le}
 use Rattle.pg_pns.specs.Leaf.{criterion_of, first_criterion}
-use Rattle.pg_pns.proofs.Nodes.{nodes-push}
+use Rattle.pg_prune.proofs.Nodes.{nodes-push}
 use Rattle.pg_pns.proofs.FirstCriterion.{undecided-criterion, body-criterion}
 use Rattle.pg_game.specs.declared.game.Game.{Game}
 use Rattle.pg_base.specs.declared.goal.Goal.{Goal}
 use Rattle.pg_base.specs.declared.score.Score.{Score}
-use Rattle.pg_pns.specs.Sound.{NodesHold, BodyHolds}
+use Rattle.pg_prune.specs.Sound.{NodesHold, BodyHolds}
 use Rattle.pg_cert.specs.Node.{position_of}
 use Rattle.pg_game.specs.Game.{is_over, free_points, point_count, after}
 use Rattle.pg_pns.specs.declared.known.Answered.{Answered}
@@ -37,8 +37,9 @@ use Rattle.pg_pns.specs.Known.{answer_of, IsShown, IsBodyBy, HaveReplies}
 use Rattle.pg_pns.specs.Claims.{nodes_of}
 use Rattle.pg_pns.specs.Settles.{IsSettledAt, IsLeftOpen}
 use Rattle.pg_pns.specs.Table.{HasShape, AreShown}
-use Rattle.pg_pns.proofs.SettleLaws.{undecided-going, in_free_points, Contains-map}
-use Rattle.pg_pns.proofs.Stands.{at_push, at_old, at_new, at_contains, at_set_other, at_set_same}
+use Rattle.pg_pns.proofs.SettleLaws.{Contains-map}
+use Rattle.pg_game.proofs.SettledLaws.{undecided-going, in_free_points}
+use Rattle.pg_prune.proofs.Stands.{at_push, at_old, at_new, at_contains, at_set_other, at_set_same, map-same_at}
 
 -- ---- the body that an answer by moves gives holds
 
@@ -68,17 +69,6 @@ ascend-filter t m k (suc n) le = elim (cases_Bool (t k)) [
 ascend-free_points : (g : Game) (p : Position) → ascend_from 0 (free_points g p) ≡ true
 unfolding free_points
 ascend-free_points g p = ascend-filter (is_free p) 0 0 (point_count g) (omega arith)
-
--- lists of one length with the same numbers at each place are the same
-module _ {A B : Type 0} (f : A → ℕ) (h : B → ℕ) where
-  pub map-same_at : (xs : List A) (ys : List B) → length xs ≡ length ys → ((n : ℕ) (x : A) (y : B) → slice_get xs n ≡ Some x → slice_get ys n ≡ Some y → f x ≡ h y) → map f xs ≡ map h ys
-  map-same_at [] [] len each = refl
-  map-same_at [] (y ∷ ys) len each = absurd (omega (arith, len))
-  map-same_at (x ∷ xs) [] len each = absurd (omega (arith, len))
-  map-same_at (x ∷ xs) (y ∷ ys) len each =
-      let first = each 0 x y refl refl in
-      let rest = map-same_at xs ys (omega (arith, len)) (λ n a b. each (suc n) a b) in
-      λ i. first i ∷ rest i
 
 module _ (g : Game) (t : Score) (positions : List Position) (moves : List (List (ℕ × ℕ))) (parents : List (List ℕ)) (answers : List (Option Answered)) (nodes : Bool → List Node)
     (shape : HasShape g t positions moves parents) (shown : AreShown g t positions answers nodes) (place : ℕ) (p : Position) (ms : List (ℕ × ℕ))

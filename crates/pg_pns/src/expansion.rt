@@ -22,7 +22,6 @@ use crate::guide::Guide;
 use crate::known::Answered;
 use crate::lists::{Moves, Places};
 use crate::order::order_of;
-use crate::pruning::prune;
 use crate::settle::settle_from;
 use crate::table::{Table, meet_after};
 use crate::work::Found;
@@ -32,6 +31,7 @@ use pg_board::Board;
 use pg_cert::{Claim, Nodes};
 use pg_game::{Game, Position};
 use pg_match::PairCache;
+use pg_prune::prune;
 use std::alloc::Global;
 
 /// Adds a place before the place.

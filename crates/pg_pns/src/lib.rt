@@ -12,7 +12,6 @@ pub mod laws;
 mod lists;
 mod numbers;
 mod order;
-mod pruning;
 mod settle;
 mod table;
 mod work;

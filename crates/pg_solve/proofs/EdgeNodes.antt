@@ -30,7 +30,7 @@ use Rattle.pg_game.specs.declared.field.Field.{Field}
 use Rattle.pg_game.specs.declared.field.Field.TheVariants.{Lines, Graph as OnGraph}
 use Rattle.pg_game.specs.declared.game.Game.{Game}
 use Rattle.pg_game.specs.declared.position.Position.{Position}
-use Rattle.pg_pns.proofs.Stands.{one_at}
+use Rattle.pg_prune.proofs.Stands.{one_at}
 use Rattle.pg_pns.proofs.ValidNodes.{valid-claim, within-limits}
 use Rattle.pg_pns.specs.Sound.{BodyHolds, NodesHold}
 use Rattle.pg_lehman.specs.Sets.{AreShortSets, AreCutSets, AreFirstSets}

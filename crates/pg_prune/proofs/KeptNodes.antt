@@ -18,14 +18,10 @@ use Rattle.pg_cert.specs.declared.node.Body.{Body}
 use Rattle.pg_cert.specs.declared.node.Body.TheVariants.{Over, Move, All as AllReplies, Pairs, Potential, Trees, Cuts, Threat}
 use Rattle.pg_cert.specs.declared.node.Node.{Node}
 use Rattle.pg_cert.specs.declared.reply.Reply.{Reply}
-use Rattle.pg_pns.specs.Leaf.{criterion_of}
-use Rattle.pg_pns.specs.Sound.{BodyHolds}
-use Rattle.pg_pns.specs.Pruned.{AreMarked, AreNamed, AreRenumbered, IsKept, IsMarked, IsMoved, IsPruned, IsSource, MarksMore, Names, Renumbers}
-use Rattle.pg_pns.proofs.Nodes.{nodes-push}
-use Rattle.pg_pns.proofs.SettleLaws.{some≢none}
-use Rattle.pg_pns.proofs.Showing.{map-same_at}
-use Rattle.pg_pns.proofs.Spreading.{contains_push, contains_old}
-use Rattle.pg_pns.proofs.Stands.{at_contains, contains_at, at_new, at_old, at_push, at_set_other, at_set_same, one_at}
+use Rattle.pg_prune.specs.Sound.{BodyHolds}
+use Rattle.pg_prune.specs.Pruned.{AreMarked, AreNamed, AreRenumbered, IsKept, IsMarked, IsMoved, IsPruned, IsSource, MarksMore, Names, Renumbers}
+use Rattle.pg_prune.proofs.Nodes.{nodes-push}
+use Rattle.pg_prune.proofs.Stands.{at_contains, contains_at, contains_push, contains_old, at_new, at_old, at_push, at_set_other, at_set_same, map-same_at, one_at, some≢none}
 
 -- ---- one mark more, and those of replies
 
@@ -167,16 +163,6 @@ renumbers-more numbers x (Trees e first second) new h = h
 renumbers-more numbers x (Cuts e first second) new h = h
 renumbers-more numbers x (Threat points) new h = h
 
-renumbers-kind : (numbers : List ℕ) (old new : Body) → Renumbers numbers old new → criterion_of new ≡ criterion_of old
-renumbers-kind numbers Over new h = ap criterion_of h
-renumbers-kind numbers (Move point child) new h = ap criterion_of h.2
-renumbers-kind numbers (AllReplies replies) new h = ap criterion_of h.2
-renumbers-kind numbers (Pairs pairs) new h = ap criterion_of h
-renumbers-kind numbers Potential new h = ap criterion_of h
-renumbers-kind numbers (Trees e first second) new h = ap criterion_of h
-renumbers-kind numbers (Cuts e first second) new h = ap criterion_of h
-renumbers-kind numbers (Threat points) new h = ap criterion_of h
-
 -- what the new body names comes from what the old one names
 pub renumbers-names : (numbers : List ℕ) (old new : Body) (i d : ℕ) → Renumbers numbers old new → Names old i → slice_get numbers i ≡ Some d → Names new d
 renumbers-names numbers Over new i d h n at = absurd n
@@ -283,7 +269,7 @@ module _ (nodes : List Node) (marks : List Bool) (k : ℕ) (numbers : List ℕ) 
   source-more : (d : ℕ) (m : Node) → slice_get out d ≡ Some m → IsSource nodes marks (numbers ++ length out ∷ []) d m
   source-more d m there =
       let f = was.source d m there in
-      record { from = f.from; node = f.node; marked = f.marked; at = f.at; number = at_old numbers (length out) d f.from f.number; position = f.position; kind = f.kind }
+      record { from = f.from; node = f.node; marked = f.marked; at = f.at; number = at_old numbers (length out) d f.from f.number; position = f.position; body = renumbers-more numbers (length out) f.node.body m.body f.body }
 
   pub pruned-left : slice_get marks k ≡ Some false → IsPruned nodes marks (k + 1) (numbers ++ length out ∷ []) out
   pruned-left off = record {
@@ -327,7 +313,7 @@ module _ (nodes : List Node) (marks : List Bool) (k : ℕ) (numbers : List ℕ) 
           at = at;
           number = ap (slice_get (numbers ++ length out ∷ [])) (sym was.count) ∙ at_new numbers (length out) ∙ ap Some (sym new.0);
           position = same;
-          kind = renumbers-kind (numbers ++ length out ∷ []) n.body m.body body;
+          body = body;
         })
       ];
       hold = λ g side goal h. nodes-push g side goal out m (was.hold g side goal h) (holds g side goal (h k n at));

@@ -1,88 +1,14 @@
-//! A claim's nodes without those that its root doesn't reach.
-ghost use Rattle.std.specs.Prelude.{◌≡◌, ◌<◌, ◌≤◌, ◌+◌, ◌^◌, ℕ, Bool, List, true, false, Some, IfOk, OnOk, length, slice_get};
+//! The nodes that are kept, with new numbers of their children.
+ghost use Rattle.std.specs.Prelude.{◌≡◌, ◌<◌, ◌≤◌, ◌^◌, ℕ, Bool, List, Some, IfOk, OnOk, length, slice_get};
 ghost use Rattle.std.specs.List.{All};
-ghost use Rattle.std.proofs.Math.ListN.{replicate};
 ghost use Rattle.pg_cert.specs.Valid.{NamesEarlier};
 ghost use Rattle.pg_cert.specs.declared.node.Node.{Node};
-ghost use Rattle.pg_pns.specs.Pruned.{AreMarked, AreNamed, AreRenumbered, IsKept, IsMarked, IsPruned, MarksMore, Names, Renumbers};
+ghost use Rattle.pg_prune.specs.Pruned.{AreMarked, AreRenumbered, IsKept, IsPruned, Renumbers};
 
+use crate::marks::{mark_needed, unmarked};
 use pg_base::{Memory, Pairs, Points};
 use pg_cert::{Body, Node, Replies, Reply};
 use std::alloc::Global;
-
-/// Marks the number.
-fn mark(marks: &mut [bool], i: u32)
-    requires { i < length marks.old }
-    ensures { MarksMore (λ j. i ≡ j) marks.old marks.new }
-{
-    marks[i as usize] = true;
-}
-
-/// Marks the children of replies.
-fn mark_replies(replies: &[Reply], marks: &mut [bool])
-    requires { All (λ r. r.child < length marks.old) replies.now }
-    ensures { MarksMore (AreNamed replies.now) marks.old marks.new }
-{
-    for r in replies {
-        mark(marks, r.child);
-    }
-}
-
-/// Marks the children that the body names.
-fn mark_children(body: &Body, marks: &mut [bool])
-    requires { NamesEarlier (length marks.old) body.now }
-    ensures { MarksMore (Names body.now) marks.old marks.new }
-{
-    match body {
-        Body::Move {
-            point: _point,
-            child,
-        } => mark(marks, *child),
-        Body::All(replies) => mark_replies(replies.as_slice(), marks),
-        Body::Over => {}
-        Body::Pairs(_pairs) => {}
-        Body::Potential => {}
-        Body::Trees { .. } => {}
-        Body::Cuts { .. } => {}
-        Body::Threat(_points) => {}
-    }
-}
-
-/// Marks the children of the node of the number, where it is marked.
-fn mark_from(node: &Node, k: usize, marks: &mut [bool])
-    requires within { k < length marks.old }
-    requires earlier { NamesEarlier k node.now.body }
-    ensures marked { IsMarked marks.old k → MarksMore (Names node.now.body) marks.old marks.new }
-    ensures left { slice_get marks.old k ≡ Some false → marks.new ≡ marks.old }
-{
-    if marks[k] {
-        mark_children(&node.body, marks);
-    }
-}
-
-/// Marks what the marked nodes name, from the last on.
-fn mark_all(nodes: &[Node], marks: &mut [bool])
-    requires earlier { (k : ℕ) → (n : Node) → slice_get nodes.now k ≡ Some n → NamesEarlier k n.body }
-    requires marks { AreMarked nodes.now (length nodes.now) marks.old }
-    ensures { AreMarked nodes.now 0 marks.new }
-{
-    for i in 0..nodes.len() {
-        let k = nodes.len() - 1 - i;
-        mark_from(&nodes[k], k, marks);
-    }
-}
-
-/// Marks the last number, and what the marked nodes name.
-fn mark_needed(nodes: &[Node], marks: &mut [bool])
-    requires some { 1 ≤ length nodes.now }
-    requires few { length nodes.now ≤ 100000 }
-    requires earlier { (k : ℕ) → (n : Node) → slice_get nodes.now k ≡ Some n → NamesEarlier k n.body }
-    requires marks { marks.old ≡ replicate (length nodes.now) false }
-    ensures { AreMarked nodes.now 0 marks.new }
-{
-    mark(marks, (nodes.len() - 1) as u32);
-    mark_all(nodes, marks);
-}
 
 /// The replies with new numbers.
 fn renumber_replies(alloc: Global, replies: &[Reply], numbers: &[u32]) -> Result<Vec<Reply>, Memory>
@@ -181,20 +107,12 @@ fn marked_nodes(alloc: Global, nodes: &[Node], marks: &[bool]) -> Result<Vec<Nod
     Ok(out)
 }
 
-/// So many marks that aren't set.
-fn unmarked(alloc: Global, count: usize) -> Result<Vec<bool>, Memory>
-    ensures { IfOk result (λ marks. marks.items ≡ replicate count false) }
-{
-    let marks = Vec::from_elem(alloc, false, count)?;
-    Ok(marks)
-}
-
 /// The nodes that the last one reaches, in their order, with new numbers of their children.
 ///
 /// # Errors
 ///
 /// `Memory` where no memory is found.
-pub(crate) fn prune(alloc: Global, nodes: &[Node]) -> Result<Vec<Node>, Memory>
+pub fn prune(alloc: Global, nodes: &[Node]) -> Result<Vec<Node>, Memory>
     requires some { 1 ≤ length nodes.now }
     requires few { length nodes.now ≤ 100000 }
     requires earlier { (k : ℕ) → (n : Node) → slice_get nodes.now k ≡ Some n → NamesEarlier k n.body }

@@ -9,8 +9,7 @@ use Rattle.pg_cert.specs.declared.node.Body.{Body}
 use Rattle.pg_cert.specs.declared.node.Body.TheVariants.{Move, All}
 use Rattle.pg_cert.specs.declared.node.Node.{Node}
 use Rattle.pg_cert.specs.declared.reply.Reply.{Reply}
-use Rattle.pg_pns.specs.Leaf.{criterion_of}
-use Rattle.pg_pns.specs.Sound.{NodesHold}
+use Rattle.pg_prune.specs.Sound.{NodesHold}
 
 -- ---- marks
 
@@ -78,7 +77,7 @@ pub record IsSource (nodes : List Node) (marks : List Bool) (numbers : List ℕ)
   pub at : slice_get nodes from ≡ Some node
   pub number : slice_get numbers from ≡ Some d
   pub position : position_of m ≡ position_of node
-  pub kind : criterion_of m.body ≡ criterion_of node.body
+  pub body : Renumbers numbers node.body m.body
 
 -- of the nodes below number k the marked ones stand in their order, each at its new number
 pub record IsPruned (nodes : List Node) (marks : List Bool) (k : ℕ) (numbers : List ℕ) (out : List Node) : Type 0 where
