@@ -1,5 +1,5 @@
 -- How a run ends.
-use Rattle.std.proofs.Common.{◌≡◌, ◌≢◌, ℕ, List, [], ◌∷◌, Option, Some, None, Result, Ok, Err, refl, sym, ◌∙◌, ap, subst, inl, inr, arith}
+use Rattle.std.proofs.Common.{◌≡◌, ◌≢◌, ℕ, Bool, true, false, if◌then◌else◌, List, [], ◌∷◌, Option, Some, None, Ok, Err, refl, sym, ◌∙◌, ap, subst, inl, inr, arith}
 use Rattle.std.specs.Prelude.{IfSome}
 use Rattle.std.specs.List.{Contains}
 use Rattle.pg_io.specs.Causes.{Faults, Rose}
@@ -15,15 +15,17 @@ use Rattle.pg_texts.specs.declared.refusal.Refusal.{Refusal}
 use Rattle.pg_texts.specs.declared.refusal.Refusal.TheVariants.{NoMeaning, NoClaim, Game, Certificate, Rejected}
 use Rattle.pg_texts.specs.declared.statuses.TheConstants.{DONE, UNKNOWN, REFUSED, INPUT_ENDED, OUT_OF_REPLIES, NO_MEANING, READ_FAILED, WRITE_FAILED, NO_MEMORY}
 use Rattle.pg_words.specs.Words.{Command, Solve, Check, Play, Gen, Report}
+use Rattle.pg_words.specs.declared.source.Source.{Source}
+use Rattle.pg_cli.specs.Generating.{searches}
 use Rattle.pg_cli.specs.Commands.{Gives, Quiets, Silences, SaysNoMeaning, statuses_of}
-use Rattle.pg_cli.specs.Done.{Done, End, Finished, Failed, Starved, Talked, Hears, Changes, Keeps, ending, nothing, talk, stop_end}
-use Rattle.pg_cli.specs.Halts.{BothCauses, Calm, IsGameHalt, IsReadHalt, IsPlayHalt, IsPlayEnd, stop_status}
+use Rattle.pg_cli.specs.Done.{Done, End, Finished, Failed, Starved, Changes, IsNothing, ending, nothing, talk, stop_end}
+use Rattle.pg_cli.specs.Halts.{BothCauses, Calm, stop_status}
 use Rattle.pg_cli.specs.Hearing.{Hearing}
-use Rattle.pg_cli.specs.Run.{Allows, Declines, Acts, RanOn, Ran, CarriesOn, Carries, Ends, HasCause}
+use Rattle.pg_cli.specs.Run.{Allows, Declines, RanOn, Ran, CarriesOn, Carries, Ends, HasCause}
 use Rattle.pg_pns.specs.Expanded.{Expanded}
 use Rattle.pg_cli.specs.declared.halt.Halt.{Halt}
 use Rattle.pg_cli.specs.declared.halt.Halt.TheVariants.{Refused, Stopped}
-use Rattle.pg_cli.proofs.Speaking.{Grows-nothing, Grows-then}
+use Rattle.pg_cli.proofs.Speaking.{Grows-then}
 use Rattle.pg_cli.proofs.Talking.{Hearing-then, Hearing-said}
 
 -- ---- statuses
@@ -37,7 +39,8 @@ finishes (Some (Check g c)) status gives = subst (λ (s : ℕ). ending s ≡ Fin
 finishes (Some (Play g c side)) status (inl is) = subst (λ (s : ℕ). ending s ≡ Finished s) (sym is) refl
 finishes (Some (Play g c side)) status (inr (inl is)) = subst (λ (s : ℕ). ending s ≡ Finished s) (sym is) refl
 finishes (Some (Play g c side)) status (inr (inr is)) = subst (λ (s : ℕ). ending s ≡ Finished s) (sym is) refl
-finishes (Some (Gen which g c)) status gives = absurd gives
+finishes (Some (Gen which g c)) status (inl is) = subst (λ (s : ℕ). ending s ≡ Finished s) (sym is) refl
+finishes (Some (Gen which g c)) status (inr (searched, is)) = subst (λ (s : ℕ). ending s ≡ Finished s) (sym is) refl
 finishes (Some (Report g c)) status (inl is) = subst (λ (s : ℕ). ending s ≡ Finished s) (sym is) refl
 finishes (Some (Report g c)) status (inr is) = subst (λ (s : ℕ). ending s ≡ Finished s) (sym is) refl
 
@@ -72,7 +75,7 @@ module _ (command : Option Command) (work : Expanded) (files files' : FilesTold)
         subst (λ (end : End). RanOn held command work files' before after end) (sym (finishes command status gives)) (done, inr acts, changes)
 
   module _ (held : Holding) (before mid after : ConsoleTold) where
-    declined : (stop : Stop) (done : Done) → (done.entries ≡ []) × (done.stored ≡ []) → Declines held command done (stop_end stop)
+    declined : (stop : Stop) (done : Done) → IsNothing done → Declines held command done (stop_end stop)
     declined Read done none = none
     declined Write done none = none
     declined Memory done none = none
@@ -134,6 +137,16 @@ silent_early command before mid after (Stopped Memory) status quiets (is, same) 
 at_place : (l : List ℕ) (n m : ℕ) → n ≡ m → Contains l m → Contains l n
 at_place l n m is there = subst (λ (s : ℕ). Contains l s) (sym is) there
 
+abbrev gen_statuses : Bool → List ℕ
+gen_statuses b = if b then DONE ∷ UNKNOWN ∷ WRITE_FAILED ∷ NO_MEMORY ∷ [] else DONE ∷ WRITE_FAILED ∷ NO_MEMORY ∷ []
+
+-- the statuses of a game that is made, by whether it is searched
+gen_status : (which : Source) (c : Option Bytes) (P : List ℕ → Type 0) → (searches which c ≡ true → P (gen_statuses true)) → (searches which c ≡ false → P (gen_statuses false)) → P (gen_statuses (searches which c))
+gen_status which c P more fewer = go (searches which c) refl where
+  go : (b : Bool) → searches which c ≡ b → P (gen_statuses b)
+  go true is = more is
+  go false is = fewer is
+
 pub status_done : (command : Option Command) (status : ℕ) → Gives command (Ok status) → Contains (statuses_of command) status
 status_done None status gives = absurd gives
 status_done (Some (Solve g c positions)) status (inl is) = at_place (statuses_of (Some (Solve g c positions))) status DONE is (0, omega arith, refl)
@@ -142,7 +155,9 @@ status_done (Some (Check g c)) status is = at_place (statuses_of (Some (Check g 
 status_done (Some (Play g c side)) status (inl is) = at_place (statuses_of (Some (Play g c side))) status DONE is (0, omega arith, refl)
 status_done (Some (Play g c side)) status (inr (inl is)) = at_place (statuses_of (Some (Play g c side))) status INPUT_ENDED is (7, omega arith, refl)
 status_done (Some (Play g c side)) status (inr (inr is)) = at_place (statuses_of (Some (Play g c side))) status OUT_OF_REPLIES is (8, omega arith, refl)
-status_done (Some (Gen which g c)) status gives = absurd gives
+status_done (Some (Gen which g c)) status (inl is) = gen_status which c (λ l. Contains l status) (λ _. at_place (gen_statuses true) status DONE is (0, omega arith, refl)) (λ _. at_place (gen_statuses false) status DONE is (0, omega arith, refl))
+status_done (Some (Gen which g c)) status (inr (searched, is)) = gen_status which c (λ l. Contains l status)
+    (λ _. at_place (gen_statuses true) status UNKNOWN is (1, omega arith, refl)) (λ unsearched. absurd (cc (searched, unsearched)))
 status_done (Some (Report g c)) status (inl is) = at_place (statuses_of (Some (Report g c))) status DONE is (0, omega arith, refl)
 status_done (Some (Report g c)) status (inr is) = at_place (statuses_of (Some (Report g c))) status REFUSED is (2, omega arith, refl)
 
@@ -152,7 +167,7 @@ write_fails None = (1, omega arith, refl)
 write_fails (Some (Solve g c positions)) = (4, omega arith, refl)
 write_fails (Some (Check g c)) = (4, omega arith, refl)
 write_fails (Some (Play g c side)) = (5, omega arith, refl)
-write_fails (Some (Gen which g c)) = (1, omega arith, refl)
+write_fails (Some (Gen which g c)) = gen_status which c (λ l. Contains l WRITE_FAILED) (λ _. (2, omega arith, refl)) (λ _. (1, omega arith, refl))
 write_fails (Some (Report g c)) = (4, omega arith, refl)
 
 refuses : (command : Option Command) (refusal : Refusal) → Gives command (Err (Refused refusal)) → Contains (statuses_of command) (refusal_status refusal)
@@ -173,8 +188,7 @@ refuses (Some (Solve g c positions)) (NoClaim side) gives = absurd gives
 refuses (Some (Solve g c positions)) (Game number line) gives = (2, omega arith, refl)
 refuses (Some (Solve g c positions)) (Certificate number line) gives = absurd gives
 refuses (Some (Solve g c positions)) (Rejected claim node why) gives = absurd gives
-refuses (Some (Gen which g c)) refusal (inl is) = let e : refusal ≡ NoMeaning = cc is in subst (λ (r : Refusal). Contains (statuses_of None) (refusal_status r)) (sym e) (0, omega arith, refl)
-refuses (Some (Gen which g c)) refusal (inr is) = absurd (cc is)
+refuses (Some (Gen which g c)) refusal gives = absurd gives
 refuses (Some (Report g c)) NoMeaning gives = absurd gives
 refuses (Some (Report g c)) (NoClaim side) gives = absurd gives
 refuses (Some (Report g c)) (Game number line) gives = (1, omega arith, refl)
@@ -193,8 +207,9 @@ stops None stop (inr is) = let e : stop ≡ Memory = cc is in subst (λ (s : Sto
 stops (Some (Solve g c positions)) Read gives = (3, omega arith, refl)
 stops (Some (Solve g c positions)) Write gives = (4, omega arith, refl)
 stops (Some (Solve g c positions)) Memory gives = (5, omega arith, refl)
-stops (Some (Gen which g c)) stop (inl is) = absurd (cc is)
-stops (Some (Gen which g c)) stop (inr is) = let e : stop ≡ Memory = cc is in subst (λ (s : Stop). Contains (statuses_of None) (stop_status s)) (sym e) (2, omega arith, refl)
+stops (Some (Gen which g c)) Read gives = absurd gives
+stops (Some (Gen which g c)) Write gives = write_fails (Some (Gen which g c))
+stops (Some (Gen which g c)) Memory gives = gen_status which c (λ l. Contains l NO_MEMORY) (λ _. (3, omega arith, refl)) (λ _. (2, omega arith, refl))
 stops (Some (Report g c)) Read gives = (3, omega arith, refl)
 stops (Some (Report g c)) Write gives = (4, omega arith, refl)
 stops (Some (Report g c)) Memory gives = (5, omega arith, refl)

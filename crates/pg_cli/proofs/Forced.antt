@@ -1,11 +1,11 @@
 -- Claims that are said are forced.
-use Rattle.std.proofs.Common.{◌≡◌, ◌≢◌, ◌⊎◌, ℕ, zero, suc, ◌<◌, nat_eq, Bool, true, false, cond, List, [], ◌∷◌, ◌++◌, length, get_or, map, find, slice_get, Option, Some, None, Result, Ok, Err, refl, sym, ◌∙◌, ap, subst, inl, inr, arith}
+use Rattle.std.proofs.Common.{◌≡◌, ◌≢◌, ◌⊎◌, ℕ, zero, suc, nat_eq, Bool, true, false, cond, List, [], ◌∷◌, ◌++◌, length, get_or, map, find, slice_get, Option, Some, None, Result, Ok, Err, refl, sym, ◌∙◌, ap, subst, inl, inr, arith}
 use Rattle.std.specs.Prelude.{codes, IfSome}
 use Rattle.std.specs.List.{Contains}
 use Rattle.std.specs.Option.{option_or}
 use Rattle.std.proofs.lemmas.Bool.{and_parts}
 use Rattle.std.proofs.lemmas.Bool.Decides.{nat_tests}
-use Rattle.std.proofs.lemmas.List.{append_cancel_left, append-nil}
+use Rattle.std.proofs.lemmas.List.{append_cancel_left}
 use Rattle.std.proofs.lemmas.List.Elements.{Contains-append_left, Contains-append_right, Contains-append_cases}
 use Rattle.pg_base.specs.Goal.{goal_word}
 use Rattle.pg_base.specs.Side.{is_same_side, side_word}
@@ -14,21 +14,24 @@ use Rattle.pg_base.specs.declared.goal.Goal.TheVariants.{Win, Draw}
 use Rattle.pg_base.specs.declared.side.Side.{Side}
 use Rattle.pg_base.specs.declared.side.Side.TheVariants.{X, Y}
 use Rattle.pg_io.specs.Console.{ConsoleTold, Grows}
-use Rattle.pg_io.specs.Files.{Bytes, Holding, FilesTold}
+use Rattle.pg_io.specs.Files.{Bytes, Holding, Making, FilesTold}
 use Rattle.pg_io.specs.declared.entry.Entry.{Entry}
-use Rattle.pg_io.specs.declared.entry.Entry.TheVariants.{Said, Heard, Skipped, Ended}
+use Rattle.pg_io.specs.declared.entry.Entry.TheVariants.{Said}
+use Rattle.pg_game.specs.declared.field.Field.{Field}
+use Rattle.pg_game.specs.declared.field.Field.TheVariants.{Graph, Lines}
 use Rattle.pg_game.specs.declared.game.Game.{Game}
 use Rattle.pg_files.specs.GameFile.{game, Entry as GameEntry}
 use Rattle.pg_files.specs.Views.{entry}
 use Rattle.pg_cert_files.specs.CertFile.{certificate}
-use Rattle.pg_cert.specs.Limits.{IsWithinLimits}
+use Rattle.pg_cert.specs.Limits.{IsWithinLimits, node_count}
+use Rattle.pg_cert.specs.Print.{printed_certificate}
 use Rattle.pg_cert.specs.Valid.{IsValid}
 use Rattle.pg_cert.specs.declared.cert.Cert.{Cert}
 use Rattle.pg_cert.specs.declared.cert.Claim.{Claim}
 use Rattle.pg_game.specs.Game.{with_turn, start}
 use Rattle.pg_game.specs.Value.{Forces}
 use Rattle.pg_player.specs.Player.{is_win, is_claim_of, is_win_of, chosen_claim}
-use Rattle.pg_texts.specs.Texts.{accepted_text, claim_text, move_text, reply_text, result_text, refusal_text, unknown_text}
+use Rattle.pg_texts.specs.Texts.{accepted_text, claim_text, reply_text, refusal_text, unknown_text, expanded_text}
 use Rattle.pg_texts.specs.declared.message.ReplyFault.{ReplyFault}
 use Rattle.pg_texts.specs.declared.message.ReplyFault.TheVariants.{NoNumber, NoPoint, Taken}
 use Rattle.pg_texts.specs.declared.refusal.Refusal.{Refusal}
@@ -37,13 +40,15 @@ use Rattle.pg_words.specs.Words.{Command, Solve, Check, Play, Gen, Report}
 use Rattle.pg_cli.specs.Checking.{acceptance, AcceptsAll, SaysAll}
 use Rattle.pg_cli.specs.Commands.{game_read}
 use Rattle.pg_cli.specs.Dialogue.{Stage, At, Owes, Over, Steps, Leads}
-use Rattle.pg_cli.specs.Done.{Done, End, Finished, Failed, Starved, ending}
+use Rattle.pg_cli.specs.Done.{Done, End, Finished, Failed, Starved, Stops, behind, ending}
 use Rattle.pg_cli.specs.Forced.{SaysGame, IsForcedFrom, IsForced, AreForced, AnnouncesForced}
-use Rattle.pg_cli.specs.Playing.{IsPlayedBy, IsPlay, PlaysOn}
+use Rattle.pg_cli.specs.Playing.{IsPlayedBy, PlaysOn}
 use Rattle.pg_cli.specs.Reading.{or_halt, game_held, certificate_held, both, both_held, IsSaidBy}
 use Rattle.pg_cli.specs.Reporting.{Accounts, Reports}
-use Rattle.pg_cli.specs.Solving.{Solves, solution_text}
-use Rattle.pg_cli.specs.Storing.{Delivers}
+use Rattle.pg_cli.specs.Generating.{StoresGame, game_file, size_text, size_texts}
+use Rattle.pg_cli.specs.Solving.{Solves, SolvesGame, Told, result_alone, result_and_counts, solution_text}
+use Rattle.pg_cli.specs.Storing.{Delivers, delivered}
+use Rattle.pg_cli.specs.declared.solving.TheConstants.{DEFAULT_POSITIONS}
 use Rattle.pg_solve.specs.Left.{budget}
 use Rattle.pg_solve.specs.Solved.{certificate_of}
 use Rattle.pg_solve.specs.declared.solution.Class.TheVariants.{Short, Cut, First}
@@ -58,6 +63,14 @@ use Rattle.pg_cli.specs.declared.halt.Halt.{Halt}
 -- by its first letter it doesn't accept a claim, and by its fourth it says none
 abbrev pub IsOther : Bytes → Type 0
 IsOther text = (get_or text 0 0 ≢ 97) × (get_or text 3 0 ≢ 105)
+
+-- the same of each text
+abbrev pub AreOther : List Bytes → Type 0
+AreOther texts = (text : Bytes) → Contains texts text → IsOther text
+
+-- and of each that was said
+abbrev pub AllOther : List Entry → Type 0
+AllOther entries = (text : Bytes) → Contains entries (Said text) → IsOther text
 
 apart : (a b : ℕ) → nat_eq a b ≡ false → a ≢ b
 apart a b e = grind (arith, nat_tests, e)
@@ -106,13 +119,22 @@ said_is a b e = cc e
 
 -- ---- what is said of other texts alone
 
-others_forced : (bytes : Option Bytes) (entries : List Entry) → ((text : Bytes) → Contains entries (Said text) → IsOther text) → AreForced bytes entries
+one_other : (text : Bytes) → IsOther text → AreOther (text ∷ [])
+one_other text other said among = subst (λ (t : Bytes). IsOther t) (one_of text said among) other
+
+two_other : (first second : Bytes) → IsOther first → IsOther second → AreOther (first ∷ second ∷ [])
+two_other first second one two said among = elim (first_or_later first (second ∷ []) said among) as (λ _. IsOther said) [
+  | inl here ↦ subst (λ (t : Bytes). IsOther t) here one
+  | inr later ↦ one_other second two said later
+]
+
+others_forced : (bytes : Option Bytes) (entries : List Entry) → AllOther entries → AreForced bytes entries
 others_forced bytes entries others = record {
   accepted = λ turn side claimed among. absurd ((others (accepted_text turn side claimed) among).0 refl);
   claimed = λ side claimed among. absurd ((others (claim_text side claimed) among).1 refl);
 }
 
-leads_other : (g : Game) (side : Side) (s t : Stage) (entries : List Entry) → Leads g side s entries t → (text : Bytes) → Contains entries (Said text) → IsOther text
+leads_other : (g : Game) (side : Side) (s t : Stage) (entries : List Entry) → Leads g side s entries t → AllOther entries
 leads_other g side s t [] leads text among = absurd (none_of (Said text) among)
 leads_other g side s t (entry ∷ entries) (m, step, rest) text among = elim (first_or_later entry entries (Said text) among) as (λ _. IsOther text) [
   | inl here ↦ step_other g side s m text (subst (λ (e : Entry). Steps g side s e m) here step)
@@ -274,7 +296,7 @@ module _ (limits : ReadsWithinLimits) (valid_forced : ValidClaimsAreForced) wher
 
   -- the claim is said, and then other texts
   claim_forced : (bytes : Option Bytes) (claim : Claim) (entries others : List Entry) → IsForced bytes claim.side claim.goal → entries ≡ Said (claim_text claim.side claim.goal) ∷ others
-      → ((text : Bytes) → Contains others (Said text) → IsOther text) → AreForced bytes entries
+      → AllOther others → AreForced bytes entries
   claim_forced bytes claim entries others forced is quiet = record {
     accepted = λ turn side claimed among.
         elim (split (accepted_text turn side claimed) among) as (λ _. IsForcedFrom bytes turn side claimed) [
@@ -321,13 +343,66 @@ module _ (limits : ReadsWithinLimits) (valid_forced : ValidClaimsAreForced) wher
       (λ text among. let here = one_of (Said said) (Said text) (subst (λ (l : List Entry). Contains l (Said text)) is among) in
       subst (λ (t : Bytes). IsOther t) (said_is said text here) other)
 
+  -- ---- parts that say other texts alone
+
+  stays_other : (entries : List Entry) (texts : List Bytes) → entries ≡ map Said texts → AreOther texts → AllOther entries
+  stays_other entries texts is others text among = others text (unsaid texts text (subst (λ (l : List Entry). Contains l (Said text)) is among))
+
+  delivers_other : (file : Making) (texts : List Bytes) (done : Done) (end : End) → AreOther texts → Delivers file texts done end → AllOther done.entries
+  delivers_other file texts done (Finished status) others (is, status_is) = stays_other done.entries texts (ap (λ (d : Done). d.entries) is) others
+  delivers_other file texts done Failed others (front, (text, rest, whole), is) = stays_other done.entries front (ap (λ (d : Done). d.entries) is)
+      (λ said among. others said (subst (λ (l : List Bytes). Contains l said) (sym whole) (Contains-append_left front (text ∷ rest) said among)))
+  delivers_other file texts done Starved others none = absurd none
+
+  behind_other : (file : Making) (texts : List Bytes) (part done : Done) → done ≡ behind (delivered file texts) part → AreOther texts → AllOther part.entries → AllOther done.entries
+  behind_other file texts part done is others later text among =
+      let here = subst (λ (d : Done). Contains d.entries (Said text)) is among in
+      elim (Contains-append_cases (map Said texts) part.entries (Said text) here) as (λ _. IsOther text) [
+        | inl first ↦ others text (unsaid texts text first)
+        | inr second ↦ later text second
+      ]
+
+  stops_other : (Act : Done → End → Type 0) (part : Done) (end : End) → (Act part end → AllOther part.entries) → Stops Act part end → AllOther part.entries
+  stops_other Act part end acts (inl none) = λ text among. absurd (none_of (Said text) (subst (λ (l : List Entry). Contains l (Said text)) none.0 among))
+  stops_other Act part end acts (inr act) = acts act
+
+  solves_other : (told : Told) (g : Game) (name : Bytes) (positions : ℕ) (work : Expanded) (done : Done) (end : End) → ((solution : Solution) (c : Cert) → certificate_of solution ≡ Some c → AreOther (told solution c))
+      → SolvesGame told g name positions work done end → AllOther done.entries
+  solves_other told g name positions work done (Finished status) others (inl stays) =
+      stays_other done.entries (unknown_text (budget g positions) ∷ []) stays.said (one_other (unknown_text (budget g positions)) (apart _ 97 refl, apart _ 105 refl))
+  solves_other told g name positions work done (Finished status) others (inr (solution, c, shows, left, delivers)) =
+      delivers_other (name, printed_certificate c) (told solution c) done (Finished status) (others solution c shows.own) delivers
+  solves_other told g name positions work done Failed others (solution, c, shows, left, delivers) = delivers_other (name, printed_certificate c) (told solution c) done Failed (others solution c shows.own) delivers
+  solves_other told g name positions work done Starved others none = absurd none
+
+  result_other : (g : Game) (solution : Solution) (c : Cert) → certificate_of solution ≡ Some c → AreOther (result_alone g solution c)
+  result_other g solution c own = one_other (solution_text g solution) (solution_other g solution c own)
+
+  counts_other : (g : Game) (work : Expanded) (solution : Solution) (c : Cert) → certificate_of solution ≡ Some c → AreOther (result_and_counts g work solution c)
+  counts_other g work solution c own = two_other (solution_text g solution) (expanded_text (length work.positions) (node_count c.claims)) (solution_other g solution c own) (apart _ 97 refl, apart _ 105 refl)
+
   solves_forced : (bytes : Option Bytes) (read : Result GameEntry Halt) (name : Bytes) (positions : ℕ) (work : Expanded) (done : Done) (end : End) → Solves read name positions work done end → AreForced bytes done.entries
   solves_forced bytes (Err halt) name positions work done end solves = absurd solves
-  solves_forced bytes (Ok e) name positions work done (Finished status) (g, said, inl stays) = other_forced bytes done.entries (unknown_text (budget g positions)) stays.said (apart _ 97 refl, apart _ 105 refl)
-  solves_forced bytes (Ok e) name positions work done (Finished status) (g, said, inr (solution, c, shows, delivers)) =
-      other_forced bytes done.entries (solution_text g solution) (ap (λ (d : Done). d.entries) delivers.0) (solution_other g solution c shows.own)
-  solves_forced bytes (Ok e) name positions work done Failed (g, said, (solution, c, shows, delivers)) = silent_forced bytes done.entries (ap (λ (d : Done). d.entries) delivers)
-  solves_forced bytes (Ok e) name positions work done Starved (g, said, none) = absurd none
+  solves_forced bytes (Ok e) name positions work done end (g, said, solves) = others_forced bytes done.entries (solves_other (result_alone g) g name positions work done end (result_other g) solves)
+
+  -- ---- a game that is made
+
+  size_other : (field : Field) → AreOther (size_text field ∷ [])
+  size_other (Lines f) = one_other (size_text (Lines f)) (apart _ 97 refl, apart _ 105 refl)
+  size_other (Graph h) = one_other (size_text (Graph h)) (apart _ 97 refl, apart _ 105 refl)
+
+  made_other : (g : Game) (name certificate : Bytes) (work : Expanded) (part : Done) (end : End) → SolvesGame (result_and_counts g work) g certificate DEFAULT_POSITIONS work part end → AllOther part.entries
+  made_other g name certificate work part end solves = solves_other (result_and_counts g work) g certificate DEFAULT_POSITIONS work part end (counts_other g work) solves
+
+  stores_other : (g : Game) (name : Bytes) (c : Option Bytes) (work : Expanded) (done : Done) (end : End) → StoresGame g name c work done end → AllOther done.entries
+  stores_other g name None work done end delivers = delivers_other (game_file name g) (size_texts g) done end (size_other g.field) delivers
+  stores_other g name (Some c) work done (Finished status) (part, act, is) =
+      behind_other (game_file name g) (size_texts g) part done is (size_other g.field) (made_other g name c work part (Finished status) act)
+  stores_other g name (Some c) work done Failed (inl delivers) = delivers_other (game_file name g) (size_texts g) done Failed (size_other g.field) delivers
+  stores_other g name (Some c) work done Failed (inr (part, how, is)) =
+      behind_other (game_file name g) (size_texts g) part done is (size_other g.field) (stops_other (SolvesGame (result_and_counts g work) g c DEFAULT_POSITIONS work) part Failed (made_other g name c work part Failed) how)
+  stores_other g name (Some c) work done Starved (part, how, is) =
+      behind_other (game_file name g) (size_texts g) part done is (size_other g.field) (stops_other (SolvesGame (result_and_counts g work) g c DEFAULT_POSITIONS work) part Starved (made_other g name c work part Starved) how)
 
   -- ---- a report
 
@@ -349,7 +424,7 @@ module _ (limits : ReadsWithinLimits) (valid_forced : ValidClaimsAreForced) wher
   acts_forced held (Some (Solve g c (Some positions))) work done end acts = solves_forced (held g) (game_held (held g)) c positions work done end acts
   acts_forced held (Some (Check g c)) work done end acts = check_forced (held g) (held c) done.entries end acts.0
   acts_forced held (Some (Play g c side)) work done end acts = play_forced (held g) (held c) side done.entries end acts.0
-  acts_forced held (Some (Gen which g c)) work done end acts = absurd acts
+  acts_forced held (Some (Gen which g c)) work done end (made, is, stores) = others_forced None done.entries (stores_other made g c work done end stores)
   acts_forced held (Some (Report g c)) work done end acts = reports_forced (held g) (both_held (held g) (held c)) done.entries end acts.0
 
   declines_forced : (held : Holding) (command : Option Command) (done : Done) (end : End) → Declines held command done end → AreForced (game_read held command) done.entries

@@ -7,7 +7,10 @@ pub mod Runs
 pub mod Plays
 pub mod Forced
 pub mod Ending
-pub mod Judging
+pub mod Accepting
 pub mod Reports
 pub mod Delivering
 pub mod Solves
+pub mod Parts
+pub mod Making
+pub mod Verdicts

@@ -63,7 +63,7 @@ whole_game : (o : Option Bytes) (text : Bytes) → IsWhole o MAX_GAME_BYTES text
 whole_game None text whole = absurd whole
 whole_game (Some all) text whole = let e : game all ≡ game text = sym (game_cut all) ∙ sym (ap game whole) in rw e refl
 
-whole_certificate : (o : Option Bytes) (text : Bytes) → IsWhole o MAX_CERT_BYTES text → certificate_held o ≡ certificate_held (Some text)
+pub whole_certificate : (o : Option Bytes) (text : Bytes) → IsWhole o MAX_CERT_BYTES text → certificate_held o ≡ certificate_held (Some text)
 whole_certificate None text whole = absurd whole
 whole_certificate (Some all) text whole = let e : certificate all ≡ certificate text = sym (certificate_cut all) ∙ sym (ap certificate whole) in rw e refl
 

@@ -1,12 +1,10 @@
 -- Runs that only read files and talk.
 use Rattle.std.proofs.Common.{◌≡◌, ◌≢◌, ℕ, List, [], ◌∷◌, map, Option, Some, None, Result, Ok, Err, refl, sym, ◌∙◌, subst, inl, inr}
 use Rattle.std.specs.Prelude.{IfSome}
-use Rattle.pg_io.specs.Causes.{Faults, Rose}
 use Rattle.pg_io.specs.Console.{ConsoleTold, Grows}
-use Rattle.pg_io.specs.Files.{Bytes, Holding, FilesTold}
+use Rattle.pg_io.specs.Files.{Bytes, Holding, FilesTold, ReadsOnly}
 use Rattle.pg_io.specs.declared.entry.Entry.{Entry}
 use Rattle.pg_io.specs.declared.entry.Entry.TheVariants.{Said}
-use Rattle.pg_io.specs.declared.stop.Stop.{Stop}
 use Rattle.pg_io.specs.declared.stop.Stop.TheVariants.{Read, Write, Memory}
 use Rattle.pg_base.specs.declared.side.Side.{Side}
 use Rattle.pg_game.specs.declared.game.Game.{Game}
@@ -15,9 +13,9 @@ use Rattle.pg_cert.specs.declared.cert.Cert.{Cert}
 use Rattle.pg_texts.specs.declared.refusal.Refusal.{Refusal}
 use Rattle.pg_words.specs.Words.{Command, Solve, Check, Play, Gen, Report}
 use Rattle.pg_cli.specs.Checking.{RefusesCheck, AcceptsAll}
-use Rattle.pg_cli.specs.Commands.{Quiets}
-use Rattle.pg_cli.specs.Done.{Done, End, Finished, Failed, Starved, Talked, Changes, Performs, Keeps, nothing, talk, stop_end}
-use Rattle.pg_cli.specs.Halts.{Calm, HaltCauses, BothCauses}
+use Rattle.pg_cli.specs.Commands.{Gives, LeavesFiles, LeavesWork, Quiets}
+use Rattle.pg_cli.specs.Done.{End, Finished, Failed, Starved, Talked, Changes, Performs, Keeps, nothing, talk, stop_end}
+use Rattle.pg_cli.specs.Halts.{HaltCauses, BothCauses}
 use Rattle.pg_cli.specs.Hearing.{Hearing, InOrder}
 use Rattle.pg_cli.specs.Playing.{RefusesPlay, PlaysOn}
 use Rattle.pg_cli.specs.Reading.{both_held, pair_entry, read_of, IsReadAs, OpensBoth}
@@ -133,7 +131,13 @@ quiet_halt (Some (Solve g c positions)) console (Stopped Read) = Grows-nothing c
 quiet_halt (Some (Gen which g c)) console (Stopped Read) = Grows-nothing console.log
 quiet_halt (Some (Report g c)) console (Stopped Read) = Grows-nothing console.log
 quiet_halt command console (Stopped Write) = tt
-quiet_halt command console (Stopped Memory) = Grows-nothing console.log
+quiet_halt None console (Stopped Memory) = Grows-nothing console.log
+quiet_halt (Some (Solve g c positions)) console (Stopped Memory) = Grows-nothing console.log
+quiet_halt (Some (Check g c)) console (Stopped Memory) = Grows-nothing console.log
+quiet_halt (Some (Play g c side)) console (Stopped Memory) = Grows-nothing console.log
+quiet_halt (Some (Gen which g None)) console (Stopped Memory) = Grows-nothing console.log
+quiet_halt (Some (Gen which g (Some c))) console (Stopped Memory) = inl (Grows-nothing console.log)
+quiet_halt (Some (Report g c)) console (Stopped Memory) = Grows-nothing console.log
 
 grew_nothing : (before after : Option (List Entry)) (entries : List Entry) → entries ≡ [] → Grows before after entries → Grows before after []
 grew_nothing before after entries none grows = subst (λ (l : List Entry). Grows before after l) none grows
@@ -182,3 +186,37 @@ causes_talked absent files files' before after (Err (Stopped Memory)) same cause
 -- memory for the words is wanting
 pub carries_memory : (files : FilesTold) (console : ConsoleTold) (command : Option Command) (work : Expanded) → Carries command work files files console console (Err (Stopped Memory))
 carries_memory files console command work = carries_halt files files console refl command work (Stopped Memory) (λ held refusal is this. absurd (cc this))
+
+module _ (command : Option Command) where
+  pub leaves_all : (files : FilesTold) → LeavesFiles command files files
+  leaves_all files = go command where
+    reads : ReadsOnly files files
+    reads = record { held = refl; making = refl; busy = refl }
+
+    go : (command : Option Command) → LeavesFiles command files files
+    go None = reads
+    go (Some (Solve g c positions)) = inl reads
+    go (Some (Check g c)) = reads
+    go (Some (Play g c side)) = reads
+    go (Some (Gen which g c)) = inl reads
+    go (Some (Report g c)) = reads
+
+  pub leaves_work : (work : Expanded) → LeavesWork command work work
+  leaves_work work = go command where
+    go : (command : Option Command) → LeavesWork command work work
+    go None = refl
+    go (Some (Solve g c positions)) = tt
+    go (Some (Check g c)) = refl
+    go (Some (Play g c side)) = refl
+    go (Some (Gen which g c)) = λ none. refl
+    go (Some (Report g c)) = refl
+
+  pub gives_memory : Gives command (Err (Stopped Memory))
+  gives_memory = go command where
+    go : (command : Option Command) → Gives command (Err (Stopped Memory))
+    go None = inr refl
+    go (Some (Solve g c positions)) = tt
+    go (Some (Check g c)) = tt
+    go (Some (Play g c side)) = tt
+    go (Some (Gen which g c)) = tt
+    go (Some (Report g c)) = tt

@@ -1,13 +1,13 @@
 -- Solving, put together.
-use Rattle.std.proofs.Common.{◌≡◌, ◌⊎◌, ℕ, Bool, false, List, [], ◌∷◌, map, Option, Some, None, Result, Ok, Err, refl, sym, ◌∙◌, ap, subst, inl, inr}
-use Rattle.std.specs.Prelude.{IfOk, IfSome}
-use Rattle.pg_base.specs.declared.score.Score.{Score}
+use Rattle.std.proofs.Common.{◌≡◌, ◌≢◌, ◌⊎◌, ◌≤◌, ℕ, nat_lt, Bool, true, false, arith, if◌then◌else◌, List, [], ◌∷◌, length, map, Option, Some, None, Result, Ok, Err, refl, sym, ◌∙◌, ap, subst, inl, inr}
+use Rattle.std.specs.Prelude.{IfSome}
+use Rattle.std.proofs.lemmas.Bool.Decides.{nat_tests}
+use Rattle.pg_base.specs.declared.kind.Kind.{Kind}
+use Rattle.pg_base.specs.declared.kind.Kind.TheVariants.{AvoiderEnforcer, MakerBreaker, MakerMaker, Switching}
 use Rattle.pg_io.specs.Causes.{Faults, Rose}
 use Rattle.pg_io.specs.Console.{ConsoleTold, Grows}
 use Rattle.pg_io.specs.Files.{Bytes, Holding, FilesTold, ReadsOnly}
-use Rattle.pg_io.specs.declared.entry.Entry.{Entry}
 use Rattle.pg_io.specs.declared.entry.Entry.TheVariants.{Said}
-use Rattle.pg_io.specs.declared.stop.Stop.{Stop}
 use Rattle.pg_io.specs.declared.stop.Stop.TheVariants.{Read, Write, Memory}
 use Rattle.pg_game.specs.Fit.{is_switching}
 use Rattle.pg_game.specs.declared.game.Game.{Game}
@@ -16,20 +16,23 @@ use Rattle.pg_cert.specs.Limits.{IsWithinLimits}
 use Rattle.pg_cert.specs.Print.{printed_certificate}
 use Rattle.pg_cert.specs.Valid.{IsValid}
 use Rattle.pg_cert.specs.declared.cert.Cert.{Cert}
+use Rattle.pg_game.specs.Game.{free_points, start}
+use Rattle.pg_pns.specs.Budget.{budget_for, most_for}
 use Rattle.pg_pns.specs.Expanded.{Expanded}
 use Rattle.pg_solve.specs.Due.{heading}
-use Rattle.pg_solve.specs.Left.{budget, IsLeftOpen}
+use Rattle.pg_solve.specs.Left.{budget, IsAskedLast, IsLeft, IsLeftOpen}
 use Rattle.pg_solve.specs.Solved.{certificate_of, due, is_class, IsTrueOf}
 use Rattle.pg_solve.specs.declared.solution.Solution.{Solution}
-use Rattle.pg_texts.specs.Texts.{unknown_text}
+use Rattle.pg_texts.specs.Texts.{message_text, unknown_text}
+use Rattle.pg_texts.specs.declared.message.Message.{Message}
 use Rattle.pg_texts.specs.declared.refusal.Refusal.{Refusal}
 use Rattle.pg_texts.specs.declared.statuses.TheConstants.{UNKNOWN}
-use Rattle.pg_words.specs.Words.{Command, Solve}
-use Rattle.pg_cli.specs.Done.{Done, End, Finished, Failed, Starved, Changes, Follows, nothing, talk, stop_end}
-use Rattle.pg_cli.specs.Halts.{BothCauses, Calm}
-use Rattle.pg_cli.specs.Reading.{IsSaidBy, OpensGame, game_held}
+use Rattle.pg_words.specs.Words.{Solve}
+use Rattle.pg_cli.specs.Done.{Done, End, Finished, Failed, Starved, Does, Follows, talk, stop_end}
+use Rattle.pg_cli.specs.Halts.{BothCauses}
+use Rattle.pg_cli.specs.Reading.{OpensGame, game_held}
 use Rattle.pg_cli.specs.Run.{Refuses, CarriesOn, Carries}
-use Rattle.pg_cli.specs.Solving.{Shows, StaysOpen, DeliversSolution, SolvesGame, Solves, solution_text}
+use Rattle.pg_cli.specs.Solving.{IsFound, IsLeftBehind, Shows, SolvesGame, Solves, Told, result_alone, solution_text}
 use Rattle.pg_cli.specs.Storing.{Delivers, KeepOthers, StoresAt}
 use Rattle.pg_cli.specs.declared.halt.Halt.{Halt}
 use Rattle.pg_cli.specs.declared.halt.Halt.TheVariants.{Refused, Stopped}
@@ -48,32 +51,43 @@ shows_it g solution c own kind holds valid limits claims = record {
 }
 
 -- what was found is shown by its certificate
-pub shows : (g : Game) (found solution : Solution) (c : Cert) → found ≡ solution → certificate_of solution ≡ Some c → is_class found ≡ is_switching g.kind → IsTrueOf g found
+shows : (g : Game) (found solution : Solution) (c : Cert) → found ≡ solution → certificate_of solution ≡ Some c → is_class found ≡ is_switching g.kind → IsTrueOf g found
     → IfSome (certificate_of found) (IsValid g) → IfSome (certificate_of found) IsWithinLimits → IfSome (certificate_of found) (λ c. map heading c.claims ≡ due g.turn found) → Shows g solution c
 shows g found solution c same own kind holds valid limits claims = shows_it g solution c own
     (subst (λ (s : Solution). is_class s ≡ is_switching g.kind) same kind) (subst (λ (s : Solution). IsTrueOf g s) same holds)
     (subst (λ (s : Solution). IfSome (certificate_of s) (IsValid g)) same valid) (subst (λ (s : Solution). IfSome (certificate_of s) IsWithinLimits) same limits)
     (subst (λ (s : Solution). IfSome (certificate_of s) (λ c. map heading c.claims ≡ due g.turn s)) same claims)
 
+-- what was found, with its message and its certificate
+pub found : (g : Game) (positions : ℕ) (work : Expanded) (result solution : Solution) (c : Cert) (message : Message) → result ≡ solution → certificate_of solution ≡ Some c
+    → is_class result ≡ is_switching g.kind → IsTrueOf g result → IfSome (certificate_of result) (IsValid g) → IfSome (certificate_of result) IsWithinLimits
+    → IfSome (certificate_of result) (λ c. map heading c.claims ≡ due g.turn result) → IsAskedLast g.kind work.question result → (g.kind ≢ Switching → IsLeft g (budget g positions) work)
+    → message_text message ≡ solution_text g solution → IsFound g positions work (Some (message, c))
+found g positions work result solution c message same own kind holds valid limits claims last left is = (
+  solution,
+  shows g result solution c same own kind holds valid limits claims,
+  record { last = subst (λ (s : Solution). IsAskedLast g.kind work.question s) same last; left = left },
+  is,
+)
+
 -- what delivers the certificate of what was found solves the game
-pub delivers_solution : (g : Game) (name : Bytes) (positions : ℕ) (work : Expanded) (solution : Solution) (c : Cert) (text : Bytes) (files files' : FilesTold) (before after : ConsoleTold) (r : Result ℕ Halt)
-    → Shows g solution c → text ≡ solution_text g solution
-    → IfSome files.held (λ held. Follows (λ _. ⊥) (Delivers (name, printed_certificate c) text) held files' before after r)
-    → IfSome files.held (λ held. Follows (λ _. ⊥) (SolvesGame g name positions work) held files' before after r)
-delivers_solution g name positions work solution c text files files' before after r shown is h =
-    follows_more (Delivers (name, printed_certificate c) text) (SolvesGame g name positions work) files files' before after r more h
+pub delivers_solution : (told : Told) (g : Game) (name : Bytes) (positions : ℕ) (work : Expanded) (solution : Solution) (c : Cert) (texts : List Bytes) (files files' : FilesTold) (before after : ConsoleTold) (r : Result ℕ Halt)
+    → Shows g solution c → IsLeftBehind g positions work solution → texts ≡ told solution c
+    → Does (Delivers (name, printed_certificate c) texts) files files' before after r → Does (SolvesGame told g name positions work) files files' before after r
+delivers_solution told g name positions work solution c texts files files' before after r shown left is h =
+    follows_more (Delivers (name, printed_certificate c) texts) (SolvesGame told g name positions work) files files' before after r more h
   where
-    more : (done : Done) (end : End) → Delivers (name, printed_certificate c) text done end → SolvesGame g name positions work done end
-    more done (Finished status) act = inr (solution, c, shown, subst (λ (t : Bytes). Delivers (name, printed_certificate c) t done (Finished status)) is act)
-    more done Failed act = (solution, c, shown, act)
+    more : (done : Done) (end : End) → Delivers (name, printed_certificate c) texts done end → SolvesGame told g name positions work done end
+    more done (Finished status) act = inr (solution, c, shown, left, subst (λ (t : List Bytes). Delivers (name, printed_certificate c) t done (Finished status)) is act)
+    more done Failed act = (solution, c, shown, left, subst (λ (t : List Bytes). Delivers (name, printed_certificate c) t done Failed) is act)
     more done Starved act = absurd act
 
 -- the question stays open, and that is said
-pub stays_open : (g : Game) (name : Bytes) (positions : ℕ) (work : Expanded) (said : Bytes) (files files' : FilesTold) (before after : ConsoleTold) → is_switching g.kind ≡ false → IsLeftOpen g (budget g positions) work
+pub stays_open : (told : Told) (g : Game) (name : Bytes) (positions : ℕ) (work : Expanded) (said : Bytes) (files files' : FilesTold) (before after : ConsoleTold) → is_switching g.kind ≡ false → IsLeftOpen g (budget g positions) work
     → said ≡ unknown_text (budget g positions) → files'.held ≡ files.held → Grows before.log after.log (Said said ∷ []) → after.left ≡ before.left
-    → IfSome files.held (λ held. Follows (λ _. ⊥) (SolvesGame g name positions work) held files' before after (Ok UNKNOWN))
-stays_open g name positions work said files files' before after lines left_open is same says left = go files.held same where
-  go : (b : Option Holding) → files'.held ≡ b → IfSome b (λ held. Follows (λ _. ⊥) (SolvesGame g name positions work) held files' before after (Ok UNKNOWN))
+    → Does (SolvesGame told g name positions work) files files' before after (Ok UNKNOWN)
+stays_open told g name positions work said files files' before after lines left_open is same says left = go files.held same where
+  go : (b : Option Holding) → files'.held ≡ b → IfSome b (λ held. Follows (λ _. ⊥) (SolvesGame told g name positions work) held files' before after (Ok UNKNOWN))
   go None same = tt
   go (Some held) same = (
     talk (Said said ∷ []),
@@ -84,14 +98,14 @@ stays_open g name positions work said files files' before after lines left_open 
 -- ---- after the game was read
 
 pub carries_solve : (g c : Bytes) (positions : ℕ) (played : Game) (work : Expanded) (files mid files' : FilesTold) (before after : ConsoleTold) (r : Result ℕ Halt) → mid.held ≡ files.held → OpensGame files.held g (Ok played) → played.bias ≡ 1
-    → IfSome mid.held (λ held. Follows (λ _. ⊥) (SolvesGame played c positions work) held files' before after r) → Carries (Some (Solve g c (Some positions))) work files files' before after r
+    → Does (SolvesGame (result_alone played) played c positions work) mid files' before after r → Carries (Some (Solve g c (Some positions))) work files files' before after r
 carries_solve g c positions played work files mid files' before after r same opens single h =
-    go files.held opens r (subst (λ (b : Option Holding). IfSome b (λ held. Follows (λ _. ⊥) (SolvesGame played c positions work) held files' before after r)) same h)
+    go files.held opens r (subst (λ (b : Option Holding). IfSome b (λ held. Follows (λ _. ⊥) (SolvesGame (result_alone played) played c positions work) held files' before after r)) same h)
   where
-    act : (held : Holding) → OpensGame (Some held) g (Ok played) → (done : Done) (end : End) → SolvesGame played c positions work done end → Solves (game_held (held g)) c positions work done end
+    act : (held : Holding) → OpensGame (Some held) g (Ok played) → (done : Done) (end : End) → SolvesGame (result_alone played) played c positions work done end → Solves (game_held (held g)) c positions work done end
     act held opens done end solves = subst (λ (read : Result GameEntry Halt). Solves read c positions work done end) (sym opens) (played, (refl, single), solves)
 
-    go : (b : Option Holding) → OpensGame b g (Ok played) → (r : Result ℕ Halt) → IfSome b (λ held. Follows (λ _. ⊥) (SolvesGame played c positions work) held files' before after r)
+    go : (b : Option Holding) → OpensGame b g (Ok played) → (r : Result ℕ Halt) → IfSome b (λ held. Follows (λ _. ⊥) (SolvesGame (result_alone played) played c positions work) held files' before after r)
         → IfSome b (λ held. CarriesOn held (Some (Solve g c (Some positions))) work files' before after r)
     go None opens r h = tt
     go (Some held) opens (Ok status) (done, solves, changes) = (done, act held opens done (Finished status) solves, changes)
@@ -107,9 +121,9 @@ halted_solve g c positions work files files' console halt same opens = carries_h
 
 -- ---- files and causes
 
-pub stores_then : (name : Bytes) (files mid files' : FilesTold) → ReadsOnly files mid → StoresAt name mid files' → StoresAt name files files'
-stores_then name files mid files' reads (inl more) = inl (record { held = more.held ∙ reads.held; making = more.making ∙ reads.making; busy = more.busy ∙ reads.busy })
-stores_then name files mid files' reads (inr (idle, others)) = inr (idle, subst (λ (b : Option Holding). KeepOthers name b files'.held) reads.held others)
+pub stores_then : (names : List Bytes) (files mid files' : FilesTold) → ReadsOnly files mid → StoresAt names mid files' → StoresAt names files files'
+stores_then names files mid files' reads (inl more) = inl (record { held = more.held ∙ reads.held; making = more.making ∙ reads.making; busy = more.busy ∙ reads.busy })
+stores_then names files mid files' reads (inr (idle, others)) = inr (idle, subst (λ (b : Option Holding). KeepOthers names b files'.held) reads.held others)
 
 pub causes_then : (absent : Type 0) (files mid files' : FilesTold) (before after : ConsoleTold) (r : Result ℕ Halt) → mid.faults ≡ files.faults → BothCauses ⊥ mid files' before after r → BothCauses absent files files' before after r
 causes_then absent files mid files' before after (Ok status) same calm = record { on_files = calm.on_files ∙ same; on_console = calm.on_console }
@@ -120,3 +134,30 @@ causes_then absent files mid files' before after (Err (Stopped Read)) same (inr 
 causes_then absent files mid files' before after (Err (Stopped Write)) same (inl rose) = inl (subst (λ (f : Faults). Rose f.writes files'.faults.writes) same rose)
 causes_then absent files mid files' before after (Err (Stopped Write)) same (inr rose) = inr rose
 causes_then absent files mid files' before after (Err (Stopped Memory)) same calm = record { on_files = calm.on_files ∙ same; on_console = calm.on_console }
+
+-- ---- counts
+
+within : (free n : ℕ) → budget_for free n ≤ n
+within free n = go (nat_lt n (most_for free)) refl where
+  go : (b : Bool) → nat_lt n (most_for free) ≡ b → (if b then n else most_for free) ≤ n
+  go true is = omega arith
+  go false is = let h : most_for free ≤ n = grind (arith, nat_tests, is) in h
+
+switching_or : (kind : Kind) → (kind ≡ Switching) ⊎ (kind ≢ Switching)
+switching_or MakerBreaker = inr (λ e. cc e)
+switching_or MakerMaker = inr (λ e. cc e)
+switching_or AvoiderEnforcer = inr (λ e. cc e)
+switching_or Switching = inl refl
+
+-- no more positions were expanded than may be
+pub few_left : (g : Game) (positions most : ℕ) (old new : Expanded) → positions ≤ most → (g.kind ≢ Switching → IsLeft g (budget g positions) new) → (g.kind ≡ Switching → new ≡ old) → old.positions ≡ [] → length new.positions ≤ most
+few_left g positions most old new bound left untouched empty = elim (switching_or g.kind) as (λ _. length new.positions ≤ most) [
+  | inl switching ↦
+      let none : new.positions ≡ [] = ap (λ (w : Expanded). w.positions) (untouched switching) ∙ empty in
+      let e : length new.positions ≡ 0 = ap length none in
+      omega (arith, e)
+  | inr lines ↦
+      let few = (left lines).count in
+      let small = within (length (free_points g (start g))) positions in
+      omega (arith, few, small, bound)
+]

@@ -10,6 +10,7 @@ use Rattle.pg_files.specs.GameFile.{Entry as GameEntry}
 use Rattle.pg_cert.specs.Valid.{IsValid, IsFirstFault}
 use Rattle.pg_cert.specs.declared.cert.Cert.{Cert}
 use Rattle.pg_cert.specs.declared.cert.Claim.{Claim}
+use Rattle.pg_judge.specs.declared.claim_head.ClaimHead.{ClaimHead}
 use Rattle.pg_texts.specs.Texts.{accepted_text}
 use Rattle.pg_texts.specs.declared.refusal.Refusal.{Refusal}
 use Rattle.pg_texts.specs.declared.refusal.Refusal.TheVariants.{Rejected}
@@ -22,6 +23,10 @@ use Rattle.pg_cli.specs.declared.halt.Halt.TheVariants.{Refused}
 -- the text that accepts a claim
 abbrev pub acceptance : Claim → Bytes
 acceptance claim = accepted_text claim.turn claim.side claim.goal
+
+-- the same by what a claim says before its nodes
+abbrev pub head_acceptance : ClaimHead → Bytes
+head_acceptance head = accepted_text head.turn head.side head.goal
 
 -- the certificate is rejected at its first fault
 abbrev pub Rejects : Game → Cert → Refusal → Type 0

@@ -1,5 +1,5 @@
 -- What each command reads, and what it leaves.
-use Rattle.std.specs.Prelude.{◌≡◌, ◌≢◌, ◌⊎◌, ℕ, List, [], ◌∷◌, Option, Some, None, option_and_then, option_map, Result, Ok, Err, ⊤}
+use Rattle.std.specs.Prelude.{◌≡◌, ◌≢◌, ◌⊎◌, ℕ, true, false, if◌then◌else◌, List, [], ◌∷◌, Option, Some, None, option_and_then, option_map, Result, Ok, Err, ⊤}
 use Rattle.pg_io.specs.Console.{ConsoleTold, Grows}
 use Rattle.pg_io.specs.Files.{Bytes, Holding, FilesTold, ReadsOnly}
 use Rattle.pg_io.specs.declared.entry.Entry.TheVariants.{Said}
@@ -7,7 +7,8 @@ use Rattle.pg_texts.specs.Texts.{no_meaning_text}
 use Rattle.pg_texts.specs.declared.refusal.Refusal.TheVariants.{NoMeaning}
 use Rattle.pg_texts.specs.declared.statuses.TheConstants.{DONE, UNKNOWN, NO_MEANING, FAULTY_GAME, REFUSED, READ_FAILED, WRITE_FAILED, NO_MEMORY, INPUT_ENDED, OUT_OF_REPLIES}
 use Rattle.pg_words.specs.Words.{Command, Solve, Check, Play, Gen, Report, meaning_of}
-use Rattle.pg_cli.specs.Halts.{IsGameHalt, IsReadHalt, IsPlayHalt, IsPlayEnd}
+use Rattle.pg_cli.specs.Generating.{TellsSize, has_source, names_of, searches}
+use Rattle.pg_cli.specs.Halts.{IsGameHalt, IsReadHalt, IsPlayHalt, IsPlayEnd, IsWriteHalt}
 use Rattle.pg_cli.specs.Reading.{both_held, game_held, lacking}
 use Rattle.pg_cli.specs.Reporting.{IsReportEnd}
 use Rattle.pg_cli.specs.Solving.{positions_for}
@@ -17,12 +18,12 @@ use Rattle.pg_io.specs.declared.stop.Stop.TheVariants.{Read, Write, Memory}
 use Rattle.pg_cli.specs.declared.halt.Halt.{Halt}
 use Rattle.pg_cli.specs.declared.halt.Halt.TheVariants.{Refused, Stopped}
 
--- a command that is built; the others have no meaning yet
+-- a command whose numbers are within their ranges; any other has no meaning
 abbrev pub built : Command → Option Command
 built (Solve g c positions) = option_map (λ n. Solve g c (Some n)) (positions_for positions)
 built (Check g c) = Some (Check g c)
 built (Play g c side) = Some (Play g c side)
-built (Gen which g c) = None
+built (Gen which g c) = if has_source which then Some (Gen which g c) else None
 built (Report g c) = Some (Report g c)
 
 -- what words ask for
@@ -35,15 +36,17 @@ statuses_of (Some (Solve g c positions)) = DONE ∷ UNKNOWN ∷ FAULTY_GAME ∷ 
 statuses_of (Some (Check g c)) = DONE ∷ FAULTY_GAME ∷ REFUSED ∷ READ_FAILED ∷ WRITE_FAILED ∷ NO_MEMORY ∷ []
 statuses_of (Some (Play g c side)) = DONE ∷ NO_MEANING ∷ FAULTY_GAME ∷ REFUSED ∷ READ_FAILED ∷ WRITE_FAILED ∷ NO_MEMORY ∷ INPUT_ENDED ∷ OUT_OF_REPLIES ∷ []
 statuses_of (Some (Report g c)) = DONE ∷ FAULTY_GAME ∷ REFUSED ∷ READ_FAILED ∷ WRITE_FAILED ∷ NO_MEMORY ∷ []
-statuses_of _ = NO_MEANING ∷ WRITE_FAILED ∷ NO_MEMORY ∷ []
+statuses_of (Some (Gen which g c)) = if searches which c then DONE ∷ UNKNOWN ∷ WRITE_FAILED ∷ NO_MEMORY ∷ [] else DONE ∷ WRITE_FAILED ∷ NO_MEMORY ∷ []
+statuses_of None = NO_MEANING ∷ WRITE_FAILED ∷ NO_MEMORY ∷ []
 
 -- what is said where a read has failed: nothing, but in play
 abbrev pub QuietAtRead : Option Command → ConsoleTold → ConsoleTold → Type 0
 QuietAtRead (Some (Play g c side)) before after = ⊤
 QuietAtRead _ before after = Grows before.log after.log []
 
--- what is said where memory is wanting: nothing, so it isn't wanting once a claim was accepted or is played
+-- what is said where memory is wanting: nothing, so it isn't wanting once a claim was accepted or is played; of a game that is made and to be solved, perhaps its size
 abbrev pub QuietAtMemory : Option Command → ConsoleTold → ConsoleTold → Type 0
+QuietAtMemory (Some (Gen which g c)) before after = TellsSize which c before after
 QuietAtMemory _ before after = Grows before.log after.log []
 
 -- what is said by a command before what stands against it is said, and where it was stopped
@@ -62,10 +65,12 @@ Gives (Some (Check g c)) (Ok status) = status ≡ DONE
 Gives (Some (Check g c)) (Err halt) = IsReadHalt halt
 Gives (Some (Play g c side)) (Ok status) = IsPlayEnd status
 Gives (Some (Play g c side)) (Err halt) = IsPlayHalt halt
+Gives (Some (Gen which g c)) (Ok status) = (status ≡ DONE) ⊎ ((searches which c ≡ true) × (status ≡ UNKNOWN))
+Gives (Some (Gen which g c)) (Err halt) = IsWriteHalt halt
 Gives (Some (Report g c)) (Ok status) = IsReportEnd status
 Gives (Some (Report g c)) (Err halt) = IsReadHalt halt
-Gives _ (Ok status) = ⊥
-Gives _ (Err halt) = (halt ≡ Refused NoMeaning) ⊎ (halt ≡ Stopped Memory)
+Gives None (Ok status) = ⊥
+Gives None (Err halt) = (halt ≡ Refused NoMeaning) ⊎ (halt ≡ Stopped Memory)
 
 -- what was said at a status that tells of a failed read, or of want of memory
 pub record Silences (command : Option Command) (before after : ConsoleTold) (status : ℕ) : Type 0 where
@@ -77,14 +82,16 @@ pub record SaysNoMeaning (before after : ConsoleTold) (status : ℕ) : Type 0 wh
   pub said : status ≡ NO_MEANING → Grows before.log after.log (Said no_meaning_text ∷ [])
   pub stopped : status ≢ NO_MEANING → Grows before.log after.log []
 
--- what a command leaves of the files: it only reads, or stores under one name alone
+-- what a command leaves of the files: it only reads, or stores under its own names alone
 abbrev pub LeavesFiles : Option Command → FilesTold → FilesTold → Type 0
-LeavesFiles (Some (Solve g c positions)) before after = StoresAt c before after
+LeavesFiles (Some (Solve g c positions)) before after = StoresAt (c ∷ []) before after
+LeavesFiles (Some (Gen which g c)) before after = StoresAt (names_of g c) before after
 LeavesFiles _ before after = ReadsOnly before after
 
--- what a command leaves of the work of a search: all, unless it solves
+-- what a command leaves of the work of a search: all, unless it searches
 abbrev pub LeavesWork : Option Command → Expanded → Expanded → Type 0
 LeavesWork (Some (Solve g c positions)) before after = ⊤
+LeavesWork (Some (Gen which g c)) before after = searches which c ≡ false → after ≡ before
 LeavesWork _ before after = after ≡ before
 
 -- a name that the command reads, in the order of its work, isn't held

@@ -1,5 +1,5 @@
 -- What was done in a run: what was said and stored, and how it ended.
-use Rattle.std.specs.Prelude.{◌≡◌, ◌⊎◌, ℕ, ◌==◌, ◌||◌, List, [], ◌∷◌, ◌++◌, map, Option, Some, None, Result, Ok, Err, if◌then◌else◌}
+use Rattle.std.specs.Prelude.{◌≡◌, ◌⊎◌, ℕ, ◌==◌, ◌||◌, List, [], ◌∷◌, ◌++◌, map, Option, Some, None, Result, Ok, Err, if◌then◌else◌, IfSome}
 use Rattle.std.specs.Str.{bytes_eq}
 use Rattle.pg_io.specs.Console.{ConsoleTold, Grows}
 use Rattle.pg_io.specs.Files.{Bytes, Holding, Making, FilesTold}
@@ -21,6 +21,14 @@ pub record Done : Type 0 where
 -- nothing was said, heard or stored
 abbrev pub nothing : Done
 nothing = record { entries = []; stored = [] }
+
+-- this is that nothing was done
+abbrev pub IsNothing : Done → Type 0
+IsNothing done = (done.entries ≡ []) × (done.stored ≡ [])
+
+-- one part was done, and then another
+abbrev pub behind : Done → Done → Done
+behind first part = record { entries = first.entries ++ part.entries; stored = part.stored ++ first.stored }
 
 -- this was said and heard, and nothing was stored
 abbrev pub talk : List Entry → Done
@@ -73,12 +81,20 @@ pub record Changes (held : Holding) (files : FilesTold) (before after : ConsoleT
 
 -- ---- work that acts or refuses
 
+-- how far work came that was stopped: it had acted so far, or not begun
+abbrev pub Stops : (Done → End → Type 0) → Done → End → Type 0
+Stops Act done end = IsNothing done ⊎ Act done end
+
 -- on names that hold these bytes: where it is done it has acted so; where it refuses, this stands against it and nothing was said yet; where it was stopped, it had acted so far, or not begun
 abbrev pub Follows : (Refusal → Type 0) → (Done → End → Type 0) → Holding → FilesTold → ConsoleTold → ConsoleTold → Result ℕ Halt → Type 0
 Follows Against Act held files before after (Ok status) = (done : Done) × Act done (Finished status) × Changes held files before after done (Finished status)
 Follows Against Act held files before after (Err (Refused refusal)) = Against refusal × Changes held files before after nothing Starved
 Follows Against Act held files before after (Err (Stopped stop)) =
-    (done : Done) × (((done.entries ≡ []) × (done.stored ≡ [])) ⊎ Act done (stop_end stop)) × Changes held files before after done (stop_end stop)
+    (done : Done) × Stops Act done (stop_end stop) × Changes held files before after done (stop_end stop)
+
+-- work that refuses nothing, where it is told what the names hold
+abbrev pub Does : (Done → End → Type 0) → FilesTold → FilesTold → ConsoleTold → ConsoleTold → Result ℕ Halt → Type 0
+Does Act files files' before after result = IfSome files.held (λ held. Follows (λ _. ⊥) Act held files' before after result)
 
 -- the same on a console alone
 abbrev pub Performs : (Refusal → Type 0) → (List Entry → End → Type 0) → ConsoleTold → ConsoleTold → Result ℕ Halt → Type 0

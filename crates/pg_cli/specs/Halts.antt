@@ -1,7 +1,7 @@
 -- What ends a command early: its status, and by which numbers of faults it shows.
-use Rattle.std.specs.Prelude.{◌≡◌, ◌⊎◌, ℕ, Result, Ok, Err, ⊤}
+use Rattle.std.specs.Prelude.{◌≡◌, ◌⊎◌, ℕ, [], Result, Ok, Err, ⊤}
 use Rattle.pg_io.specs.Causes.{Faults, Rose}
-use Rattle.pg_io.specs.Console.{ConsoleTold}
+use Rattle.pg_io.specs.Console.{ConsoleTold, Grows}
 use Rattle.pg_io.specs.Files.{FilesTold}
 use Rattle.pg_io.specs.Stop.{StopCauses}
 use Rattle.pg_io.specs.declared.stop.Stop.{Stop}
@@ -26,6 +26,21 @@ halt_status (Stopped stop) = stop_status stop
 abbrev pub status_of : Result ℕ Halt → ℕ
 status_of (Ok status) = status
 status_of (Err halt) = halt_status halt
+
+-- what can end early a command, or a part of one, that reads nothing: a failed write, or want of memory
+abbrev pub IsWriteHalt : Halt → Type 0
+IsWriteHalt (Refused refusal) = ⊥
+IsWriteHalt (Stopped Read) = ⊥
+IsWriteHalt (Stopped Write) = ⊤
+IsWriteHalt (Stopped Memory) = ⊤
+
+-- where memory is wanting nothing was said
+abbrev pub MuteAtMemory : ConsoleTold → ConsoleTold → Result ℕ Halt → Type 0
+MuteAtMemory before after (Ok status) = ⊤
+MuteAtMemory before after (Err (Refused refusal)) = ⊤
+MuteAtMemory before after (Err (Stopped Read)) = ⊤
+MuteAtMemory before after (Err (Stopped Write)) = ⊤
+MuteAtMemory before after (Err (Stopped Memory)) = Grows before.log after.log []
 
 -- what can end a command that reads a game early
 abbrev pub IsGameHalt : Halt → Type 0

@@ -1,5 +1,6 @@
 pub mod Halts
 pub mod Reading
+pub mod Verdicts
 pub mod Hearing
 pub mod Reply
 pub mod Dialogue
@@ -10,6 +11,7 @@ pub mod Reporting
 pub mod Playing
 pub mod Storing
 pub mod Solving
+pub mod Generating
 pub mod Commands
 pub mod Run
 pub mod Forced

@@ -7,6 +7,7 @@ use Rattle.pg_game.specs.declared.game.Game.{Game}
 use Rattle.pg_files.specs.GameFile.{Entry as GameEntry}
 use Rattle.pg_cert.specs.Valid.{IsValid, IsFirstFault}
 use Rattle.pg_cert.specs.declared.cert.Cert.{Cert}
+use Rattle.pg_judge.specs.Heads.{heads_of}
 use Rattle.pg_report.specs.Report.{report_text, rejection_text}
 use Rattle.pg_texts.specs.declared.refusal.Refusal.{Refusal}
 use Rattle.pg_texts.specs.declared.statuses.TheConstants.{DONE, REFUSED}
@@ -18,7 +19,7 @@ use Rattle.pg_cli.specs.declared.halt.Halt.TheVariants.{Refused}
 -- the certificate is valid, and the text tells its claims
 pub record TellsClaims (g : Game) (c : Cert) (text : Bytes) (status : ℕ) : Type 0 where
   pub valid : IsValid g c
-  pub text_is : text ≡ report_text g c
+  pub text_is : text ≡ report_text g (heads_of c)
   pub status_is : status ≡ DONE
 
 -- the certificate is rejected, and the text tells its first fault

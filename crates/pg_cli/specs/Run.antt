@@ -1,5 +1,5 @@
 -- WHAT EACH COMMAND MAY DO, and what a run is.
-use Rattle.std.specs.Prelude.{◌≡◌, ◌≢◌, ◌⊎◌, ℕ, List, [], ◌∷◌, Option, Some, None, Result, Ok, Err, IfSome}
+use Rattle.std.specs.Prelude.{◌≡◌, ◌≢◌, ◌⊎◌, ℕ, [], ◌∷◌, Option, Some, None, Result, Err, IfSome}
 use Rattle.pg_io.specs.Causes.{Rose}
 use Rattle.pg_io.specs.Console.{ConsoleTold, Grows}
 use Rattle.pg_io.specs.Files.{Holding, FilesTold}
@@ -9,9 +9,10 @@ use Rattle.pg_texts.specs.Texts.{refusal_text}
 use Rattle.pg_texts.specs.declared.refusal.Refusal.{Refusal}
 use Rattle.pg_texts.specs.declared.refusal.Refusal.TheVariants.{NoMeaning}
 use Rattle.pg_texts.specs.declared.statuses.TheConstants.{READ_FAILED, WRITE_FAILED}
-use Rattle.pg_words.specs.Words.{Command, Solve, Check, Play, Report}
+use Rattle.pg_words.specs.Words.{Command, Solve, Check, Play, Gen, Report}
 use Rattle.pg_cli.specs.Checking.{RefusesCheck, AcceptsAll}
-use Rattle.pg_cli.specs.Done.{Done, End, Finished, Failed, Starved, Changes, Follows, ending}
+use Rattle.pg_cli.specs.Done.{Done, End, Finished, Failed, Starved, Changes, Follows, IsNothing, ending}
+use Rattle.pg_cli.specs.Generating.{Generates}
 use Rattle.pg_cli.specs.Halts.{Calm, ReadCause, WriteCause, stop_status}
 use Rattle.pg_cli.specs.Playing.{RefusesPlay, PlaysOn}
 use Rattle.pg_cli.specs.Reading.{both_held, game_held}
@@ -27,13 +28,15 @@ Refuses held (Some (Solve g c positions)) refusal = game_held (held g) ≡ Err (
 Refuses held (Some (Check g c)) refusal = RefusesCheck (both_held (held g) (held c)) refusal
 Refuses held (Some (Play g c side)) refusal = RefusesPlay side (both_held (held g) (held c)) refusal
 Refuses held (Some (Report g c)) refusal = RefusesReport (both_held (held g) (held c)) refusal
-Refuses held _ refusal = refusal ≡ NoMeaning
+Refuses held (Some (Gen which g c)) refusal = ⊥
+Refuses held None refusal = refusal ≡ NoMeaning
 
 -- the command does what it is there for, and ends so
 abbrev pub Acts : Holding → Option Command → Expanded → Done → End → Type 0
 Acts held (Some (Solve g c (Some positions))) work done end = Solves (game_held (held g)) c positions work done end
 Acts held (Some (Check g c)) work done end = AcceptsAll (both_held (held g) (held c)) done.entries end × (done.stored ≡ [])
 Acts held (Some (Play g c side)) work done end = PlaysOn side (both_held (held g) (held c)) done.entries end × (done.stored ≡ [])
+Acts held (Some (Gen which g c)) work done end = Generates which g c work done end
 Acts held (Some (Report g c)) work done end = Reports (both_held (held g) (held c)) done.entries end × (done.stored ≡ [])
 Acts held _ work done end = ⊥
 
@@ -41,8 +44,8 @@ Acts held _ work done end = ⊥
 abbrev pub Declines : Holding → Option Command → Done → End → Type 0
 Declines held command done (Finished status) = (refusal : Refusal) × Refuses held command refusal
     × (done.entries ≡ Said (refusal_text refusal) ∷ []) × (done.stored ≡ []) × (status ≡ refusal_status refusal)
-Declines held command done Failed = (done.entries ≡ []) × (done.stored ≡ [])
-Declines held command done Starved = (done.entries ≡ []) × (done.stored ≡ [])
+Declines held command done Failed = IsNothing done
+Declines held command done Starved = IsNothing done
 
 abbrev pub Allows : Holding → Option Command → Expanded → Done → End → Type 0
 Allows held command work done end = Declines held command done end ⊎ Acts held command work done end

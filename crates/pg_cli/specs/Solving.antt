@@ -1,25 +1,28 @@
 -- What solving stores and says.
-use Rattle.std.specs.Prelude.{◌≡◌, ◌⊎◌, ◌&&◌, ℕ, nat_le, false, if◌then◌else◌, List, [], ◌∷◌, map, Option, Some, None, Result, Ok, Err}
+use Rattle.std.specs.Prelude.{◌≡◌, ◌≢◌, ◌⊎◌, ◌&&◌, ℕ, nat_le, false, if◌then◌else◌, List, [], ◌∷◌, length, map, Option, Some, None, Result, Ok, Err}
+use Rattle.pg_base.specs.declared.kind.Kind.{Kind}
+use Rattle.pg_base.specs.declared.kind.Kind.TheVariants.{Switching}
 use Rattle.pg_io.specs.Files.{Bytes}
 use Rattle.pg_io.specs.declared.entry.Entry.TheVariants.{Said}
 use Rattle.pg_game.specs.Fit.{is_switching}
 use Rattle.pg_game.specs.declared.game.Game.{Game}
 use Rattle.pg_files.specs.GameFile.{Entry as GameEntry}
-use Rattle.pg_cert.specs.Limits.{IsWithinLimits}
+use Rattle.pg_cert.specs.Limits.{IsWithinLimits, node_count}
 use Rattle.pg_cert.specs.Print.{printed_certificate}
 use Rattle.pg_cert.specs.Valid.{IsValid}
 use Rattle.pg_cert.specs.declared.cert.Cert.{Cert}
 use Rattle.pg_pns.specs.Expanded.{Expanded}
 use Rattle.pg_solve.specs.Due.{heading}
-use Rattle.pg_solve.specs.Left.{budget, IsLeftOpen}
+use Rattle.pg_solve.specs.Left.{budget, IsAskedLast, IsLeft, IsLeftOpen}
 use Rattle.pg_solve.specs.Solved.{certificate_of, due, is_class, IsTrueOf}
 use Rattle.pg_solve.specs.declared.solution.Class.{Class}
 use Rattle.pg_solve.specs.declared.solution.Class.TheVariants.{Short, Cut, First}
 use Rattle.pg_solve.specs.declared.solution.Solution.{Solution}
 use Rattle.pg_solve.specs.declared.solution.Solution.TheVariants.{Value, Class as ForClass, Unknown}
 use Rattle.pg_solve.specs.declared.solving.TheConstants.{LEAST_POSITIONS, MOST_POSITIONS}
-use Rattle.pg_texts.specs.Texts.{class_short_text, class_cut_text, class_first_mover_text, result_text, unknown_text}
-use Rattle.pg_texts.specs.declared.statuses.TheConstants.{UNKNOWN}
+use Rattle.pg_texts.specs.Texts.{class_short_text, class_cut_text, class_first_mover_text, expanded_text, message_text, result_text, unknown_text}
+use Rattle.pg_texts.specs.declared.message.Message.{Message}
+use Rattle.pg_texts.specs.declared.statuses.TheConstants.{DONE, UNKNOWN}
 use Rattle.pg_cli.specs.Done.{Done, End, Finished, Failed, Starved}
 use Rattle.pg_cli.specs.Reading.{IsSaidBy}
 use Rattle.pg_cli.specs.Storing.{Delivers}
@@ -53,6 +56,23 @@ pub record Shows (g : Game) (solution : Solution) (c : Cert) : Type 0 where
   -- the claims are those that are due, by turn, side and goal
   pub claims : map heading c.claims ≡ due g.turn solution
 
+-- what is said of what was found and of the certificate that shows it
+abbrev pub Told : Type 0
+Told = Solution → Cert → List Bytes
+
+-- the result is said
+abbrev pub result_alone : Game → Told
+result_alone g solution c = solution_text g solution ∷ []
+
+-- the result is said, and then how many positions were expanded and how many nodes the certificate has
+abbrev pub result_and_counts : Game → Expanded → Told
+result_and_counts g work solution c = solution_text g solution ∷ expanded_text (length work.positions) (node_count c.claims) ∷ []
+
+-- the work holds the question that was asked last of a game on lines, and by the rules the positions expanded for it
+pub record IsLeftBehind (g : Game) (positions : ℕ) (work : Expanded) (solution : Solution) : Type 0 where
+  pub last : IsAskedLast g.kind work.question solution
+  pub left : g.kind ≢ Switching → IsLeft g (budget g positions) work
+
 -- the question that was asked last of a game on lines is open after as many positions as the budget allows, and that is said
 pub record StaysOpen (g : Game) (positions : ℕ) (work : Expanded) (done : Done) (status : ℕ) : Type 0 where
   pub on_lines : is_switching g.kind ≡ false
@@ -62,16 +82,28 @@ pub record StaysOpen (g : Game) (positions : ℕ) (work : Expanded) (done : Done
   pub status_is : status ≡ UNKNOWN
 
 -- a certificate that shows what was found is stored under the name, and then what was found is said
-abbrev pub DeliversSolution : Game → Bytes → Done → End → Type 0
-DeliversSolution g name done end = (solution : Solution) × (c : Cert) × Shows g solution c × Delivers (name, printed_certificate c) (solution_text g solution) done end
+abbrev pub DeliversSolution : Told → Game → Bytes → ℕ → Expanded → Done → End → Type 0
+DeliversSolution told g name positions work done end = (solution : Solution) × (c : Cert) × Shows g solution c × IsLeftBehind g positions work solution
+    × Delivers (name, printed_certificate c) (told solution c) done end
 
 -- what solving a game does
-abbrev pub SolvesGame : Game → Bytes → ℕ → Expanded → Done → End → Type 0
-SolvesGame g name positions work done (Finished status) = StaysOpen g positions work done status ⊎ DeliversSolution g name done (Finished status)
-SolvesGame g name positions work done Failed = DeliversSolution g name done Failed
-SolvesGame g name positions work done Starved = ⊥
+abbrev pub SolvesGame : Told → Game → Bytes → ℕ → Expanded → Done → End → Type 0
+SolvesGame told g name positions work done (Finished status) = StaysOpen g positions work done status ⊎ DeliversSolution told g name positions work done (Finished status)
+SolvesGame told g name positions work done Failed = DeliversSolution told g name positions work done Failed
+SolvesGame told g name positions work done Starved = ⊥
 
 -- the same of what was read
 abbrev pub Solves : Result GameEntry Halt → Bytes → ℕ → Expanded → Done → End → Type 0
 Solves (Err halt) name positions work done end = ⊥
-Solves (Ok e) name positions work done end = (g : Game) × IsSaidBy e g × SolvesGame g name positions work done end
+Solves (Ok e) name positions work done end = (g : Game) × IsSaidBy e g × SolvesGame (result_alone g) g name positions work done end
+
+-- ---- the code that solves
+
+-- the message of what was found, and the certificate that shows it; none where the question stays open
+abbrev pub IsFound : Game → ℕ → Expanded → Option (Message × Cert) → Type 0
+IsFound g positions work None = (is_switching g.kind ≡ false) × IsLeftOpen g (budget g positions) work
+IsFound g positions work (Some found) = (solution : Solution) × Shows g solution found.1 × IsLeftBehind g positions work solution × (message_text found.0 ≡ solution_text g solution)
+
+-- how solving a game ends: only a game on lines may stay open
+abbrev pub IsSolveEnd : Kind → ℕ → Type 0
+IsSolveEnd kind status = (status ≡ DONE) ⊎ ((is_switching kind ≡ false) × (status ≡ UNKNOWN))

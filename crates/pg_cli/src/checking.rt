@@ -1,31 +1,32 @@
 //! Checking a certificate for a game.
-ghost use Rattle.std.specs.Prelude.{◌≡◌, ◌≢◌, map, Err, IfErr, IfOk, Some};
+ghost use Rattle.std.specs.Prelude.{◌≡◌, ◌≢◌, [], map, Err, IfErr, IfOk, Some};
 ghost use Rattle.pg_io.specs.Files.{ReadsOnly};
 ghost use Rattle.pg_io.specs.Stop.{Causes};
-ghost use Rattle.pg_cert.specs.Limits.{IsWithinLimits};
+ghost use Rattle.pg_game.specs.declared.game.Game.{Game};
+ghost use Rattle.pg_cert.specs.declared.cert.Cert.{Cert};
 ghost use Rattle.pg_texts.specs.declared.statuses.TheConstants.{DONE};
 ghost use Rattle.pg_pns.specs.Expanded.{Expanded};
 ghost use Rattle.pg_words.specs.Words.{Check};
-ghost use Rattle.pg_cli.specs.Checking.{AcceptsAll, RefusesCheck, Speaks, acceptance};
+ghost use Rattle.pg_cli.specs.Checking.{AcceptsAll, RefusesCheck, Speaks, head_acceptance};
 ghost use Rattle.pg_cli.specs.Commands.{Quiets};
 ghost use Rattle.pg_cli.specs.Done.{Performs};
 ghost use Rattle.pg_cli.specs.Halts.{BothCauses, HaltCauses, IsReadHalt};
 ghost use Rattle.pg_cli.specs.Reading.{AreLacking, read_of};
 ghost use Rattle.pg_cli.specs.Run.{Carries};
+ghost use Rattle.pg_cli.specs.Verdicts.{IsFound};
 
 use crate::halt::Halt;
-use crate::reading::open_both;
+use crate::judging::judge_both;
 use crate::saying::say;
-use pg_cert::{Cert, Claim};
-use pg_check::CheckFault;
-use pg_game::Game;
+use crate::verdict::Verdict;
 use pg_io::{Console, Files, Stop};
+use pg_judge::ClaimHead;
 use pg_texts::{DONE, Message, Refusal};
 use std::alloc::Global;
 
 /// Says that each claim is accepted.
-fn accept_all<C: Console>(console: &mut C, claims: &[Claim]) -> Result<(), Stop>
-    ensures said { Speaks (map acceptance claims.now) (C.told console.old).log (C.told console.new).log result }
+fn accept_all<C: Console>(console: &mut C, claims: &[ClaimHead]) -> Result<(), Stop>
+    ensures said { Speaks (map head_acceptance claims.now) (C.told console.old).log (C.told console.new).log result }
     ensures causes { Causes ⊥ (C.told console.old).faults (C.told console.new).faults result }
     ensures left { (C.told console.new).left ≡ (C.told console.old).left }
     ensures write { IfErr result (λ stop. stop ≡ Stop.Write) }
@@ -41,31 +42,26 @@ fn accept_all<C: Console>(console: &mut C, claims: &[Claim]) -> Result<(), Stop>
     Ok(())
 }
 
-/// Says that each claim of a certificate is accepted, where it is valid for the game.
-fn judge<C: Console>(
-    alloc: Global,
-    console: &mut C,
-    game: &Game,
-    certificate: &Cert,
-) -> Result<u8, Halt>
-    requires limits { IsWithinLimits certificate.now }
-    requires single { game.now.bias ≡ 1 }
-    ensures judged { Performs (RefusesCheck (read_of game.now certificate.now)) (AcceptsAll (read_of game.now certificate.now))
-        (C.told console.old) (C.told console.new) result }
+/// Says that each claim of a certificate is accepted, where it is valid.
+fn accept<C: Console>(console: &mut C, verdict: &Verdict) -> Result<u8, Halt>
+    ensures judged { (g : Game) (c : Cert) → g.bias ≡ 1 → IsFound g c verdict.now
+        → Performs (RefusesCheck (read_of g c)) (AcceptsAll (read_of g c)) (C.told console.old) (C.told console.new) result }
+    ensures quiet { Quiets (Some (Check [] [])) (C.told console.old) (C.told console.new) result }
     ensures causes { HaltCauses ⊥ (C.told console.old).faults (C.told console.new).faults result }
     ensures done { IfOk result (λ status. status ≡ DONE) }
     ensures halts { IfErr result IsReadHalt }
     ensures deaf { result ≢ Err (Halt.Stopped Stop.Read) }
 {
-    match pg_check::check(alloc, game, certificate) {
-        Ok(_) => {
-            accept_all(console, certificate.claims.as_slice())?;
+    match verdict {
+        Verdict::Valid(claims) => {
+            accept_all(console, claims)?;
             Ok(DONE)
         }
-        Err(CheckFault::Reject { claim, node, why }) => {
-            Err(Halt::Refused(Refusal::Rejected { claim, node, why }))
-        }
-        Err(CheckFault::Memory) => Err(Halt::Stopped(Stop::Memory)),
+        Verdict::Faulty { claim, node, why } => Err(Halt::Refused(Refusal::Rejected {
+            claim: *claim,
+            node: *node,
+            why: *why,
+        })),
     }
 }
 
@@ -86,6 +82,6 @@ pub fn check<F: Files, C: Console>(
     ensures done { IfOk result (λ status. status ≡ DONE) }
     ensures halts { IfErr result IsReadHalt }
 {
-    let both = open_both(alloc, files, game, certificate)?;
-    judge(alloc, console, &both.0, &both.1)
+    let judged = judge_both(alloc, files, game, certificate)?;
+    accept(console, &judged.1)
 }

@@ -3,7 +3,9 @@
 
 mod checking;
 mod dialogue;
+mod generating;
 mod halt;
+mod judging;
 mod laws;
 mod playing;
 mod reading;
@@ -12,6 +14,7 @@ mod reporting;
 mod running;
 mod saying;
 mod solving;
+mod verdict;
 
 pub use dialogue::{MAX_REFUSALS, MAX_REPLY};
 pub use laws::{

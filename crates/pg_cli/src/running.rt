@@ -8,6 +8,7 @@ ghost use Rattle.pg_cli.specs.Halts.{BothCauses};
 ghost use Rattle.pg_cli.specs.Run.{Carries, Ends, HasCause, Ran};
 
 use crate::checking::check;
+use crate::generating::generate;
 use crate::halt::Halt;
 use crate::laws::announced_claims_are_forced;
 use crate::playing::play;
@@ -28,6 +29,7 @@ fn carry_out<F: Files, C: Console>(
     console: &mut C,
     work: &mut Work,
 ) -> Result<u8, Halt>
+    requires { work.old.positions ≡ [] }
     ensures ran { Carries (asked (map string_bytes words.now)) work.new
         (F.told files.old) (F.told files.new) (C.told console.old) (C.told console.new) result }
     ensures causes { BothCauses (IsLacking (F.told files.old).held (asked (map string_bytes words.now)))
@@ -76,7 +78,22 @@ fn carry_out<F: Files, C: Console>(
         Some(Command::Report { game, certificate }) => {
             report(alloc, game.as_str(), certificate.as_str(), files, console)
         }
-        _ => Err(Halt::Refused(Refusal::NoMeaning)),
+        Some(
+            Command::Gen {
+                which,
+                game,
+                certificate,
+            },
+        ) => generate(
+            alloc,
+            which,
+            game.as_str(),
+            certificate.as_deref(),
+            files,
+            console,
+            work,
+        ),
+        None => Err(Halt::Refused(Refusal::NoMeaning)),
     }
 }
 
@@ -99,7 +116,7 @@ fn end_early<C: Console>(console: &mut C, halt: Halt) -> u8
 ///
 /// | status | when |
 /// |---|---|
-/// | 0 | done: the game is solved and its certificate stored, each claim of the certificate is accepted, the game that was played is over, or the report of a valid certificate is said |
+/// | 0 | done: the game is made and stored, the game is solved and its certificate stored, each claim of the certificate is accepted, the game that was played is over, or the report of a valid certificate is said |
 /// | 1 | the question that was asked last of a game on lines is open after as many positions as the budget allows |
 /// | 2 | the words have no meaning, or the certificate has no claim of the side to play with the game's turn |
 /// | 3 | the game file has a fault |
@@ -110,7 +127,8 @@ fn end_early<C: Console>(console: &mut C, halt: Halt) -> u8
 /// | 8 | the input has ended before the game that is played |
 /// | 9 | the hundredth reply was refused |
 ///
-/// The first failing call on files or console ends the run. Where the files tell what they hold, `ran` says what is said
+/// A game that is made is stored before its size is said, and solved only then. The first failing call on files or console ends
+/// the run. Where the files tell what they hold, `ran` says what is said
 /// and stored at each status, by the command; in play, that the log is a dialogue of the side to its end, and that at 0
 /// the outcome reaches the goal of the claim. `forced` says that at any status every claim that is accepted or played is
 /// forced by its side. The other clauses hold for all files and consoles: `silent` says what is said at 5 and 7,

@@ -1,25 +1,29 @@
 //! Solving a game, and storing what shows it.
-ghost use Rattle.std.specs.Prelude.{◌≡◌, ◌⊎◌, ◌≤◌, [], IfErr, IfOk, IfSome, None, Some};
+ghost use Rattle.std.specs.Prelude.{◌≡◌, ◌≤◌, [], ◌∷◌, length, map, IfErr, IfOk, IfSome, Some};
+ghost use Rattle.pg_io.specs.Console.{Grows};
+ghost use Rattle.pg_io.specs.declared.entry.Entry.TheVariants.{Said};
 ghost use Rattle.pg_cert.specs.Limits.{IsWithinLimits};
 ghost use Rattle.pg_cert.specs.Print.{printed_certificate};
+ghost use Rattle.pg_base.specs.declared.kind.Kind.TheVariants.{Switching};
 ghost use Rattle.pg_solve.specs.declared.solving.TheConstants.{LEAST_POSITIONS, MOST_POSITIONS};
 ghost use Rattle.pg_texts.specs.Texts.{message_text};
 ghost use Rattle.pg_texts.specs.declared.statuses.TheConstants.{DONE, UNKNOWN};
 ghost use Rattle.pg_words.specs.Words.{Solve};
-ghost use Rattle.pg_cli.specs.Commands.{Quiets};
-ghost use Rattle.pg_cli.specs.Done.{Follows};
-ghost use Rattle.pg_cli.specs.Halts.{BothCauses, IsGameHalt, WriteCause};
+ghost use Rattle.pg_cli.specs.Commands.{Gives, Quiets};
+ghost use Rattle.pg_cli.specs.Done.{Does};
+ghost use Rattle.pg_cli.specs.Halts.{BothCauses, IsWriteHalt, MuteAtMemory};
 ghost use Rattle.pg_cli.specs.Reading.{IsGameLacking};
 ghost use Rattle.pg_cli.specs.Run.{Carries};
-ghost use Rattle.pg_cli.specs.Solving.{SolvesGame, class_text, positions_for};
-ghost use Rattle.pg_cli.specs.Storing.{Delivers, DeliversOn, StoresAt};
+ghost use Rattle.pg_cli.specs.Solving.{IsFound, IsSolveEnd, SolvesGame, class_text, positions_for, result_alone};
+ghost use Rattle.pg_cli.specs.Storing.{Delivers, StoresAt, texts_of};
 
 use crate::halt::Halt;
 use crate::reading::open_game;
-use crate::saying::say;
+use crate::saying::{say, say_both};
+use pg_base::Memory;
 use pg_cert::{Cert, print_cert};
 use pg_game::Game;
-use pg_io::{Console, Files, Stop, store};
+use pg_io::{Console, Files, store};
 use pg_pns::{Work, budget_of};
 use pg_solve::{Class, LEAST_POSITIONS, MOST_POSITIONS, Solution};
 use pg_texts::{DONE, Message, UNKNOWN};
@@ -52,45 +56,75 @@ fn class_message(class: Class) -> Message
     }
 }
 
-/// Stores a file, and then says a message.
-fn deliver<F: Files, C: Console>(
+/// Stores a file, and then says a message, and a further one where it is given.
+pub fn deliver<F: Files, C: Console>(
     name: &str,
     text: &[u8],
     message: Message,
+    further: Option<Message>,
     files: &mut F,
     console: &mut C,
-) -> Result<(), Stop>
-    ensures delivered { IfSome (F.told files.old).held (λ held. DeliversOn held (name.now, text.now) (message_text message)
-        (F.told files.new) (C.told console.old) (C.told console.new) result) }
-    ensures files { StoresAt name.now (F.told files.old) (F.told files.new) }
-    ensures causes { IfOk result (λ _. ((F.told files.new).faults ≡ (F.told files.old).faults) × ((C.told console.new).faults ≡ (C.told console.old).faults)) }
-    ensures write { IfErr result (λ stop. (stop ≡ Stop.Write) × WriteCause (F.told files.old) (F.told files.new) (C.told console.old) (C.told console.new)) }
+) -> Result<u8, Halt>
+    ensures delivered { Does (Delivers (name.now, text.now) (texts_of message further))
+        (F.told files.old) (F.told files.new) (C.told console.old) (C.told console.new) result }
+    ensures said { IfOk result (λ _. Grows (C.told console.old).log (C.told console.new).log (map Said (texts_of message further))) }
+    ensures files { StoresAt (name.now ∷ []) (F.told files.old) (F.told files.new) }
+    ensures causes { BothCauses ⊥ (F.told files.old) (F.told files.new) (C.told console.old) (C.told console.new) result }
+    ensures quiet { MuteAtMemory (C.told console.old) (C.told console.new) result }
+    ensures done { IfOk result (λ status. status ≡ DONE) }
+    ensures halts { IfErr result IsWriteHalt }
 {
     store(files, name, text)?;
-    say(console, message)
+    say_both(console, message, further)?;
+    Ok(DONE)
 }
 
-/// Stores a certificate that shows what was found, and says what was found.
-fn deliver_solution<F: Files, C: Console>(
+/// Stores a certificate that shows what was found, and says what was found, and a further message where it is given.
+pub fn deliver_solution<F: Files, C: Console>(
     alloc: Global,
     name: &str,
     certificate: &Cert,
     message: Message,
+    further: Option<Message>,
     files: &mut F,
     console: &mut C,
 ) -> Result<u8, Halt>
     requires { IsWithinLimits certificate.now }
-    ensures delivered { IfSome (F.told files.old).held (λ held. Follows (λ _. ⊥) (Delivers (name.now, printed_certificate certificate.now) (message_text message))
-        held (F.told files.new) (C.told console.old) (C.told console.new) result) }
-    ensures files { StoresAt name.now (F.told files.old) (F.told files.new) }
+    ensures delivered { Does (Delivers (name.now, printed_certificate certificate.now) (texts_of message further))
+        (F.told files.old) (F.told files.new) (C.told console.old) (C.told console.new) result }
+    ensures files { StoresAt (name.now ∷ []) (F.told files.old) (F.told files.new) }
     ensures causes { BothCauses ⊥ (F.told files.old) (F.told files.new) (C.told console.old) (C.told console.new) result }
-    ensures quiet { Quiets (Some (Solve [] name.now None)) (C.told console.old) (C.told console.new) result }
+    ensures quiet { MuteAtMemory (C.told console.old) (C.told console.new) result }
     ensures done { IfOk result (λ status. status ≡ DONE) }
-    ensures halts { IfErr result IsGameHalt }
+    ensures halts { IfErr result IsWriteHalt }
 {
     let text = print_cert(alloc, certificate)?;
-    deliver(name, &text, message, files, console)?;
-    Ok(DONE)
+    deliver(name, &text, message, further, files, console)
+}
+
+/// What is found of a game: the message that says it, and the certificate that shows it; none where the question that was
+/// asked last stays open.
+pub fn find(
+    alloc: Global,
+    game: &Game,
+    positions: u32,
+    work: &mut Work,
+) -> Result<Option<(Message, Cert)>, Memory>
+    requires some { LEAST_POSITIONS ≤ positions }
+    requires most { positions ≤ MOST_POSITIONS }
+    requires single { game.now.bias ≡ 1 }
+    ensures found { IfOk result (IsFound game.now positions work.new) }
+    ensures few { work.old.positions ≡ [] → length work.new.positions ≤ MOST_POSITIONS }
+    ensures untouched { game.now.kind ≡ Switching → work.new ≡ work.old }
+{
+    match pg_solve::solve(alloc, game, positions, work)? {
+        Solution::Value { score, certificate } => {
+            let kind = game.kind;
+            Ok(Some((Message::Result { kind, score }, certificate)))
+        }
+        Solution::Class { class, certificate } => Ok(Some((class_message(class), certificate))),
+        Solution::Unknown => Ok(None),
+    }
 }
 
 /// Solves a game that was read.
@@ -106,41 +140,19 @@ fn solve_game<F: Files, C: Console>(
     requires some { LEAST_POSITIONS ≤ positions }
     requires most { positions ≤ MOST_POSITIONS }
     requires single { game.now.bias ≡ 1 }
-    ensures solved { IfSome (F.told files.old).held (λ held. Follows (λ _. ⊥) (SolvesGame game.now certificate.now positions work.new)
-        held (F.told files.new) (C.told console.old) (C.told console.new) result) }
-    ensures files { StoresAt certificate.now (F.told files.old) (F.told files.new) }
+    ensures solved { Does (SolvesGame (result_alone game.now) game.now certificate.now positions work.new)
+        (F.told files.old) (F.told files.new) (C.told console.old) (C.told console.new) result }
+    ensures files { StoresAt (certificate.now ∷ []) (F.told files.old) (F.told files.new) }
     ensures causes { BothCauses ⊥ (F.told files.old) (F.told files.new) (C.told console.old) (C.told console.new) result }
-    ensures quiet { Quiets (Some (Solve [] certificate.now None)) (C.told console.old) (C.told console.new) result }
-    ensures done { IfOk result (λ status. (status ≡ DONE) ⊎ (status ≡ UNKNOWN)) }
-    ensures halts { IfErr result IsGameHalt }
+    ensures quiet { MuteAtMemory (C.told console.old) (C.told console.new) result }
+    ensures done { IfOk result (IsSolveEnd game.now.kind) }
+    ensures halts { IfErr result IsWriteHalt }
 {
-    match pg_solve::solve(alloc, game, positions, work)? {
-        Solution::Value {
-            score,
-            certificate: shown,
-        } => {
-            let kind = game.kind;
-            deliver_solution(
-                alloc,
-                certificate,
-                &shown,
-                Message::Result { kind, score },
-                files,
-                console,
-            )
+    match find(alloc, game, positions, work)? {
+        Some((message, shown)) => {
+            deliver_solution(alloc, certificate, &shown, message, None, files, console)
         }
-        Solution::Class {
-            class,
-            certificate: shown,
-        } => deliver_solution(
-            alloc,
-            certificate,
-            &shown,
-            class_message(class),
-            files,
-            console,
-        ),
-        Solution::Unknown => {
+        None => {
             say(console, Message::Unknown(budget_of(game, positions)))?;
             Ok(UNKNOWN)
         }
@@ -164,9 +176,8 @@ pub fn solve<F: Files, C: Console>(
     ensures causes { BothCauses (IsGameLacking (F.told files.old).held game.now)
         (F.told files.old) (F.told files.new) (C.told console.old) (C.told console.new) result }
     ensures quiet { Quiets (Some (Solve game.now certificate.now (Some positions))) (C.told console.old) (C.told console.new) result }
-    ensures files { StoresAt certificate.now (F.told files.old) (F.told files.new) }
-    ensures done { IfOk result (λ status. (status ≡ DONE) ⊎ (status ≡ UNKNOWN)) }
-    ensures halts { IfErr result IsGameHalt }
+    ensures files { StoresAt (certificate.now ∷ []) (F.told files.old) (F.told files.new) }
+    ensures gives { Gives (Some (Solve game.now certificate.now (Some positions))) result }
 {
     let game = open_game(alloc, files, game)?;
     solve_game(alloc, &game, certificate, positions, files, console, work)
