@@ -2,6 +2,8 @@
 #![tactic(auto)]
 
 #[cfg(test)]
+mod generating;
+#[cfg(test)]
 mod reporting;
 #[cfg(test)]
 mod solving;

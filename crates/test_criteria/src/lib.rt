@@ -17,16 +17,4 @@ pub use pairings::all_pairings;
 pub use threats::{ThreatTally, tally_threats};
 
 #[cfg(test)]
-mod avoider_rows;
-#[cfg(test)]
-mod pairing_rows;
-#[cfg(test)]
-mod plain_rows;
-#[cfg(test)]
-mod potential_rows;
-#[cfg(test)]
-mod switch_rows;
-#[cfg(test)]
 mod tests;
-#[cfg(test)]
-mod told;

@@ -1,306 +1,296 @@
-//! Games: rows worked by hand.
-use pg_base::{Grid, Kind, LineFault, MAX_MEMBERS, PointSet, Score, Side};
+//! Games: rows worked by hand, as `test_kit` reads games, with what is asked behind them.
+use pg_base::{Grid, Kind, LineFault, PointSet, Score, Side};
 use pg_game::{Field, Game, Illegal, Judge, LineField, Position};
-use pg_graph::{Ends, Graph};
 use std::alloc::Global;
 use std::test::Fail;
+use test_kit::{game, numbers, part, set, side, word};
 
-/// The set of those of the points that a set can hold.
-fn set_of(points: &[u16]) -> PointSet {
-    let mut set = PointSet::empty();
-    for &v in points {
-        if v < MAX_MEMBERS {
-            set.put(v);
-        }
-    }
-    set
-}
-
-/// A game on lines, without marks.
-fn game_of(
-    alloc: Global,
-    kind: Kind,
-    points: u16,
-    lines: &[&[u16]],
-    bias: u8,
-) -> Result<Game, Fail> {
-    let field = Field::Lines(LineField::from_rows(alloc, points, lines)?);
-    let none = PointSet::empty();
-    Ok(Game::new(kind, field, none, none, Side::X, bias)?)
-}
-
-/// A game on a graph with the terminals 0 and 1, without marks.
-fn graph_game_of(alloc: Global, vertices: u16, ends: &[(u16, u16)]) -> Result<Game, Fail> {
-    let field = Field::Graph(Graph {
-        vertices,
-        s: 0,
-        t: 1,
-        ends: Ends::from_vec(ends.to_vec(alloc)?),
-    });
-    let none = PointSet::empty();
-    Ok(Game::new(Kind::Switching, field, none, none, Side::X, 1)?)
-}
-
-/// The outcome of a position.
-fn over(alloc: Global, g: &Game, x: &[u16], y: &[u16]) -> Result<Option<Score>, Fail> {
-    let mut judge = Judge::new(alloc, g)?;
-    let p = Position {
-        x: set_of(x),
-        y: set_of(y),
-        turn: Side::X,
-        left: 1,
-    };
-    if !p.x.is_below(g.points()) {
-        return Ok(None);
-    }
-    Ok(judge.over(g, &p))
-}
-
-/// X's points, Y's points, and the outcome with them.
-type Row = (&'static [u16], &'static [u16], Option<Score>);
-
-/// Whether each row has its outcome.
-fn have_outcomes(alloc: Global, g: &Game, rows: &[Row]) -> Result<bool, Fail> {
-    for &(x, y, outcome) in rows {
-        if over(alloc, g, x, y)? != outcome {
-            return Ok(false);
-        }
-    }
-    Ok(true)
-}
+/// The outcome with X's and Y's points, on two lines that share a point, on noughts and crosses, without lines, on the graph with two
+/// inner vertices, and on two parallel edges beside a loop.
+const OUTCOMES: &str = "\
+maker-breaker 3 x 1:0 1,0 2:::none;\
+maker-breaker 3 x 1:0 1,0 2:0:1:none;\
+maker-breaker 3 x 1:0 1,0 2:0 2:1:x;\
+maker-breaker 3 x 1:0 1,0 2::0:y;\
+maker-breaker 3 x 1:0 1,0 2:0:1 2:y;\
+avoider-enforcer 3 x 1:0 1,0 2:0:1:none;\
+avoider-enforcer 3 x 1:0 1,0 2:0 2:1:y;\
+avoider-enforcer 3 x 1:0 1,0 2::0:x;\
+maker-breaker 9 x 1:three:0 2 3 7 8:1 4 5 6:y;\
+maker-breaker 9 x 1:three:0 1:3 4 5:none;\
+maker-maker 9 x 1:three:0 4:1:none;\
+maker-maker 9 x 1:three:0 2 3 7 8:1 4 5 6:draw;\
+maker-maker 9 x 1:three:0 1:3 4 5:y;\
+maker-maker 9 x 1:three:0 1 2:3 4 5:x;\
+maker-breaker 1 x 1::::y;\
+avoider-enforcer 1 x 1::::x;\
+maker-maker 1 x 1::::none;\
+maker-maker 1 x 1::0::draw;\
+switching 4 x 1:0 2,0 3,2 3,2 1,3 1:::none;\
+switching 4 x 1:0 2,0 3,2 3,2 1,3 1:0 2:1 3:none;\
+switching 4 x 1:0 2,0 3,2 3,2 1,3 1:0 2 4:1 3:x;\
+switching 4 x 1:0 2,0 3,2 3,2 1,3 1:1:0 2 4:y;\
+switching 2 x 1:0 0,0 1,1 0:0:1:none;\
+switching 2 x 1:0 0,0 1,1 0:2:1:x;\
+switching 2 x 1:0 0,0 1,1 0::1 2:y;\
+switching 2 x 1::::y";
 
 /// What a judge answers to each move of a list: the side that is then to move and what it still claims, or why the move
 /// is refused. A refused move changes nothing.
-fn have_answers(
-    alloc: Global,
-    g: &Game,
-    moves: &[(u16, Result<(Side, u8), Illegal>)],
-) -> Result<bool, Fail> {
+const MOVES: &str = "\
+maker-breaker 3 x 1:0 1,0 2:::3 range,0 y 1,0 taken,1 x 1,2 y 1,0 over,3 range;\
+maker-breaker 6 x 3:0 1 2,3 4 5:::0 y 3,3 y 2,4 y 1,5 x 1,1 y 3";
+
+/// How many points are free after the moves, and the lowest of them; and how many lines there are.
+const FREE: &str = "\
+maker-breaker 4 x 1:0 1,0 2:::0:3 1 2;\
+maker-breaker 4 x 1:0 1,0 2:::0 1 2 3:0 none 2;\
+switching 2 x 1:0 1::::1 0 0";
+
+/// Whether a game with one line is within the limits, as `KIND POINTS BIAS FROM TO ANSWER`: the points of the line go from one number
+/// up to another.
+const FITS: &str = "\
+maker-breaker 40 1 0 34 yes;\
+maker-breaker 40 2 0 34 no;\
+maker-breaker 40 7 1 34 yes;\
+maker-breaker 33 1 0 34 no;\
+maker-breaker 40 8 0 1 no;\
+maker-breaker 40 0 0 1 no;\
+maker-breaker 40 1 0 0 no;\
+maker-breaker 256 1 0 1 yes;\
+maker-breaker 257 1 0 1 no;\
+maker-maker 40 2 0 1 no;\
+avoider-enforcer 40 7 0 1 yes;\
+switching 40 1 0 1 no";
+
+/// Whether a game with a grid of three rows and with marks is within the limits, as `WIDTH POINTS ANSWER:X:Y`.
+const GRIDS: &str = "\
+3 9 yes::;\
+3 8 no::;\
+3 9 yes:4:;\
+3 9 no:4:4;\
+1 3 no::4";
+
+/// The word for whether something holds.
+fn yes_or_no(holds: bool) -> &'static str {
+    if holds { "yes" } else { "no" }
+}
+
+/// Whether the row tells the outcome at the marks.
+fn has_outcome(alloc: Global, row: &str) -> Option<bool> {
+    let g = game(alloc, row)?;
+    let mut judge = Judge::new(alloc, &g).ok()?;
+    let told = match judge.over(&g, &g.start()) {
+        Some(Score::XWins) => "x",
+        Some(Score::YWins) => "y",
+        Some(Score::Draw) => "draw",
+        None => "none",
+    };
+    Some(told == part(row, 4))
+}
+
+/// Whether an answer to a move is the one that a text tells behind the number of the point.
+fn is_answer(answer: &Result<Position, Illegal>, text: &str) -> bool {
+    match answer {
+        Ok(next) => {
+            let left = word(text, 2).parse::<u8>().ok();
+            next.turn == side(word(text, 1)) && left == Some(next.left)
+        }
+        Err(Illegal::Range) => word(text, 1) == "range",
+        Err(Illegal::Taken) => word(text, 1) == "taken",
+        Err(Illegal::Over) => word(text, 1) == "over",
+    }
+}
+
+/// What a judge answers to a move, where X's points are points of the game.
+fn judged(alloc: Global, g: &Game, p: &Position, v: u16) -> Option<Result<Position, Illegal>> {
+    if !p.x.is_below(g.points()) {
+        return None;
+    }
+    let mut judge = Judge::new(alloc, g).ok()?;
+    Some(judge.play(g, p, v))
+}
+
+/// Whether the moves of a row are answered as it tells.
+fn has_answers(alloc: Global, row: &str) -> Option<bool> {
+    let g = game(alloc, row)?;
     let mut p = g.start();
-    for &(v, want) in moves {
-        let mut judge = Judge::new(alloc, g)?;
-        if !p.x.is_below(g.points()) {
-            return Ok(false);
+    for text in part(row, 4).split(',') {
+        let v = word(text, 0).parse::<u16>().ok()?;
+        let answer = judged(alloc, &g, &p, v)?;
+        if !is_answer(&answer, text) {
+            return Some(false);
         }
-        let answer = match judge.play(g, &p, v) {
-            Ok(next) => {
-                p = next;
-                Ok((next.turn, next.left))
-            }
-            Err(why) => Err(why),
-        };
-        if answer != want {
-            return Ok(false);
+        if let Ok(next) = answer {
+            p = next;
         }
     }
-    Ok(true)
+    Some(true)
 }
 
-/// Three in a row on nine cells.
-const ROWS: [&[u16]; 8] = [
-    &[0, 1, 2],
-    &[3, 4, 5],
-    &[6, 7, 8],
-    &[0, 3, 6],
-    &[1, 4, 7],
-    &[2, 5, 8],
-    &[0, 4, 8],
-    &[2, 4, 6],
-];
-
-/// Two lines that share a point, of three points.
-const TWO: [&[u16]; 2] = [&[0, 1], &[0, 2]];
-
-const WON: Option<Score> = Some(Score::XWins);
-
-const DRAWN: Option<Score> = Some(Score::Draw);
-
-const LOST: Option<Score> = Some(Score::YWins);
-
-const BREAKER_ON_TWO: [Row; 5] = [
-    (&[], &[], None),
-    (&[0], &[1], None),
-    (&[0, 2], &[1], WON),
-    (&[], &[0], LOST),
-    (&[0], &[1, 2], LOST),
-];
-
-const AVOIDER_ON_TWO: [Row; 3] = [(&[0], &[1], None), (&[0, 2], &[1], LOST), (&[], &[0], WON)];
-
-const BREAKER_ON_ROWS: [Row; 2] = [
-    (&[0, 2, 3, 7, 8], &[1, 4, 5, 6], LOST),
-    (&[0, 1], &[3, 4, 5], None),
-];
-
-const RACE_ON_ROWS: [Row; 4] = [
-    (&[0, 4], &[1], None),
-    (&[0, 2, 3, 7, 8], &[1, 4, 5, 6], DRAWN),
-    (&[0, 1], &[3, 4, 5], LOST),
-    (&[0, 1, 2], &[3, 4, 5], WON),
-];
-
-#[test]
-fn outcomes_on_lines(rt: HostRuntime) -> Result<(), Fail> {
-    let alloc = rt.alloc();
-    for (kind, points, lines, rows) in [
-        (Kind::MakerBreaker, 3, &TWO[..], &BREAKER_ON_TWO[..]),
-        (Kind::AvoiderEnforcer, 3, &TWO[..], &AVOIDER_ON_TWO[..]),
-        (Kind::MakerBreaker, 9, &ROWS[..], &BREAKER_ON_ROWS[..]),
-        (Kind::MakerMaker, 9, &ROWS[..], &RACE_ON_ROWS[..]),
-        (Kind::MakerBreaker, 1, &[], &[(&[], &[], LOST)]),
-        (Kind::AvoiderEnforcer, 1, &[], &[(&[], &[], WON)]),
-        (
-            Kind::MakerMaker,
-            1,
-            &[],
-            &[(&[], &[], None), (&[0], &[], DRAWN)],
-        ),
-    ] {
-        let g = game_of(alloc, kind, points, lines, 1)?;
-        assert!(rt; have_outcomes(alloc, &g, rows)?, "{points} points");
+/// The position after moves to those of the points that the game has.
+fn after_moves(g: &Game, points: &[u16]) -> Position {
+    let mut p = g.start();
+    for v in points {
+        if *v < g.points() {
+            p = g.after(&p, *v);
+        }
     }
-    Ok(())
+    p
 }
 
-const ON_BRIDGE: [Row; 4] = [
-    (&[], &[], None),
-    (&[0, 2], &[1, 3], None),
-    (&[0, 2, 4], &[1, 3], WON),
-    (&[1], &[0, 2, 4], LOST),
-];
+/// Whether the row tells the free points and the lines.
+fn has_free(alloc: Global, row: &str) -> Option<bool> {
+    let g = game(alloc, row)?;
+    let p = after_moves(&g, &numbers(alloc, part(row, 4))?);
+    let due = part(row, 5);
+    let count = word(due, 0).parse::<u32>().ok()?;
+    let lines = word(due, 2).parse::<usize>().ok()?;
+    let free = g.free_points(&p);
+    let counts = free.len() == count && g.lines().len() == lines;
+    let lowest = g.lowest_free(&p) == word(due, 1).parse::<u16>().ok();
+    Some(counts && lowest && g.is_full(&p) == free.is_empty())
+}
 
-const ON_PARALLELS: [Row; 3] = [(&[0], &[1], None), (&[2], &[1], WON), (&[], &[1, 2], LOST)];
+/// Whether the row tells whether the game fits.
+fn fits(alloc: Global, row: &str) -> Option<bool> {
+    let points = word(row, 1).parse::<u16>().ok()?;
+    let bias = word(row, 2).parse::<u8>().ok()?;
+    let (from, to) = (
+        word(row, 3).parse::<u16>().ok()?,
+        word(row, 4).parse::<u16>().ok()?,
+    );
+    let mut line = Vec::new(alloc);
+    for v in from..to {
+        line.push(v).ok()?;
+    }
+    let field = LineField::from_rows(alloc, points, &[line.as_slice()]).ok()?;
+    let none = PointSet::empty();
+    let kind = test_kit::kind(word(row, 0));
+    let made = Game::new(kind, Field::Lines(field), none, none, Side::Y, bias);
+    Some(yes_or_no(made.is_ok()) == word(row, 5))
+}
+
+/// Whether the row tells whether the game with a grid fits.
+fn grid_fits(alloc: Global, row: &str) -> Option<bool> {
+    let head = part(row, 0);
+    let width = word(head, 0).parse::<u16>().ok()?;
+    let points = word(head, 1).parse::<u16>().ok()?;
+    let (x, y) = (set(alloc, part(row, 1))?, set(alloc, part(row, 2))?);
+    let mut field = LineField::from_rows(alloc, points, &[&[0, 1]]).ok()?;
+    field.grid = Some(Grid { width, height: 3 });
+    let made = Game::new(Kind::MakerMaker, Field::Lines(field), x, y, Side::X, 1);
+    Some(yes_or_no(made.is_ok()) == word(head, 2))
+}
+
+/// The rows of outcomes that aren't so.
+fn wrong_outcomes(alloc: Global) -> Result<String, Fail> {
+    let mut rows = String::new(alloc);
+    for row in OUTCOMES.split(';') {
+        if has_outcome(alloc, row) != Some(true) {
+            rows.push_str(row)?;
+        }
+    }
+    Ok(rows)
+}
+
+/// The rows of moves that aren't so.
+fn wrong_moves(alloc: Global) -> Result<String, Fail> {
+    let mut rows = String::new(alloc);
+    for row in MOVES.split(';') {
+        if has_answers(alloc, row) != Some(true) {
+            rows.push_str(row)?;
+        }
+    }
+    Ok(rows)
+}
+
+/// The rows of free points that aren't so.
+fn wrong_free(alloc: Global) -> Result<String, Fail> {
+    let mut rows = String::new(alloc);
+    for row in FREE.split(';') {
+        if has_free(alloc, row) != Some(true) {
+            rows.push_str(row)?;
+        }
+    }
+    Ok(rows)
+}
+
+/// The rows of limits that aren't so.
+fn wrong_fits(alloc: Global) -> Result<String, Fail> {
+    let mut rows = String::new(alloc);
+    for row in FITS.split(';') {
+        if fits(alloc, row) != Some(true) {
+            rows.push_str(row)?;
+        }
+    }
+    Ok(rows)
+}
+
+/// The rows of grids that aren't so.
+fn wrong_grids(alloc: Global) -> Result<String, Fail> {
+    let mut rows = String::new(alloc);
+    for row in GRIDS.split(';') {
+        if grid_fits(alloc, row) != Some(true) {
+            rows.push_str(row)?;
+        }
+    }
+    Ok(rows)
+}
 
 #[test]
-fn outcomes_on_graphs(rt: HostRuntime) -> Result<(), Fail> {
-    let alloc = rt.alloc();
-    for (vertices, ends, rows) in [
-        (
-            4,
-            &[(0, 2), (0, 3), (2, 3), (2, 1), (3, 1)][..],
-            &ON_BRIDGE[..],
-        ),
-        (2, &[(0, 0), (0, 1), (1, 0)], &ON_PARALLELS),
-        (2, &[], &[(&[], &[], LOST)]),
-    ] {
-        let g = graph_game_of(alloc, vertices, ends)?;
-        assert!(rt; have_outcomes(alloc, &g, rows)?, "{vertices} vertices");
-    }
+fn outcomes(rt: HostRuntime) -> Result<(), Fail> {
+    assert_eq!(rt; wrong_outcomes(rt.alloc())?.as_str(), "");
     Ok(())
 }
 
 #[test]
 fn legal_moves(rt: HostRuntime) -> Result<(), Fail> {
-    let alloc = rt.alloc();
-    let g = game_of(alloc, Kind::MakerBreaker, 3, &TWO, 1)?;
-    assert!(rt;
-        have_answers(
-            alloc,
-            &g,
-            &[
-                (3, Err(Illegal::Range)),
-                (0, Ok((Side::Y, 1))),
-                (0, Err(Illegal::Taken)),
-                (1, Ok((Side::X, 1))),
-                (2, Ok((Side::Y, 1))),
-                (0, Err(Illegal::Over)),
-                (3, Err(Illegal::Range)),
-            ]
-        )?
-    );
-    Ok(())
-}
-
-#[test]
-fn turns_of_several_points(rt: HostRuntime) -> Result<(), Fail> {
-    let alloc = rt.alloc();
-    let lines: [&[u16]; 2] = [&[0, 1, 2], &[3, 4, 5]];
-    let g = game_of(alloc, Kind::MakerBreaker, 6, &lines, 3)?;
-    assert!(rt;
-        have_answers(
-            alloc,
-            &g,
-            &[
-                (0, Ok((Side::Y, 3))),
-                (3, Ok((Side::Y, 2))),
-                (4, Ok((Side::Y, 1))),
-                (5, Ok((Side::X, 1))),
-                (1, Ok((Side::Y, 3))),
-            ]
-        )?
-    );
-    assert_eq!(rt; g.with_turn(Side::Y).left, 3);
-    assert!(rt; g.start().is_same(&g.with_turn(Side::X)));
-    Ok(())
-}
-
-#[test]
-fn misfits(rt: HostRuntime) -> Result<(), Fail> {
-    let long: [u16; 34] = std::array::from_fn(|i| i as u16);
-    let none = PointSet::empty();
-    for (kind, points, line, bias, fits) in [
-        (Kind::MakerBreaker, 40, &long[..], 1, true),
-        (Kind::MakerBreaker, 40, &long[..], 2, false),
-        (Kind::MakerBreaker, 40, &long[1..], 7, true),
-        (Kind::MakerBreaker, 33, &long[..], 1, false),
-        (Kind::MakerBreaker, 40, &long[..1], 8, false),
-        (Kind::MakerBreaker, 40, &long[..1], 0, false),
-        (Kind::MakerBreaker, 40, &long[..0], 1, false),
-        (Kind::MakerBreaker, 256, &long[..1], 1, true),
-        (Kind::MakerBreaker, 257, &long[..1], 1, false),
-        (Kind::MakerMaker, 40, &long[..1], 2, false),
-        (Kind::AvoiderEnforcer, 40, &long[..1], 7, true),
-        (Kind::Switching, 40, &long[..1], 1, false),
-    ] {
-        let field = LineField::from_rows(rt.alloc(), points, &[line])?;
-        let made = Game::new(kind, Field::Lines(field), none, none, Side::Y, bias);
-        assert_eq!(rt; made.is_ok(), fits, "{points} points, bias {bias}");
-    }
-    Ok(())
-}
-
-#[test]
-fn misfits_of_grids_and_marks(rt: HostRuntime) -> Result<(), Fail> {
-    let four = set_of(&[4]);
-    let none = PointSet::empty();
-    for (width, points, x, y, fits) in [
-        (3, 9, none, none, true),
-        (3, 8, none, none, false),
-        (3, 9, four, none, true),
-        (3, 9, four, four, false),
-        (1, 3, none, four, false),
-    ] {
-        let mut field = LineField::from_rows(rt.alloc(), points, &[&[0, 1]])?;
-        field.grid = Some(Grid { width, height: 3 });
-        let made = Game::new(Kind::MakerMaker, Field::Lines(field), x, y, Side::X, 1);
-        assert_eq!(rt; made.is_ok(), fits, "{width} columns, {points} points");
-    }
-    Ok(())
-}
-
-#[test]
-fn rows_in_any_order(rt: HostRuntime) -> Result<(), Fail> {
-    let field = LineField::from_rows(rt.alloc(), 4, &[&[2, 0, 1], &[3]])?;
-    let lines = field.lines.as_slice();
-    assert_eq!(rt; lines.len(), 2);
-    assert_eq!(rt; lines[0].as_slice(), [0, 1, 2].as_slice());
-    let twice = LineField::from_rows(rt.alloc(), 4, &[&[3], &[1, 2, 1]]);
-    assert_eq!(rt; twice.err(), Some(LineFault::Repeated));
+    assert_eq!(rt; wrong_moves(rt.alloc())?.as_str(), "");
     Ok(())
 }
 
 #[test]
 fn lines_and_free_points(rt: HostRuntime) -> Result<(), Fail> {
-    let g = game_of(rt.alloc(), Kind::MakerBreaker, 4, &TWO, 1)?;
-    assert_eq!(rt; g.lines().len(), 2);
-    let p = g.after(&g.start(), 0);
-    assert_eq!(rt; g.free_points(&p).len(), 3);
-    assert_eq!(rt; g.lowest_free(&p), Some(1));
-    assert!(rt; !g.is_full(&p));
-    let full = g.after(&g.after(&g.after(&p, 1), 2), 3);
-    assert!(rt; g.is_full(&full) && g.free_points(&full).is_empty());
-    assert_eq!(rt; g.lowest_free(&full), None);
-    let graph = graph_game_of(rt.alloc(), 2, &[(0, 1)])?;
-    assert_eq!(rt; graph.lines().len(), 0);
+    assert_eq!(rt; wrong_free(rt.alloc())?.as_str(), "");
+    Ok(())
+}
+
+#[test]
+fn misfits(rt: HostRuntime) -> Result<(), Fail> {
+    assert_eq!(rt; wrong_fits(rt.alloc())?.as_str(), "");
+    Ok(())
+}
+
+#[test]
+fn misfits_of_grids_and_marks(rt: HostRuntime) -> Result<(), Fail> {
+    assert_eq!(rt; wrong_grids(rt.alloc())?.as_str(), "");
+    Ok(())
+}
+
+/// Whether a turn of several points begins as a game does, and with as many points left as the bias says.
+fn turns_begin(g: &Game) -> bool {
+    g.with_turn(Side::Y).left == g.bias && g.start().is_same(&g.with_turn(g.turn))
+}
+
+#[test]
+fn turns_of_several_points(rt: HostRuntime) -> Result<(), Fail> {
+    let g = game(rt.alloc(), "maker-breaker 6 x 3:0 1 2,3 4 5::").ok_or("no game")?;
+    assert!(rt; turns_begin(&g));
+    Ok(())
+}
+
+/// Whether the points of a row may come in any order, and none twice.
+fn rows_are_ordered(alloc: Global) -> Option<bool> {
+    let field = LineField::from_rows(alloc, 4, &[&[2, 0, 1], &[3]]).ok()?;
+    let first = field.lines.as_slice().first()?;
+    let ordered = first.as_slice() == [0, 1, 2].as_slice();
+    let twice = LineField::from_rows(alloc, 4, &[&[3], &[1, 2, 1]]);
+    Some(ordered && field.lines.as_slice().len() == 2 && twice.err() == Some(LineFault::Repeated))
+}
+
+#[test]
+fn rows_in_any_order(rt: HostRuntime) -> Result<(), Fail> {
+    assert!(rt; rows_are_ordered(rt.alloc()) == Some(true));
     Ok(())
 }

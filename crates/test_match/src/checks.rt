@@ -1,9 +1,9 @@
 //! Whether pairs are private, and whether lines are short of free points, by plain counting.
-use pg_base::{Line, Pair, PointSet};
+use pg_base::{Line, MAX_MEMBERS, Pair, PointSet};
 
 /// Takes a point of the line out of the set; false where the line doesn't hold it or the set hasn't got it.
 fn takes(left: &mut PointSet, line: &Line, v: u16) -> bool {
-    if v >= 1024 || !left.has(v) || !line.has(v) {
+    if v >= MAX_MEMBERS || !left.has(v) || !line.has(v) {
         return false;
     }
     left.take(v);
@@ -24,11 +24,11 @@ pub(crate) fn are_private(lines: &[Line], wanted: &[u32], free: &PointSet, pairs
     wanted.len() == pairs.len()
 }
 
-/// Whether the numbers are different and below 1,024.
+/// Whether the numbers are different and below the limit of a set.
 fn are_different(numbers: &[u32]) -> bool {
     let mut met = PointSet::empty();
     for j in numbers {
-        if *j >= 1024 || met.has(*j as u16) {
+        if *j >= u32::from(MAX_MEMBERS) || met.has(*j as u16) {
             return false;
         }
         met.put(*j as u16);
@@ -51,7 +51,7 @@ fn covers(lines: &[Line], family: &[u32], v: u16) -> bool {
 /// Whether the family is of different wanted lines, which hold fewer than two free points for each of them together.
 pub(crate) fn is_short(lines: &[Line], wanted: &[u32], free: &PointSet, family: &[u32]) -> bool {
     let mut covered = 0u32;
-    for v in 0..1024 {
+    for v in 0..MAX_MEMBERS {
         if free.has(v) && covers(lines, family, v) {
             covered = covered.saturating_add(1);
         }

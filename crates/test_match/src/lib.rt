@@ -6,6 +6,6 @@ mod checks;
 #[cfg(test)]
 mod families;
 #[cfg(test)]
-mod reading;
+mod lines;
 #[cfg(test)]
 mod rows;

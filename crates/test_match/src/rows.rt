@@ -1,20 +1,20 @@
 //! Rows worked by hand.
-use crate::reading::{game, lines_of, part};
-use pg_base::Kind;
+use crate::lines::lines_of;
 use pg_game::Game;
 use pg_match::{Matching, PairCache, lines_without, private_pairs, with_rest};
 use std::alloc::Global;
 use std::test::Fail;
+use test_kit::{game, part};
 
 /// Rows with `;` between them: what matching answers. Three lines on three points are short, and so are lines of which two
 /// hold three points alone; in the third row points are passed on.
 const ROWS: &str = "\
-6:0 1,2 3,4 5::: 0-1 2-3 4-5;\
-3:0 1,0 2,1 2:::short 0 1;\
-6:0 1 2 3,0 1,2 3 4 5::: 2-3 0-1 4-5;\
-8:3 4,0 1 2,0 1 2,3 5 6 7:::short 2 1;\
-6:0 1,2 3,4 5::2: 0-1 4-5;\
-8:0 1,2 3,4 5:2::short 1";
+maker-breaker 6 x 1:0 1,2 3,4 5::: 0-1 2-3 4-5;\
+maker-breaker 3 x 1:0 1,0 2,1 2:::short 0 1;\
+maker-breaker 6 x 1:0 1 2 3,0 1,2 3 4 5::: 2-3 0-1 4-5;\
+maker-breaker 8 x 1:3 4,0 1 2,0 1 2,3 5 6 7:::short 2 1;\
+maker-breaker 6 x 1:0 1,2 3,4 5::2: 0-1 4-5;\
+maker-breaker 8 x 1:0 1,2 3,4 5:2::short 1";
 
 /// The answer as text.
 fn told(alloc: Global, found: &Matching) -> Result<String, Fail> {
@@ -51,12 +51,21 @@ fn answers_twice(alloc: Global, g: &Game, answer: &str) -> Result<bool, Fail> {
     Ok(same && hits_before == 0 && cache.hits() == 1)
 }
 
+/// The rows that are answered otherwise.
+fn wrong(alloc: Global) -> Result<String, Fail> {
+    let mut rows = String::new(alloc);
+    for row in ROWS.split(';') {
+        let g = game(alloc, row).ok_or("no game")?;
+        if !answers_twice(alloc, &g, part(row, 4))? {
+            rows.push_str(row)?;
+        }
+    }
+    Ok(rows)
+}
+
 #[test]
 fn rows_are_answered_twice(rt: HostRuntime) -> Result<(), Fail> {
-    for row in ROWS.split(';') {
-        let g = game(rt.alloc(), Kind::MakerBreaker, row)?;
-        assert!(rt; answers_twice(rt.alloc(), &g, part(row, 4))?, "{row}");
-    }
+    assert_eq!(rt; wrong(rt.alloc())?.as_str(), "");
     Ok(())
 }
 
@@ -73,7 +82,7 @@ fn with_others(alloc: Global, g: &Game) -> Result<String, Fail> {
 
 #[test]
 fn the_rest_is_paired_upwards(rt: HostRuntime) -> Result<(), Fail> {
-    let g = game(rt.alloc(), Kind::AvoiderEnforcer, "7:1 4::")?;
+    let g = game(rt.alloc(), "avoider-enforcer 7 x 1:1 4::").ok_or("no game")?;
     assert_eq!(rt; with_others(rt.alloc(), &g)?.as_str(), " 1-4 0-2 3-5");
     Ok(())
 }

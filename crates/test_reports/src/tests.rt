@@ -1,9 +1,25 @@
 //! Reports that were written by hand.
+use pg_cert::Cert;
 use pg_cert_files::read_cert;
 use pg_files::read_game;
+use pg_judge::ClaimHead;
 use pg_report::{rejection, report};
-use std::alloc::Global;
+use std::alloc::{AllocError, Global};
 use std::test::Fail;
+
+/// What the claims of a certificate say before their nodes.
+fn heads(alloc: Global, certificate: &Cert) -> Result<Vec<ClaimHead>, AllocError> {
+    let mut heads = Vec::new(alloc);
+    for claim in certificate.claims.as_slice() {
+        heads.push(ClaimHead {
+            turn: claim.turn,
+            side: claim.side,
+            goal: claim.goal,
+            nodes: u32::try_from(claim.nodes.as_slice().len()).unwrap_or(0),
+        })?;
+    }
+    Ok(heads)
+}
 
 /// The report of a game and a certificate, with its line feed.
 fn told(alloc: Global, game: &str, certificate: &str) -> Result<String, Fail> {
@@ -13,7 +29,8 @@ fn told(alloc: Global, game: &str, certificate: &str) -> Result<String, Fail> {
     let Ok(certificate) = read_cert(alloc, certificate.as_bytes()) else {
         return Ok(String::from_str(alloc, "certificate")?);
     };
-    let Ok(text) = report(alloc, &game, &certificate) else {
+    let heads = heads(alloc, &certificate)?;
+    let Ok(text) = report(alloc, &game, &heads) else {
         return Ok(String::from_str(alloc, "memory")?);
     };
     Ok(text)

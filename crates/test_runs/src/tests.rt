@@ -324,6 +324,7 @@ fn later_nodes_and_claims(rt: HostRuntime) -> Result<(), Fail> {
         "claim x y win;nodes 3;|4|x|pairs 0-1 2-5 8-7 6-3;|4|x|pairs 0-1;|4|x|pairs 0-1 2-5 8-7 6-3=rejected J6 claim 0 node 1",
         "claim x y win;nodes 3;|4|x|pairs 0-1 2-5 8-7 6-3;|4|x|pairs 0-1 2-5 8-7 6-3;|4|x|pairs 0-1=rejected J6 claim 0 node 2",
         "claim x y win;nodes 1;|4|x|pairs 0-1 2-5 8-7 6-3;claim x y win;nodes 1;|4|x|pairs 0-1=rejected J6 claim 1 node 0",
+        "claim x y win;nodes 1;|4|x|pairs 0-1;nodes 1=certificate C3 line 5",
         "claim x y draw;nodes 1;|4|x|pairs 0-1 2-5 8-7 6-3=accepted x y draw",
         "claim x x win;nodes 2;|4|x|pairs 0-1 2-5 8-7 6-3;|4|x|over=rejected J12 claim 0 node 0",
         "claim x y win;nodes 1;|4|y|pairs 0-1 2-5 8-7 6-3=rejected J11 claim 0 node 0",

@@ -1,9 +1,9 @@
-//! The search on rows worked by hand: tests alone.
+//! The search on rows worked by hand, and beside the plain program on small games: tests alone.
 #![tactic(auto)]
 
 #[cfg(test)]
-mod reading;
-#[cfg(test)]
 mod rows;
+#[cfg(test)]
+mod settling;
 #[cfg(test)]
 mod telling;

@@ -2,6 +2,8 @@
 #![tactic(auto)]
 
 #[cfg(test)]
+mod all_plays;
+#[cfg(test)]
 mod draws;
 #[cfg(test)]
 mod plays;

@@ -1,4 +1,4 @@
-//! What is solved, played to its end by the certificate against replies drawn at random.
+//! What is solved, played to its end by the certificate: on larger games against replies drawn at random.
 ghost use Rattle.std.specs.Prelude.{IfOk, IsTrue};
 ghost use Rattle.pg_cert.specs.Limits.{IsWithinLimits};
 ghost use Rattle.pg_player.specs.Player.{Waits};
@@ -20,7 +20,7 @@ const NINE: &str =
     "points 9;line 0 1 2;line 3 4 5;line 6 7 8;line 0 3 6;line 1 4 7;line 2 5 8;line 0 4 8;line 2 4 6;turn x";
 
 /// The certificate of a game with one point a turn.
-fn certificate(alloc: Global, g: &Game) -> Result<Cert, Fail>
+pub(crate) fn certificate(alloc: Global, g: &Game) -> Result<Cert, Fail>
     ensures { IfOk result IsWithinLimits }
 {
     if g.bias != 1 {
@@ -36,7 +36,7 @@ fn certificate(alloc: Global, g: &Game) -> Result<Cert, Fail>
 }
 
 /// Whether the game is over or the other side is to move.
-fn waits(player: &Player) -> bool
+pub(crate) fn waits(player: &Player) -> bool
     ensures { IsTrue result → Waits player.now }
 {
     player.outcome().is_some() || player.position().turn == player.side().other()
