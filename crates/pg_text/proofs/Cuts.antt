@@ -1,13 +1,16 @@
 -- A text that is cut at a sign.
-use Rattle.std.proofs.Common.{◌≡◌, ℕ, ◌+◌, ◌-◌, ◌<◌, ◌≤◌, Bool, true, List, [], ◌∷◌, ◌++◌, length, take, drop, get_or, arith, refl, sym, ap, subst, ◌∙◌, Option, Some, None}
+use Rattle.std.proofs.Common.{◌≡◌, ◌⊎◌, ℕ, suc, ◌+◌, ◌-◌, ◌<◌, ◌≤◌, Bool, true, false, List, [], ◌∷◌, ◌++◌, length, take, drop, get_or, get_or-take, slice_index, arith, refl, sym, ap, ◌∙◌, inl, inr, Option, Some, None}
 use Rattle.std.specs.Prelude.{◌==◌}
-use Rattle.std.specs.List.{position, position_or_len, before_first}
-use Rattle.std.proofs.lemmas.Bool.{eqb-true}
+use Rattle.std.specs.List.{position, position_or_len}
+use Rattle.std.proofs.lemmas.Bool.{cases_Bool, eqb-true}
 use Rattle.std.proofs.lemmas.Bool.Decides.{nat_tests}
-use Rattle.std.proofs.lemmas.List.{take_all, length-take, length-drop, get_or-take}
+use Rattle.std.proofs.lemmas.List.{take_all, length-take-le, length-drop, take-append-drop}
 use Rattle.std.proofs.lemmas.List.Quantifiers.{position-Some}
-use Rattle.std.proofs.lemmas.List.Sums.{fails_before_first, passes_at_first, position_or_len_is, split_at_first}
+use Rattle.std.proofs.lemmas.List.Sums.{position_or_len_is}
 use Rattle.std.proofs.lemmas.List.Splits.{slice_split_at, slice_split_none, length-slice_split}
+use Rattle.std.proofs.lemmas.Grind.{get_or_default_zero}
+use Rattle.std.proofs.Math.Seq.{drop-cons}
+use Rattle.memchr.specs.Find.{IsFirstByte, is_byte}
 use Rattle.pg_base.specs.declared.signs.TheConstants.{SPACE}
 use Rattle.pg_text.specs.Text.{Bytes, Lacks, parts, pair_of, two_parts, Four, four_of, four_parts}
 
@@ -20,24 +23,28 @@ first_is p text end e = let found = position-Some p text end 0 e in (found.0, po
 pub first_is_past : (p : ℕ → Bool) (text : Bytes) → position p text ≡ None → length text ≤ position_or_len p text
 first_is_past p text e = grind (arith, nat_tests, e)
 
-front_lacks : (sign : ℕ) (text : Bytes) → Lacks sign (before_first (is_sign sign) text)
-front_lacks sign text = λ i d lt.
-    let inside : i < position_or_len (is_sign sign) text = omega (arith, length-take (position_or_len (is_sign sign) text) text) in
-    rw (get_or-take (position_or_len (is_sign sign) text) text i d inside) (fails_before_first (is_sign sign) text i d inside)
+-- no sign stands before the first
+front_lacks : (sign : ℕ) (text : Bytes) (end : ℕ) → end ≤ length text → ((k : ℕ) → 0 ≤ k → k < end → (is_byte sign (slice_index text k) ≡ true) → ⊥) → Lacks sign (take end text)
+front_lacks sign text end within none = λ i d lt.
+    let len = length-take-le end text within in
+    let inside : i < end = omega (arith, lt, len) in
+    let here : get_or (take end text) i d ≡ slice_index text i = get_or-take end text i d inside ∙ get_or_default_zero text i d (omega (arith, inside, within)) in
+    ap (λ (b : ℕ). b == sign) here ∙ elim (cases_Bool (slice_index text i == sign)) [ inl on ↦ absurd (none i (omega arith) inside on) | inr off ↦ off ]
 
-pub found_at : (sign : ℕ) (text : Bytes) (end : ℕ) → position (is_sign sign) text ≡ Some end → (text ≡ take end text ++ sign ∷ take (length text - (end + 1)) (drop (end + 1) text)) × Lacks sign (take end text)
-found_at sign text end e =
-    let found = first_is (is_sign sign) text end e in
-    let lt : position_or_len (is_sign sign) text < length text = omega (arith, found.0, found.1) in
-    let here : get_or text (position_or_len (is_sign sign) text) 0 ≡ sign = eqb-true _ _ (passes_at_first (is_sign sign) text 0 lt) in
+pub found_at : (sign : ℕ) (text : Bytes) (end : ℕ) → IsFirstByte (is_byte sign) text (Some end) → (text ≡ take end text ++ sign ∷ take (length text - (end + 1)) (drop (end + 1) text)) × Lacks sign (take end text)
+found_at sign text end h =
+    let lt : end < length text = h.0.high in
+    let here : get_or text end 0 ≡ sign = eqb-true (slice_index text end) sign h.1 in
+    let next : suc end ≡ end + 1 = omega arith in
     let all : take (length text - (end + 1)) (drop (end + 1) text) ≡ drop (end + 1) text = take_all _ _ (omega (arith, length-drop (end + 1) text)) in
-    let cut : text ≡ take (position_or_len (is_sign sign) text) text ++ (get_or text (position_or_len (is_sign sign) text) 0 ∷ drop (position_or_len (is_sign sign) text + 1) text) = split_at_first (is_sign sign) text 0 lt in
-    let at_end = subst (λ (b : ℕ). text ≡ take (position_or_len (is_sign sign) text) text ++ b ∷ drop (position_or_len (is_sign sign) text + 1) text) here cut in
-    let moved = subst (λ (i : ℕ). text ≡ take i text ++ sign ∷ drop (i + 1) text) found.1 at_end in
-    (subst (λ (t : Bytes). text ≡ take end text ++ sign ∷ t) (sym all) moved, subst (λ (i : ℕ). Lacks sign (take i text)) found.1 (front_lacks sign text))
+    let behind : drop end text ≡ sign ∷ take (length text - (end + 1)) (drop (end + 1) text) =
+    drop-cons text end 0 lt ∙ ap (λ (x : ℕ). x ∷ drop (suc end) text) here ∙ ap (λ (n : ℕ). sign ∷ drop n text) next ∙ ap (λ (t : Bytes). sign ∷ t) (sym all) in
+    (sym (take-append-drop end text) ∙ ap (λ (t : Bytes). take end text ++ t) behind, front_lacks sign text end (omega (arith, lt)) h.0.before)
 
-pub not_found : (sign : ℕ) (text : Bytes) → position (is_sign sign) text ≡ None → Lacks sign text
-not_found sign text e = subst (Lacks sign) (take_all (position_or_len (is_sign sign) text) text (first_is_past (is_sign sign) text e)) (front_lacks sign text)
+pub not_found : (sign : ℕ) (text : Bytes) → IsFirstByte (is_byte sign) text None → Lacks sign text
+not_found sign text none = λ i d lt.
+    let here : get_or text i d ≡ slice_index text i = get_or_default_zero text i d lt in
+    ap (λ (b : ℕ). b == sign) here ∙ elim (cases_Bool (slice_index text i == sign)) [ inl on ↦ absurd (none i (omega arith) lt on) | inr off ↦ off ]
 
 is_itself : (sign : ℕ) → is_sign sign sign ≡ true
 is_itself sign = grind (arith, nat_tests)

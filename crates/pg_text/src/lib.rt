@@ -12,5 +12,5 @@ pub use ascending::ascend;
 pub use by_line::Lines;
 pub use by_word::{Words, word_list};
 pub use error::{FileError, LineError, Numbered};
-pub use numbers::{MAX_DIGITS, number, number_list};
+pub use numbers::{MAX_DIGITS, is_digits, number, number_list};
 pub use parts::{cut_at, first_word, four_parts, has_sign, two_parts};

@@ -11,7 +11,7 @@ use std::alloc::{AllocError, Global};
 pub const MAX_DIGITS: usize = 9;
 
 /// Whether each byte is a decimal digit.
-fn is_digits(word: &[u8]) -> bool
+pub fn is_digits(word: &[u8]) -> bool
     ensures { result ≡ list_all is_ascii_digit word.now }
 {
     word.iter().all(|b| b.is_ascii_digit())

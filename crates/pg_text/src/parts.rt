@@ -1,17 +1,11 @@
 //! Text that is cut at a sign.
 ghost use Rattle.std.specs.Prelude.{◌≡◌, ◌==◌, ◌++◌, ◌∷◌, IfSome, IfNone, option_map};
-ghost use Rattle.std.specs.List.{list_any, position};
+ghost use Rattle.std.specs.List.{list_any};
 ghost use Rattle.pg_base.specs.declared.signs.TheConstants.{SPACE};
 ghost use Rattle.pg_text.specs.Text.{parts, two_parts, four_parts, words_of, Lacks};
 
+use memchr::memchr;
 use pg_base::SPACE;
-
-/// Where the first sign stands.
-fn sign_at(sign: u8, text: &[u8]) -> Option<usize>
-    ensures { result ≡ position (λ b. b == sign) text.now }
-{
-    text.iter().position(|b| *b == sign)
-}
 
 /// Whether the sign stands in the text.
 pub fn has_sign(sign: u8, text: &[u8]) -> bool
@@ -20,13 +14,12 @@ pub fn has_sign(sign: u8, text: &[u8]) -> bool
     text.iter().any(|b| *b == sign)
 }
 
-/// What stands before the first sign, and what behind it.
-#[tactic(auto, using(crate::proofs::Cuts::not_found))]
+/// What stands before the first sign, and what behind it. The search looks at many bytes at a time.
 pub fn cut_at(sign: u8, text: &[u8]) -> Option<(&[u8], &[u8])>
     ensures found { IfSome result (λ p. (text.now ≡ p.0.now ++ sign ∷ p.1.now) × Lacks sign p.0.now) }
     ensures none { IfNone result (Lacks sign text.now) }
 {
-    match sign_at(sign, text) {
+    match memchr(sign, text) {
         Some(end) => Some((&text[..end], &text[end + 1..])),
         None => None,
     }

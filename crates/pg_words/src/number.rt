@@ -1,10 +1,8 @@
 //! The numbers of the command line.
 ghost use Rattle.std.specs.Prelude.{◌≡◌};
-ghost use Rattle.std.specs.Char.{is_ascii_digit};
-ghost use Rattle.std.specs.List.{list_all};
 ghost use Rattle.pg_words.specs.Numbers.{is_long_numeral, number_in, seed_of};
 
-use pg_text::number;
+use pg_text::{is_digits, number};
 
 /// The number in this range that a word spells.
 pub(crate) fn number_in(least: u32, most: u32, word: &str) -> Option<u32>
@@ -16,13 +14,6 @@ pub(crate) fn number_in(least: u32, most: u32, word: &str) -> Option<u32>
     } else {
         None
     }
-}
-
-/// Whether each byte is a decimal digit.
-fn is_digits(word: &[u8]) -> bool
-    ensures { result ≡ list_all is_ascii_digit word.now }
-{
-    word.iter().all(|b| b.is_ascii_digit())
 }
 
 /// Whether the word has one to ten digits, the first of several not 0.

@@ -1,4 +1,4 @@
-use Rattle.std.proofs.Common.{◌≡◌, ℕ, length, take, sym, ap, ◌∙◌, arith}
+use Rattle.std.proofs.Common.{ap, ◌∙◌}
 use Rattle.std.specs.FinSet.{contains}
 use Rattle.pg_base.proofs.MoreMembers.{from_list-more, from_list-all, in_from_list}
 use Rattle.pg_base.proofs.point_set.PointSet.from_points.Goals as goal
