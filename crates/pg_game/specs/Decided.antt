@@ -135,7 +135,3 @@ answer_by g t p ByPairs = answer_for (defender g.kind t)
 -- the answer of the first criterion that applies
 unfoldable pub decided : Game → Score → Position → Option Bool
 decided g t p = option_map (answer_by g t p) (first_criterion g t p)
-
--- some criterion answers the question so
-abbrev pub IsDecided : Game → Score → Position → Bool → Type 0
-IsDecided g t p answer = decided g t p ≡ Some answer

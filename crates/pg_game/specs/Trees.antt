@@ -8,7 +8,7 @@ use Rattle.pg_base.specs.Sets.{minus, either, outside}
 use Rattle.pg_base.specs.declared.side.Side.{Side}
 use Rattle.pg_base.specs.declared.side.Side.TheVariants.{X, Y}
 use Rattle.pg_graph.specs.declared.graph.Graph.{Graph}
-use Rattle.pg_graph.specs.Graph.{edge_count, first_end_of, second_end_of, joins_in, IsJoinedIn, IsBridge}
+use Rattle.pg_graph.specs.Graph.{edge_count, first_end_of, second_end_of, joins_in, JoinsEndsOf, IsBridge}
 use Rattle.pg_game.specs.declared.field.Field.{Field}
 use Rattle.pg_game.specs.declared.field.Field.TheVariants.{Lines, Graph as OnGraph}
 use Rattle.pg_game.specs.declared.game.Game.{Game}
@@ -28,10 +28,6 @@ AreFreeEdges h p set = (f : ℕ) → contains set f ≡ true → IsFreeEdge h p 
 -- each member is a free edge, or e where the side is to move
 abbrev pub AreFreeWithE : Graph → Position → Side → FinSet nat_cmp → Type 0
 AreFreeWithE h p side set = (f : ℕ) → contains set f ≡ true → IsFreeEdge h p f ⊎ ((f ≡ edge_count h) × (p.turn ≡ side))
-
--- the edges of the set join the ends of f
-abbrev pub JoinsEndsOf : Graph → (ℕ → Bool) → ℕ → Type 0
-JoinsEndsOf h set f = IsJoinedIn h set (first_end_of h f) (second_end_of h f)
 
 -- ---- trees: s is the edges that X has
 

@@ -4,6 +4,7 @@ ghost use Rattle.pg_base.specs.declared.kind.Kind.TheVariants.{Switching};
 ghost use Rattle.pg_game.specs.Avoider.{x_takes_last};
 ghost use Rattle.pg_game.specs.Decided.{at_least, defender};
 ghost use Rattle.pg_game.specs.Game.{is_over_by, outcome_by};
+ghost use Rattle.pg_game.specs.Pairs.{breaker_of};
 ghost use Rattle.pg_game.specs.Threat.{may_attack};
 
 use crate::bounds::MAX_BIAS;
@@ -64,6 +65,17 @@ pub fn may_attack(kind: Kind, side: Side) -> bool
         (Kind::MakerBreaker, Side::X) => true,
         (Kind::MakerMaker, _) => true,
         _ => false,
+    }
+}
+
+/// The side whose points make a line harmless to the claimer: Y's in Avoider-Enforcer, where X avoids lines, and else the
+/// claimer's own.
+pub fn breaker_of(kind: Kind, side: Side) -> Side
+    ensures { result ≡ breaker_of kind side }
+{
+    match kind {
+        Kind::AvoiderEnforcer => Side::Y,
+        Kind::MakerBreaker | Kind::MakerMaker | Kind::Switching => side,
     }
 }
 

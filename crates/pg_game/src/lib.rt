@@ -18,7 +18,9 @@ pub use bounds::{
     MAX_BIAS, MAX_BIASED_LINE_POINTS, MAX_LINE_POINTS, MAX_LINES, MAX_POINTS, MAX_SUMMED_POINTS,
     MAX_VERTICES,
 };
-pub use ending::{at_least, defender, is_over_by, may_attack, outcome_by, x_takes_last};
+pub use ending::{
+    at_least, breaker_of, defender, is_over_by, may_attack, outcome_by, x_takes_last,
+};
 pub use field::{Field, LineField};
 pub use game::{Game, Misfit};
 pub use judge::{Judge, joiner_for};

@@ -6,11 +6,11 @@ use Rattle.pg_base.specs.Sets.{minus, below, IsBelow}
 use Rattle.pg_base.proofs.BelowLemmas.{below_parts, below_from}
 use Rattle.pg_graph.specs.Walks.{joins, edge_spans, first_end, second_end}
 use Rattle.pg_graph.specs.Span.{IsSpan}
-use Rattle.pg_graph.specs.Graph.{IsGraph, edge_count, with_e, first_end_of, second_end_of, IsJoinedIn, joins_in, spans_in, IsBridge, is_bridge}
+use Rattle.pg_graph.specs.Graph.{IsGraph, edge_count, with_e, first_end_of, second_end_of, IsJoinedIn, JoinsEndsOf, joins_in, spans_in, IsBridge, is_bridge}
 use Rattle.pg_graph.specs.Joiner.{AreEdges}
 use Rattle.pg_graph.specs.declared.graph.Graph.{Graph}
 use Rattle.pg_graph.proofs.WalkLemmas.{joined_more, joins_sound, joins_complete}
-use Rattle.pg_graph.proofs.Spans.{IsSpan-edges}
+use Rattle.pg_graph.proofs.Spans.{IsSpan-edges, edge_spans_complete}
 
 -- ---- the test
 
@@ -162,11 +162,18 @@ ends_in_range g k h l = elim (cases_lt k (edge_count g)) [
 ]
 
 -- a set spans an edge just where it joins its ends
-pub spans_in-sound : (g : Graph) (set : ℕ → Bool) (f : ℕ) → spans_in g set f ≡ true → IsJoinedIn g set (first_end_of g f) (second_end_of g f)
+pub spans_in-sound : (g : Graph) (set : ℕ → Bool) (f : ℕ) → spans_in g set f ≡ true → JoinsEndsOf g set f
 spans_in-sound g set f h = joins_in-sound g set (first_end_of g f) (second_end_of g f) (sym (spans_in-joins g set f) ∙ h)
 
-pub spans_in-complete : (g : Graph) (set : ℕ → Bool) (f : ℕ) → AreEdges g set → IsJoinedIn g set (first_end_of g f) (second_end_of g f) → spans_in g set f ≡ true
+pub spans_in-complete : (g : Graph) (set : ℕ → Bool) (f : ℕ) → AreEdges g set → JoinsEndsOf g set f → spans_in g set f ≡ true
 spans_in-complete g set f small p = spans_in-joins g set f ∙ joins_in-complete g set (first_end_of g f) (second_end_of g f) small p
+
+-- a set doesn't span an edge just where it doesn't join its ends
+pub unspanned-from : (g : Graph) (set : ℕ → Bool) (f : ℕ) → (JoinsEndsOf g set f → ⊥) → spans_in g set f ≡ false
+unspanned-from g set f apart = false_from_ne_true _ (λ t. apart (spans_in-sound g set f t))
+
+pub unspanned-apart : (g : Graph) (set : ℕ → Bool) (f : ℕ) → spans_in g set f ≡ false → JoinsEndsOf g set f → ⊥
+unspanned-apart g set f out p = both_ways _ out (edge_spans_complete (first_end_of g) (second_end_of g) (suc (edge_count g)) (loops_after g) set f p)
 
 -- a set spans e just where it joins the terminals
 pub spans_e-sound : (g : Graph) (set : ℕ → Bool) → spans_in g set (edge_count g) ≡ true → IsJoinedIn g set g.s g.t

@@ -1,88 +1,82 @@
--- Labels of vertices, an edge at a time.
-use Rattle.std.proofs.Common.{◌≡◌, ℕ, ◌<◌, ◌+◌, Bool, true, false, ◌⊎◌, eqb, cond, List, [], ◌∷◌, refl, arith, inl, inr, sym, ap, ◌∙◌, subst}
-use Rattle.std.proofs.lemmas.Bool.{cases_eq, both_ways, eq-eqb, ne_eqb, cond_both, eqb-true}
-use Rattle.pg_base.specs.Sets.{below, IsBelow}
-use Rattle.pg_base.proofs.BelowLemmas.{below_parts, below_from}
-use Rattle.pg_graph.specs.Walks.{IsWalk, IsJoined}
-use Rattle.pg_graph.specs.Labels.{IsLabelled}
-use Rattle.pg_graph.proofs.WalkLemmas.{joined_self, joined_on, joined_edge, joined_back, joined_more}
+-- Labels of vertices when one more edge joins them.
+use Rattle.std.proofs.Common.{◌≡◌, ℕ, ◌<◌, ◌↔◌, Bool, ◌⊎◌, eqb, cond, refl, inl, inr, sym, ap, ◌∙◌}
+use Rattle.std.proofs.lemmas.Bool.{cases_eq, eq-eqb, ne_eqb}
+use Rattle.pg_base.specs.Sets.{plus}
+use Rattle.pg_base.proofs.SetLemmas.{plus_old, plus_new}
+use Rattle.pg_graph.specs.Walks.{IsJoined}
+use Rattle.pg_graph.proofs.WalkLemmas.{joined_on, joined_edge, joined_edge_back, joined_more, by_one}
 
-module _ (a b : ℕ → ℕ) (set : ℕ → Bool) (n : ℕ) where
-  pub IsLabelled-begin : (r : ℕ → ℕ) → ((w : ℕ) → w < n → r w ≡ w) → IsLabelled a b set n 0 r
-  IsLabelled-begin r e = record {
-    sound = λ w l. subst (λ z. IsJoined a b (below set 0) w z) (sym (e w l)) (joined_self a b (below set 0) w);
-    complete = λ j l. absurd (omega arith);
-  }
+-- the label lo in place of the label hi
+module _ (lo hi : ℕ) where
+  abbrev pub lowered : ℕ → ℕ
+  lowered x = cond (eqb x hi) lo x
 
-  more : (k u v : ℕ) → IsJoined a b (below set k) u v → IsJoined a b (below set (k + 1)) u v
-  more k u v = joined_more a b (below set k) (below set (k + 1)) u v (λ z h. let p : (set z ≡ true) × (z < k) = below_parts set k z h in below_from set (k + 1) z p.0 (omega arith))
+  lowered-hi : (x : ℕ) → x ≡ hi → lowered x ≡ lo
+  lowered-hi x e = rw (eq-eqb x hi e) refl
 
-  pub IsLabelled-skip : (k : ℕ) (r : ℕ → ℕ) → set k ≡ false → IsLabelled a b set n k r → IsLabelled a b set n (k + 1) r
-  IsLabelled-skip k r out l = record {
-    sound = λ w h. more k w (r w) (l.sound w h);
-    complete = λ j h t. elim (cases_eq j k) [ inl e ↦ absurd (both_ways _ out (subst (λ z. set z ≡ true) e t)) | inr d ↦ l.complete j (omega arith) t ];
-  }
+  lowered-other : (x : ℕ) → (x ≡ hi → ⊥) → lowered x ≡ x
+  lowered-other x d = rw (ne_eqb x hi d) refl
 
-  pub IsLabelled-same : (k : ℕ) (r s : ℕ → ℕ) → ((j : ℕ) → j < k → set j ≡ true → (a j < n) × (b j < n)) → ((w : ℕ) → w < n → s w ≡ r w) → IsLabelled a b set n k r → IsLabelled a b set n k s
-  IsLabelled-same k r s small e l = record {
-    sound = λ w h. subst (λ z. IsJoined a b (below set k) w z) (sym (e w h)) (l.sound w h);
-    complete = λ j h t. let q : (a j < n) × (b j < n) = small j h t in e (a j) q.0 ∙ (l.complete j h t ∙ sym (e (b j) q.1));
-  }
+  lowered-lo : (x : ℕ) → x ≡ lo → lowered x ≡ lo
+  lowered-lo x e = elim (cases_eq x hi) [ inl h ↦ lowered-hi x h | inr d ↦ lowered-other x d ∙ e ]
 
-  -- the labels of the ends of edge k become one
-  pub IsLabelled-union : (k lo hi : ℕ) (r : ℕ → ℕ) → set k ≡ true → a k < n → b k < n → ((r (a k) ≡ lo) × (r (b k) ≡ hi)) ⊎ ((r (a k) ≡ hi) × (r (b k) ≡ lo))
-      → IsLabelled a b set n k r → IsLabelled a b set n (k + 1) (λ w. cond (eqb (r w) hi) lo (r w))
-  IsLabelled-union k lo hi r t la lb ends l = record {
-    sound = λ w h. cond_both (eqb (r w) hi) lo (r w) (λ z. IsJoined a b (below set (k + 1)) w z)
-        (λ e. joined_on a b (below set (k + 1)) w hi lo (subst (λ z. IsJoined a b (below set (k + 1)) w z) (eqb-true (r w) hi e) (more k w (r w) (l.sound w h))) across)
-        (λ e. more k w (r w) (l.sound w h));
-    complete = λ j h s. elim (cases_eq j k) [
-      | inl e ↦ subst (λ z. cond (eqb (r (a z)) hi) lo (r (a z)) ≡ cond (eqb (r (b z)) hi) lo (r (b z))) (sym e) one
-      | inr d ↦ ap (λ z. cond (eqb z hi) lo z) (l.complete j (omega arith) s)
-    ];
-  } where
-    step : IsJoined a b (below set (k + 1)) (a k) (b k)
-    step = joined_edge a b (below set (k + 1)) k (below_from set (k + 1) k t (omega arith))
-
-    from_a : IsJoined a b (below set (k + 1)) (a k) (r (a k))
-    from_a = more k (a k) (r (a k)) (l.sound (a k) la)
-
-    from_b : IsJoined a b (below set (k + 1)) (b k) (r (b k))
-    from_b = more k (b k) (r (b k)) (l.sound (b k) lb)
-
-    tops : IsJoined a b (below set (k + 1)) (r (a k)) (r (b k))
-    tops = joined_on a b (below set (k + 1)) (r (a k)) (a k) (r (b k)) (joined_back a b _ (a k) (r (a k)) from_a) (joined_on a b _ (a k) (b k) (r (b k)) step from_b)
-
-    across : IsJoined a b (below set (k + 1)) hi lo
-    across = elim ends [
-      | inl p ↦ joined_back a b _ lo hi (subst (λ z. IsJoined a b (below set (k + 1)) lo z) p.1 (subst (λ z. IsJoined a b (below set (k + 1)) z (r (b k))) p.0 tops))
-      | inr p ↦ subst (λ z. IsJoined a b (below set (k + 1)) hi z) p.1 (subst (λ z. IsJoined a b (below set (k + 1)) z (r (b k))) p.0 tops)
-    ]
-
-    low : (x : ℕ) → (x ≡ lo) ⊎ (x ≡ hi) → cond (eqb x hi) lo x ≡ lo
-    low x h = elim (cases_eq x hi) [
-      | inl e ↦ rw (eq-eqb x hi e) refl
-      | inr d ↦ rw (ne_eqb x hi d) (elim h [ inl e ↦ e | inr e ↦ absurd (d e) ])
-    ]
-
-    one : cond (eqb (r (a k)) hi) lo (r (a k)) ≡ cond (eqb (r (b k)) hi) lo (r (b k))
-    one = elim ends [
-      | inl p ↦ low (r (a k)) (inl p.0) ∙ sym (low (r (b k)) (inr p.1))
-      | inr p ↦ low (r (a k)) (inr p.0) ∙ sym (low (r (b k)) (inl p.1))
-    ]
-
-  walk_label : (k : ℕ) (r : ℕ → ℕ) → ((j : ℕ) → set j ≡ true → r (a j) ≡ r (b j)) → (ks : List ℕ) (u v : ℕ) → IsWalk a b set ks u v → r u ≡ r v
-  walk_label k r same [] u v h = ap r h
-  walk_label k r same (j ∷ ks) u v h =
-      elim h.1 [
-        | inl p ↦ ap r (sym p.0) ∙ (same j h.0 ∙ walk_label k r same ks (b j) v p.1)
-        | inr p ↦ ap r (sym p.0) ∙ (sym (same j h.0) ∙ walk_label k r same ks (a j) v p.1)
+  lowered-cases : (x y : ℕ) → lowered x ≡ lowered y → (x ≡ y) ⊎ (((x ≡ lo) × (y ≡ hi)) ⊎ ((x ≡ hi) × (y ≡ lo)))
+  lowered-cases x y e =
+      elim (cases_eq x hi) [
+        | inl p ↦ elim (cases_eq y hi) [
+          | inl q ↦ inl (p ∙ sym q)
+          | inr q ↦ inr (inr (p, sym (lowered-other y q) ∙ (sym e ∙ lowered-hi x p)))
+        ]
+        | inr p ↦ elim (cases_eq y hi) [
+          | inl q ↦ inr (inl (sym (lowered-other x p) ∙ (e ∙ lowered-hi y q), q))
+          | inr q ↦ inl (sym (lowered-other x p) ∙ (e ∙ lowered-other y q))
+        ]
       ]
 
-  pub same_label : (k : ℕ) (r : ℕ → ℕ) (u v : ℕ) → IsBelow set k → IsLabelled a b set n k r → IsJoined a b set u v → r u ≡ r v
-  same_label k r u v small l p = walk_label k r (λ j t. l.complete j (small j t) t) p.edges u v p.walk
+-- labels for the vertices below n, one of the ends of edge k with lo and the other with hi
+module _ (a b : ℕ → ℕ) (set : ℕ → Bool) (n k lo hi : ℕ) (r : ℕ → ℕ) (same : (u v : ℕ) → u < n → v < n → (r u ≡ r v) ↔ IsJoined a b set u v) (la : a k < n) (lb : b k < n)
+    (ends : ((r (a k) ≡ lo) × (r (b k) ≡ hi)) ⊎ ((r (a k) ≡ hi) × (r (b k) ≡ lo))) where
+  grown : (u v : ℕ) → IsJoined a b set u v → IsJoined a b (plus set k) u v
+  grown u v = joined_more a b set (plus set k) u v (λ z h. plus_old set k z h)
 
-  pub joined_label : (k : ℕ) (r : ℕ → ℕ) (u v : ℕ) → IsLabelled a b set n k r → u < n → v < n → r u ≡ r v → IsJoined a b set u v
-  joined_label k r u v l lu lv e =
-      joined_more a b (below set k) set u v (λ z h. (below_parts set k z h).0)
-      (joined_on a b (below set k) u (r u) v (l.sound u lu) (subst (λ z. IsJoined a b (below set k) z v) (sym e) (joined_back a b (below set k) v (r v) (l.sound v lv))))
+  over : (u v : ℕ) → u < n → v < n → r u ≡ r (a k) → r v ≡ r (b k) → IsJoined a b (plus set k) u v
+  over u v lu lv p q =
+      joined_on a b (plus set k) u (a k) v (grown u (a k) ((same u (a k) lu la).0 p))
+      (joined_on a b (plus set k) (a k) (b k) v (joined_edge a b (plus set k) k (plus_new set k k refl)) (grown (b k) v ((same (b k) v lb lv).0 (sym q))))
+
+  back : (u v : ℕ) → u < n → v < n → r u ≡ r (b k) → r v ≡ r (a k) → IsJoined a b (plus set k) u v
+  back u v lu lv p q =
+      joined_on a b (plus set k) u (b k) v (grown u (b k) ((same u (b k) lu lb).0 p))
+      (joined_on a b (plus set k) (b k) (a k) v (joined_edge_back a b (plus set k) k (plus_new set k k refl)) (grown (a k) v ((same (a k) v la lv).0 (sym q))))
+
+  pub lowered-joined : (u v : ℕ) → u < n → v < n → lowered lo hi (r u) ≡ lowered lo hi (r v) → IsJoined a b (plus set k) u v
+  lowered-joined u v lu lv e =
+      elim (lowered-cases lo hi (r u) (r v) e) [
+        | inl p ↦ grown u v ((same u v lu lv).0 p)
+        | inr d ↦ elim d [
+          | inl p ↦ elim ends [
+            | inl q ↦ over u v lu lv (p.0 ∙ sym q.0) (p.1 ∙ sym q.1)
+            | inr q ↦ back u v lu lv (p.0 ∙ sym q.1) (p.1 ∙ sym q.0)
+          ]
+          | inr p ↦ elim ends [
+            | inl q ↦ back u v lu lv (p.0 ∙ sym q.1) (p.1 ∙ sym q.0)
+            | inr q ↦ over u v lu lv (p.0 ∙ sym q.0) (p.1 ∙ sym q.1)
+          ]
+        ]
+      ]
+
+  one : lowered lo hi (r (a k)) ≡ lowered lo hi (r (b k))
+  one = elim ends [
+    | inl p ↦ lowered-lo lo hi (r (a k)) p.0 ∙ sym (lowered-hi lo hi (r (b k)) p.1)
+    | inr p ↦ lowered-hi lo hi (r (a k)) p.0 ∙ sym (lowered-lo lo hi (r (b k)) p.1)
+  ]
+
+  pub joined-lowered : (u v : ℕ) → u < n → v < n → IsJoined a b (plus set k) u v → lowered lo hi (r u) ≡ lowered lo hi (r v)
+  joined-lowered u v lu lv j =
+      elim (by_one a b set k u v j) [
+        | inl p ↦ ap (lowered lo hi) ((same u v lu lv).1 p)
+        | inr d ↦ elim d [
+          | inl p ↦ ap (lowered lo hi) ((same u (a k) lu la).1 p.0) ∙ (one ∙ ap (lowered lo hi) ((same (b k) v lb lv).1 p.1))
+          | inr p ↦ ap (lowered lo hi) ((same u (b k) lu lb).1 p.0) ∙ (sym one ∙ ap (lowered lo hi) ((same (a k) v la lv).1 p.1))
+        ]
+      ]

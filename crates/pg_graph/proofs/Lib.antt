@@ -11,6 +11,7 @@ pub mod Trees
 pub mod Cuts
 pub mod EdgeTests
 pub mod FreeLemmas
+mod Bridges
 pub mod TreeAnswers
 pub mod CutAnswers
 mod RootLemmas

@@ -1,5 +1,5 @@
 -- The roots, read once for each vertex, label the vertices.
-use Rattle.std.proofs.Common.{◌≡◌, ◌<◌, ℕ, Bool, List, length, slice_index, get_or, arith, sym, ◌∙◌, subst}
+use Rattle.std.proofs.Common.{◌≡◌, ◌<◌, ℕ, Bool, List, length, slice_index, arith, sym, ◌∙◌}
 use Rattle.pg_graph.specs.declared.graph.Graph.{Graph}
 use Rattle.pg_graph.specs.Graph.{first_end_of, second_end_of}
 use Rattle.pg_graph.specs.Joiner.{AreEdges}

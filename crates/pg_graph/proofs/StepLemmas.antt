@@ -1,11 +1,16 @@
 -- Roots that stand for joined vertices, a union at a time.
-use Rattle.std.proofs.Common.{◌≡◌, ℕ, ◌<◌, ◌≤◌, ◌+◌, Bool, true, false, ◌⊎◌, eqb, cond, List, length, get_or, arith, sym, ap, ◌∙◌, subst}
+use Rattle.std.proofs.Common.{◌≡◌, ◌≢◌, ℕ, ◌<◌, ◌≤◌, ◌↔◌, IsTrue, Bool, false, ◌⊎◌, eqb, cond, List, length, get_or, arith, sym, ap, ◌∙◌, subst}
 use Rattle.std.proofs.Math.ListN.{set}
-use Rattle.pg_base.specs.Sets.{IsBelow}
-use Rattle.pg_graph.specs.Labels.{IsLabelled, IsLinked, IsMerged, IsLabelling}
+use Rattle.pg_base.specs.Sets.{plus}
+use Rattle.pg_graph.specs.declared.graph.Graph.{Graph}
+use Rattle.pg_graph.specs.Graph.{IsGraph, JoinsEndsOf, edge_count, first_end_of, second_end_of}
+use Rattle.pg_graph.specs.Walks.{IsJoined}
+use Rattle.pg_graph.specs.Labels.{IsMerged, IsLabelling, HaveOneRoot}
 use Rattle.pg_graph.specs.Roots.{root_of, IsUpward, SameRoots}
 use Rattle.pg_graph.proofs.RootLemmas.{root-merged, root-own, own_from_root}
-use Rattle.pg_graph.proofs.LabelLemmas.{IsLabelled-begin, IsLabelled-union, IsLabelled-same, IsLabelled-skip, same_label, joined_label}
+use Rattle.pg_graph.proofs.GraphLemmas.{ends_in_range}
+use Rattle.pg_graph.proofs.LabelLemmas.{lowered-joined, joined-lowered}
+use Rattle.pg_graph.proofs.WalkLemmas.{joined_self, joined_none}
 
 -- the root hi goes below the root lo
 pub merged : (parents parents2 : List ℕ) (u v lo hi : ℕ) → IsUpward parents2 → length parents2 ≡ length parents → SameRoots parents parents2 → hi < length parents → lo ≤ hi → root_of parents lo ≡ lo → root_of parents hi ≡ hi
@@ -21,31 +26,26 @@ merged parents parents2 u v lo hi upward size same within le root_lo root_hi end
 }
 
 module _ (a b : ℕ → ℕ) (s : ℕ → Bool) where
-  pub IsLinked-begin : (parents : List ℕ) → ((v : ℕ) → v < length parents → get_or parents v 0 ≡ v) → IsLinked a b s 0 parents
-  IsLinked-begin parents own = record {
+  pub IsLabelling-begin : (parents : List ℕ) → ((k : ℕ) → s k ≡ false) → ((v : ℕ) → v < length parents → get_or parents v 0 ≡ v) → IsLabelling a b s parents
+  IsLabelling-begin parents none own = record {
     upward = λ v l. let e : get_or parents v 0 ≡ v = own v l in omega arith;
-    labels = IsLabelled-begin a b s (length parents) (root_of parents) (λ v l. root-own parents v (own v l));
+    same = λ u v lu lv.
+        let top_u : root_of parents u ≡ u = root-own parents u (own u lu) in
+        let top_v : root_of parents v ≡ v = root-own parents v (own v lv) in
+        (λ e. subst (λ z. IsJoined a b s u z) (sym top_u ∙ (e ∙ top_v)) (joined_self a b s u), λ j. top_u ∙ (joined_none a b s none u v j ∙ sym top_v));
   }
 
-  pub IsLinked-skip : (k : ℕ) (parents : List ℕ) → s k ≡ false → IsLinked a b s k parents → IsLinked a b s (k + 1) parents
-  IsLinked-skip k parents out l = record { upward = l.upward; labels = IsLabelled-skip a b s (length parents) k (root_of parents) out l.labels }
-
-  pub IsLinked-merged : (k : ℕ) (parents new : List ℕ) → ((j : ℕ) → s j ≡ true → (a j < length parents) × (b j < length parents)) → s k ≡ true → length new ≡ length parents
-      → IsUpward new → IsMerged parents new (a k) (b k) → IsLinked a b s k parents → IsLinked a b s (k + 1) new
-  IsLinked-merged k parents new small t size upward m l = record {
+  IsLabelling-merged : (k : ℕ) (parents new : List ℕ) → a k < length parents → b k < length parents → length new ≡ length parents → IsUpward new → IsMerged parents new (a k) (b k) → IsLabelling a b s parents → IsLabelling a b (plus s k) new
+  IsLabelling-merged k parents new la lb size upward m l = record {
     upward = upward;
-    labels = subst (λ n. IsLabelled a b s n (k + 1) (root_of new)) (sym size)
-        (IsLabelled-same a b s (length parents) (k + 1) (λ w. cond (eqb (root_of parents w) m.hi) m.lo (root_of parents w)) (root_of new) (λ j _ h. small j h) m.roots
-        (IsLabelled-union a b s (length parents) k m.lo m.hi (root_of parents) t (small k t).0 (small k t).1 m.ends l.labels));
-  }
-
-  pub IsLabelling-all : (k : ℕ) (parents : List ℕ) → IsBelow s k → IsLinked a b s k parents → IsLabelling a b s parents
-  IsLabelling-all k parents small l = record {
-    upward = l.upward;
-    same = λ u v lu lv. (
-      λ e. joined_label a b s (length parents) k (root_of parents) u v l.labels lu lv e,
-      λ p. same_label a b s (length parents) k (root_of parents) u v small l.labels p,
-    );
+    same = λ u v lu lv.
+        let in_u : u < length parents = omega arith in
+        let in_v : v < length parents = omega arith in
+        let now_u = m.roots u in_u in
+        let now_v = m.roots v in_v in (
+          λ e. lowered-joined a b s (length parents) k m.lo m.hi (root_of parents) l.same la lb m.ends u v in_u in_v (sym now_u ∙ (e ∙ now_v)),
+          λ j. now_u ∙ (joined-lowered a b s (length parents) k m.lo m.hi (root_of parents) l.same la lb m.ends u v in_u in_v j ∙ sym now_v),
+        );
   }
 
   pub IsLabelling-same : (old new : List ℕ) → length new ≡ length old → IsUpward new → SameRoots old new → IsLabelling a b s old → IsLabelling a b s new
@@ -56,3 +56,26 @@ module _ (a b : ℕ → ℕ) (s : ℕ → Bool) where
         let v_same : root_of new v ≡ root_of old v = same v (omega arith) in
         let q = l.same u v (omega arith) (omega arith) in (λ e. q.0 (sym u_same ∙ (e ∙ v_same)), λ p. u_same ∙ (q.1 p ∙ sym v_same));
   }
+
+-- an edge of a graph whose ends, as the code reads them, are united
+pub IsLabelling-joined : (g : Graph) (s : ℕ → Bool) (k : ℕ) (parents new : List ℕ) (ends : ℕ × ℕ) → IsGraph g → k ≤ edge_count g → length parents ≡ g.vertices → length new ≡ length parents → ◌≡◌ {A = ℕ × ℕ} ends (first_end_of g k, second_end_of g k)
+    → IsUpward new → IsMerged parents new ends.0 ends.1 → IsLabelling (first_end_of g) (second_end_of g) s parents → IsLabelling (first_end_of g) (second_end_of g) (plus s k) new
+IsLabelling-joined g s k parents new ends h l size same is upward m labelled =
+    let range = ends_in_range g k h l in
+    IsLabelling-merged (first_end_of g) (second_end_of g) s k parents new (omega (arith, range.0)) (omega (arith, range.1)) same upward
+    (subst (λ (e : ℕ × ℕ). IsMerged parents new e.0 e.1) is m) labelled
+
+-- the two ends of an edge have one root just where the set joins them
+pub ends_label : (g : Graph) (s : ℕ → Bool) (k : ℕ) (parents : List ℕ) → IsGraph g → k ≤ edge_count g → length parents ≡ g.vertices → IsLabelling (first_end_of g) (second_end_of g) s parents
+    → HaveOneRoot g parents k ↔ JoinsEndsOf g s k
+ends_label g s k parents h l size labelled =
+    let range = ends_in_range g k h l in
+    labelled.same (first_end_of g k) (second_end_of g k) (omega (arith, range.0)) (omega (arith, range.1))
+
+-- the ends of an edge, as the code reads them, had two roots just where the set doesn't join them
+pub ends_two : (g : Graph) (s : ℕ → Bool) (k : ℕ) (parents : List ℕ) (ends : ℕ × ℕ) (r : Bool) → IsGraph g → k ≤ edge_count g → length parents ≡ g.vertices → ◌≡◌ {A = ℕ × ℕ} ends (first_end_of g k, second_end_of g k)
+    → IsLabelling (first_end_of g) (second_end_of g) s parents → (IsTrue r ↔ (root_of parents ends.0 ≢ root_of parents ends.1)) → IsTrue r ↔ (JoinsEndsOf g s k → ⊥)
+ends_two g s k parents ends r h l size is labelled two =
+    let label = ends_label g s k parents h l size labelled in
+    let q = subst (λ (e : ℕ × ℕ). IsTrue r ↔ (root_of parents e.0 ≢ root_of parents e.1)) is two in
+    (λ t j. q.0 t (label.1 j), λ apart. q.1 (λ e. apart (label.0 e)))

@@ -1,6 +1,6 @@
 -- Vertices that walks join, and the test that says the same.
-use Rattle.std.proofs.Common.{◌≡◌, ℕ, ◌<◌, Bool, true, ◌⊎◌, List, [], ◌∷◌, ◌++◌, refl, arith, inl, inr, sym, ap, ◌∙◌, subst, zero, suc}
-use Rattle.std.proofs.lemmas.Bool.{cases_Bool, and_parts, and_from, or_cases, or_left, or_right, eqb-true, eq-eqb}
+use Rattle.std.proofs.Common.{◌≡◌, ℕ, ◌<◌, Bool, true, false, ◌⊎◌, List, [], ◌∷◌, ◌++◌, refl, arith, inl, inr, sym, ap, ◌∙◌, subst, zero, suc}
+use Rattle.std.proofs.lemmas.Bool.{cases_Bool, both_ways, false_from_ne_true, and_parts, and_from, or_cases, or_left, or_right, eqb-true, eq-eqb}
 use Rattle.pg_base.specs.Sets.{plus, below, IsWithin}
 use Rattle.pg_base.proofs.SetLemmas.{plus_cases, sets}
 use Rattle.pg_base.proofs.BelowLemmas.{below_parts, below_from}
@@ -50,6 +50,14 @@ module _ (a b : ℕ → ℕ) where
 
   pub joined_more : (set by : ℕ → Bool) (u v : ℕ) → IsWithin set by → IsJoined a b set u v → IsJoined a b by u v
   joined_more set by u v w = joined_by set by u v (λ k h. joined_edge by k (w k h))
+
+  -- without an edge a vertex is joined to itself alone
+  pub joined_none : (set : ℕ → Bool) → ((k : ℕ) → set k ≡ false) → (u v : ℕ) → IsJoined a b set u v → u ≡ v
+  joined_none set none u v p = stays p.edges u v p.walk
+    where
+      stays : (ks : List ℕ) (u v : ℕ) → IsWalk a b set ks u v → u ≡ v
+      stays [] u v h = h
+      stays (k ∷ ks) u v h = absurd (both_ways _ (none k) h.0)
 
   -- what one more edge joins
   abbrev pub ByOne : (ℕ → Bool) → ℕ → ℕ → ℕ → Type 0
@@ -119,11 +127,7 @@ module _ (a b : ℕ → ℕ) where
 
   pub joins_complete : (set : ℕ → Bool) (n u v : ℕ) → IsJoined a b (below set n) u v → joins a b set n u v ≡ true
   unfolding joins
-  joins_complete set zero u v p = eq-eqb u v (stays p.edges u v p.walk)
-    where
-      stays : (ks : List ℕ) (u v : ℕ) → IsWalk a b (below set zero) ks u v → u ≡ v
-      stays [] u v h = h
-      stays (k ∷ ks) u v h = absurd (let q : (set k ≡ true) × (k < 0) = below_parts set zero k h.0 in omega arith)
+  joins_complete set zero u v p = eq-eqb u v (joined_none (below set zero) (λ k. false_from_ne_true _ (λ h. let q : (set k ≡ true) × (k < 0) = below_parts set zero k h in absurd (omega arith))) u v p)
   joins_complete set (suc k) u v p =
       elim (cases_Bool (set k)) [
         | inr o ↦ or_left _ _ (joins_complete set k u v (joined_more (below set (suc k)) (below set k) u v (λ z h. grind (arith, below_parts, below_from)) p))

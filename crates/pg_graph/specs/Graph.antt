@@ -32,6 +32,10 @@ second_end_of g k = second_end (with_e g.ends g.s g.t) k
 abbrev pub IsJoinedIn : Graph → (ℕ → Bool) → ℕ → ℕ → Type 0
 IsJoinedIn g set u v = IsJoined (first_end_of g) (second_end_of g) set u v
 
+-- the edges of the set join the ends of f
+abbrev pub JoinsEndsOf : Graph → (ℕ → Bool) → ℕ → Type 0
+JoinsEndsOf g set f = IsJoinedIn g set (first_end_of g f) (second_end_of g f)
+
 -- whether the edges of the set, of which e may be one, join u and v
 abbrev pub joins_in : Graph → (ℕ → Bool) → ℕ → ℕ → Bool
 joins_in g set u v = joins (first_end_of g) (second_end_of g) set (suc (edge_count g)) u v
@@ -42,7 +46,7 @@ spans_in g set f = edge_spans (first_end_of g) (second_end_of g) (suc (edge_coun
 
 -- the ends of f aren't joined in the set without f
 abbrev pub IsBridge : Graph → (ℕ → Bool) → ℕ → Type 0
-IsBridge g set f = IsJoinedIn g (minus set f) (first_end_of g f) (second_end_of g f) → ⊥
+IsBridge g set f = JoinsEndsOf g (minus set f) f → ⊥
 
 -- whether f is a bridge of the set
 abbrev pub is_bridge : Graph → (ℕ → Bool) → ℕ → Bool

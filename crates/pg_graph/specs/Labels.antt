@@ -1,20 +1,9 @@
 -- Labels of vertices: one for the vertices that are joined.
 use Rattle.std.specs.Prelude.{◌≡◌, ◌≢◌, ℕ, ◌<◌, ◌⊎◌, ◌==◌, ◌↔◌, Bool, true, cond, List, length, slice_index}
-use Rattle.pg_base.specs.Sets.{below}
 use Rattle.pg_graph.specs.Walks.{IsJoined}
 use Rattle.pg_graph.specs.declared.graph.Graph.{Graph}
-use Rattle.pg_graph.specs.Graph.{joins_in}
+use Rattle.pg_graph.specs.Graph.{first_end_of, second_end_of, joins_in}
 use Rattle.pg_graph.specs.Roots.{root_of, IsUpward}
-
--- vertices below n are joined by the edges of the set that are below k, just where r gives them one label
-pub record IsLabelled (a b : ℕ → ℕ) (set : ℕ → Bool) (n k : ℕ) (r : ℕ → ℕ) : Type 0 where
-  pub sound : (w : ℕ) → w < n → IsJoined a b (below set k) w (r w)
-  pub complete : (j : ℕ) → j < k → set j ≡ true → r (a j) ≡ r (b j)
-
--- the roots label the vertices for the edges of the set that are below k
-pub record IsLinked (a b : ℕ → ℕ) (set : ℕ → Bool) (k : ℕ) (parents : List ℕ) : Type 0 where
-  pub upward : IsUpward parents
-  pub labels : IsLabelled a b set (length parents) k (root_of parents)
 
 -- the roots of u and v, one of them hi and the other lo, are now both lo, and the other roots stay
 pub record IsMerged (old new : List ℕ) (u v : ℕ) : Type 0 where
@@ -27,6 +16,10 @@ pub record IsMerged (old new : List ℕ) (u v : ℕ) : Type 0 where
 pub record IsLabelling (a b : ℕ → ℕ) (set : ℕ → Bool) (parents : List ℕ) : Type 0 where
   pub upward : IsUpward parents
   pub same : (u v : ℕ) → u < length parents → v < length parents → (root_of parents u ≡ root_of parents v) ↔ IsJoined a b set u v
+
+-- the two ends of edge k have one root
+abbrev pub HaveOneRoot : Graph → List ℕ → ℕ → Type 0
+HaveOneRoot g parents k = root_of parents (first_end_of g k) ≡ root_of parents (second_end_of g k)
 
 -- exactly one of two labels is this one
 abbrev pub IsSplit : ℕ → ℕ → ℕ → Type 0

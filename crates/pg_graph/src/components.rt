@@ -1,6 +1,6 @@
 //! Labels for the vertices of a graph, by union and find with path halving (Tarjan and van Leeuwen 1984): a label is the
 //! root of a tree in which each vertex has a parent, and a root is its own.
-ghost use Rattle.std.specs.Prelude.{◌≡◌, ℕ, ◌^◌, ◌<◌, ◌≤◌, IfOk, length, slice_index};
+ghost use Rattle.std.specs.Prelude.{◌≡◌, ◌≢◌, ℕ, ◌^◌, ◌<◌, ◌≤◌, ◌↔◌, IsTrue, IfOk, length, slice_index};
 ghost use Rattle.std.specs.FinSet.{contains};
 ghost use Rattle.pg_graph.specs.Graph.{IsGraph, first_end_of, second_end_of};
 ghost use Rattle.pg_graph.specs.Joiner.{AreEdges};
@@ -63,11 +63,12 @@ fn part_all(parents: &mut [u16])
     }
 }
 
-/// Gives the vertices below the roots of u and v one root, the lesser of these two.
-fn union(parents: &mut [u16], u: u16, v: u16)
+/// Gives the vertices below the roots of u and v one root, the lesser of these two. It answers whether they had two.
+pub(crate) fn union(parents: &mut [u16], u: u16, v: u16) -> bool
     requires upward { IsUpward parents.old }
     requires u { u < length parents.old }
     requires v { v < length parents.old }
+    ensures two { IsTrue result ↔ (root_of parents.old u ≢ root_of parents.old v) }
     ensures upward { IsUpward parents.new }
     ensures merged { IsMerged parents.old parents.new u v }
 {
@@ -78,6 +79,7 @@ fn union(parents: &mut [u16], u: u16, v: u16)
     } else {
         parents[a as usize] = b;
     }
+    a != b
 }
 
 /// The root above v. The way there gets shorter.

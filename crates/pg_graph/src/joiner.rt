@@ -1,7 +1,7 @@
 //! Which vertices edges join, and which edges cross, part and bridge.
 ghost use Rattle.std.specs.Prelude.{◌≡◌, ℕ, ◌<◌, ◌≤◌, ◌↔◌, true, IsTrue, IfOk, IfSome, IfNone};
 ghost use Rattle.std.specs.FinSet.{contains};
-ghost use Rattle.pg_graph.specs.Graph.{IsGraph, IsJoinedIn, IsBridge, edge_count};
+ghost use Rattle.pg_graph.specs.Graph.{IsGraph, IsJoinedIn, JoinsEndsOf, IsBridge};
 ghost use Rattle.pg_graph.specs.Joiner.{IsMadeFor, AreEdges, Crosses, Parts, IsLowest};
 
 use crate::graph::Graph;
@@ -100,15 +100,36 @@ impl Joiner {
         joins::parting(&mut self.parents, g, set, u, v, candidates)
     }
 
-    /// Whether the ends of f aren't joined in the set without f.
-    pub fn bridge(&mut self, g: &Graph, set: &PointSet, f: u16) -> bool
+    /// Whether edges of the set join the two ends of each member.
+    ///
+    /// The set is labelled once, and then the labels of the two ends of each member are compared: a walk over the set and
+    /// one over the members, in nearly linear time.
+    pub fn joins_all(&mut self, g: &Graph, set: &PointSet, members: &PointSet) -> bool
         requires graph { IsGraph g.now }
         requires made { IsMadeFor self.old g.now }
         requires set { AreEdges g.now (contains set.now) }
-        requires edge { f ≤ edge_count g.now }
-        ensures bridge { IsTrue result ↔ IsBridge g.now (contains set.now) f }
+        requires members { AreEdges g.now (contains members.now) }
+        ensures joins { IsTrue result ↔ ((f : ℕ) → contains members.now f ≡ true → JoinsEndsOf g.now (contains set.now) f) }
         ensures kept { self.new ≡ self.old }
     {
-        joins::bridge(&mut self.parents, g, set, f)
+        joins::joins_all(&mut self.parents, g, set, members)
+    }
+
+    /// Whether each member is a bridge of the set: its ends aren't joined in the set without it. A member needn't be in
+    /// the set.
+    ///
+    /// Edges of a set are all bridges of it just where they are independent when the rest is contracted (Oxley, Matroid
+    /// Theory, section 3.1): they form a forest on the classes that the rest joins. So the rest is labelled once, and
+    /// each member must unite two classes that no earlier one did: a walk over the rest and one over the members, in
+    /// nearly linear time.
+    pub fn bridges_all(&mut self, g: &Graph, set: &PointSet, members: &PointSet) -> bool
+        requires graph { IsGraph g.now }
+        requires made { IsMadeFor self.old g.now }
+        requires set { AreEdges g.now (contains set.now) }
+        requires members { AreEdges g.now (contains members.now) }
+        ensures bridges { IsTrue result ↔ ((f : ℕ) → contains members.now f ≡ true → IsBridge g.now (contains set.now) f) }
+        ensures kept { self.new ≡ self.old }
+    {
+        joins::bridges_all(&mut self.parents, g, set, members)
     }
 }

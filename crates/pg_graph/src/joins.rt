@@ -2,12 +2,12 @@
 ghost use Rattle.std.specs.Prelude.{◌≡◌, ◌≢◌, ℕ, ◌<◌, ◌≤◌, ◌↔◌, ◌⊎◌, true, IsTrue, IfSome, IfNone, length};
 ghost use Rattle.std.specs.FinSet.{contains};
 ghost use Rattle.pg_base.specs.Sets.{minus};
-ghost use Rattle.pg_graph.specs.Graph.{IsGraph, IsJoinedIn, IsBridge, edge_count, first_end_of, second_end_of};
+ghost use Rattle.pg_graph.specs.Graph.{IsGraph, IsJoinedIn, JoinsEndsOf, IsBridge, edge_count, first_end_of, second_end_of};
 ghost use Rattle.pg_graph.specs.Joiner.{AreEdges, Crosses, Parts, IsLowest};
-ghost use Rattle.pg_graph.specs.Labels.{IsSplit};
+ghost use Rattle.pg_graph.specs.Labels.{HaveOneRoot, IsSplit};
 ghost use Rattle.pg_graph.specs.Roots.{root_of, IsUpward, SameRoots};
 
-use crate::components::{find, label};
+use crate::components::{find, label, union};
 use crate::graph::Graph;
 use pg_base::PointSet;
 
@@ -114,14 +114,81 @@ pub(crate) fn parting(
     None
 }
 
-/// Whether the ends of f aren't joined in the set without f.
-pub(crate) fn bridge(parents: &mut [u16], g: &Graph, set: &PointSet, f: u16) -> bool
+/// Whether edges of the set join the two ends of each member.
+pub(crate) fn joins_all(parents: &mut [u16], g: &Graph, set: &PointSet, members: &PointSet) -> bool
     requires graph { IsGraph g.now }
     requires size { length parents.old ≡ g.now.vertices }
     requires set { AreEdges g.now (contains set.now) }
-    requires edge { f ≤ edge_count g.now }
-    ensures { IsTrue result ↔ IsBridge g.now (contains set.now) f }
+    requires members { AreEdges g.now (contains members.now) }
+    ensures { IsTrue result ↔ ((f : ℕ) → contains members.now f ≡ true → JoinsEndsOf g.now (contains set.now) f) }
 {
-    let (a, b) = g.ends_of(f);
-    !joined_without(parents, g, set, f, a, b)
+    label(parents, g, set);
+    for k in 0..g.edge_count() + 1 {
+        if members.has(k) {
+            if !has_one_root(parents, g, k) {
+                return false;
+            }
+        }
+    }
+    true
+}
+
+/// Whether the two ends of edge k have one root.
+fn has_one_root(parents: &mut [u16], g: &Graph, k: u16) -> bool
+    requires graph { IsGraph g.now }
+    requires size { length parents.old ≡ g.now.vertices }
+    requires upward { IsUpward parents.old }
+    requires edge { k ≤ edge_count g.now }
+    ensures one { IsTrue result ↔ HaveOneRoot g.now parents.old k }
+    ensures upward { IsUpward parents.new }
+    ensures same { SameRoots parents.old parents.new }
+{
+    let (a, b) = g.ends_of(k);
+    find(parents, a) == find(parents, b)
+}
+
+/// Whether no member has one root above both its ends.
+fn are_apart(parents: &mut [u16], g: &Graph, members: &PointSet) -> bool
+    requires graph { IsGraph g.now }
+    requires size { length parents.old ≡ g.now.vertices }
+    requires upward { IsUpward parents.old }
+    requires members { AreEdges g.now (contains members.now) }
+    ensures { IsTrue result ↔ ((f : ℕ) → contains members.now f ≡ true → HaveOneRoot g.now parents.old f → ⊥) }
+{
+    for k in 0..g.edge_count() + 1 {
+        if members.has(k) {
+            if has_one_root(parents, g, k) {
+                return false;
+            }
+        }
+    }
+    true
+}
+
+/// Whether the ends of each member f aren't joined in the set without f.
+///
+/// The members in the set are united, one after the other, with what the rest of the set joins; each must join two
+/// classes. The others must then join two classes of the whole set.
+pub(crate) fn bridges_all(
+    parents: &mut [u16],
+    g: &Graph,
+    set: &PointSet,
+    members: &PointSet,
+) -> bool
+    requires graph { IsGraph g.now }
+    requires size { length parents.old ≡ g.now.vertices }
+    requires set { AreEdges g.now (contains set.now) }
+    requires members { AreEdges g.now (contains members.now) }
+    ensures { IsTrue result ↔ ((f : ℕ) → contains members.now f ≡ true → IsBridge g.now (contains set.now) f) }
+{
+    label(parents, g, &set.without(members));
+    for k in 0..g.edge_count() + 1 {
+        if set.has(k) && members.has(k) {
+            let (a, b) = g.ends_of(k);
+            if !union(parents, a, b) {
+                return false;
+            }
+        }
+    }
+    are_apart(parents, g, &members.without(set))
 }

@@ -6,7 +6,7 @@ ghost use Rattle.pg_base.specs.declared.pair.Pair.{Pair};
 ghost use Rattle.pg_match.specs.Meant.{PairUp};
 ghost use Rattle.std.specs.FinSet as set;
 ghost use Rattle.pg_game.specs.Game.{lines_of, free_points};
-ghost use Rattle.pg_game.specs.Pairs.{PairsHold, breaker_of, unpaired};
+ghost use Rattle.pg_game.specs.Pairs.{PairsHold, unpaired};
 ghost use Rattle.pg_game.specs.Decided.{pairs_exist, avoider_can_pair, is_pairable};
 ghost use Rattle.pg_match.specs.Cache.{Fits, IsAfterLeaf};
 
@@ -15,18 +15,8 @@ use crate::matching::{Matching, short_by_count};
 use crate::meant::lines_without;
 use crate::rest::with_rest;
 use pg_base::{Kind, MAX_MEMBERS, Memory, Pair, PointSet, Side};
-use pg_game::{Field, Game, Position};
+use pg_game::{Field, Game, Position, breaker_of};
 use std::alloc::Global;
-
-/// The side whose points make a line harmless to the claimer.
-fn breaker_of(kind: Kind, side: Side) -> Side
-    ensures { result ≡ breaker_of kind side }
-{
-    match kind {
-        Kind::AvoiderEnforcer => Side::Y,
-        Kind::MakerBreaker | Kind::MakerMaker | Kind::Switching => side,
-    }
-}
 
 /// Whether so many free points can all be paired but as Avoider may leave out.
 fn is_pairable(turn: Side, free: u32) -> bool

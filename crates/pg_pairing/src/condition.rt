@@ -6,13 +6,13 @@ ghost use Rattle.pg_base.specs.declared.goal.Goal.TheVariants.{Win, Draw};
 ghost use Rattle.pg_base.specs.declared.kind.Kind.TheVariants.{AvoiderEnforcer};
 ghost use Rattle.pg_game.specs.Position.{is_free};
 ghost use Rattle.pg_game.specs.Game.{free_points, IsPosition};
-ghost use Rattle.pg_game.specs.Pairs.{PairsHold, PairsLeaveNone, AreOpenPairs, HoldLines, IsSafe, has_point, is_paired, breaker_of, unpaired_due};
+ghost use Rattle.pg_game.specs.Pairs.{PairsHold, PairsLeaveNone, AreOpenPairs, HoldLines, IsSafe, has_point, is_paired, unpaired_due};
 ghost use Rattle.pg_game.specs.Value.{Forces};
 ghost use Rattle.pg_pairing.specs.Taking.{CanTake};
 
 use crate::partners::{is_safe, partners_of};
 use pg_base::{Kind, MAX_MEMBERS, Pair, PointSet, Side};
-use pg_game::{Game, Position};
+use pg_game::{Game, Position, breaker_of};
 
 /// Puts a free point of the game that isn't taken to those that are, and tells whether it could.
 fn take(points: u16, p: &Position, taken: &mut PointSet, v: u16) -> bool
@@ -96,16 +96,6 @@ fn leave_none(g: &Game, p: &Position, pairs: &[Pair], paired: &PointSet) -> bool
         return false;
     }
     count_outside(g, p, paired) == unpaired_due(p.turn)
-}
-
-/// The side whose points make a line harmless to the claimer.
-fn breaker_of(kind: Kind, side: Side) -> Side
-    ensures { result ≡ breaker_of kind side }
-{
-    match kind {
-        Kind::AvoiderEnforcer => Side::Y,
-        Kind::MakerBreaker | Kind::MakerMaker | Kind::Switching => side,
-    }
 }
 
 /// Whether every line meant holds both points of some pair.

@@ -8,10 +8,10 @@ use Rattle.pg_base.specs.Sets.{outside}
 use Rattle.pg_base.proofs.PointSetLaws.{contains-union_either, contains-difference_outside, insert-cases, insert-old, insert-self}
 use Rattle.pg_base.proofs.SetLemmas.{outside_parts}
 use Rattle.pg_graph.specs.declared.graph.Graph.{Graph}
-use Rattle.pg_graph.specs.Graph.{edge_count, IsBridge}
+use Rattle.pg_graph.specs.Graph.{edge_count, JoinsEndsOf, IsBridge}
 use Rattle.pg_graph.specs.Joiner.{AreEdges}
 use Rattle.pg_game.specs.declared.position.Position.{Position}
-use Rattle.pg_game.specs.Trees.{JoinsEndsOf, with_set, without_set}
+use Rattle.pg_game.specs.Trees.{with_set, without_set}
 use Rattle.pg_switch.specs.Parts.{JoinsOther, BridgesOther}
 use Rattle.pg_switch.proofs.EdgeSets.{left_edges, left_edges-below, bridge-same, without-agree}
 

@@ -14,8 +14,7 @@ use Rattle.pg_graph.specs.Graph.{edge_count, first_end_of, second_end_of, spans_
 use Rattle.pg_graph.specs.Joiner.{AreEdges}
 use Rattle.pg_graph.specs.Span.{IsTrees, IsCuts}
 use Rattle.pg_graph.specs.Walks.{edge_spans}
-use Rattle.pg_graph.proofs.GraphLemmas.{joins_same, loops_after, spans_in-sound, spans_in-complete}
-use Rattle.pg_graph.proofs.Spans.{edge_spans_complete}
+use Rattle.pg_graph.proofs.GraphLemmas.{joins_same, spans_in-sound, spans_in-complete, unspanned-from, unspanned-apart}
 use Rattle.pg_game.specs.declared.game.Game.{Game}
 use Rattle.pg_game.specs.declared.position.Position.{Position}
 use Rattle.pg_game.specs.Fit.{AreBelow}
@@ -111,16 +110,9 @@ pub minus-agree : (x y : ℕ → Bool) (f n : ℕ) → ((k : ℕ) → k < n → 
 unfolding minus
 minus-agree x y f n same k low = rw (same k low) refl
 
--- a bridge is an edge that the rest doesn't span
-pub bridge-unspanned : (h : Graph) (set : ℕ → Bool) (f : ℕ) → IsBridge h set f → spans_in h (minus set f) f ≡ false
-bridge-unspanned h set f b = false_from_ne_true _ (λ t. b (spans_in-sound h (minus set f) f t))
-
-pub bridge-from : (h : Graph) (set : ℕ → Bool) (f : ℕ) → spans_in h (minus set f) f ≡ false → IsBridge h set f
-bridge-from h set f out p = both_ways _ out (edge_spans_complete (first_end_of h) (second_end_of h) (suc (edge_count h)) (loops_after h) (minus set f) f p)
-
 pub bridge-same : (h : Graph) (x y : ℕ → Bool) (f : ℕ) → ((k : ℕ) → k < suc (edge_count h) → x k ≡ y k) → IsBridge h x f → IsBridge h y f
 bridge-same h x y f same b =
-    bridge-from h y f (sym (spans-same h (minus x f) (minus y f) f (minus-agree x y f (suc (edge_count h)) same)) ∙ bridge-unspanned h x f b)
+    unspanned-apart h (minus y f) f (sym (spans-same h (minus x f) (minus y f) f (minus-agree x y f (suc (edge_count h)) same)) ∙ unspanned-from h (minus x f) f b)
 
 -- what is left without a set is so on the edges
 pub without-agree : (h : Graph) (p : Position) (d : FinSet nat_cmp) (k : ℕ) → k < suc (edge_count h) → without_set p d k ≡ outside (left_edges h p) (contains d) k
@@ -132,10 +124,10 @@ without-agree h p d k low = ap (λ b. b && not (contains d k)) (sym (at (contain
     at false e = below_from (λ f. not (contains p.y f)) (suc (edge_count h)) k (ap not e) low ∙ sym (ap not e)
 
 pub unspanned-without : (h : Graph) (p : Position) (d : FinSet nat_cmp) (f : ℕ) → IsBridge h (without_set p d) f → spans_in h (minus (outside (left_edges h p) (contains d)) f) f ≡ false
-unspanned-without h p d f b = bridge-unspanned h (outside (left_edges h p) (contains d)) f (bridge-same h (without_set p d) (outside (left_edges h p) (contains d)) f (without-agree h p d) b)
+unspanned-without h p d f b = unspanned-from h (minus (outside (left_edges h p) (contains d)) f) f (bridge-same h (without_set p d) (outside (left_edges h p) (contains d)) f (without-agree h p d) b)
 
 pub bridge-without : (h : Graph) (p : Position) (d : FinSet nat_cmp) (f : ℕ) → spans_in h (minus (outside (left_edges h p) (contains d)) f) f ≡ false → IsBridge h (without_set p d) f
-bridge-without h p d f out = bridge-same h (outside (left_edges h p) (contains d)) (without_set p d) f (λ k low. sym (without-agree h p d k low)) (bridge-from h (outside (left_edges h p) (contains d)) f out)
+bridge-without h p d f out = bridge-same h (outside (left_edges h p) (contains d)) (without_set p d) f (λ k low. sym (without-agree h p d k low)) (unspanned-apart h (minus (outside (left_edges h p) (contains d)) f) f out)
 
 -- ---- trees and cuts of a position
 

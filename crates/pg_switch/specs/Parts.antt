@@ -5,9 +5,9 @@ use Rattle.std.specs.Ordering.{nat_cmp}
 use Rattle.pg_base.specs.Points.{ShareNone}
 use Rattle.pg_base.specs.declared.side.Side.{Side}
 use Rattle.pg_graph.specs.declared.graph.Graph.{Graph}
-use Rattle.pg_graph.specs.Graph.{edge_count, IsBridge}
+use Rattle.pg_graph.specs.Graph.{edge_count, JoinsEndsOf, IsBridge}
 use Rattle.pg_game.specs.declared.position.Position.{Position}
-use Rattle.pg_game.specs.Trees.{AreFreeWithE, AreFreeEdges, JoinsEndsOf, with_set, without_set}
+use Rattle.pg_game.specs.Trees.{AreFreeWithE, AreFreeEdges, with_set, without_set}
 
 -- disjoint sets of free edges, the first perhaps with e where the side is to move
 pub record AreFreePair (h : Graph) (p : Position) (side : Side) (first second : FinSet nat_cmp) : Type 0 where

@@ -4,11 +4,11 @@ ghost use Rattle.std.specs.FinSet.{contains, insert};
 ghost use Rattle.pg_base.specs.Points.{AreBelow};
 ghost use Rattle.pg_base.specs.Sets.{below};
 ghost use Rattle.pg_base.specs.declared.kind.Kind.TheVariants.{Switching};
-ghost use Rattle.pg_graph.specs.Graph.{IsGraph, IsBridge, edge_count};
+ghost use Rattle.pg_graph.specs.Graph.{IsGraph, edge_count};
 ghost use Rattle.pg_graph.specs.Joiner.{IsMadeFor, AreEdges};
 ghost use Rattle.pg_game.specs.Game.{point_count, IsPosition};
 ghost use Rattle.pg_game.specs.Judge.{IsMadeForGame};
-ghost use Rattle.pg_game.specs.Trees.{IsFreeEdge, JoinsEndsOf, AreTrees, AreCuts, TreesHold, CutsHold};
+ghost use Rattle.pg_game.specs.Trees.{IsFreeEdge, AreTrees, AreCuts, TreesHold, CutsHold};
 ghost use Rattle.pg_switch.specs.Parts.{AreFreePair, JoinsOther, BridgesOther};
 
 use pg_base::{PointSet, Side};
@@ -26,53 +26,6 @@ fn are_free(graph: &Graph, p: &Position, allows_e: bool, members: &PointSet) -> 
     members.shares_none(&p.x)
         && members.shares_none(&p.y)
         && (allows_e || !members.has(graph.edge_count()))
-}
-
-/// Whether the set joins the ends of edge f.
-fn joins_ends(graph: &Graph, j: &mut Joiner, set: &PointSet, f: u16) -> bool
-    requires graph { IsGraph graph.now }
-    requires made { IsMadeFor j.old graph.now }
-    requires set { AreEdges graph.now (contains set.now) }
-    requires edge { f ≤ edge_count graph.now }
-    ensures joins { IsTrue result ↔ JoinsEndsOf graph.now (contains set.now) f }
-    ensures kept { j.new ≡ j.old }
-{
-    let (u, v) = graph.ends_of(f);
-    j.joined(graph, set, u, v)
-}
-
-/// Whether the set joins the ends of each member.
-fn joins_each(graph: &Graph, j: &mut Joiner, set: &PointSet, members: &PointSet) -> bool
-    requires graph { IsGraph graph.now }
-    requires made { IsMadeFor j.old graph.now }
-    requires set { AreEdges graph.now (contains set.now) }
-    requires members { AreEdges graph.now (contains members.now) }
-    ensures joins { IsTrue result ↔ ((f : ℕ) → contains members.now f ≡ true → JoinsEndsOf graph.now (contains set.now) f) }
-    ensures kept { j.new ≡ j.old }
-{
-    for f in 0..graph.edge_count() + 1 {
-        if members.has(f) && !joins_ends(graph, j, set, f) {
-            return false;
-        }
-    }
-    true
-}
-
-/// Whether each member is a bridge of the set.
-fn bridges_each(graph: &Graph, j: &mut Joiner, set: &PointSet, members: &PointSet) -> bool
-    requires graph { IsGraph graph.now }
-    requires made { IsMadeFor j.old graph.now }
-    requires set { AreEdges graph.now (contains set.now) }
-    requires members { AreEdges graph.now (contains members.now) }
-    ensures bridges { IsTrue result ↔ ((f : ℕ) → contains members.now f ≡ true → IsBridge graph.now (contains set.now) f) }
-    ensures kept { j.new ≡ j.old }
-{
-    for f in 0..graph.edge_count() + 1 {
-        if members.has(f) && !j.bridge(graph, set, f) {
-            return false;
-        }
-    }
-    true
 }
 
 /// The set with e.
@@ -135,7 +88,7 @@ fn joins_other(
     ensures joins { IsTrue result ↔ JoinsOther graph.now p.now one.now other.now }
     ensures kept { j.new ≡ j.old }
 {
-    joins_each(graph, j, &p.x.union(one), &with_e(graph, other))
+    j.joins_all(graph, &p.x.union(one), &with_e(graph, other))
 }
 
 /// Whether each member of the other set is a bridge of what is left without the one set, and e unless it is in that.
@@ -155,9 +108,9 @@ fn bridges_other(
 {
     let left = edges_left(graph, &p.y).without(one);
     if one.has(graph.edge_count()) {
-        bridges_each(graph, j, &left, other)
+        j.bridges_all(graph, &left, other)
     } else {
-        bridges_each(graph, j, &left, &with_e(graph, other))
+        j.bridges_all(graph, &left, &with_e(graph, other))
     }
 }
 
@@ -196,8 +149,9 @@ fn are_cuts(graph: &Graph, j: &mut Joiner, p: &Position, d1: &PointSet, d2: &Poi
 /// Whether the two sets are trees for X at the position: disjoint sets of free edges, the first perhaps with `e` where
 /// X is to move, each of which together with X's edges joins the terminals and the ends of every member of the other.
 ///
-/// Where it answers true, X wins. The number of edges stands for `e`. It takes no memory, and leaves the joiner as it
-/// was. The condition is Lehman's (A solution of the Shannon switching game, 1964).
+/// Where it answers true, X wins. The number of edges stands for `e`. It takes no memory and, by a few walks over the
+/// edges, nearly linear time, and leaves the joiner as it was. The condition is Lehman's (A solution of the Shannon
+/// switching game, 1964).
 pub fn trees_hold(g: &Game, j: &mut Joiner, p: &Position, a1: &PointSet, a2: &PointSet) -> bool
     requires switching { g.now.kind ≡ Switching }
     requires made { IsMadeForGame j.old g.now }
@@ -217,8 +171,8 @@ pub fn trees_hold(g: &Game, j: &mut Joiner, p: &Position, a1: &PointSet, a2: &Po
 /// is to move. What is left when Y's edges and one of the sets go has every member of the other as a bridge, and `e`
 /// unless it went with the set. A bridge of a set is an edge whose ends the rest of the set doesn't join.
 ///
-/// Where it answers true, Y wins. The number of edges stands for `e`. It takes no memory, and leaves the joiner as it
-/// was. The condition is the dual of Lehman's.
+/// Where it answers true, Y wins. The number of edges stands for `e`. It takes no memory and, by a few walks over the
+/// edges, nearly linear time, and leaves the joiner as it was. The condition is the dual of Lehman's.
 pub fn cuts_hold(g: &Game, j: &mut Joiner, p: &Position, d1: &PointSet, d2: &PointSet) -> bool
     requires switching { g.now.kind ≡ Switching }
     requires made { IsMadeForGame j.old g.now }
