@@ -3,6 +3,7 @@ ghost use Rattle.std.specs.Prelude.{◌≡◌};
 ghost use Rattle.pg_cert.specs.Node.{position_of};
 ghost use Rattle.pg_cert.specs.Valid.{with_e_named};
 
+use crate::edge_set::EdgeSet;
 use crate::reply::Replies;
 use pg_base::{Pairs, PointSet, Points, Side};
 use pg_game::{Game, Position};
@@ -31,18 +32,18 @@ pub enum Body {
         /// Whether the first set holds the further edge between the terminals.
         with_e: bool,
         /// The edges of the first set, apart from that one.
-        first: PointSet,
+        first: EdgeSet,
         /// The edges of the second set.
-        second: PointSet,
+        second: EdgeSet,
     },
     /// Two sets of edges part the terminals.
     Cuts {
         /// Whether the first set holds the further edge between the terminals.
         with_e: bool,
         /// The edges of the first set, apart from that one.
-        first: PointSet,
+        first: EdgeSet,
         /// The edges of the second set.
-        second: PointSet,
+        second: EdgeSet,
     },
     /// The claimer's moves of a line of threats, each with the answer that it forces; the last fills a line.
     Threat(Points),

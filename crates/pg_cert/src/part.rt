@@ -1,6 +1,6 @@
 //! The parts of a certificate, in the order of its lines.
 
-use crate::node::Node;
+use crate::node_part::NodePart;
 use pg_base::{Goal, Side};
 
 /// A claim with the number of its nodes, or a node.
@@ -18,5 +18,5 @@ pub enum Part {
         nodes: u32,
     },
     /// A node of the claim before it.
-    Node(Node),
+    Node(NodePart),
 }

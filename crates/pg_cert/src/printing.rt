@@ -160,7 +160,7 @@ fn put_words(out: &mut String, body: &Body) -> Result<(), AllocError>
             with_e,
             first,
             second,
-        } => put_edges(out, *with_e, first, second),
+        } => put_edges(out, *with_e, first.as_set(), second.as_set()),
         Body::Threat(points) => put_points(out, points.as_slice()),
     }
 }

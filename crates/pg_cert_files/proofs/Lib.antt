@@ -15,4 +15,3 @@ pub mod ReadsWhole
 pub mod DigitRuns
 pub mod Gathering
 pub mod Outlines
-pub mod Scanning

@@ -7,9 +7,8 @@ ghost use Rattle.pg_base.specs.Side.{side_of};
 ghost use Rattle.pg_cert_files.specs.Form.{form_of, are_none, are_odd, each_has_one, is_slash, has_one_slash};
 ghost use Rattle.pg_cert_files.specs.Outline.{outline_of};
 
-use crate::scan::four_parts;
 use pg_base::Side;
-use pg_text::{Words, first_word, two_parts};
+use pg_text::{Words, first_word, four_parts, two_parts};
 
 /// The eight bodies of a node line.
 #[derive(Clone, Copy, Debug, PartialEq, Eq)]

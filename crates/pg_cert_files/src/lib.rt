@@ -14,7 +14,6 @@ mod numerals;
 mod progress;
 mod reader;
 mod reading;
-mod scan;
 mod values;
 
 pub use cert_state::CertReader;

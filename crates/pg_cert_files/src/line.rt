@@ -14,7 +14,7 @@ use crate::form::{Form, Outline, are_none, are_odd, has_one_slash, outline_of, t
 use crate::head::Head;
 use crate::values::{Edges, child, pairs, point, points, replies, set_apart, two_sets, words_in};
 use pg_base::{Goal, Pairs, PointSet, Points, Side};
-use pg_cert::{Body, Node, Part, Replies};
+use pg_cert::{Body, Node, NodePart, Part, Replies};
 use pg_text::{LineError, Words, four_parts, has_sign, two_parts};
 use std::alloc::Global;
 
@@ -139,13 +139,14 @@ fn read_node(alloc: Global, outline: Outline) -> Result<Option<Part>, LineError<
     let body = body_of(alloc, outline.form, outline.words)?;
     let x = set_apart(&PointSet::empty(), outline.x)?;
     let y = set_apart(&x, outline.y)?;
-    Ok(Some(Part::Node(Node {
+    let node = Node {
         x,
         y,
         turn: outline.turn,
         left: 1,
         body,
-    })))
+    };
+    Ok(Some(Part::Node(NodePart::new(alloc, node)?)))
 }
 
 /// The node of a line, as a part.

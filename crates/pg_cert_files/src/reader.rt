@@ -9,10 +9,9 @@ ghost use Rattle.pg_cert_files.specs.Reader.{StandsFor, told, IsLinesEnd};
 use crate::fault::Fault;
 use crate::fed::Fed;
 use crate::progress::Progress;
-use crate::scan::cut_at;
 use pg_base::Memory;
 use pg_cert::Part;
-use pg_text::{FileError, LineError};
+use pg_text::{FileError, LineError, cut_at};
 use std::alloc::Global;
 
 /// Lines that come in pieces: what the whole ones have said, and the line in hand.

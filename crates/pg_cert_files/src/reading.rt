@@ -71,7 +71,7 @@ impl Gatherer {
             }),
             Some(Part::Node(node)) => {
                 let mut gatherer = self;
-                gatherer.nodes.push(node)?;
+                gatherer.nodes.push(node.into_node())?;
                 Ok(gatherer)
             }
         }

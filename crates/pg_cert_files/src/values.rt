@@ -14,19 +14,19 @@ use crate::fault::Fault;
 use crate::form::{each_has_one, is_slash};
 use crate::numerals::{first_number, two_numbers};
 use pg_base::{MAX_MEMBERS, Pair, PointSet};
-use pg_cert::{MAX_CLAIM_NODES, Reply};
+use pg_cert::{EdgeSet, MAX_CLAIM_NODES, Reply};
 use pg_text::{LineError, Words, ascend, first_word, number, two_parts};
 use std::alloc::Global;
 
 /// Two sets of edges.
-#[derive(Clone, Copy, Debug)]
+#[derive(Debug, Drop)]
 pub(crate) struct Edges {
     /// Whether the first set holds the further edge.
     pub(crate) with_e: bool,
     /// The edges of the first set, apart from that one.
-    pub(crate) first: PointSet,
+    pub(crate) first: EdgeSet,
     /// The edges of the second set.
-    pub(crate) second: PointSet,
+    pub(crate) second: EdgeSet,
 }
 
 /// The number of a word, if it is below the limit.
@@ -317,7 +317,7 @@ pub(crate) fn two_sets(alloc: Global, words: Words) -> Result<Edges, LineError<F
     let second = ascending(alloc, others)?;
     Ok(Edges {
         with_e,
-        first: PointSet::from_points(&first),
-        second: PointSet::from_points(&second),
+        first: EdgeSet::new(alloc, PointSet::from_points(&first))?,
+        second: EdgeSet::new(alloc, PointSet::from_points(&second))?,
     })
 }

@@ -1,6 +1,6 @@
 -- The rows of positions in few words.
 use lib.Pointwise.{pointwise}
-use Rattle.std.proofs.Common.{Bool, true, false, IsTrue, nat_eq, zero, ◌≡◌, ◌∙◌, ℕ, suc, ◌+◌, ◌-◌, ◌*◌, ◌^◌, ◌<◌, ◌≤◌, List, [], ◌∷◌, ◌++◌, length, map, take, drop, get_or, Option, Some, None, slice_get, refl, sym, ap, ap₂, subst, inl, inr, arith, ext_get_or}
+use Rattle.std.proofs.Common.{Bool, true, false, IsTrue, nat_eq, zero, ◌≡◌, ◌∙◌, ℕ, suc, ◌+◌, ◌*◌, ◌^◌, ◌<◌, ◌≤◌, List, [], ◌∷◌, ◌++◌, length, map, take, drop, get_or, Some, slice_get, refl, sym, ap, ap₂, subst, inl, inr, arith, ext_get_or}
 use Rattle.std.specs.FinSet.{FinSet}
 use Rattle.std.specs.List.{range_with_len}
 use Rattle.std.specs.Ordering.{nat_cmp}
@@ -10,9 +10,9 @@ use Rattle.std.proofs.lemmas.List.{append_assoc, append-nil, length-append, leng
 use Rattle.std.proofs.Math.Nat.{mul-suc, mul-le-mul_left}
 use Rattle.std.proofs.Math.Seq.{get_or-append_seam}
 use Rattle.std.proofs.lemmas.List.FromFn.{get_or-map-range_with_len, length-map-range_with_len}
-use Rattle.std.proofs.lemmas.Option.{slice_get-get_or, slice_get_within, get_or_from_slice_get}
+use Rattle.std.proofs.lemmas.Option.{slice_get-get_or, slice_get_within}
 use Rattle.pg_base.specs.Points.{AreBelow}
-use Rattle.pg_base.specs.Words.{members_below, word_of, words_of}
+use Rattle.pg_base.specs.Words.{word_of, words_of}
 use Rattle.pg_base.specs.WordLemmas.{word_below-lt, word_of-members, members-of_words, members-same}
 use Rattle.pg_base.specs.Side.{is_same_side}
 use Rattle.pg_base.specs.declared.side.Side.{Side}

@@ -1,7 +1,6 @@
 -- What is known of a claim by its nodes so far decides as the claim does.
-use Rattle.std.proofs.Common.{◌≡◌, ◌∙◌, ℕ, ◌+◌, ◌<◌, ◌≤◌, true, zero, suc, List, [], ◌∷◌, ◌++◌, length, map, take, get_or, Option, Some, None, slice_get, refl, sym, ap, subst, arith}
+use Rattle.std.proofs.Common.{◌≡◌, ◌∙◌, ◌↔◌, ℕ, ◌+◌, ◌<◌, zero, suc, List, [], ◌∷◌, ◌++◌, map, take, get_or, Option, Some, None, slice_get, refl, sym, ap, subst, arith}
 use Rattle.std.specs.Prelude.{option_map}
-use Rattle.std.specs.List.{All as Each}
 use Rattle.std.proofs.lemmas.Option.{slice_get-map, slice_get_within, slice_get-get_or}
 use Rattle.std.proofs.lemmas.List.{take_more, map_push}
 use Rattle.pg_game.specs.declared.game.Game.{Game}
@@ -14,7 +13,7 @@ use Rattle.pg_cert.specs.declared.node_fault.NodeFault.{NodeFault}
 use Rattle.pg_cert.specs.declared.node_fault.NodeFault.TheVariants as faults
 use Rattle.pg_cert.specs.Node.{position_of}
 use Rattle.pg_cert.specs.NodeFault.{fault_number}
-use Rattle.pg_cert.specs.Valid.{IsNodeOf, IsOwed, NamesEarlier, FollowsMove, FollowMoves, Passes, IsSound, IsLeastFault}
+use Rattle.pg_cert.specs.Valid.{IsNodeOf, NamesEarlier, Owes, HasTurn, TakesFree, EndsRight, HasPairs, HasPotential, HasTrees, HasCuts, HasThreat, FollowsMove, FollowMoves, Passes, IsSound, IsLeastFault}
 use Rattle.pg_check.specs.Marks.{kept}
 use Rattle.pg_check.specs.declared.present.Present.{Present}
 use Rattle.pg_check.specs.Present.{bare, known, PassesSoFar, IsSoundSoFar, IsLeastSoFar, IsKnownOf}
@@ -61,31 +60,25 @@ module _ (g : Game) (c : Present) (claim : Claim) (k : ℕ) (is : IsKnownOf c cl
   from-claim child q lt h =
       record { node = bare (position_of h.node); at = there child lt ∙ ap (λ (o : Option Node). option_map bare (option_map position_of o)) h.at; position = h.position }
 
-  move-to : (p : Position) (v child : ℕ) → child < k → FollowsMove g (map bare (kept c.marks)) p v child → FollowsMove g claim.nodes p v child
-  move-to p v child lt h = record { leads = λ range free. to-claim child _ (slice_get claim.nodes child) refl (there child lt) (h.leads range free) }
+  -- a move, and all moves, lead to the same nodes by what is known as in the claim
+  same-move : (p : Position) (v child : ℕ) → child < k → FollowsMove g (map bare (kept c.marks)) p v child ↔ FollowsMove g claim.nodes p v child
+  same-move p v child lt = (
+    λ h. record { leads = λ range free. to-claim child _ (slice_get claim.nodes child) refl (there child lt) (h.leads range free) },
+    λ h. record { leads = λ range free. from-claim child _ lt (h.leads range free) },
+  )
 
-  move-from : (p : Position) (v child : ℕ) → child < k → FollowsMove g claim.nodes p v child → FollowsMove g (map bare (kept c.marks)) p v child
-  move-from p v child lt h = record { leads = λ range free. from-claim child _ lt (h.leads range free) }
-
-  moves-to : (p : Position) (body : Body) → NamesEarlier k body → FollowMoves g (map bare (kept c.marks)) p body → FollowMoves g claim.nodes p body
-  moves-to p (Move v child) earlier h = move-to p v child earlier h
-  moves-to p (All rs) earlier h = λ i d lt. move-to p (get_or rs i d).point (get_or rs i d).child (earlier i d lt) (h i d lt)
-  moves-to p Over earlier h = h
-  moves-to p (Pairs ps) earlier h = h
-  moves-to p Potential earlier h = h
-  moves-to p (Trees e a b) earlier h = h
-  moves-to p (Cuts e a b) earlier h = h
-  moves-to p (Threat ps) earlier h = h
-
-  moves-from : (p : Position) (body : Body) → NamesEarlier k body → FollowMoves g claim.nodes p body → FollowMoves g (map bare (kept c.marks)) p body
-  moves-from p (Move v child) earlier h = move-from p v child earlier h
-  moves-from p (All rs) earlier h = λ i d lt. move-from p (get_or rs i d).point (get_or rs i d).child (earlier i d lt) (h i d lt)
-  moves-from p Over earlier h = h
-  moves-from p (Pairs ps) earlier h = h
-  moves-from p Potential earlier h = h
-  moves-from p (Trees e a b) earlier h = h
-  moves-from p (Cuts e a b) earlier h = h
-  moves-from p (Threat ps) earlier h = h
+  same-moves : (p : Position) (body : Body) → NamesEarlier k body → FollowMoves g (map bare (kept c.marks)) p body ↔ FollowMoves g claim.nodes p body
+  same-moves p (Move v child) earlier = same-move p v child earlier
+  same-moves p (All rs) earlier = (
+    λ h i d lt. (same-move p (get_or rs i d).point (get_or rs i d).child (earlier i d lt)).0 (h i d lt),
+    λ h i d lt. (same-move p (get_or rs i d).point (get_or rs i d).child (earlier i d lt)).1 (h i d lt),
+  )
+  same-moves p Over earlier = (λ h. h, λ h. h)
+  same-moves p (Pairs ps) earlier = (λ h. h, λ h. h)
+  same-moves p Potential earlier = (λ h. h, λ h. h)
+  same-moves p (Trees e a b) earlier = (λ h. h, λ h. h)
+  same-moves p (Cuts e a b) earlier = (λ h. h, λ h. h)
+  same-moves p (Threat ps) earlier = (λ h. h, λ h. h)
 
   -- the claim by the words of what is known
   abbrev told : Claim
@@ -94,52 +87,35 @@ module _ (g : Game) (c : Present) (claim : Claim) (k : ℕ) (is : IsKnownOf c cl
   told-is : told ≡ claim
   told-is = let t = is.turn in let s = is.side in let o = is.goal in rw (t, s, o) refl
 
-  owed-here : (n : Node) → IsOwed g told n → IsOwed g (known c) n
-  owed-here n o = record { allowed = o.allowed; in_game = o.in_game }
-
-  owed-there : (n : Node) → IsOwed g (known c) n → IsOwed g told n
-  owed-there n o = record { allowed = o.allowed; in_game = o.in_game }
+  same-owed : (n : Node) (P : Type 0) → Owes g (known c) n P ↔ Owes g told n P
+  same-owed n P = (λ h o. h (record { allowed = o.allowed; in_game = o.in_game }), λ h o. h (record { allowed = o.allowed; in_game = o.in_game }))
 
   -- the children are earlier where that has been tried before
   abbrev TriedBefore : Node → NodeFault → Type 0
   TriedBefore n fault = 1 < fault_number fault → NamesEarlier k n.body
 
-  passes-told : (n : Node) (fault : NodeFault) → TriedBefore n fault → PassesSoFar g c k n fault → Passes g told k n fault
-  passes-told n faults.Child tried h = h
-  passes-told n faults.Marks tried h = (h.0, moves-to (position_of n) n.body (tried (omega arith)) h.1)
-  passes-told n faults.Turn tried h = λ o. h (owed-here n o)
-  passes-told n faults.Moves tried h = λ o. h (owed-here n o)
-  passes-told n faults.End tried h = λ o. h (owed-here n o)
-  passes-told n faults.Pairs tried h = λ o. h (owed-here n o)
-  passes-told n faults.Potential tried h = λ o. h (owed-here n o)
-  passes-told n faults.Trees tried h = λ o. h (owed-here n o)
-  passes-told n faults.Cuts tried h = λ o. h (owed-here n o)
-  passes-told n faults.Threat tried h = λ o. h (owed-here n o)
-  passes-told n faults.Root tried h = λ last. h (last ∙ sym is.count)
-  passes-told n faults.Body tried h = h
-
-  passes-known : (n : Node) (fault : NodeFault) → TriedBefore n fault → Passes g told k n fault → PassesSoFar g c k n fault
-  passes-known n faults.Child tried h = h
-  passes-known n faults.Marks tried h = (h.0, moves-from (position_of n) n.body (tried (omega arith)) h.1)
-  passes-known n faults.Turn tried h = λ o. h (owed-there n o)
-  passes-known n faults.Moves tried h = λ o. h (owed-there n o)
-  passes-known n faults.End tried h = λ o. h (owed-there n o)
-  passes-known n faults.Pairs tried h = λ o. h (owed-there n o)
-  passes-known n faults.Potential tried h = λ o. h (owed-there n o)
-  passes-known n faults.Trees tried h = λ o. h (owed-there n o)
-  passes-known n faults.Cuts tried h = λ o. h (owed-there n o)
-  passes-known n faults.Threat tried h = λ o. h (owed-there n o)
-  passes-known n faults.Root tried h = λ last. h (last ∙ is.count)
-  passes-known n faults.Body tried h = h
+  same-passes : (n : Node) (fault : NodeFault) → TriedBefore n fault → PassesSoFar g c k n fault ↔ Passes g told k n fault
+  same-passes n faults.Child tried = (λ h. h, λ h. h)
+  same-passes n faults.Marks tried = let moves = same-moves (position_of n) n.body (tried (omega arith)) in (λ h. (h.0, moves.0 h.1), λ h. (h.0, moves.1 h.1))
+  same-passes n faults.Turn tried = same-owed n (HasTurn c.side (position_of n) n.body)
+  same-passes n faults.Moves tried = same-owed n (TakesFree g (position_of n) n.body)
+  same-passes n faults.End tried = same-owed n (EndsRight g c.side c.goal (position_of n) n.body)
+  same-passes n faults.Pairs tried = same-owed n (HasPairs g c.side (position_of n) n.body)
+  same-passes n faults.Potential tried = same-owed n (HasPotential g c.side (position_of n) n.body)
+  same-passes n faults.Trees tried = same-owed n (HasTrees g (position_of n) n.body)
+  same-passes n faults.Cuts tried = same-owed n (HasCuts g (position_of n) n.body)
+  same-passes n faults.Threat tried = same-owed n (HasThreat g c.side (position_of n) n.body)
+  same-passes n faults.Root tried = (λ h last. h (last ∙ sym is.count), λ h last. h (last ∙ is.count))
+  same-passes n faults.Body tried = (λ h. h, λ h. h)
 
   -- so a node is sound by what is known just where it is in the claim, and its least fault is the same
   pub sound-in : (n : Node) → IsSoundSoFar g c k n → IsSound g claim k n
-  sound-in n h = subst (λ (d : Claim). IsSound g d k n) told-is (λ fault. passes-told n fault (λ _. h faults.Child) (h fault))
+  sound-in n h = subst (λ (d : Claim). IsSound g d k n) told-is (λ fault. (same-passes n fault (λ _. h faults.Child)).0 (h fault))
 
   pub least-in : (n : Node) (fault : NodeFault) → IsLeastSoFar g c k n fault → IsLeastFault g claim k n fault
   least-in n fault h = subst (λ (d : Claim). IsLeastFault g d k n fault) told-is (record {
-    fails = λ passes. h.fails (passes-known n fault (λ lt. h.lesser faults.Child lt) passes);
-    lesser = λ before lt. passes-told n before (λ later. h.lesser faults.Child (omega (arith, later, lt))) (h.lesser before lt);
+    fails = λ passes. h.fails ((same-passes n fault (λ lt. h.lesser faults.Child lt)).1 passes);
+    lesser = λ before lt. (same-passes n before (λ later. h.lesser faults.Child (omega (arith, later, lt)))).0 (h.lesser before lt);
   })
 
 -- with one node more

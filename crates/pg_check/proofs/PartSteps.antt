@@ -1,10 +1,10 @@
 -- The next part of a certificate, by what is left of its parts.
-use Rattle.std.proofs.Common.{◌≡◌, ◌∙◌, ℕ, zero, suc, ◌+◌, ◌<◌, ◌≤◌, List, [], ◌∷◌, ◌++◌, length, map, drop, Some, slice_get, refl, sym, ap, subst, arith}
+use Rattle.std.proofs.Common.{◌≡◌, ℕ, zero, suc, ◌≤◌, List, [], ◌∷◌, ◌++◌, length, map, drop, Some, slice_get, refl, ap, arith}
 use Rattle.pg_base.specs.declared.goal.Goal.{Goal}
 use Rattle.pg_base.specs.declared.side.Side.{Side}
 use Rattle.pg_cert.specs.declared.cert.Claim.{Claim}
 use Rattle.pg_cert.specs.declared.node.Node.{Node}
-use Rattle.pg_cert.specs.Parts.{claim_parts, all_parts}
+use Rattle.pg_cert.specs.Parts.{all_parts}
 use Rattle.pg_cert.specs.declared.part.Part.{Part}
 use Rattle.pg_cert.specs.declared.part.Part.TheVariants as parts
 

@@ -1,9 +1,18 @@
 -- What a tester is made for.
+use Rattle.std.specs.Prelude.{◌≡◌, ℕ, nat_lt}
+use Rattle.std.specs.FinSet.{FinSet, contains}
+use Rattle.std.specs.Ordering.{nat_cmp}
+use Rattle.pg_game.specs.Game.{point_count}
 use Rattle.pg_game.specs.declared.game.Game.{Game}
 use Rattle.pg_game.specs.Judge.{IsMadeForGame, room_of}
 use Rattle.pg_check.specs.declared.tester.Tester.{Tester}
 
--- the judge is made for the game, and so is the joiner where it is on a graph
+-- the set holds just the points of the game
+abbrev pub ArePointsOf : FinSet nat_cmp → Game → Type 0
+ArePointsOf s g = (v : ℕ) → contains s v ≡ nat_lt v (point_count g)
+
+-- the judge is made for the game, and so is the joiner where it is on a graph; the points are the game's
 pub record IsReadyFor (t : Tester) (g : Game) : Type 0 where
   pub judge : IsMadeForGame t.judge g
   pub joiner : IsMadeForGame (room_of t.joiner) g
+  pub points : ArePointsOf t.points g

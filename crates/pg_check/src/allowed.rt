@@ -1,11 +1,14 @@
 //! Which bodies are allowed, and which nodes stand on the game's points.
 ghost use Rattle.std.specs.Prelude.{◌≡◌, ◌↔◌, IsTrue};
-ghost use Rattle.pg_game.specs.Threat.{may_attack};
+ghost use Rattle.pg_base.specs.Points.{AreBelow};
+ghost use Rattle.pg_game.specs.Game.{point_count};
+ghost use Rattle.pg_game.specs.declared.game.Game.{Game};
 ghost use Rattle.pg_cert.specs.Valid.{is_allowed, shows_defence, shows_trees, shows_cuts, pairs_fit, IsInGame};
+ghost use Rattle.pg_check.specs.Tester.{ArePointsOf};
 
-use pg_base::{Goal, Kind, Side};
+use pg_base::{Goal, Kind, PointSet, Side};
 use pg_cert::{Body, Node};
-use pg_game::Game;
+use pg_game::{Game, may_attack};
 
 /// Whether pairs or a potential can show the goal.
 fn shows_defence(kind: Kind, side: Side, goal: Goal) -> bool
@@ -16,17 +19,6 @@ fn shows_defence(kind: Kind, side: Side, goal: Goal) -> bool
         Kind::MakerMaker => matches!(goal, Goal::Draw),
         Kind::AvoiderEnforcer => matches!(side, Side::X),
         Kind::Switching => false,
-    }
-}
-
-/// Whether the side wins by filling a line.
-fn may_attack(kind: Kind, side: Side) -> bool
-    ensures { result ≡ may_attack kind side }
-{
-    match kind {
-        Kind::MakerBreaker => matches!(side, Side::X),
-        Kind::MakerMaker => true,
-        Kind::AvoiderEnforcer | Kind::Switching => false,
     }
 }
 
@@ -68,10 +60,17 @@ pub(crate) fn is_allowed(kind: Kind, bias: u8, side: Side, goal: Goal, body: &Bo
     }
 }
 
-/// Whether the node's marks are points of the game, and its side claims no more than in a whole turn.
-pub(crate) fn is_in_game(g: &Game, node: &Node) -> bool
+/// Whether the marks are points of the game, which are all told.
+fn are_points(points: &PointSet, marks: &PointSet) -> bool
+    ensures { (g : Game) → ArePointsOf points.now g → IsTrue result ↔ AreBelow marks.now (point_count g) }
+{
+    marks.is_subset(points)
+}
+
+/// Whether the node's marks are points of the game, which are all told, and its side claims no more than in a whole turn.
+pub(crate) fn is_in_game(points: &PointSet, g: &Game, node: &Node) -> bool
+    requires { ArePointsOf points.now g.now }
     ensures { IsTrue result ↔ IsInGame g.now node.now }
 {
-    let points = g.points();
-    node.x.is_below(points) && node.y.is_below(points) && node.left <= g.bias_of(node.turn)
+    are_points(points, &node.x) && are_points(points, &node.y) && node.left <= g.bias_of(node.turn)
 }

@@ -130,7 +130,7 @@ impl<'a> Checking<'a> {
                 self.claim(alloc, *turn, *side, *goal, *nodes);
                 Ok(())
             }
-            Part::Node(node) => self.node(node),
+            Part::Node(node) => self.node(node.as_node()),
         }
     }
 

@@ -65,7 +65,7 @@ pub(crate) fn has_trees(joiner: &mut Option<Joiner>, g: &Game, p: &Position, bod
     else {
         return true;
     };
-    trees_hold(joiner, g, p, *with_e, first, second)
+    trees_hold(joiner, g, p, *with_e, first.as_set(), second.as_set())
 }
 
 /// Whether the sets of edges are cuts.
@@ -84,7 +84,7 @@ pub(crate) fn has_cuts(joiner: &mut Option<Joiner>, g: &Game, p: &Position, body
     else {
         return true;
     };
-    cuts_hold(joiner, g, p, *with_e, first, second)
+    cuts_hold(joiner, g, p, *with_e, first.as_set(), second.as_set())
 }
 
 /// Whether the points are a threat line.

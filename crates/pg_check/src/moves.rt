@@ -53,7 +53,7 @@ fn follows_move(g: &Game, marks: &Marks, p: &Position, point: u16, child: u32) -
     if !p.is_free(point) {
         return true;
     }
-    is_node_of(marks, child, &g.after(p, point))
+    is_node_of(marks, child, &p.after(g.bias, point))
 }
 
 /// Whether the children of all free points have the positions after them.

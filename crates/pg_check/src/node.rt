@@ -5,8 +5,8 @@ ghost use Rattle.pg_game.specs.Judge.{IsMadeForGame};
 ghost use Rattle.pg_game.specs.Game.{IsPosition, is_over, outcome, with_turn};
 ghost use Rattle.pg_game.specs.Value.{reaches};
 ghost use Rattle.pg_cert.specs.Node.{position_of};
-ghost use Rattle.pg_check.specs.Tester.{IsReadyFor};
-ghost use Rattle.pg_cert.specs.Valid.{IsOwed, EndsRight};
+ghost use Rattle.pg_check.specs.Tester.{ArePointsOf, IsReadyFor};
+ghost use Rattle.pg_cert.specs.Valid.{IsInGame, IsOwed, EndsRight};
 ghost use Rattle.pg_check.specs.Marks.{AreMarksOf};
 ghost use Rattle.pg_check.specs.Present.{PassesSoFar, IsSoundSoFar, IsLeastSoFar, known};
 
@@ -15,15 +15,29 @@ use crate::leaves::{has_cuts, has_pairs, has_potential, has_threat, has_trees};
 use crate::moves::{follow_moves, has_turn, names_earlier, takes_free};
 use crate::present::Present;
 use crate::tester::Tester;
-use pg_base::{Goal, Side};
+use pg_base::{Goal, PointSet, Side};
 use pg_cert::{Body, Node, NodeFault};
 use pg_game::{Game, Judge, Position, reaches};
 
 /// Whether more than its marks, its children and its place is asked of the node.
-fn is_owed(g: &Game, claim: &Present, node: &Node) -> bool
+fn is_owed(points: &PointSet, g: &Game, claim: &Present, node: &Node) -> bool
+    requires { ArePointsOf points.now g.now }
     ensures { IsTrue result ↔ IsOwed g.now (known claim.now) node.now }
 {
-    is_allowed(g.kind, g.bias, claim.side, claim.goal, &node.body) && is_in_game(g, node)
+    is_allowed(g.kind, g.bias, claim.side, claim.goal, &node.body) && is_in_game(points, g, node)
+}
+
+/// Whether the node's marks are points of the game, and its side claims no more than in a whole turn. A node of which
+/// more is asked needs no second look.
+fn is_seen_in_game(points: &PointSet, g: &Game, claim: &Present, node: &Node, owed: bool) -> bool
+    requires points { ArePointsOf points.now g.now }
+    requires owed { IsTrue owed ↔ IsOwed g.now (known claim.now) node.now }
+    ensures { IsTrue result ↔ IsInGame g.now node.now }
+{
+    if owed {
+        return true;
+    }
+    is_in_game(points, g, node)
 }
 
 /// Whether the game is over with the goal reached.
@@ -95,7 +109,10 @@ fn passes(
 {
     match fault {
         NodeFault::Child => names_earlier(k, &node.body),
-        NodeFault::Marks => is_in_game(g, node) && follow_moves(g, &claim.marks, p, &node.body),
+        NodeFault::Marks => {
+            is_seen_in_game(&tester.points, g, claim, node, owed)
+                && follow_moves(g, &claim.marks, p, &node.body)
+        }
         NodeFault::Turn => !owed || has_turn(claim.side, p, &node.body),
         NodeFault::Moves => !owed || takes_free(g, p, &node.body),
         NodeFault::End => {
@@ -130,7 +147,7 @@ pub(crate) fn first_fault(
     ensures least { IfSome result (λ fault. IsLeastSoFar g.now claim.now k node.now fault) }
     ensures kept { tester.new ≡ tester.old }
 {
-    let owed = is_owed(g, claim, node);
+    let owed = is_owed(&tester.points, g, claim, node);
     for fault in [
         NodeFault::Child,
         NodeFault::Marks,

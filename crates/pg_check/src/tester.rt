@@ -2,18 +2,20 @@
 ghost use Rattle.std.specs.Prelude.{IfOk};
 ghost use Rattle.pg_check.specs.Tester.{IsReadyFor};
 
-use pg_base::Memory;
+use pg_base::{Memory, PointSet};
 use pg_game::{Game, Judge, joiner_for};
 use pg_graph::Joiner;
 use std::alloc::Global;
 
-/// A judge and, for a game on a graph, a joiner.
+/// A judge, for a game on a graph a joiner, and the game's points.
 #[derive(Debug, Drop)]
 pub(crate) struct Tester {
     /// Says whether the game is over.
     pub(crate) judge: Judge,
     /// Says what edges join; there is none on lines.
     pub(crate) joiner: Option<Joiner>,
+    /// All points of the game.
+    pub(crate) points: PointSet,
 }
 
 impl Tester {
@@ -24,6 +26,7 @@ impl Tester {
         Ok(Tester {
             judge: Judge::new(alloc, g)?,
             joiner: joiner_for(alloc, g)?,
+            points: PointSet::all_below(g.points()),
         })
     }
 }

@@ -163,7 +163,7 @@ fn body_move(
             first,
             second,
         } => {
-            let plan = ShortPlan::start(with_e_named(g, *with_e, first), *second);
+            let plan = ShortPlan::start(with_e_named(g, *with_e, first.as_set()), *second.as_set());
             trees_move(g, joiner, p, plan, last)
         }
         Body::Cuts {
@@ -171,7 +171,7 @@ fn body_move(
             first,
             second,
         } => {
-            let plan = CutPlan::start(with_e_named(g, *with_e, first), *second);
+            let plan = CutPlan::start(with_e_named(g, *with_e, first.as_set()), *second.as_set());
             cuts_move(g, joiner, p, plan, last)
         }
         Body::Threat(_) => line_move(g, claim, p, number, 0, last),

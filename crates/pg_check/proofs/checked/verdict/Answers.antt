@@ -1,4 +1,4 @@
-use Rattle.std.proofs.Common.{◌≡◌, ◌∙◌, [], List, subst}
+use Rattle.std.proofs.Common.{◌≡◌, [], List, subst}
 use Rattle.pg_game.specs.declared.game.Game.{Game}
 use Rattle.pg_cert.specs.Parts.{all_parts}
 use Rattle.pg_cert.specs.declared.cert.Claim.{Claim}

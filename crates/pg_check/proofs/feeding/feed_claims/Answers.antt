@@ -1,5 +1,4 @@
-use Rattle.std.proofs.Common.{◌≡◌, ◌∙◌, ◌++◌, List, length, take_all, get_or, refl, sym, subst}
-use Rattle.pg_cert.specs.Limits.{IsClaim}
+use Rattle.std.proofs.Common.{◌∙◌, ◌++◌, List, take_all, refl, subst}
 use Rattle.pg_cert.specs.Parts.{all_parts}
 use Rattle.pg_cert.specs.declared.cert.Claim.{Claim}
 use Rattle.pg_check.specs.Checking.{StandsFor}

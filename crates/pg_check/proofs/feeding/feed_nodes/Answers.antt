@@ -1,4 +1,4 @@
-use Rattle.std.proofs.Common.{◌∙◌, ◌≤◌, ◌++◌, List, length, map, take_all, refl, subst}
+use Rattle.std.proofs.Common.{◌∙◌, ◌++◌, List, map, take_all, refl, subst}
 use Rattle.pg_cert.specs.declared.node.Node.{Node}
 use Rattle.pg_cert.specs.declared.part.Part.TheVariants as parts
 use Rattle.pg_check.specs.Checking.{StandsFor}

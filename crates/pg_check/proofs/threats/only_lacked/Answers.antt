@@ -1,10 +1,4 @@
-use Rattle.std.specs.Prelude.{Option, Some, None, IfSome, IfNone}
-use Rattle.std.specs.Option.{is_some}
-use Rattle.std.proofs.Common.{◌≡◌, ◌∙◌, ◌<◌, ℕ, length, get_or, true, false, sym, ap, arith}
-use Rattle.std.proofs.lemmas.List.Elements.{All-get_or}
-use Rattle.std.specs.FinSet.{contains}
-use Rattle.pg_game.specs.Potential.{is_on}
-use Rattle.pg_check.specs.Lacked.{filled_but, IsLackedSoFar}
+use Rattle.std.proofs.Common.{◌∙◌, ◌<◌, length, sym, arith}
 use Rattle.pg_check.proofs.ThreatTests.{lacked-own, lacked-first, lacked-second, lacked-one, lacked-none}
 use Rattle.pg_check.proofs.threats.only_lacked.Goals as goal
 use Rattle.pg_check.proofs.threats.only_lacked.Goals.{then-not-has+else-is_some, else-not-has}

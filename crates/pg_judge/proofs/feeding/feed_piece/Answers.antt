@@ -1,5 +1,5 @@
 use Rattle.std.proofs.Common.{◌∙◌, sym, eqb-true}
-use Rattle.pg_judge.proofs.Steps.{fed-none, been-fed, fed-all, fed-more, part-given}
+use Rattle.pg_judge.proofs.Steps.{been-fed, fed-all, fed-more, part-given}
 use Rattle.pg_judge.proofs.feeding.feed_piece.Goals as goal
 
 pub take-requires : goal.take-requires

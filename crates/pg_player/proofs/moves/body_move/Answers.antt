@@ -1,6 +1,6 @@
-use Rattle.std.proofs.Common.{◌∙◌, subst, sym, ap}
+use Rattle.std.proofs.Common.{◌≡◌, ◌∙◌, subst, sym, ap, ap₂}
 use Rattle.pg_cert.specs.declared.node.Body.{Body}
-use Rattle.pg_cert.specs.declared.node.Body.TheVariants.{Pairs}
+use Rattle.pg_cert.specs.declared.node.Body.TheVariants.{Pairs, Trees, Cuts}
 use Rattle.pg_player.specs.InPlay.{InPlay, KeepsUp}
 use Rattle.pg_player.specs.Stand.{standing_of}
 use Rattle.pg_player.proofs.Plays.{IsPosition-reached, not-full}
@@ -21,16 +21,18 @@ trees_move-requires-clause-position c = IsPosition-reached c.args.g.now c.args.p
 
 pub trees_move-requires-clause-held : goal.trees_move-requires-clause-held
 trees_move-requires-clause-held c =
-    trees-held c.args.g.now c.args.claim.now c.args.p.now c.args.body.now c.in-Trees.with_e c.in-Trees.first c.in-Trees.second c.args.last c.start-plan.result.first c.start-plan.result.second
-    (c.start-plan.ensures.first ∙ c.with_e_named.ensures) c.start-plan.ensures.second c.in-Trees.is c.requires.playing c.requires.going c.requires.turn
+    let whole : c.args.body.now ≡ Trees c.in-Trees.with_e c.as_set.result.now c.as_set-in-Trees.result.now = c.in-Trees.is ∙ ap₂ (Trees c.in-Trees.with_e) (sym c.as_set.ensures) (sym c.as_set-in-Trees.ensures) in
+    trees-held c.args.g.now c.args.claim.now c.args.p.now c.args.body.now c.in-Trees.with_e c.as_set.result.now c.as_set-in-Trees.result.now c.args.last c.start-plan.result.first c.start-plan.result.second
+    (c.start-plan.ensures.first ∙ c.with_e_named.ensures) c.start-plan.ensures.second whole c.requires.playing c.requires.going c.requires.turn
 
 pub cuts_move-requires-clause-position : goal.cuts_move-requires-clause-position
 cuts_move-requires-clause-position c = IsPosition-reached c.args.g.now c.args.p.now c.requires.playing.reached
 
 pub cuts_move-requires-clause-held : goal.cuts_move-requires-clause-held
 cuts_move-requires-clause-held c =
-    cuts-held c.args.g.now c.args.claim.now c.args.p.now c.args.body.now c.in-Cuts.with_e c.in-Cuts.first c.in-Cuts.second c.args.last c.start-plan-in-Cuts.result.first c.start-plan-in-Cuts.result.second
-    (c.start-plan-in-Cuts.ensures.first ∙ c.with_e_named-in-Cuts.ensures) c.start-plan-in-Cuts.ensures.second c.in-Cuts.is c.requires.playing c.requires.going c.requires.turn
+    let whole : c.args.body.now ≡ Cuts c.in-Cuts.with_e c.as_set-in-Cuts.result.now c.as_set-in-Cuts-2.result.now = c.in-Cuts.is ∙ ap₂ (Cuts c.in-Cuts.with_e) (sym c.as_set-in-Cuts.ensures) (sym c.as_set-in-Cuts-2.ensures) in
+    cuts-held c.args.g.now c.args.claim.now c.args.p.now c.args.body.now c.in-Cuts.with_e c.as_set-in-Cuts.result.now c.as_set-in-Cuts-2.result.now c.args.last c.start-plan-in-Cuts.result.first c.start-plan-in-Cuts.result.second
+    (c.start-plan-in-Cuts.ensures.first ∙ c.with_e_named-in-Cuts.ensures) c.start-plan-in-Cuts.ensures.second whole c.requires.playing c.requires.going c.requires.turn
 
 pub returns-in-Move-clause-keeps : goal.returns-in-Move-clause-keeps
 returns-in-Move-clause-keeps c =
@@ -57,10 +59,12 @@ returns-in-Potential-clause-keeps c =
 
 pub returns-in-Trees-clause-keeps : goal.returns-in-Trees-clause-keeps
 returns-in-Trees-clause-keeps c =
-    trees-whole c.args.g.now c.args.claim.now c.args.p.now c.args.body.now c.in-Trees.with_e c.in-Trees.first c.in-Trees.second c.args.last c.start-plan.result.first c.start-plan.result.second
-    (c.start-plan.ensures.first ∙ c.with_e_named.ensures) c.start-plan.ensures.second c.trees_move.result.point (standing_of c.args.claim.now.nodes c.trees_move.result.stand) c.in-Trees.is c.requires.playing (c.trees_move.ensures.keeps c.args.claim.now)
+    let whole : c.args.body.now ≡ Trees c.in-Trees.with_e c.as_set.result.now c.as_set-in-Trees.result.now = c.in-Trees.is ∙ ap₂ (Trees c.in-Trees.with_e) (sym c.as_set.ensures) (sym c.as_set-in-Trees.ensures) in
+    trees-whole c.args.g.now c.args.claim.now c.args.p.now c.args.body.now c.in-Trees.with_e c.as_set.result.now c.as_set-in-Trees.result.now c.args.last c.start-plan.result.first c.start-plan.result.second
+    (c.start-plan.ensures.first ∙ c.with_e_named.ensures) c.start-plan.ensures.second c.trees_move.result.point (standing_of c.args.claim.now.nodes c.trees_move.result.stand) whole c.requires.playing (c.trees_move.ensures.keeps c.args.claim.now)
 
 pub returns-in-Cuts-clause-keeps : goal.returns-in-Cuts-clause-keeps
 returns-in-Cuts-clause-keeps c =
-    cuts-whole c.args.g.now c.args.claim.now c.args.p.now c.args.body.now c.in-Cuts.with_e c.in-Cuts.first c.in-Cuts.second c.args.last c.start-plan-in-Cuts.result.first c.start-plan-in-Cuts.result.second
-    (c.start-plan-in-Cuts.ensures.first ∙ c.with_e_named-in-Cuts.ensures) c.start-plan-in-Cuts.ensures.second c.cuts_move.result.point (standing_of c.args.claim.now.nodes c.cuts_move.result.stand) c.in-Cuts.is c.requires.playing (c.cuts_move.ensures.keeps c.args.claim.now)
+    let whole : c.args.body.now ≡ Cuts c.in-Cuts.with_e c.as_set-in-Cuts.result.now c.as_set-in-Cuts-2.result.now = c.in-Cuts.is ∙ ap₂ (Cuts c.in-Cuts.with_e) (sym c.as_set-in-Cuts.ensures) (sym c.as_set-in-Cuts-2.ensures) in
+    cuts-whole c.args.g.now c.args.claim.now c.args.p.now c.args.body.now c.in-Cuts.with_e c.as_set-in-Cuts.result.now c.as_set-in-Cuts-2.result.now c.args.last c.start-plan-in-Cuts.result.first c.start-plan-in-Cuts.result.second
+    (c.start-plan-in-Cuts.ensures.first ∙ c.with_e_named-in-Cuts.ensures) c.start-plan-in-Cuts.ensures.second c.cuts_move.result.point (standing_of c.args.claim.now.nodes c.cuts_move.result.stand) whole c.requires.playing (c.cuts_move.ensures.keeps c.args.claim.now)

@@ -1,4 +1,4 @@
-use Rattle.std.proofs.Common.{◌≡◌, ◌∙◌, ◌∷◌, sym}
+use Rattle.std.proofs.Common.{◌∙◌, ◌∷◌, sym}
 use Rattle.pg_cert.specs.declared.part.Part.TheVariants as parts
 use Rattle.pg_check.proofs.CheckingSteps.{stands-next, stays, no-fault}
 use Rattle.pg_check.proofs.checking.Checking.node.Goals as goal

@@ -1,4 +1,4 @@
-use Rattle.std.proofs.Common.{◌≡◌, ◌∙◌, ◌+◌, ◌-◌, ◌*◌, ◌≤◌, ◌∷◌, ◌++◌, [], List, Some, None, length, sym, subst, ap, refl, arith}
+use Rattle.std.proofs.Common.{◌≡◌, ◌∙◌, ◌+◌, ◌-◌, ◌*◌, ◌∷◌, ◌++◌, [], Some, length, sym, subst, ap, refl, arith}
 use Rattle.pg_base.specs.Points.{AreBelow}
 use Rattle.pg_game.specs.declared.position.Position.{Position}
 use Rattle.pg_cert.specs.declared.node_fault.NodeFault.TheVariants as faults

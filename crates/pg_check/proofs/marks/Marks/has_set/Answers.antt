@@ -1,4 +1,4 @@
-use Rattle.std.proofs.Common.{◌≡◌, ◌∙◌, ◌+◌, ◌-◌, ◌*◌, ◌≤◌, ℕ, List, length, take, drop, sym, ap, arith}
+use Rattle.std.proofs.Common.{◌≡◌, ◌∙◌, ◌+◌, ◌-◌, ◌*◌, ℕ, List, length, take, drop, sym, ap, arith}
 use Rattle.pg_check.proofs.FlatMarks.{set-iff, eq-iff, row-within}
 use Rattle.pg_check.proofs.marks.Marks.has_set.Goals as goal
 

@@ -1,4 +1,3 @@
-use Rattle.pg_check.specs.Marks.{kept}
 use Rattle.pg_check.proofs.FlatMarks.{kept-none}
 use Rattle.pg_check.proofs.marks.Marks.new.Goals as goal
 

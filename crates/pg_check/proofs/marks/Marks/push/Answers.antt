@@ -1,6 +1,5 @@
-use Rattle.std.proofs.Common.{◌≡◌, ◌∙◌, ◌++◌, ◌<◌, ◌^◌, ℕ, List, length, take, get_or, append_assoc, sym, ap, subst, refl}
+use Rattle.std.proofs.Common.{take, sym, subst, refl}
 use Rattle.pg_base.specs.Words.{words_of}
-use Rattle.pg_check.specs.declared.marks.Turn.{Turn}
 use Rattle.pg_check.proofs.FlatMarks.{Fit, kept-more, flat-more, fit-append, fit-words, rows-of}
 use Rattle.pg_check.proofs.marks.Marks.push.Goals as goal
 
