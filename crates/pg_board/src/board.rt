@@ -319,12 +319,8 @@ impl<'a> Board<'a> {
     pub fn total(&self, side: Side) -> u128
         ensures { result ≡ total self.now.game self.now.stand.position side }
     {
-        totals::total(
-            &self.layout,
-            &self.trail,
-            side,
-            1 + u128::from(self.game.bias),
-        )
+        let base = 1 + u128::from(self.game.bias);
+        totals::total(&self.layout, &self.trail, side, base)
     }
 
     /// The sum of the weights of those lines through a point.
@@ -332,25 +328,16 @@ impl<'a> Board<'a> {
         requires { v < point_count self.now.game }
         ensures { result ≡ weight self.now.game self.now.stand.position side v }
     {
-        totals::weight(
-            &self.layout,
-            &self.trail,
-            side,
-            1 + u128::from(self.game.bias),
-            v,
-        )
+        let base = 1 + u128::from(self.game.bias);
+        totals::weight(&self.layout, &self.trail, side, base, v)
     }
 
     /// The greatest weight of a free point, and 0 where none is free.
     pub fn greatest_weight(&self, side: Side) -> u128
         ensures { result ≡ greatest_weight self.now.game self.now.stand.position side }
     {
-        totals::greatest_weight(
-            &self.layout,
-            &self.trail,
-            side,
-            1 + u128::from(self.game.bias),
-        )
+        let base = 1 + u128::from(self.game.bias);
+        totals::greatest_weight(&self.layout, &self.trail, side, base)
     }
 
     /// Avoider's total: the lines without a point of Y weigh 2 to the power of the greatest length of a line less their

@@ -22,7 +22,7 @@ use Rattle.pg_pns.specs.declared.table.Table.{Table}
 use Rattle.pg_cert.specs.declared.cert.Claim.{Claim}
 use Rattle.pg_pns.specs.Claims.{nodes_of}
 use Rattle.pg_game.specs.Decided.{claimer, claimed_goal, first_criterion}
-use Rattle.pg_pns.specs.Leaf.{criterion_of}
+use Rattle.pg_leaf.specs.Leaf.{criterion_of}
 use Rattle.pg_prune.specs.Pruned.{AreMarked, IsMarked, IsMoved, IsPruned, IsUsed, Renumbers}
 use Rattle.pg_pns.specs.Search.{Follows, IsSearch}
 use Rattle.pg_pns.specs.Found.{IsClaimOf}
@@ -30,10 +30,7 @@ use Rattle.pg_prune.proofs.KeptNodes.{names-earlier, renumbers-names}
 use Rattle.std.specs.Option.{is_none}
 use Rattle.std.proofs.Common.{add-one}
 use Rattle.pg_pns.proofs.Showing.{number_of}
-use Rattle.pg_prune.proofs.Stands.{one_at, from_take, in_take}
-
-same_some : {A : Type 0} {x y : A} → Some x ≡ Some y → x ≡ y
-same_some e = cc
+use Rattle.pg_base.proofs.Stands.{one_at, from_take, in_take, same_some}
 
 side-fewer : (nodes : Bool → List Node) (b : Bool) (n : ℕ) (total : ℕ) → length (nodes true) + length (nodes false) + n ≡ total → length (nodes b) ≤ total
 side-fewer nodes true n total e = omega arith

@@ -1,20 +1,14 @@
 -- The walk from the root comes to a place that can be expanded.
-use Rattle.std.proofs.Common.{◌≡◌, ℕ, zero, suc, ◌+◌, ◌<◌, ◌≤◌, Bool, not, Option, Some, None, IfSome, List, [], ◌∷◌, ◌++◌, take, length, get_or, refl, sym, ap, ◌∙◌, subst, inl, inr, arith, slice_get}
+use Rattle.std.proofs.Common.{◌≡◌, ℕ, zero, suc, ◌+◌, ◌<◌, ◌≤◌, Option, Some, None, List, [], ◌∷◌, ◌++◌, take, length, get_or, refl, sym, ap, ◌∙◌, subst, inl, inr, arith, slice_get}
 use Rattle.std.proofs.lemmas.List.{take_more}
 use Rattle.std.proofs.lemmas.List.Elements.{Contains-get_or}
 use Rattle.std.proofs.lemmas.Option.{slice_get_within, slice_get-get_or, get_or_from_slice_get, slice_get_read}
-use Rattle.std.proofs.lemmas.Bool.{cases_Bool}
-use Rattle.std.proofs.lemmas.List.FromFn.{length-range_with_len, get_or-range_with_len}
-use Rattle.std.specs.List.{All, Contains, find, range_with_len}
-use Rattle.pg_base.specs.declared.side.Side.{Side}
+use Rattle.std.specs.List.{All, Contains}
 use Rattle.pg_base.specs.declared.score.Score.{Score}
 use Rattle.pg_game.specs.declared.game.Game.{Game}
 use Rattle.pg_game.specs.declared.position.Position.{Position}
-use Rattle.pg_game.specs.Position.{points_of}
-use Rattle.pg_game.specs.Game.{lines_of, is_touched, free_points, start, after}
-use Rattle.pg_game.proofs.Members.{Contains-tail}
-use Rattle.pg_board.specs.Board.{Stand, View, line_at, live_lines}
-use Rattle.pg_match.proofs.PrivateLaws.{filter_member}
+use Rattle.pg_game.specs.Game.{free_points, start, after}
+use Rattle.pg_board.specs.Board.{Stand, View}
 use Rattle.pg_game.proofs.FreePoints.{length-free_points-after}
 use Rattle.pg_pns.specs.declared.known.Answered.{Answered}
 use Rattle.pg_pns.specs.declared.table.Table.{Table}
@@ -26,10 +20,7 @@ use Rattle.pg_pns.specs.Search.IsNext.{at_root, below}
 use Rattle.pg_pns.proofs.Closing.{open-move}
 use Rattle.pg_pns.proofs.SettleLaws.{Contains-map, option_cases}
 use Rattle.pg_game.proofs.SettledLaws.{in_free_points}
-use Rattle.pg_prune.proofs.Stands.{some≢none, contains_push}
-
-same_some : {A : Type 0} {x y : A} → Some x ≡ Some y → x ≡ y
-same_some e = cc
+use Rattle.pg_base.proofs.Stands.{some≢none, contains_push}
 
 -- ---- moves without an answer
 
@@ -81,16 +72,13 @@ module _ (g : Game) (t : Score) (list : List Position) (s : Table) (is : IsSearc
       let got : get_or s.moves.items k [] ≡ ms = get_or_from_slice_get s.moves.items k ms [] at in
       subst (λ (os : List (Option Answered)). All (λ m. m.1 < length os) ms) (sym known) (subst (λ (xs : List (ℕ × ℕ)). All (λ m. m.1 < length s.answers.items) xs) got (moves-within k lt))
 
-  some_in : (ms : List (ℕ × ℕ)) (m : ℕ × ℕ) → Contains ms m → 0 < length ms
-  some_in ms m c = omega (arith, c.1)
-
   pub way-down : (k : ℕ) (p : Position) (m : ℕ × ℕ) → slice_get s.positions.items k ≡ Some p → IsOnWay s k → IsOpenMove (get_or s.moves.items k []) s.answers.items m → IsStep g s k p m
   way-down k p m pos on opened =
       let ms = get_or s.moves.items k [] in
       let mov = moves-at k (way-range k on) in
       let up = is.tree.shape.kept k ms mov m opened.member in
       let to = is.tree.shape.leads k p ms pos mov m opened.member in
-      let points = is.tree.shape.points k p ms pos mov (some_in ms m opened.member) in
+      let points = is.tree.shape.points k p ms pos mov (omega (arith, opened.member.1)) in
       let inside = in_free_points g p m.0 (subst (λ vs. Contains vs m.0) points (Contains-map (λ (r : ℕ × ℕ). r.0) ms m opened.member)) in
       let fewer = length-free_points-after g p m.0 inside.0 inside.1 in
       let here : free_at g s k ≡ length (free_points g p) = ap (λ (q : Position). length (free_points g q)) (get_or_from_slice_get s.positions.items k p (start g) pos) in
@@ -163,26 +151,3 @@ back-at-start g old down up at same first games stands none = record {
   position = ap (λ (t : Stand). t.position) (stands ∙ first) ∙ at.position;
   earlier = none;
 }
-
--- ---- the walk over live lines
-
-pub find-listed : (t : ℕ → Bool) (xs : List ℕ) (x : ℕ) → find t xs ≡ Some x → Contains xs x
-find-listed t [] x found = absurd (some≢none (sym found))
-find-listed t (y ∷ ys) x found = elim (cases_Bool (t y)) [
-  | inl on ↦ let same : Some y ≡ Some x = sym (rw on refl) ∙ found in (0, omega arith, same_some same)
-  | inr off ↦ Contains-tail y x ys (find-listed t ys x (sym (rw off refl) ∙ found))
-]
-
-pub next-listed : (t : ℕ → Bool) (xs : List ℕ) (o : Option ℕ) → o ≡ find t xs → IfSome o (Contains xs)
-next-listed t xs None e = tt
-next-listed t xs (Some x) e = find-listed t xs x (sym e)
-
-pub live-within : (g : Game) (p : Position) (side : Side) (i : ℕ) → Contains (live_lines g p side) i → i < length (lines_of g)
-unfolding live_lines
-live-within g p side i c =
-    let n = length (lines_of g) in
-    let listed = (filter_member (λ j. not (is_touched (points_of p side) (line_at g j))) (range_with_len 0 n) i c).0 in
-    let count = length-range_with_len 0 n in
-    let within : listed.0 < n = omega (arith, listed.1, count) in
-    let is : get_or (range_with_len 0 n) listed.0 i ≡ 0 + listed.0 = get_or-range_with_len 0 n listed.0 i within in
-    omega (arith, within, is, listed.2)

@@ -1,8 +1,6 @@
 pub mod ByMoves
 pub mod SettleLaws
 pub mod KnownLemmas
-pub mod FirstCriterion
-pub mod ShortCounts
 pub mod ValidNodes
 pub mod Showing
 pub mod Spreading

@@ -1,5 +1,5 @@
 -- What is closed under the rules of settling has all that is settled, and a longer list settles more.
-use Rattle.std.proofs.Common.{◌≡◌, ℕ, zero, suc, get_or, ◌-◌, ◌<◌, ◌≤◌, Bool, true, Option, Some, None, List, [], ◌∷◌, map, length, refl, sym, ap, ◌∙◌, subst, inl, inr, ◌⊎◌, arith}
+use Rattle.std.proofs.Common.{◌≡◌, ℕ, zero, suc, get_or, ◌<◌, ◌≤◌, Bool, true, Option, Some, None, List, [], ◌∷◌, map, length, refl, sym, ap, ◌∙◌, subst, inl, inr, ◌⊎◌, arith}
 use Rattle.std.proofs.lemmas.Bool.{cases_Bool}
 use Rattle.std.specs.List.{Contains}
 use Rattle.pg_game.specs.declared.position.Position.{Position}
@@ -13,7 +13,7 @@ use Rattle.pg_game.specs.Decided.{decided}
 use Rattle.pg_game.specs.Settled.{by_moves, is_listed, settled}
 use Rattle.pg_game.proofs.SettledLaws.{undecided-going, in_free_points, settle-decided, settle-listed, settle-unlisted}
 use Rattle.pg_pns.proofs.ByMoves.{by_moves-more}
-use Rattle.pg_prune.proofs.Stands.{some≢none}
+use Rattle.pg_base.proofs.Stands.{some≢none}
 
 -- ---- answers that are closed under the rules have all that is settled
 

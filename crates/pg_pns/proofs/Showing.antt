@@ -20,9 +20,9 @@ use Rattle.pg_cert.specs.declared.reply.Reply.{Reply}
 use Rattle.pg_text.specs.Text.{ascend_from}
 use Rattle.pg_cert.specs.Valid.{IsNodeOf}
 use Rattle.pg_game.proofs.Limits.{point_count-le}
-use Rattle.pg_pns.specs.Leaf.{criterion_of, first_criterion}
+use Rattle.pg_leaf.specs.Leaf.{criterion_of, first_criterion}
 use Rattle.pg_prune.proofs.Nodes.{nodes-push}
-use Rattle.pg_pns.proofs.FirstCriterion.{undecided-criterion, body-criterion}
+use Rattle.pg_leaf.proofs.FirstCriterion.{undecided-criterion}
 use Rattle.pg_game.specs.declared.game.Game.{Game}
 use Rattle.pg_base.specs.declared.goal.Goal.{Goal}
 use Rattle.pg_base.specs.declared.score.Score.{Score}
@@ -39,7 +39,7 @@ use Rattle.pg_pns.specs.Settles.{IsSettledAt, IsLeftOpen}
 use Rattle.pg_pns.specs.Table.{HasShape, AreShown}
 use Rattle.pg_pns.proofs.SettleLaws.{Contains-map}
 use Rattle.pg_game.proofs.SettledLaws.{undecided-going, in_free_points}
-use Rattle.pg_prune.proofs.Stands.{at_push, at_old, at_new, at_contains, at_set_other, at_set_same, map-same_at}
+use Rattle.pg_base.proofs.Stands.{at_push, at_old, at_new, at_contains, at_set_other, at_set_same, map-same_at, same_some}
 
 -- ---- the body that an answer by moves gives holds
 
@@ -54,6 +54,17 @@ turn-other true X h = absurd (false≢true (sym h))
 turn-other true Y h = refl
 turn-other false X h = refl
 turn-other false Y h = absurd (false≢true h)
+
+-- a body by moves is by no criterion
+body-criterion : (turn : Side) (moves : List (ℕ × ℕ)) (answers : List (Option Answered)) (b : Bool) (body : Body) → IsBodyBy turn moves answers b body → criterion_of body ≡ None
+body-criterion turn moves answers b Over h = absurd h
+body-criterion turn moves answers b (Move point child) h = refl
+body-criterion turn moves answers b (All replies) h = refl
+body-criterion turn moves answers b (Pairs pairs) h = absurd h
+body-criterion turn moves answers b Potential h = absurd h
+body-criterion turn moves answers b (Trees e first second) h = absurd h
+body-criterion turn moves answers b (Cuts e first second) h = absurd h
+body-criterion turn moves answers b (Threat points) h = absurd h
 
 free-point_of : (g : Game) (p : Position) (ms : List (ℕ × ℕ)) (m : ℕ × ℕ) → map (λ r. r.0) ms ≡ free_points g p → Contains ms m → (m.0 < point_count g) × (is_free p m.0 ≡ true)
 free-point_of g p ms m points c = in_free_points g p m.0 (subst (λ vs. Contains vs m.0) points (Contains-map (λ (r : ℕ × ℕ). r.0) ms m c))
@@ -163,9 +174,6 @@ number_of None = 0
 number_of (Some None) = 0
 number_of (Some (Some x)) = x.node
 
-inside : {b c : Bool} → Some b ≡ Some c → b ≡ c
-inside e = cc
-
 filled≢open : {y : Answered} → ◌≡◌ {A = Option (Option Answered)} (Some None) (Some (Some y)) → ⊥
 filled≢open e = let f : Option (Option Answered) → Bool = is_open in absurd (false≢true (sym (ap f e)))
   where
@@ -242,7 +250,7 @@ shown-set g t positions moves parents before behind old new place p ms shape sho
     shows i b n is = elim (cases_eq i place) [
       | inl e ↦
           let both : ◌≡◌ {A = Option (Option Answered)} (Some (Some x)) (Some (Some (record { answer = b; node = n }))) = sym there ∙ ap (slice_get (slice_set before place (Some x))) (sym e) ∙ is in
-          let same_answer : a ≡ b = inside (ap answer_of both) in
+          let same_answer : a ≡ b = same_some (ap answer_of both) in
           let same_number : length (nodes_of old a) ≡ n = ap number_of both in (
             s.node,
             subst (λ (c : Bool). slice_get (nodes_of new c) n ≡ Some s.node) same_answer (subst (λ (k : ℕ). slice_get (nodes_of new a) k ≡ Some s.node) same_number (ap (λ ns. slice_get ns (length (nodes_of old a))) s.added ∙ at_new (nodes_of old a) s.node)),

@@ -50,11 +50,6 @@ pub record IsStep (g : Game) (s : Table) (k : ℕ) (p : Position) (m : ℕ × �
 
 -- ---- the board
 
--- the board stands at the position of the game
-pub record IsAt (g : Game) (p : Position) (b : View) : Type 0 where
-  pub game : b.game ≡ g
-  pub position : b.stand.position ≡ p
-
 -- the board stands at the game's position, and no play stands
 pub record IsAtStart (g : Game) (b : View) : Type 0 where
   pub game : b.game ≡ g

@@ -8,7 +8,7 @@ use Rattle.pg_base.specs.declared.score.Score.{Score}
 use Rattle.pg_game.specs.Game.{start, free_points}
 use Rattle.pg_cert.specs.Limits.{IsClaim}
 use Rattle.pg_cert.specs.Valid.{IsValidClaim}
-use Rattle.pg_pns.specs.Leaf.{criterion_of, first_criterion}
+use Rattle.pg_leaf.specs.Leaf.{criterion_of, first_criterion}
 use Rattle.pg_cert.specs.Node.{position_of}
 use Rattle.pg_cert.specs.declared.cert.Claim.{Claim}
 use Rattle.pg_pns.specs.declared.work.Found.{Found}

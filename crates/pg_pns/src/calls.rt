@@ -68,7 +68,8 @@ pub fn search(
     search_with(alloc, g, question, budget, work, &mut cache)
 }
 
-/// The same with a cache of pairs for the game's lines, which is asked each time that pairs are needed.
+/// The same with a cache of answers on private pairs for the game's lines. It is asked where no earlier criterion decides
+/// a position and two counts leave it open whether there are such pairs; no clause says how often.
 ///
 /// # Errors
 ///

@@ -3,7 +3,6 @@
 
 mod calls;
 mod claims;
-mod criteria;
 mod descent;
 mod expansion;
 mod guide;
@@ -11,7 +10,6 @@ mod known;
 pub mod laws;
 mod lists;
 mod numbers;
-mod order;
 mod settle;
 mod table;
 mod work;

@@ -7,7 +7,7 @@ ghost use Rattle.pg_prune.specs.Pruned.{AreMarked, AreRenumbered, IsKept, IsPrun
 
 use crate::marks::{mark_needed, unmarked};
 use pg_base::{Memory, Pairs, Points};
-use pg_cert::{Body, Node, Replies, Reply};
+use pg_cert::{Body, EdgeSet, Node, Replies, Reply};
 use std::alloc::Global;
 
 /// The replies with new numbers.
@@ -49,8 +49,8 @@ fn renumbered(alloc: Global, body: &Body, numbers: &[u32]) -> Result<Body, Memor
             second,
         } => Body::Trees {
             with_e: *with_e,
-            first: *first,
-            second: *second,
+            first: EdgeSet::new(alloc, *first.as_set())?,
+            second: EdgeSet::new(alloc, *second.as_set())?,
         },
         Body::Cuts {
             with_e,
@@ -58,8 +58,8 @@ fn renumbered(alloc: Global, body: &Body, numbers: &[u32]) -> Result<Body, Memor
             second,
         } => Body::Cuts {
             with_e: *with_e,
-            first: *first,
-            second: *second,
+            first: EdgeSet::new(alloc, *first.as_set())?,
+            second: EdgeSet::new(alloc, *second.as_set())?,
         },
         Body::Threat(points) => Body::Threat(Points::from_vec(points.as_slice().to_vec(alloc)?)),
     })

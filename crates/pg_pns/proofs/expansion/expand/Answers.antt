@@ -8,12 +8,12 @@ use Rattle.pg_game.specs.declared.game.Game.{Game}
 use Rattle.pg_base.specs.declared.score.Score.{Score}
 use Rattle.pg_game.specs.Game.{point_count}
 use Rattle.pg_board.specs.Board.{View}
-use Rattle.pg_pns.specs.Descent.{IsAt}
+use Rattle.pg_leaf.specs.At.{IsAt}
 use Rattle.pg_pns.specs.declared.table.Table.{Table}
 use Rattle.pg_pns.specs.Search.{CanGrow, IsGrowing, IsSearch}
 use Rattle.pg_pns.proofs.Moving.{growing-start, growing-taken}
 use Rattle.pg_pns.proofs.Expanding.{grown-search}
-use Rattle.pg_prune.proofs.Stands.{one_at}
+use Rattle.pg_base.proofs.Stands.{one_at}
 use Rattle.pg_pns.proofs.expansion.expand.Goals as goal
 
 read-same : (g : Game) (t : Score) (list ps : List Position) (s : Table) (k : ℕ) (p r : Position) → CanGrow g t list s k p → ps ≡ s.positions.items → r ≡ get_or ps k r → p ≡ r

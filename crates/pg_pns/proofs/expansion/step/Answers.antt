@@ -13,7 +13,7 @@ use Rattle.pg_board.specs.Board.{View}
 use Rattle.pg_game.specs.Game.{start}
 use Rattle.pg_pns.specs.Descent.{first_stand}
 use Rattle.pg_pns.proofs.Descending.{back-at-start}
-use Rattle.pg_prune.proofs.Stands.{one_at, contains_at, at_old, at_new}
+use Rattle.pg_base.proofs.Stands.{one_at, contains_at, at_old, at_new}
 use Rattle.pg_pns.proofs.expansion.step.Goals as goal
 
 -- the place that was chosen, with the position read there

@@ -3,8 +3,8 @@ use Rattle.pg_base.specs.declared.side.Side.{Side}
 use Rattle.pg_game.specs.declared.game.Game.{Game}
 use Rattle.pg_threat.specs.Forced.{IsAnswer}
 use Rattle.pg_threat.proofs.Deciding.{attack_wins-found, attack_wins-not, attack_wins-biased}
-use Rattle.pg_pns.proofs.FirstCriterion.{attack-line}
-use Rattle.pg_pns.proofs.criteria.attack.Goals as goal
+use Rattle.pg_leaf.proofs.FirstCriterion.{attack-line}
+use Rattle.pg_leaf.proofs.criteria.attack.Goals as goal
 
 pub returns-then-not-may_attack-clause-found : goal.returns-then-not-may_attack-clause-found
 returns-then-not-may_attack-clause-found c =

@@ -22,11 +22,9 @@ use Rattle.pg_game.proofs.Limits.{point_count-le}
 use Rattle.pg_game.proofs.ThreatLaws.{near-from, near-range}
 use Rattle.pg_cert.specs.Limits.{IsPair}
 use Rattle.pg_cert.specs.Valid.{shows_defence, pairs_fit, PotentialFits}
-use Rattle.pg_cert.specs.declared.node.Body.{Body}
-use Rattle.pg_cert.specs.declared.node.Body.TheVariants.{Over, Move, All as AllReplies, Pairs, Potential, Trees, Cuts, Threat}
-use Rattle.pg_pns.specs.declared.known.Answered.{Answered}
-use Rattle.pg_pns.specs.Known.{IsBodyBy}
-use Rattle.pg_pns.specs.Leaf.{criterion_of, IsLeaf, IsAttackLine}
+use Rattle.pg_cert.specs.declared.node.Body.TheVariants.{Over, Pairs, Potential, Threat}
+use Rattle.pg_base.proofs.Stands.{some≢none, same_some}
+use Rattle.pg_leaf.specs.Leaf.{IsLeaf, IsAttackLine}
 use Rattle.pg_game.specs.Decided.Criterion.{ByEnd, ByPotential, ByThreat, ByPairs}
 
 -- ---- the order of the criteria, as tests
@@ -38,15 +36,12 @@ chosen a b c d = if a then Some ByEnd else (if b then Some ByPotential else (if 
 nested : Bool → Bool → Bool → Bool → (Criterion → Bool) → Option Bool
 nested a b c d answer = option_map answer (chosen a b c d)
 
-no≢some : {A : Type 0} {x : A} → ◌≡◌ {A = Option A} (Some x) None → ⊥
-no≢some e = cc
-
 none-chosen : (a b c d : Bool) (answer : Criterion → Bool) → nested a b c d answer ≡ None → chosen a b c d ≡ None
 unfolding nested chosen
-none-chosen true b c d answer h = absurd (no≢some h)
-none-chosen false true c d answer h = absurd (no≢some h)
-none-chosen false false true d answer h = absurd (no≢some h)
-none-chosen false false false true answer h = absurd (no≢some h)
+none-chosen true b c d answer h = absurd (some≢none h)
+none-chosen false true c d answer h = absurd (some≢none h)
+none-chosen false false true d answer h = absurd (some≢none h)
+none-chosen false false false true answer h = absurd (some≢none h)
 none-chosen false false false false answer h = refl
 
 by-first : (a b c d : Bool) (answer : Criterion → Bool) → a ≡ true → (nested a b c d answer ≡ Some (answer ByEnd)) × (chosen a b c d ≡ Some ByEnd)
@@ -105,17 +100,6 @@ module _ (g : Game) (t : Score) (p : Position) where
   pub by-none : is_over g p ≡ false → defends g.kind g t p ≡ false → attack_wins g p ≡ false → pairs_exist g p (defender g.kind t) ≡ false → decided g t p ≡ None
   by-none going weak slow h = let rest = by-rest going weak slow in rest.0 ∙ cond-false _ _ _ h
 
--- a body by moves is by no criterion
-pub body-criterion : (turn : Side) (moves : List (ℕ × ℕ)) (answers : List (Option Answered)) (b : Bool) (body : Body) → IsBodyBy turn moves answers b body → criterion_of body ≡ None
-body-criterion turn moves answers b Over h = absurd h
-body-criterion turn moves answers b (Move point child) h = refl
-body-criterion turn moves answers b (AllReplies replies) h = refl
-body-criterion turn moves answers b (Pairs pairs) h = absurd h
-body-criterion turn moves answers b Potential h = absurd h
-body-criterion turn moves answers b (Trees e first second) h = absurd h
-body-criterion turn moves answers b (Cuts e first second) h = absurd h
-body-criterion turn moves answers b (Threat points) h = absurd h
-
 -- ---- what a board says of the game and the position at which it stands
 
 pub same-at : {X : Type 0} (f : Game → Position → X) {g h : Game} {p q : Position} → h ≡ g → q ≡ p → f h q ≡ f g p
@@ -149,16 +133,13 @@ claim-reached Switching YWins x y j ask = absurd ask
 
 over-parts : (g : Game) (t : Score) (p : Position) (r : Option Bool) (b : Bool) → r ≡ by_end g t p → r ≡ Some b → (is_over g p ≡ true) × (b ≡ at_least t (outcome g p))
 over-parts g t p r b is at = elim (cases_Bool (is_over g p)) [
-  | inl on ↦ (on, inside (sym at ∙ is ∙ cond-true _ _ _ on))
-  | inr off ↦ absurd (no≢some (sym at ∙ is ∙ cond-false _ _ _ off))
+  | inl on ↦ (on, same_some (sym at ∙ is ∙ cond-true _ _ _ on))
+  | inr off ↦ absurd (some≢none (sym at ∙ is ∙ cond-false _ _ _ off))
 ]
-  where
-    inside : {a b : Bool} → Some a ≡ Some b → a ≡ b
-    inside e = cc
 
 pub not-over : (g : Game) (t : Score) (p : Position) (r : Option Bool) → r ≡ by_end g t p → r ≡ None → is_over g p ≡ false
 not-over g t p r is at = elim (cases_Bool (is_over g p)) [
-  | inl on ↦ absurd (no≢some (sym (cond-true _ _ _ on) ∙ sym is ∙ at))
+  | inl on ↦ absurd (some≢none (sym (cond-true _ _ _ on) ∙ sym is ∙ at))
   | inr off ↦ off
 ]
 

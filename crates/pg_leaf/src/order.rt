@@ -1,8 +1,9 @@
 //! The order in which a position's moves are gone through.
-ghost use Rattle.std.specs.Prelude.{◌≡◌, ◌<◌, IfSome, length};
+ghost use Rattle.std.specs.Prelude.{◌≡◌, ◌<◌, ℕ, IfOk, IfSome, OnOk, Some, length, slice_get};
 ghost use Rattle.std.specs.List.{Contains};
 ghost use Rattle.pg_game.specs.Game.{lines_of};
 ghost use Rattle.pg_board.specs.Board.{live_lines};
+ghost use Rattle.pg_leaf.specs.Order.{IsOrder, IsPlaceOf, IsTaking, Takes};
 
 use pg_base::{Kind, Memory, Side};
 use pg_board::Board;
@@ -27,7 +28,9 @@ fn barring(kind: Kind, turn: Side) -> Side {
 
 impl Order {
     /// No move taken.
-    fn new(alloc: Global, moves: &[(u16, u32)]) -> Result<Order, Memory> {
+    fn new(alloc: Global, moves: &[(u16, u32)]) -> Result<Order, Memory>
+        ensures { IfOk result (λ order. IsTaking moves.now order.members.items order.left) }
+    {
         let mut left = [u16::MAX; 256];
         let mut k: u16 = 0;
         for m in moves {
@@ -42,7 +45,10 @@ impl Order {
     }
 
     /// Takes the move to the point, where it is still to come.
-    fn take(&mut self, v: u16) -> Result<(), Memory> {
+    fn take(&mut self, v: u16) -> Result<(), Memory>
+        ensures takes { OnOk result (Takes self.old self.new) }
+        ensures gone { OnOk result (v < 256 → slice_get self.new.left v ≡ Some 65535) }
+    {
         let i = v as usize;
         if i >= 256 {
             return Ok(());
@@ -59,6 +65,7 @@ impl Order {
     /// Takes the moves to the points of a line.
     fn take_line(&mut self, b: &Board<'_>, line: u32) -> Result<(), Memory>
         requires { line < length (lines_of b.now.game) }
+        ensures { OnOk result (Takes self.old self.new) }
     {
         for i in 0..b.line_len(line) {
             self.take(b.line_point(line, i))?;
@@ -67,7 +74,9 @@ impl Order {
     }
 
     /// Takes the moves to the points of lines without a point of the side, until so many are taken.
-    fn take_lines(&mut self, b: &Board<'_>, side: Side, enough: usize) -> Result<(), Memory> {
+    fn take_lines(&mut self, b: &Board<'_>, side: Side, enough: usize) -> Result<(), Memory>
+        ensures { OnOk result (Takes self.old self.new) }
+    {
         let mut next = b.first_live(side);
         for _v in 0..b.lines() {
             let Some(line) = next else {
@@ -83,7 +92,10 @@ impl Order {
     }
 
     /// Takes the moves that are left.
-    fn take_rest(&mut self, moves: &[(u16, u32)]) -> Result<(), Memory> {
+    fn take_rest(&mut self, moves: &[(u16, u32)]) -> Result<(), Memory>
+        ensures takes { OnOk result (Takes self.old self.new) }
+        ensures gone { OnOk result ((k : ℕ) → (v : ℕ) → k < length moves.now → IsPlaceOf moves.now k v → v < 256 → slice_get self.new.left v ≡ Some 65535) }
+    {
         for m in moves {
             self.take(m.0)?;
         }
@@ -91,14 +103,20 @@ impl Order {
     }
 }
 
-/// The order of the moves at the board's position: those to points of live lines first, line by line and each where its
-/// point is first met, and then the others, ascending. A line is live where it has no point of Y, and in Maker-Maker where
-/// it has none of the side that isn't to move.
-pub(crate) fn order_of(
-    alloc: Global,
-    b: &Board<'_>,
-    moves: &[(u16, u32)],
-) -> Result<Vec<u16>, Memory> {
+/// The order in which to go through the moves at the board's position, as places in the list of moves, each of which is a
+/// point with anything beside it: those to points of live lines first, line by line and each where its point is first met,
+/// and then the others, ascending. A line is live where it has no point of Y, and in Maker-Maker where it has none of the
+/// side that isn't to move.
+///
+/// The places are different, and each point below 256 to which a move goes has one, if there are at most 65,535 moves. So all
+/// moves are in it, where their points are different and below 256. That points of live lines come first, no clause tells.
+///
+/// # Errors
+///
+/// `Memory` where no memory is found.
+pub fn order_of(alloc: Global, b: &Board<'_>, moves: &[(u16, u32)]) -> Result<Vec<u16>, Memory>
+    ensures { IfOk result (λ order. IsOrder moves.now order.items) }
+{
     let mut order = Order::new(alloc, moves)?;
     order.take_lines(b, barring(b.kind(), b.turn()), moves.len())?;
     order.take_rest(moves)?;

@@ -1,34 +1,20 @@
 //! The criteria that decide a position without search.
 ghost use Rattle.std.specs.Prelude.{◌≡◌, ◌≢◌, ◌<◌, ◌≤◌, length, slice_get, Some, IfOk, IfSome, OnOk, true, false, option_map, List, ℕ, is_some, None, if◌then◌else◌};
-ghost use Rattle.pg_game.specs.Threat.{may_attack};
 ghost use Rattle.pg_base.specs.declared.kind.Kind.TheVariants.{Switching};
 ghost use Rattle.pg_game.specs.Game.{lines_of, is_over, IsPosition};
-ghost use Rattle.pg_game.specs.Decided.{decided, defender, answer_for, attack_wins, pairs_exist, IsQuestion};
-ghost use Rattle.pg_game.specs.Pairs.{breaker_of};
-ghost use Rattle.pg_pns.specs.Descent.{IsAt};
+ghost use Rattle.pg_game.specs.Decided.{decided, answer_for, attack_wins, pairs_exist, IsQuestion};
+ghost use Rattle.pg_leaf.specs.At.{IsAt};
 ghost use Rattle.pg_match.specs.Cache.{Fits};
 ghost use Rattle.pg_threat.specs.Search.{points_of_line};
-ghost use Rattle.pg_pns.specs.Leaf.{IsLeaf, IsAttackLine};
+ghost use Rattle.pg_leaf.specs.Leaf.{IsLeaf, IsAttackLine};
 
-use pg_base::{Kind, Memory, Pairs, Points, Score, Side};
+use pg_base::{Memory, Pairs, Points, Score, Side};
 use pg_board::Board;
 use pg_cert::Body;
-use pg_game::{Game, Position};
+use pg_game::{Game, Position, breaker_of, defender, may_attack};
 use pg_match::{PairCache, pairs_leaf};
 use pg_threat::{ThreatLine, forced};
 use std::alloc::Global;
-
-/// The side whose potential and private pairs speak to the question.
-fn defender(kind: Kind, question: Score) -> Side
-    ensures { result ≡ defender kind question }
-{
-    match (kind, question) {
-        (Kind::AvoiderEnforcer, _) => Side::X,
-        (Kind::MakerMaker, Score::XWins) => Side::Y,
-        (Kind::MakerMaker, _) => Side::X,
-        _ => Side::Y,
-    }
-}
 
 /// The answer that a side's criterion gives: yes for X.
 fn answer_for(side: Side) -> bool
@@ -37,17 +23,6 @@ fn answer_for(side: Side) -> bool
     match side {
         Side::X => true,
         Side::Y => false,
-    }
-}
-
-/// Whether the side wins by filling a line.
-fn may_attack(kind: Kind, side: Side) -> bool
-    ensures { result ≡ may_attack kind side }
-{
-    match (kind, side) {
-        (Kind::MakerBreaker, Side::X) => true,
-        (Kind::MakerMaker, _) => true,
-        _ => false,
     }
 }
 
@@ -80,16 +55,6 @@ fn attack(alloc: Global, b: &mut Board<'_>) -> Result<Option<Vec<u16>>, Memory>
     }
 }
 
-/// The side whose points make a line harmless to the claimer.
-fn breaker_of(kind: Kind, side: Side) -> Side
-    ensures { result ≡ breaker_of kind side }
-{
-    match kind {
-        Kind::AvoiderEnforcer => Side::Y,
-        Kind::MakerBreaker | Kind::MakerMaker | Kind::Switching => side,
-    }
-}
-
 /// Whether the board's counts show that not each of the lines meant can have two free points of its own: there are too many
 /// lines for the free points, or one line has fewer than two.
 fn is_short(b: &Board<'_>, side: Side) -> bool
@@ -105,9 +70,30 @@ fn is_short(b: &Board<'_>, side: Side) -> bool
     b.live_with(breaker, 1) > 0
 }
 
-/// The answer of the first criterion that decides the position, with the body that shows it. The board stands at the
-/// position, and does so afterwards.
-pub(crate) fn leaf(
+/// Whether X reaches the score from the position, and the leaf that shows it, by the first criterion that applies; None
+/// where none does. No move is looked at but those of threat lines.
+///
+/// 1. The game is over: the answer is its outcome's (`Over`).
+/// 2. A potential holds for the side that defends, `defender` of `pg_game`: Erdős and Selfridge's (1973) or, with bias, Beck's
+///    (1982); in Avoider-Enforcer that of Hefetz, Krivelevich, Stojaković and Szabó (2014). The answer is yes exactly where
+///    the defender is X (`Potential`).
+/// 3. The side to move has a threat line (Allis, van den Herik and Huntjens, 1993) of three replies at most. The answer is yes
+///    exactly where that side is X, and the leaf has the points of such a line, one of fewest replies (`Threat`).
+/// 4. Private pairs exist for the defender, two free points for each line meant (Hales and Jewett, 1963). The answer is yes
+///    exactly where the defender is X, and in Avoider-Enforcer the other free points are paired too (`Pairs`).
+///
+/// The board stands at the position, and does so afterwards: threat lines are played on it and taken back. Its counts tell
+/// the first two criteria, where no threat line can be, and where pairs can't; only then the cache is asked. It fits the
+/// lines afterwards, want of memory included.
+///
+/// What comes with an answer (`IsLeaf`) shows it at this position in any claim of the side that the answer is for, wherever
+/// the node stands, since it names no other; and it is by the first criterion that applies. Which line and which pairs it
+/// has, where several would do, and that the cache was asked, no clause tells.
+///
+/// # Errors
+///
+/// `Memory` where no memory is found, for a threat line's points or for pairs.
+pub fn leaf(
     alloc: Global,
     g: &Game,
     question: Score,

@@ -2,9 +2,9 @@ use Rattle.std.proofs.Common.{◌≡◌, false, ◌∙◌, Some, is_some, sym, a
 use Rattle.pg_game.specs.Decided.{by_end, defends, attack_wins, answer_for, pairs_exist}
 use Rattle.pg_board.specs.Board.{View}
 use Rattle.pg_cert.specs.declared.node.Body.TheVariants.{Potential}
-use Rattle.pg_pns.specs.Leaf.{IsLeaf}
-use Rattle.pg_pns.proofs.FirstCriterion.{same-at, line-at, end-decides, end-leaf, not-over, by-potential, by-threat, by-pairs, by-none, potential-leaf, threat-leaf, pairs-leaf}
-use Rattle.pg_pns.proofs.criteria.leaf.Goals as goal
+use Rattle.pg_leaf.specs.Leaf.{IsLeaf}
+use Rattle.pg_leaf.proofs.FirstCriterion.{same-at, line-at, end-decides, end-leaf, not-over, by-potential, by-threat, by-pairs, by-none, potential-leaf, threat-leaf, pairs-leaf}
+use Rattle.pg_leaf.proofs.criteria.leaf.Goals as goal
 
 pub returns-in-Some-clause-decided : goal.returns-in-Some-clause-decided
 returns-in-Some-clause-decided c =

@@ -7,8 +7,8 @@ use Rattle.pg_game.specs.Game.{free_points}
 use Rattle.pg_game.specs.Pairs.{breaker_of}
 use Rattle.pg_game.specs.Decided.{pairs_exist}
 use Rattle.pg_board.specs.Board.{live_lines, live_with}
-use Rattle.pg_pns.proofs.ShortCounts.{few-lines, none-short}
-use Rattle.pg_pns.proofs.criteria.is_short.Goals as goal
+use Rattle.pg_leaf.proofs.ShortCounts.{few-lines, none-short}
+use Rattle.pg_leaf.proofs.criteria.is_short.Goals as goal
 
 many : (g : Game) (p : Position) (side breaker : Side) (count free : ℕ) → breaker ≡ breaker_of g.kind side → count ≡ length (live_lines g p breaker) → free ≡ length (free_points g p) → free / 2 < count → pairs_exist g p side ≡ false
 many g p side breaker count free is counted points more = false_from_ne_true (pairs_exist g p side) (λ exist.

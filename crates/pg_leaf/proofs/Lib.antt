@@ -1,0 +1,4 @@
+pub mod FirstCriterion
+pub mod ShortCounts
+mod LiveWalk
+mod Taking

@@ -1,7 +1,0 @@
-use Rattle.std.proofs.Common.{IfSome}
-use Rattle.std.specs.List.{Contains}
-use Rattle.pg_board.specs.Board.{live_lines}
-use Rattle.pg_pns.proofs.order.Order.take_lines.Given as goal
-
-abbrev pub invariant-loop-v : goal.invariant-loop-v
-invariant-loop-v l = IfSome l.next (Contains (live_lines l.b.game l.b.stand.position l.side))
