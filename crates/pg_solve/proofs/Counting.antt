@@ -5,7 +5,7 @@ use Rattle.pg_base.specs.declared.score.Score.{Score}
 use Rattle.pg_game.specs.Settled.{IsOpenTable}
 use Rattle.pg_game.specs.declared.game.Game.{Game}
 use Rattle.pg_game.specs.declared.position.Position.{Position}
-use Rattle.pg_prune.proofs.Stands.{contains_at, one_at}
+use Rattle.pg_base.proofs.Stands.{contains_at, one_at}
 use Rattle.pg_pns.proofs.TableLaws.{table-reached}
 use Rattle.pg_solve.specs.Reached.{AreReachable, HasAllReachable}
 

@@ -1,5 +1,5 @@
 -- What is found by questions and by classes, as the clauses of solving say it.
-use Rattle.std.proofs.Common.{◌≡◌, ◌∙◌, ℕ, zero, suc, ◌<◌, ◌≤◌, Bool, true, false, List, [], ◌∷◌, Option, Some, length, map, refl, sym, ap, subst, arith, slice_get, get_or, IfSome}
+use Rattle.std.proofs.Common.{◌≡◌, ◌∙◌, ℕ, zero, suc, ◌<◌, ◌≤◌, true, false, List, [], ◌∷◌, Some, length, map, refl, sym, ap, subst, arith, slice_get, get_or, IfSome}
 use Rattle.std.proofs.lemmas.Option.{none-some}
 use Rattle.std.specs.List.{All}
 use Rattle.pg_base.specs.declared.goal.Goal.{Goal}
@@ -21,11 +21,10 @@ use Rattle.pg_game.specs.declared.game.Game.{Game}
 use Rattle.pg_game.specs.declared.position.Position.{Position}
 use Rattle.pg_pns.specs.Expanded.{Expanded}
 use Rattle.pg_solve.proofs.Searching.{claims-value, denied-value, yes-win, no-win}
-use Rattle.pg_solve.specs.Due.{Heading, heading, due_for_value, winner, wins}
-use Rattle.pg_solve.specs.EdgeClaims.{IsEdgeClaim, needs_e}
+use Rattle.pg_solve.specs.Due.{Heading, heading, due_for_value}
 use Rattle.pg_solve.specs.Left.{IsLeft, IsLeftOpen, IsAskedLast}
 use Rattle.pg_solve.specs.Searched.{last_question, IsSearched, AreValueClaims}
-use Rattle.pg_solve.specs.Solved.{certificate_of, due, is_class, IsTrueOf, IsShown, IsClassified, IsFoundBy}
+use Rattle.pg_solve.specs.Solved.{certificate_of, due, is_class, IsTrueOf, IsShown, IsFoundBy}
 use Rattle.pg_solve.specs.declared.solution.Solution.{Solution}
 use Rattle.pg_solve.specs.declared.solution.Solution.TheVariants.{Value, Class as ForClass, Unknown}
 
@@ -156,44 +155,3 @@ module _ (g : Game) (budget : ℕ) (work : Expanded) where
   found-last (Value score cert) is = is.0
   found-last (ForClass class cert) is = absurd is
   found-last Unknown is = tt
-
--- ---- the clauses, for a switching game
-
-edge-heading : (g : Game) (turn side : Side) (e : Bool) (c : Claim) → IsEdgeClaim g turn side e c → heading c ≡ wins turn side
-edge-heading g turn side e c is = heading-is c turn side Win is.same_turn is.same_side is.goal
-
-module _ (g : Game) where
-  pub classified-kind : g.kind ≡ Switching → (s : Solution) → IsClassified g s → is_class s ≡ is_switching g.kind
-  classified-kind kind (Value score cert) is = absurd is
-  classified-kind kind (ForClass class cert) is = sym (ap is_switching kind)
-  classified-kind kind Unknown is = absurd is
-
-  pub classified-true : (s : Solution) → IsClassified g s → IsTrueOf g s
-  classified-true (Value score cert) is = absurd is
-  classified-true (ForClass class cert) is = is.0
-  classified-true Unknown is = absurd is
-
-  pub classified-claims : (s : Solution) → IsClassified g s → IfSome (certificate_of s) (λ cert. map heading cert.claims ≡ due g.turn s)
-  classified-claims (Value score cert) is = absurd is
-  classified-claims (ForClass class cert) (right, are) = headings-two cert.claims are.first are.second _ _ are.two (edge-heading g X (winner class X) (needs_e class) are.first are.with_x) (edge-heading g Y (winner class Y) (needs_e class) are.second are.with_y)
-  classified-claims Unknown is = absurd is
-
-  pub classified-valid : (s : Solution) → IsClassified g s → IfSome (certificate_of s) (IsValid g)
-  classified-valid (Value score cert) is = absurd is
-  classified-valid (ForClass class cert) (right, are) = valid-two g cert are.first are.second are.two are.with_x.valid are.with_y.valid
-  classified-valid Unknown is = absurd is
-
-  pub classified-within : (s : Solution) → IsClassified g s → IfSome (certificate_of s) IsWithinLimits
-  classified-within (Value score cert) is = absurd is
-  classified-within (ForClass class cert) (right, are) = within-two cert are.first are.second are.two are.with_x.limits are.with_y.limits
-  classified-within Unknown is = absurd is
-
-  pub classified-shown : (budget : ℕ) (table : List Position) (s : Solution) → IsClassified g s → IsShown g budget table s
-  classified-shown budget table (Value score cert) is = absurd is
-  classified-shown budget table (ForClass class cert) is = is.1
-  classified-shown budget table Unknown is = absurd is
-
-  pub classified-last : (kind : Kind) (question : Option Score) (s : Solution) → IsClassified g s → IsAskedLast kind question s
-  classified-last kind question (Value score cert) is = absurd is
-  classified-last kind question (ForClass class cert) is = tt
-  classified-last kind question Unknown is = absurd is

@@ -19,7 +19,7 @@ use Rattle.pg_game.specs.Settled.{IsTable}
 use Rattle.pg_game.specs.Value.{value, Forces}
 use Rattle.pg_game.specs.declared.game.Game.{Game}
 use Rattle.pg_game.specs.declared.position.Position.{Position}
-use Rattle.pg_prune.proofs.Stands.{contains_at}
+use Rattle.pg_base.proofs.Stands.{contains_at}
 use Rattle.pg_pns.proofs.TableLaws.{table-reached}
 use Rattle.pg_pns.specs.Found.{IsClaimOf}
 use Rattle.pg_pns.specs.Reachable.{IsReachable}

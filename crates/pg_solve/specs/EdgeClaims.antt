@@ -1,5 +1,7 @@
 -- Claims of one node that stand on two sets of edges.
 use Rattle.std.specs.Prelude.{◌≡◌, Bool, true, false, List, [], ◌∷◌}
+use Rattle.std.specs.FinSet.{FinSet}
+use Rattle.std.specs.Ordering.{nat_cmp}
 use Rattle.pg_base.specs.declared.goal.Goal.TheVariants.{Win}
 use Rattle.pg_base.specs.declared.side.Side.{Side}
 use Rattle.pg_base.specs.declared.side.Side.TheVariants.{X, Y}
@@ -13,6 +15,7 @@ use Rattle.pg_cert.specs.declared.node.Node.{Node}
 use Rattle.pg_game.specs.Class.{Class as Named}
 use Rattle.pg_game.specs.Class.Class.{Short as ForShort, Cut as ForCut, First as ForFirst}
 use Rattle.pg_game.specs.Game.{with_turn}
+use Rattle.pg_game.specs.Trees.{TreesHold, CutsHold}
 use Rattle.pg_game.specs.declared.game.Game.{Game}
 use Rattle.pg_game.specs.declared.position.Position.{Position}
 use Rattle.pg_lehman.specs.declared.class.Class.{Class as Sets}
@@ -20,6 +23,16 @@ use Rattle.pg_lehman.specs.declared.class.Class.TheVariants.{Short as ShortSets,
 use Rattle.pg_solve.specs.Due.{winner}
 use Rattle.pg_solve.specs.declared.solution.Class.{Class}
 use Rattle.pg_solve.specs.declared.solution.Class.TheVariants.{Short, Cut, First}
+
+-- the sets are the side's: X's trees, or Y's cuts
+abbrev pub EdgeSetsHold : Side → Game → Position → FinSet nat_cmp → FinSet nat_cmp → Type 0
+EdgeSetsHold X g p one second = TreesHold g p one second
+EdgeSetsHold Y g p one second = CutsHold g p one second
+
+-- the body of a side that holds the sets
+abbrev pub edge_body : Side → Bool → FinSet nat_cmp → FinSet nat_cmp → Body
+edge_body X e first second = Trees e first second
+edge_body Y e first second = Cuts e first second
 
 -- X's trees, or Y's cuts, and whether e is in the first set
 abbrev pub IsEdgeBody : Side → Bool → Body → Type 0

@@ -6,7 +6,7 @@ ghost use Rattle.pg_solve.specs.EdgeClaims.{without_sets, AreClassClaims};
 ghost use Rattle.pg_solve.specs.Solved.{IsClassified};
 
 use crate::certificates::two_claims;
-use crate::edge_claims::{cuts_claim, trees_claim};
+use crate::edge_claims::edge_claim;
 use crate::solution::{Class, Solution};
 use pg_base::{Memory, Side};
 use pg_cert::Cert;
@@ -33,18 +33,18 @@ fn class_certificate(alloc: Global, game: &Game, sets: &Sets) -> Result<Cert, Me
 {
     match sets {
         Sets::Short { a1, a2 } => {
-            let with_x = trees_claim(alloc, game, Side::X, a1, a2)?;
-            let with_y = trees_claim(alloc, game, Side::Y, a1, a2)?;
+            let with_x = edge_claim(alloc, game, Side::X, Side::X, a1, a2)?;
+            let with_y = edge_claim(alloc, game, Side::Y, Side::X, a1, a2)?;
             two_claims(alloc, with_x, with_y)
         }
         Sets::Cut { d1, d2 } => {
-            let with_x = cuts_claim(alloc, game, Side::X, d1, d2)?;
-            let with_y = cuts_claim(alloc, game, Side::Y, d1, d2)?;
+            let with_x = edge_claim(alloc, game, Side::X, Side::Y, d1, d2)?;
+            let with_y = edge_claim(alloc, game, Side::Y, Side::Y, d1, d2)?;
             two_claims(alloc, with_x, with_y)
         }
         Sets::First { a1, a2, d1, d2 } => {
-            let with_x = trees_claim(alloc, game, Side::X, a1, a2)?;
-            let with_y = cuts_claim(alloc, game, Side::Y, d1, d2)?;
+            let with_x = edge_claim(alloc, game, Side::X, Side::X, a1, a2)?;
+            let with_y = edge_claim(alloc, game, Side::Y, Side::Y, d1, d2)?;
             two_claims(alloc, with_x, with_y)
         }
     }

@@ -2,13 +2,11 @@
 ghost use Rattle.std.specs.Prelude.{◌≡◌, IfOk};
 ghost use Rattle.std.specs.FinSet.{contains, remove};
 ghost use Rattle.pg_base.specs.declared.kind.Kind.TheVariants.{Switching};
-ghost use Rattle.pg_base.specs.declared.side.Side.TheVariants.{X, Y};
 ghost use Rattle.pg_game.specs.Game.{point_count, with_turn};
-ghost use Rattle.pg_game.specs.Trees.{TreesHold, CutsHold};
-ghost use Rattle.pg_solve.specs.EdgeClaims.{claim_at, IsEdgeClaim};
+ghost use Rattle.pg_solve.specs.EdgeClaims.{claim_at, edge_body, EdgeSetsHold, IsEdgeClaim};
 
 use pg_base::{Goal, Memory, PointSet, Side};
-use pg_cert::{Body, Claim, Node, Nodes};
+use pg_cert::{Body, Claim, EdgeSet, Node, Nodes};
 use pg_game::Game;
 use std::alloc::Global;
 
@@ -44,44 +42,40 @@ fn split_e(game: &Game, members: &PointSet) -> (bool, PointSet)
     (members.has(e), edges)
 }
 
-/// X's claim by trees.
-pub(crate) fn trees_claim(
-    alloc: Global,
-    game: &Game,
-    turn: Side,
-    one: &PointSet,
-    other: &PointSet,
-) -> Result<Claim, Memory>
-    requires switching { game.now.kind ≡ Switching }
-    requires trees { TreesHold game.now (with_turn game.now turn) one.now other.now }
-    ensures { IfOk result (IsEdgeClaim game.now turn X (contains one.now (point_count game.now))) }
+/// The body of the side: X's trees, or Y's cuts.
+fn edge_body(side: Side, with_e: bool, first: EdgeSet, second: EdgeSet) -> Body
+    ensures { result ≡ edge_body side with_e first second }
 {
-    let (with_e, first) = split_e(game, one);
-    let body = Body::Trees {
-        with_e,
-        first,
-        second: *other,
-    };
-    claim_at(alloc, game, turn, Side::X, body)
+    match side {
+        Side::X => Body::Trees {
+            with_e,
+            first,
+            second,
+        },
+        Side::Y => Body::Cuts {
+            with_e,
+            first,
+            second,
+        },
+    }
 }
 
-/// Y's claim by cuts.
-pub(crate) fn cuts_claim(
+/// The side's claim by its sets of edges: X's by trees, or Y's by cuts.
+pub(crate) fn edge_claim(
     alloc: Global,
     game: &Game,
     turn: Side,
+    side: Side,
     one: &PointSet,
     other: &PointSet,
 ) -> Result<Claim, Memory>
     requires switching { game.now.kind ≡ Switching }
-    requires cuts { CutsHold game.now (with_turn game.now turn) one.now other.now }
-    ensures { IfOk result (IsEdgeClaim game.now turn Y (contains one.now (point_count game.now))) }
+    requires sets { EdgeSetsHold side game.now (with_turn game.now turn) one.now other.now }
+    ensures { IfOk result (IsEdgeClaim game.now turn side (contains one.now (point_count game.now))) }
 {
-    let (with_e, first) = split_e(game, one);
-    let body = Body::Cuts {
-        with_e,
-        first,
-        second: *other,
-    };
-    claim_at(alloc, game, turn, Side::Y, body)
+    let (with_e, edges) = split_e(game, one);
+    let first = EdgeSet::new(alloc, edges)?;
+    let second = EdgeSet::new(alloc, *other)?;
+    let body = edge_body(side, with_e, first, second);
+    claim_at(alloc, game, turn, side, body)
 }
