@@ -1,10 +1,10 @@
 -- A check on a console.
-use Rattle.std.proofs.Common.{◌≡◌, ℕ, List, [], map, Option, Result, Ok, Err, refl, sym, ◌∙◌, ap, subst, inl, inr}
+use Rattle.std.proofs.Common.{◌≡◌, ℕ, List, map, Ok, Err, refl, sym, ◌∙◌, ap, subst, inr}
 use Rattle.pg_io.specs.Console.{ConsoleTold, Grows}
 use Rattle.pg_io.specs.Files.{Bytes}
 use Rattle.pg_io.specs.declared.entry.Entry.TheVariants.{Said}
 use Rattle.pg_io.specs.declared.stop.Stop.{Stop}
-use Rattle.pg_io.specs.declared.stop.Stop.TheVariants.{Read, Write, Memory}
+use Rattle.pg_io.specs.declared.stop.Stop.TheVariants.{Write}
 use Rattle.pg_game.specs.declared.game.Game.{Game}
 use Rattle.pg_cert.specs.Valid.{IsValid, IsFirstFault}
 use Rattle.pg_cert.specs.declared.cert.Cert.{Cert}
@@ -15,7 +15,6 @@ use Rattle.pg_texts.specs.declared.statuses.TheConstants.{DONE}
 use Rattle.pg_cli.specs.Checking.{acceptance, head_acceptance, RefusesCheck, AcceptsAll, IsCut}
 use Rattle.pg_cli.specs.Done.{Finished, Failed, Starved, Performs}
 use Rattle.pg_cli.specs.Reading.{read_of}
-use Rattle.pg_cli.specs.declared.halt.Halt.{Halt}
 use Rattle.pg_cli.specs.declared.halt.Halt.TheVariants.{Refused, Stopped}
 use Rattle.pg_cli.proofs.Runs.{silent, talked_texts}
 use Rattle.pg_cli.proofs.Verdicts.{same_acceptances}

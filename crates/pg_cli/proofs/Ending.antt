@@ -221,9 +221,6 @@ status_early command before after (Stopped stop) status gives ends = at_place (s
 
 -- ---- words without a meaning
 
-pub meaningless_done : (command : Option Command) (before after : ConsoleTold) (status : ℕ) → Gives command (Ok status) → command ≡ None → SaysNoMeaning before after status
-meaningless_done command before after status gives none = absurd (subst (λ (c : Option Command). Gives c (Ok status)) none gives)
-
 pub meaningless_early : (command : Option Command) (before mid after : ConsoleTold) (halt : Halt) (status : ℕ) → Gives command (Err halt) → Quiets command before mid (Err halt) → Ends halt mid after status
     → command ≡ None → SaysNoMeaning before after status
 meaningless_early command before mid after halt status gives quiets ends none =

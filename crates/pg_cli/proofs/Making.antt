@@ -1,6 +1,6 @@
 -- Making a game, put together.
-use Rattle.std.proofs.Common.{◌≡◌, ℕ, Bool, true, false, List, [], ◌∷◌, ◌+◌, ◌<◌, length, get_or, take, Option, Some, None, Result, Ok, Err, refl, sym, ◌∙◌, ap, subst, inl, inr, if◌then◌else◌}
-use Rattle.std.specs.Prelude.{IfErr, IfOk, IfSome}
+use Rattle.std.proofs.Common.{◌≡◌, ◌≢◌, ℕ, Bool, true, false, List, [], ◌∷◌, ◌+◌, ◌<◌, length, get_or, take, Option, Some, None, Result, Ok, Err, refl, sym, ◌∙◌, ap, subst, inl, inr, if◌then◌else◌}
+use Rattle.std.specs.Prelude.{IfErr, IfSome}
 use Rattle.std.proofs.lemmas.List.{take_more}
 use Rattle.std.proofs.lemmas.List.Sums.{sum_by_push}
 use Rattle.pg_base.specs.declared.kind.Kind.TheVariants.{Switching}
@@ -13,30 +13,25 @@ use Rattle.pg_io.specs.declared.stop.Stop.TheVariants.{Read, Write, Memory}
 use Rattle.pg_game.specs.Fit.{is_switching}
 use Rattle.pg_game.specs.declared.game.Game.{Game}
 use Rattle.pg_pns.specs.Expanded.{Expanded}
-use Rattle.pg_texts.specs.declared.refusal.Refusal.TheVariants.{NoMeaning}
+use Rattle.pg_solve.specs.Left.{budget, IsLeft}
 use Rattle.pg_words.specs.Words.{Command, Gen}
 use Rattle.pg_words.specs.declared.source.Source.{Source}
 use Rattle.pg_words.specs.declared.source.Source.TheVariants.{Rows, Bridge, Scatter}
-use Rattle.pg_cli.specs.Commands.{Gives, LeavesWork, Quiets, built}
+use Rattle.pg_cli.specs.Commands.{LeavesWork, Quiets, built}
 use Rattle.pg_cli.specs.Done.{Does, Follows}
-use Rattle.pg_cli.specs.Generating.{IsMade, IsMadeOf, StoresGame, game_file, has_source, names_of, searches, size_text, size_texts}
+use Rattle.pg_cli.specs.Generating.{IsMade, IsMadeOf, StoresGame, game_file, has_source, searches, size_text, size_texts}
 use Rattle.pg_cli.specs.Halts.{IsWriteHalt, MuteAtMemory}
 use Rattle.pg_cli.specs.Run.{CarriesOn, Carries}
-use Rattle.pg_cli.specs.Solving.{IsSolveEnd, SolvesGame, result_and_counts}
-use Rattle.pg_cli.specs.Storing.{Delivers, StoresAt}
+use Rattle.pg_cli.specs.Solving.{SolvesGame, result_and_counts}
+use Rattle.pg_cli.specs.Storing.{Delivers}
 use Rattle.pg_cli.specs.declared.solving.TheConstants.{DEFAULT_POSITIONS}
 use Rattle.pg_cli.specs.declared.halt.Halt.{Halt}
 use Rattle.pg_cli.specs.declared.halt.Halt.TheVariants.{Refused, Stopped}
-use Rattle.pg_cli.proofs.Parts.{delivers_first, keep_more}
-use Rattle.pg_cli.proofs.Runs.{carries_halt}
-use Rattle.pg_cli.proofs.Speaking.{Grows-nothing, Grows-then}
+use Rattle.pg_cli.proofs.Parts.{delivers_first}
+use Rattle.pg_cli.proofs.Solves.{leaves_search}
+use Rattle.pg_cli.proofs.Speaking.{Grows-then}
 
 -- ---- files
-
-pub stores_first : (g : Bytes) (c : Option Bytes) (files files' : FilesTold) → StoresAt (g ∷ []) files files' → StoresAt (names_of g c) files files'
-stores_first g None files files' stores = stores
-stores_first g (Some c) files files' (inl reads) = inl reads
-stores_first g (Some c) files files' (inr (idle, others)) = inr (idle, keep_more g c files.held files'.held others)
 
 -- ---- counts
 
@@ -46,11 +41,6 @@ counted_more claims k claim in_range at =
     ∙ (sum_by_push (λ (c : Claim). length c.nodes) (take k claims) (get_or claims k claim) ∙ ap (λ (c : Claim). node_count (take k claims) + length c.nodes) (sym at))
 
 -- ---- the game that is made
-
-pub made_single : (which : Source) (g : Game) → IsMade which g → g.bias ≡ 1
-made_single (Rows n) g made = made.same_bias
-made_single (Bridge r) g made = made.same_bias
-made_single (Scatter seed n m k) g made = made.game.same_bias
 
 -- no search is made only for a switching game
 unsearched : (which : Source) (c : Bytes) (g : Game) → IsMade which g → searches which (Some c) ≡ false → g.kind ≡ Switching
@@ -69,20 +59,9 @@ module _ (which : Source) (g : Bytes) (c : Option Bytes) where
   built_is : has_source which ≡ true → built (Gen which g c) ≡ Some (Gen which g c)
   built_is has = ap (λ (b : Bool). if b then Some (Gen which g c) else None) has
 
-  built_none : has_source which ≡ false → built (Gen which g c) ≡ None
-  built_none has = ap (λ (b : Bool). if b then Some (Gen which g c) else None) has
-
   -- a fact of the command, or of none
   pub of_built : (P : Option Command → Type 0) → has_source which ≡ true → P (Some (Gen which g c)) → P (built (Gen which g c))
   of_built P has p = subst P (sym (built_is has)) p
-
-  pub of_none : (P : Option Command → Type 0) → has_source which ≡ false → P None → P (built (Gen which g c))
-  of_none P has p = subst P (sym (built_none has)) p
-
-  -- a number is outside its range
-  pub carries_unmade : (files : FilesTold) (console : ConsoleTold) (work : Expanded) → has_source which ≡ false → Carries (built (Gen which g c)) work files files console console (Err (Refused NoMeaning))
-  carries_unmade files console work has = of_none (λ (command : Option Command). Carries command work files files console console (Err (Refused NoMeaning))) has
-      (carries_halt files files console refl None work (Refused NoMeaning) (λ held refusal is this. let e : NoMeaning ≡ refusal = cc this in sym e))
 
   pub carries_made : (made : Game) (work : Expanded) (files files' : FilesTold) (before after : ConsoleTold) (r : Result ℕ Halt) → IsMadeOf which (Some made)
       → Does (StoresGame made g c work) files files' before after r → Carries (built (Gen which g c)) work files files' before after r
@@ -105,19 +84,6 @@ module _ (which : Source) (g : Bytes) (c : Option Bytes) where
     go None = h
     go (Some name) = delivers_first (SolvesGame (result_and_counts made work) made name DEFAULT_POSITIONS work) (game_file g made) (size_texts made) files files' before after halt h
 
-  pub quiet_first : (before after : ConsoleTold) (halt : Halt) → IsWriteHalt halt → MuteAtMemory before after (Err halt) → Quiets (Some (Gen which g c)) before after (Err halt)
-  quiet_first before after (Refused refusal) write mute = absurd write
-  quiet_first before after (Stopped Read) write mute = absurd write
-  quiet_first before after (Stopped Write) write mute = tt
-  quiet_first before after (Stopped Memory) write mute = go c where
-    go : (c : Option Bytes) → Quiets (Some (Gen which g c)) before after (Err (Stopped Memory))
-    go None = mute
-    go (Some name) = inl mute
-
-  -- the same where nothing was said at all
-  pub quiet_memory : (console : ConsoleTold) → Quiets (Some (Gen which g c)) console console (Err (Stopped Memory))
-  quiet_memory console = quiet_first console console (Stopped Memory) tt (Grows-nothing console.log)
-
 -- behind the game's size nothing was said where memory was wanting
 pub quiet_then : (which : Source) (g c : Bytes) (made : Game) (before mid after : ConsoleTold) (r : Result ℕ Halt) → IsMade which made → Grows before.log mid.log (Said (size_text made.field) ∷ [])
     → MuteAtMemory mid after r → IfErr r IsWriteHalt → Quiets (Some (Gen which g (Some c))) before after r
@@ -128,10 +94,6 @@ quiet_then which g c made before mid after (Err (Stopped Write)) is says mute wr
 quiet_then which g c made before mid after (Err (Stopped Memory)) is says mute write =
     inr (made, is, Grows-then before.log mid.log after.log (Said (size_text made.field) ∷ []) [] says mute)
 
-pub gives_solved : (which : Source) (g c : Bytes) (made : Game) (r : Result ℕ Halt) → IsMade which made → IfOk r (IsSolveEnd made.kind) → IfErr r IsWriteHalt → Gives (Some (Gen which g (Some c))) r
-gives_solved which g c made (Ok status) is (inl done) write = inl done
-gives_solved which g c made (Ok status) is (inr (lines, unknown)) write = inr (searched which c made is lines, unknown)
-gives_solved which g c made (Err halt) is done write = write
-
-pub work_left : (which : Source) (g c : Bytes) (made : Game) (before after : Expanded) → IsMade which made → (made.kind ≡ Switching → after ≡ before) → LeavesWork (Some (Gen which g (Some c))) before after
-work_left which g c made before after is untouched none = untouched (unsearched which c made is none)
+pub work_left : (which : Source) (g c : Bytes) (made : Game) (before after : Expanded) → IsMade which made → (made.kind ≡ Switching → after ≡ before)
+    → (made.kind ≢ Switching → IsLeft made (budget made DEFAULT_POSITIONS) after) → LeavesWork (Some (Gen which g (Some c))) before after
+work_left which g c made before after is untouched left = ((λ none. untouched (unsearched which c made is none)), leaves_search made DEFAULT_POSITIONS before after left untouched)

@@ -4,12 +4,8 @@ use Rattle.std.proofs.lemmas.Bool.{cases_lt}
 use Rattle.std.proofs.lemmas.Bool.Decides.{nat_tests}
 use Rattle.std.proofs.lemmas.List.{take_all}
 use Rattle.std.specs.Prelude.{IsErrAnd}
-use Rattle.pg_io.specs.Causes.{Faults, Rose}
-use Rattle.pg_io.specs.Files.{Bytes, Holding, IsAbsent}
+use Rattle.pg_io.specs.Files.{Bytes, Holding}
 use Rattle.pg_io.specs.Reading.{IsWhole, IsFile}
-use Rattle.pg_io.specs.Stop.{StopCauses}
-use Rattle.pg_io.specs.declared.stop.Stop.{Stop}
-use Rattle.pg_io.specs.declared.stop.Stop.TheVariants.{Read, Write, Memory}
 use Rattle.pg_game.specs.declared.game.Game.{Game}
 use Rattle.pg_files.specs.declared.limits.TheConstants.{MAX_GAME_BYTES}
 use Rattle.pg_cert_files.specs.declared.limits.TheConstants.{MAX_CERT_BYTES}
@@ -17,10 +13,8 @@ use Rattle.pg_files.specs.GameFile.{game, Entry as GameEntry}
 use Rattle.pg_files.specs.Views.{entry}
 use Rattle.pg_cert_files.specs.CertFile.{certificate}
 use Rattle.pg_cert.specs.declared.cert.Cert.{Cert}
-use Rattle.pg_cli.specs.Halts.{HaltCauses}
-use Rattle.pg_cli.specs.Reading.{or_halt, game_held, certificate_held, both, both_held, pair_entry, read_of, IsReadAs, OpensGame, OpensCertificate, OpensBoth, AreLacking}
+use Rattle.pg_cli.specs.Reading.{or_halt, game_held, certificate_held, IsReadAs, OpensGame, OpensCertificate}
 use Rattle.pg_cli.specs.declared.halt.Halt.{Halt}
-use Rattle.pg_cli.specs.declared.halt.Halt.TheVariants.{Refused, Stopped}
 
 is_above : (n m : ℕ) → n < m → nat_lt n m ≡ true
 is_above n m h = grind (arith, nat_tests, h)
@@ -76,49 +70,3 @@ opens_certificate None name text r whole is = tt
 opens_certificate (Some held) name text r whole is = subst (λ (o : Result Cert Halt). IsReadAs (λ x. x) o r) (sym (whole_certificate (held name) text whole)) is
 
 -- ---- both names
-
--- what stands against the game stands against both
-pub refused_game : (h : Option Holding) (g c : Bytes) (halt : Halt) → OpensGame h g (Err halt) → OpensBoth h g c (Err halt)
-refused_game None g c halt opens = tt
-refused_game (Some held) g c (Refused refusal) opens = ap (λ (r : Result GameEntry Halt). both r (certificate_held (held c))) opens
-refused_game (Some held) g c (Stopped stop) opens = tt
-
--- what stands against the certificate stands against both where the game was read
-pub refused_certificate : (h h' : Option Holding) (g c : Bytes) (played : Game) (halt : Halt) → h' ≡ h → OpensGame h g (Ok played) → OpensCertificate h' c (Err halt) → OpensBoth h g c (Err halt)
-refused_certificate h h' g c played halt same opens other = go h halt opens (subst (λ (h : Option Holding). OpensCertificate h c (Err halt)) same other) where
-  go : (h : Option Holding) (halt : Halt) → OpensGame h g (Ok played) → OpensCertificate h c (Err halt) → OpensBoth h g c (Err halt)
-  go None halt opens other = tt
-  go (Some held) (Refused refusal) opens other = ap (λ (r : Result GameEntry Halt). both r (certificate_held (held c))) opens ∙ ap (both (Ok (entry played))) other
-  go (Some held) (Stopped stop) opens other = tt
-
-pub opens_both : (h h' : Option Holding) (g c : Bytes) (played : Game) (checked : Cert) → h' ≡ h → OpensGame h g (Ok played) → OpensCertificate h' c (Ok checked) → OpensBoth h g c (Ok (played, checked))
-opens_both h h' g c played checked same opens other = go h opens (subst (λ (h : Option Holding). OpensCertificate h c (Ok checked)) same other) where
-  go : (h : Option Holding) → OpensGame h g (Ok played) → OpensCertificate h c (Ok checked) → OpensBoth h g c (Ok (played, checked))
-  go None opens other = tt
-  go (Some held) opens other = ap (λ (r : Result GameEntry Halt). both r (certificate_held (held c))) opens ∙ ap (both (Ok (entry played))) other
-
-lacks_game : (h : Option Holding) (g c : Bytes) → IsAbsent h g → AreLacking h g c
-lacks_game None g c absent = absurd absent
-lacks_game (Some held) g c absent = ap (λ (o : Option Bytes). both (game_held o) (certificate_held (held c))) absent
-
-lacks_certificate : (h h' : Option Holding) (g c : Bytes) (played : Game) → h' ≡ h → OpensGame h g (Ok played) → IsAbsent h' c → AreLacking h g c
-lacks_certificate h h' g c played same opens absent = go h opens (subst (λ (h : Option Holding). IsAbsent h c) same absent) where
-  go : (h : Option Holding) → OpensGame h g (Ok played) → IsAbsent h c → AreLacking h g c
-  go None opens absent = absurd absent
-  go (Some held) opens absent =
-      ap (λ (p : Result GameEntry Halt). both p (certificate_held (held c))) opens ∙ ap (λ (o : Option Bytes). both (Ok (entry played)) (certificate_held o)) absent
-
--- causes of an earlier part, or of a later one, are those of the whole
-causes_more : {P Q : Type 0} (before mid now : Faults) (halt : Halt) → mid ≡ before → (P → Q) → HaltCauses {T = ℕ} P mid now (Err halt) → HaltCauses {T = ℕ} Q before now (Err halt)
-causes_more before mid now (Refused refusal) same more h = h ∙ same
-causes_more before mid now (Stopped Read) same more (inl rose) = inl (subst (λ (f : Faults). Rose f.reads now.reads) same rose)
-causes_more before mid now (Stopped Read) same more (inr p) = inr (more p)
-causes_more before mid now (Stopped Write) same more h = subst (λ (f : Faults). Rose f.writes now.writes) same h
-causes_more before mid now (Stopped Memory) same more h = h ∙ same
-
-pub lacks-game : (h : Option Holding) (g c : Bytes) (before now : Faults) (halt : Halt) → HaltCauses {T = ℕ} (IsAbsent h g) before now (Err halt) → HaltCauses {T = ℕ} (AreLacking h g c) before now (Err halt)
-lacks-game h g c before now halt causes = causes_more before before now halt refl (lacks_game h g c) causes
-
-pub lacks-certificate : (h h' : Option Holding) (g c : Bytes) (played : Game) (before mid now : Faults) (halt : Halt) → h' ≡ h → OpensGame h g (Ok played) → mid ≡ before
-    → HaltCauses {T = ℕ} (IsAbsent h' c) mid now (Err halt) → HaltCauses {T = ℕ} (AreLacking h g c) before now (Err halt)
-lacks-certificate h h' g c played before mid now halt kept opens same causes = causes_more before mid now halt same (lacks_certificate h h' g c played kept opens) causes

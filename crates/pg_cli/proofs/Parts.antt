@@ -1,5 +1,5 @@
 -- One part of a run, and then another.
-use Rattle.std.proofs.Common.{◌≡◌, ℕ, List, [], ◌∷◌, ◌++◌, Option, Some, None, Result, Ok, Err, refl, sym, ◌∙◌, ap, subst, inl, inr, if◌then◌else◌}
+use Rattle.std.proofs.Common.{◌≡◌, ℕ, List, [], ◌∷◌, ◌++◌, Option, Some, None, Result, Ok, Err, refl, ◌∙◌, ap, subst, inl, inr, if◌then◌else◌}
 use Rattle.std.specs.Prelude.{IfSome}
 use Rattle.std.specs.Str.{bytes_eq}
 use Rattle.pg_io.specs.Console.{ConsoleTold}
@@ -8,7 +8,7 @@ use Rattle.pg_io.specs.declared.entry.Entry.{Entry}
 use Rattle.pg_io.specs.declared.stop.Stop.{Stop}
 use Rattle.pg_io.specs.declared.stop.Stop.TheVariants.{Read, Write, Memory}
 use Rattle.pg_cli.specs.Done.{Done, End, Finished, Failed, Starved, Hears, Talked, Changes, Does, Follows, Keeps, Stops, behind, held_after, stop_end}
-use Rattle.pg_cli.specs.Storing.{Delivers, DeliversThen, KeepOthers, StoresAt, delivered}
+use Rattle.pg_cli.specs.Storing.{Delivers, DeliversThen, KeepOthers, delivered}
 use Rattle.pg_cli.specs.declared.halt.Halt.{Halt}
 use Rattle.pg_cli.specs.declared.halt.Halt.TheVariants.{Refused, Stopped}
 use Rattle.pg_cli.proofs.Speaking.{Grows-then}
@@ -90,26 +90,7 @@ delivers_first Act file texts files files' before after halt h = go files.held h
 
 -- ---- files
 
-keep_both : (g c : Bytes) (before mid after : Option Holding) → KeepOthers (g ∷ []) before mid → KeepOthers (c ∷ []) mid after → KeepOthers (g ∷ c ∷ []) before after
-keep_both g c None mid after first second = tt
-keep_both g c (Some held) None after first second = absurd first
-keep_both g c (Some held) (Some now) None first second = absurd second
-keep_both g c (Some held) (Some now) (Some last) first second = λ other none. second other none.1 ∙ first other (none.0, tt)
-
 pub keep_more : (g c : Bytes) (before after : Option Holding) → KeepOthers (g ∷ []) before after → KeepOthers (g ∷ c ∷ []) before after
 keep_more g c None after keep = tt
 keep_more g c (Some held) None keep = absurd keep
 keep_more g c (Some held) (Some now) keep = λ other none. keep other (none.0, tt)
-
-keep_later : (g c : Bytes) (before after : Option Holding) → KeepOthers (c ∷ []) before after → KeepOthers (g ∷ c ∷ []) before after
-keep_later g c None after keep = tt
-keep_later g c (Some held) None keep = absurd keep
-keep_later g c (Some held) (Some now) keep = λ other none. keep other none.1
-
--- one file was stored, perhaps, and then another
-pub stores_both : (g c : Bytes) (files mid files' : FilesTold) → StoresAt (g ∷ []) files mid → StoresAt (c ∷ []) mid files' → StoresAt (g ∷ c ∷ []) files files'
-stores_both g c files mid files' (inl reads) (inl more) = inl (record { held = more.held ∙ reads.held; making = more.making ∙ reads.making; busy = more.busy ∙ reads.busy })
-stores_both g c files mid files' (inl reads) (inr (idle, others)) = inr (idle, keep_later g c files.held files'.held (subst (λ (b : Option Holding). KeepOthers (c ∷ []) b files'.held) reads.held others))
-stores_both g c files mid files' (inr (idle, others)) (inl more) =
-    inr (more.busy ∙ idle, keep_more g c files.held files'.held (subst (λ (b : Option Holding). KeepOthers (g ∷ []) files.held b) (sym more.held) others))
-stores_both g c files mid files' (inr (idle, others)) (inr (later, more)) = inr (later, keep_both g c files.held mid.held files'.held others more)

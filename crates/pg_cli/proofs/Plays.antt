@@ -21,7 +21,7 @@ use Rattle.pg_texts.specs.Texts.{claim_text}
 use Rattle.pg_texts.specs.declared.refusal.Refusal.TheVariants.{NoClaim, Rejected}
 use Rattle.pg_texts.specs.declared.statuses.TheConstants.{DONE}
 use Rattle.pg_cli.specs.Dialogue.{At, Over}
-use Rattle.pg_cli.specs.Done.{Failed, Starved, Performs}
+use Rattle.pg_cli.specs.Done.{Starved, Performs}
 use Rattle.pg_cli.specs.Hearing.{Hearing}
 use Rattle.pg_cli.specs.Playing.{IsPlayedBy, RefusesPlay, PlaysOn}
 use Rattle.pg_cli.specs.Reading.{read_of}

@@ -1,24 +1,21 @@
 -- Reports, put together.
-use Rattle.std.proofs.Common.{◌≡◌, ◌≢◌, ℕ, List, [], ◌∷◌, Option, Some, None, Result, Ok, Err, refl, sym, ◌∙◌, subst, inl, inr}
+use Rattle.std.proofs.Common.{◌≡◌, ℕ, [], ◌∷◌, Option, Some, None, Result, Ok, Err, refl, sym, ◌∙◌, subst, inl}
 use Rattle.std.specs.Prelude.{IfSome}
 use Rattle.pg_io.specs.Console.{ConsoleTold, Grows}
 use Rattle.pg_io.specs.Files.{Bytes, Holding, FilesTold}
-use Rattle.pg_io.specs.declared.entry.Entry.{Entry}
 use Rattle.pg_io.specs.declared.entry.Entry.TheVariants.{Said}
 use Rattle.pg_io.specs.declared.stop.Stop.{Stop}
-use Rattle.pg_io.specs.declared.stop.Stop.TheVariants.{Read, Write, Memory}
 use Rattle.pg_game.specs.declared.game.Game.{Game}
 use Rattle.pg_files.specs.GameFile.{Entry as GameEntry}
 use Rattle.pg_cert.specs.declared.cert.Cert.{Cert}
 use Rattle.pg_words.specs.Words.{Report}
-use Rattle.pg_cli.specs.Commands.{Quiets}
 use Rattle.pg_cli.specs.Done.{Finished, Performs, stop_end}
 use Rattle.pg_cli.specs.Reading.{read_of, OpensBoth}
 use Rattle.pg_cli.specs.Reporting.{Accounts, RefusesReport, Reports}
 use Rattle.pg_cli.specs.Run.{CarriesOn, Carries}
 use Rattle.pg_pns.specs.Expanded.{Expanded}
 use Rattle.pg_cli.specs.declared.halt.Halt.{Halt}
-use Rattle.pg_cli.specs.declared.halt.Halt.TheVariants.{Refused, Stopped}
+use Rattle.pg_cli.specs.declared.halt.Halt.TheVariants.{Stopped}
 use Rattle.pg_cli.proofs.Runs.{carries_halt, carries_on, read_refusal, silent, talked_texts}
 
 -- ---- on a console
@@ -54,12 +51,3 @@ halted_report files files' console same g c work halt opens = carries_halt files
     (λ held refusal is this. read_refusal files files' console same files.held held g c halt refusal is this opens)
 
 -- ---- quiet
-
-pub quiet_report : (g c : Bytes) (pair : Game × Cert) (before after : ConsoleTold) (r : Result ℕ Halt)
-    → Performs (RefusesReport (read_of pair.0 pair.1)) (Reports (read_of pair.0 pair.1)) before after r → r ≢ Err (Stopped Read) → Quiets (Some (Report g c)) before after r
-quiet_report g c pair before after (Ok status) performs deaf = tt
-quiet_report g c pair before after (Err (Refused refusal)) performs deaf = performs.1.logged
-quiet_report g c pair before after (Err (Stopped Read)) performs deaf = absurd (deaf refl)
-quiet_report g c pair before after (Err (Stopped Write)) performs deaf = tt
-quiet_report g c pair before after (Err (Stopped Memory)) (entries, inl none, talked) deaf = subst (λ (l : List Entry). Grows before.log after.log l) none talked.logged
-quiet_report g c pair before after (Err (Stopped Memory)) (entries, inr act, talked) deaf = absurd act

@@ -1,5 +1,5 @@
 -- Runs that only read files and talk.
-use Rattle.std.proofs.Common.{◌≡◌, ◌≢◌, ℕ, List, [], ◌∷◌, map, Option, Some, None, Result, Ok, Err, refl, sym, ◌∙◌, subst, inl, inr}
+use Rattle.std.proofs.Common.{◌≡◌, ℕ, List, [], ◌∷◌, map, Option, Some, None, Result, Ok, Err, refl, sym, ◌∙◌, subst, inl, inr}
 use Rattle.std.specs.Prelude.{IfSome}
 use Rattle.pg_io.specs.Console.{ConsoleTold, Grows}
 use Rattle.pg_io.specs.Files.{Bytes, Holding, FilesTold, ReadsOnly}
@@ -15,7 +15,6 @@ use Rattle.pg_words.specs.Words.{Command, Solve, Check, Play, Gen, Report}
 use Rattle.pg_cli.specs.Checking.{RefusesCheck, AcceptsAll}
 use Rattle.pg_cli.specs.Commands.{Gives, LeavesFiles, LeavesWork, Quiets}
 use Rattle.pg_cli.specs.Done.{End, Finished, Failed, Starved, Talked, Changes, Performs, Keeps, nothing, talk, stop_end}
-use Rattle.pg_cli.specs.Halts.{HaltCauses, BothCauses}
 use Rattle.pg_cli.specs.Hearing.{Hearing, InOrder}
 use Rattle.pg_cli.specs.Playing.{RefusesPlay, PlaysOn}
 use Rattle.pg_cli.specs.Reading.{both_held, pair_entry, read_of, IsReadAs, OpensBoth}
@@ -139,47 +138,7 @@ quiet_halt (Some (Gen which g None)) console (Stopped Memory) = Grows-nothing co
 quiet_halt (Some (Gen which g (Some c))) console (Stopped Memory) = inl (Grows-nothing console.log)
 quiet_halt (Some (Report g c)) console (Stopped Memory) = Grows-nothing console.log
 
-grew_nothing : (before after : Option (List Entry)) (entries : List Entry) → entries ≡ [] → Grows before after entries → Grows before after []
-grew_nothing before after entries none grows = subst (λ (l : List Entry). Grows before after l) none grows
-
-pub quiet_check : (g c : Bytes) (pair : Game × Cert) (before after : ConsoleTold) (r : Result ℕ Halt)
-    → Performs (RefusesCheck (read_of pair.0 pair.1)) (AcceptsAll (read_of pair.0 pair.1)) before after r → r ≢ Err (Stopped Read) → Quiets (Some (Check g c)) before after r
-quiet_check g c pair before after (Ok status) performs deaf = tt
-quiet_check g c pair before after (Err (Refused refusal)) performs deaf = performs.1.logged
-quiet_check g c pair before after (Err (Stopped Read)) performs deaf = absurd (deaf refl)
-quiet_check g c pair before after (Err (Stopped Write)) performs deaf = tt
-quiet_check g c pair before after (Err (Stopped Memory)) (entries, inl none, talked) deaf = grew_nothing before.log after.log entries none talked.logged
-quiet_check g c pair before after (Err (Stopped Memory)) (entries, inr act, talked) deaf = absurd act.3
-
-pub quiet_play : (g c : Bytes) (side : Side) (pair : Game × Cert) (before after : ConsoleTold) (r : Result ℕ Halt)
-    → Performs (RefusesPlay side (read_of pair.0 pair.1)) (PlaysOn side (read_of pair.0 pair.1)) before after r → Quiets (Some (Play g c side)) before after r
-quiet_play g c side pair before after (Ok status) performs = tt
-quiet_play g c side pair before after (Err (Refused refusal)) performs = performs.1.logged
-quiet_play g c side pair before after (Err (Stopped Read)) performs = tt
-quiet_play g c side pair before after (Err (Stopped Write)) performs = tt
-quiet_play g c side pair before after (Err (Stopped Memory)) (entries, inl none, talked) = grew_nothing before.log after.log entries none talked.logged
-quiet_play g c side pair before after (Err (Stopped Memory)) (entries, inr act, talked) = absurd act.3
-
 -- ---- causes
-
--- a command that ends while it reads
-pub causes_read : (absent : Type 0) (files files' : FilesTold) (console : ConsoleTold) (halt : Halt) → HaltCauses {T = Game × Cert} absent files.faults files'.faults (Err halt)
-    → BothCauses absent files files' console console (Err halt)
-causes_read absent files files' console (Refused refusal) same = record { on_files = same; on_console = refl }
-causes_read absent files files' console (Stopped Read) (inl rose) = inl (inl rose)
-causes_read absent files files' console (Stopped Read) (inr p) = inr p
-causes_read absent files files' console (Stopped Write) rose = inl rose
-causes_read absent files files' console (Stopped Memory) same = record { on_files = same; on_console = refl }
-
--- a command that has read, and then worked on the console
-pub causes_talked : (absent : Type 0) (files files' : FilesTold) (before after : ConsoleTold) (r : Result ℕ Halt) → files'.faults ≡ files.faults → HaltCauses ⊥ before.faults after.faults r
-    → BothCauses absent files files' before after r
-causes_talked absent files files' before after (Ok status) same causes = record { on_files = same; on_console = causes }
-causes_talked absent files files' before after (Err (Refused refusal)) same causes = record { on_files = same; on_console = causes }
-causes_talked absent files files' before after (Err (Stopped Read)) same (inl rose) = inl (inr rose)
-causes_talked absent files files' before after (Err (Stopped Read)) same (inr none) = absurd none
-causes_talked absent files files' before after (Err (Stopped Write)) same rose = inr rose
-causes_talked absent files files' before after (Err (Stopped Memory)) same causes = record { on_files = same; on_console = causes }
 
 -- ---- words
 
@@ -205,10 +164,11 @@ module _ (command : Option Command) where
   leaves_work work = go command where
     go : (command : Option Command) → LeavesWork command work work
     go None = refl
-    go (Some (Solve g c positions)) = tt
+    go (Some (Solve g c None)) = inl refl
+    go (Some (Solve g c (Some positions))) = inl refl
     go (Some (Check g c)) = refl
     go (Some (Play g c side)) = refl
-    go (Some (Gen which g c)) = λ none. refl
+    go (Some (Gen which g c)) = ((λ none. refl), inl refl)
     go (Some (Report g c)) = refl
 
   pub gives_memory : Gives command (Err (Stopped Memory))

@@ -4,11 +4,9 @@ use Rattle.std.specs.Prelude.{IfSome}
 use Rattle.std.proofs.lemmas.Bool.Decides.{nat_tests}
 use Rattle.pg_base.specs.declared.kind.Kind.{Kind}
 use Rattle.pg_base.specs.declared.kind.Kind.TheVariants.{AvoiderEnforcer, MakerBreaker, MakerMaker, Switching}
-use Rattle.pg_io.specs.Causes.{Faults, Rose}
 use Rattle.pg_io.specs.Console.{ConsoleTold, Grows}
-use Rattle.pg_io.specs.Files.{Bytes, Holding, FilesTold, ReadsOnly}
+use Rattle.pg_io.specs.Files.{Bytes, Holding, FilesTold}
 use Rattle.pg_io.specs.declared.entry.Entry.TheVariants.{Said}
-use Rattle.pg_io.specs.declared.stop.Stop.TheVariants.{Read, Write, Memory}
 use Rattle.pg_game.specs.Fit.{is_switching}
 use Rattle.pg_game.specs.declared.game.Game.{Game}
 use Rattle.pg_files.specs.GameFile.{Entry as GameEntry}
@@ -21,7 +19,7 @@ use Rattle.pg_pns.specs.Budget.{budget_for, most_for}
 use Rattle.pg_pns.specs.Expanded.{Expanded}
 use Rattle.pg_solve.specs.Due.{heading}
 use Rattle.pg_solve.specs.Left.{budget, IsAskedLast, IsLeft, IsLeftOpen}
-use Rattle.pg_solve.specs.Solved.{certificate_of, due, is_class, IsTrueOf}
+use Rattle.pg_solve.specs.Solved.{certificate_of, due, is_class, IsTrueOf, IsShown}
 use Rattle.pg_solve.specs.declared.solution.Solution.{Solution}
 use Rattle.pg_texts.specs.Texts.{message_text, unknown_text}
 use Rattle.pg_texts.specs.declared.message.Message.{Message}
@@ -29,11 +27,10 @@ use Rattle.pg_texts.specs.declared.refusal.Refusal.{Refusal}
 use Rattle.pg_texts.specs.declared.statuses.TheConstants.{UNKNOWN}
 use Rattle.pg_words.specs.Words.{Solve}
 use Rattle.pg_cli.specs.Done.{Done, End, Finished, Failed, Starved, Does, Follows, talk, stop_end}
-use Rattle.pg_cli.specs.Halts.{BothCauses}
 use Rattle.pg_cli.specs.Reading.{OpensGame, game_held}
 use Rattle.pg_cli.specs.Run.{Refuses, CarriesOn, Carries}
-use Rattle.pg_cli.specs.Solving.{IsFound, IsLeftBehind, Shows, SolvesGame, Solves, Told, result_alone, solution_text}
-use Rattle.pg_cli.specs.Storing.{Delivers, KeepOthers, StoresAt}
+use Rattle.pg_cli.specs.Solving.{IsFound, IsLeftBehind, LeavesSearch, Shows, SolvesGame, Solves, Told, result_alone, solution_text}
+use Rattle.pg_cli.specs.Storing.{Delivers}
 use Rattle.pg_cli.specs.declared.halt.Halt.{Halt}
 use Rattle.pg_cli.specs.declared.halt.Halt.TheVariants.{Refused, Stopped}
 use Rattle.pg_cli.proofs.Delivering.{follows_more}
@@ -62,11 +59,11 @@ shows g found solution c same own kind holds valid limits claims = shows_it g so
 pub found : (g : Game) (positions : ℕ) (work : Expanded) (result solution : Solution) (c : Cert) (message : Message) → result ≡ solution → certificate_of solution ≡ Some c
     → is_class result ≡ is_switching g.kind → IsTrueOf g result → IfSome (certificate_of result) (IsValid g) → IfSome (certificate_of result) IsWithinLimits
     → IfSome (certificate_of result) (λ c. map heading c.claims ≡ due g.turn result) → IsAskedLast g.kind work.question result → (g.kind ≢ Switching → IsLeft g (budget g positions) work)
-    → message_text message ≡ solution_text g solution → IsFound g positions work (Some (message, c))
-found g positions work result solution c message same own kind holds valid limits claims last left is = (
+    → IsShown g (budget g positions) work.positions result → message_text message ≡ solution_text g solution → IsFound g positions work (Some (message, c))
+found g positions work result solution c message same own kind holds valid limits claims last left shown is = (
   solution,
   shows g result solution c same own kind holds valid limits claims,
-  record { last = subst (λ (s : Solution). IsAskedLast g.kind work.question s) same last; left = left },
+  record { last = subst (λ (s : Solution). IsAskedLast g.kind work.question s) same last; left = left; shown = subst (λ (s : Solution). IsShown g (budget g positions) work.positions s) same shown },
   is,
 )
 
@@ -121,20 +118,6 @@ halted_solve g c positions work files files' console halt same opens = carries_h
 
 -- ---- files and causes
 
-pub stores_then : (names : List Bytes) (files mid files' : FilesTold) → ReadsOnly files mid → StoresAt names mid files' → StoresAt names files files'
-stores_then names files mid files' reads (inl more) = inl (record { held = more.held ∙ reads.held; making = more.making ∙ reads.making; busy = more.busy ∙ reads.busy })
-stores_then names files mid files' reads (inr (idle, others)) = inr (idle, subst (λ (b : Option Holding). KeepOthers names b files'.held) reads.held others)
-
-pub causes_then : (absent : Type 0) (files mid files' : FilesTold) (before after : ConsoleTold) (r : Result ℕ Halt) → mid.faults ≡ files.faults → BothCauses ⊥ mid files' before after r → BothCauses absent files files' before after r
-causes_then absent files mid files' before after (Ok status) same calm = record { on_files = calm.on_files ∙ same; on_console = calm.on_console }
-causes_then absent files mid files' before after (Err (Refused refusal)) same calm = record { on_files = calm.on_files ∙ same; on_console = calm.on_console }
-causes_then absent files mid files' before after (Err (Stopped Read)) same (inl (inl rose)) = inl (inl (subst (λ (f : Faults). Rose f.reads files'.faults.reads) same rose))
-causes_then absent files mid files' before after (Err (Stopped Read)) same (inl (inr rose)) = inl (inr rose)
-causes_then absent files mid files' before after (Err (Stopped Read)) same (inr none) = absurd none
-causes_then absent files mid files' before after (Err (Stopped Write)) same (inl rose) = inl (subst (λ (f : Faults). Rose f.writes files'.faults.writes) same rose)
-causes_then absent files mid files' before after (Err (Stopped Write)) same (inr rose) = inr rose
-causes_then absent files mid files' before after (Err (Stopped Memory)) same calm = record { on_files = calm.on_files ∙ same; on_console = calm.on_console }
-
 -- ---- counts
 
 within : (free n : ℕ) → budget_for free n ≤ n
@@ -148,6 +131,13 @@ switching_or MakerBreaker = inr (λ e. cc e)
 switching_or MakerMaker = inr (λ e. cc e)
 switching_or AvoiderEnforcer = inr (λ e. cc e)
 switching_or Switching = inl refl
+
+-- what solving leaves in the work
+pub leaves_search : (g : Game) (positions : ℕ) (before after : Expanded) → (g.kind ≢ Switching → IsLeft g (budget g positions) after) → (g.kind ≡ Switching → after ≡ before) → LeavesSearch positions before after
+leaves_search g positions before after left untouched = elim (switching_or g.kind) as (λ _. LeavesSearch positions before after) [
+  | inl switching ↦ inl (untouched switching)
+  | inr lines ↦ inr (g, lines, left lines)
+]
 
 -- no more positions were expanded than may be
 pub few_left : (g : Game) (positions most : ℕ) (old new : Expanded) → positions ≤ most → (g.kind ≢ Switching → IsLeft g (budget g positions) new) → (g.kind ≡ Switching → new ≡ old) → old.positions ≡ [] → length new.positions ≤ most

@@ -1,5 +1,5 @@
 -- Logs that grow by texts.
-use Rattle.std.proofs.Common.{◌≡◌, ℕ, ◌+◌, ◌<◌, List, [], ◌∷◌, ◌++◌, length, get_or, take, drop, map, Option, Some, None, Result, Ok, Err, refl, sym, ◌∙◌, ap, subst, append_assoc, rules}
+use Rattle.std.proofs.Common.{◌≡◌, ℕ, ◌+◌, ◌<◌, List, [], ◌∷◌, ◌++◌, length, get_or, take, drop, map, Option, Some, None, Result, Ok, Err, sym, ◌∙◌, ap, subst, append_assoc, rules}
 use Rattle.std.proofs.lemmas.List.{append-nil, map-append, map_more, take-append-drop}
 use Rattle.std.specs.Result.{IsErr}
 use Rattle.pg_io.specs.Files.{Bytes}

@@ -1,13 +1,11 @@
 -- Judging, put together.
-use Rattle.std.proofs.Common.{◌≡◌, ℕ, List, [], ◌∷◌, ◌++◌, map, Option, Some, None, Result, Ok, Err, refl, sym, ◌∙◌, ap, subst}
-use Rattle.std.specs.Prelude.{IfSome, IsErrAnd}
+use Rattle.std.proofs.Common.{◌≡◌, ℕ, List, [], ◌∷◌, map, Option, Some, None, Result, Ok, Err, refl, sym, ◌∙◌, ap, subst}
+use Rattle.std.specs.Prelude.{IfSome}
 use Rattle.std.proofs.lemmas.List.{append-nil}
 use Rattle.pg_io.specs.Console.{ConsoleTold}
 use Rattle.pg_io.specs.Files.{Bytes, Holding, FilesTold}
 use Rattle.pg_io.specs.Reading.{Pours}
 use Rattle.pg_game.specs.declared.game.Game.{Game}
-use Rattle.pg_files.specs.GameFile.{Entry as GameEntry}
-use Rattle.pg_files.specs.Views.{entry}
 use Rattle.pg_cert.specs.declared.cert.Cert.{Cert}
 use Rattle.pg_cert.specs.declared.cert.Claim.{Claim}
 use Rattle.pg_cert_files.specs.declared.limits.TheConstants.{MAX_CERT_BYTES}
@@ -18,7 +16,7 @@ use Rattle.pg_words.specs.Words.{Check, Report}
 use Rattle.pg_pns.specs.Expanded.{Expanded}
 use Rattle.pg_cli.specs.Checking.{AcceptsAll, RefusesCheck, acceptance, head_acceptance}
 use Rattle.pg_cli.specs.Done.{Performs}
-use Rattle.pg_cli.specs.Reading.{OpensBoth, OpensGame, both, certificate_held, read_of}
+use Rattle.pg_cli.specs.Reading.{OpensBoth, certificate_held, read_of}
 use Rattle.pg_cli.specs.Reporting.{RefusesReport, Reports}
 use Rattle.pg_cli.specs.Run.{Carries, CarriesOn}
 use Rattle.pg_cli.specs.Verdicts.{IsFound, IsJudgedAs, JudgesBoth, JudgesCertificate}
@@ -44,27 +42,6 @@ judged_certificate (Some held) g name before after r same stands (text, whole, g
     (subst (λ (read : Result Cert Halt). IsJudgedAs after.told.checking.game.now read r) (sym (whole_certificate (held name) text whole)) (judged text (come.stands [] stands)))
 
 -- ---- both
-
-pub judged_both : (h h' : Option Holding) (g c : Bytes) (played : Game) (verdict : Verdict) → h' ≡ h → OpensGame h g (Ok played) → JudgesCertificate h' played c (Ok verdict) → JudgesBoth h g c (Ok (played, verdict))
-judged_both h h' g c played verdict same opens judges = go h opens (subst (λ (h : Option Holding). JudgesCertificate h played c (Ok verdict)) same judges) where
-  go : (h : Option Holding) → OpensGame h g (Ok played) → JudgesCertificate h played c (Ok verdict) → JudgesBoth h g c (Ok (played, verdict))
-  go None opens judges = tt
-  go (Some held) opens (cert, read, found) =
-      (cert, ap (λ (r : Result GameEntry Halt). both r (certificate_held (held c))) opens ∙ ap (both (Ok (entry played))) read, found)
-
--- what stands against the game stands against both
-pub unread_game : (h : Option Holding) (g c : Bytes) (halt : Halt) → OpensGame h g (Err halt) → JudgesBoth h g c (Err halt)
-unread_game None g c halt opens = tt
-unread_game (Some held) g c (Refused refusal) opens = ap (λ (r : Result GameEntry Halt). both r (certificate_held (held c))) opens
-unread_game (Some held) g c (Stopped stop) opens = tt
-
--- what stands against reading the certificate stands against both where the game was read
-pub unread_certificate : (h h' : Option Holding) (g c : Bytes) (played : Game) (halt : Halt) → h' ≡ h → OpensGame h g (Ok played) → JudgesCertificate h' played c (Err halt) → JudgesBoth h g c (Err halt)
-unread_certificate h h' g c played halt same opens judges = go h halt opens (subst (λ (h : Option Holding). JudgesCertificate h played c (Err halt)) same judges) where
-  go : (h : Option Holding) (halt : Halt) → OpensGame h g (Ok played) → JudgesCertificate h played c (Err halt) → JudgesBoth h g c (Err halt)
-  go None halt opens judges = tt
-  go (Some held) (Refused refusal) opens judges = ap (λ (r : Result GameEntry Halt). both r (certificate_held (held c))) opens ∙ ap (both (Ok (entry played))) judges
-  go (Some held) (Stopped stop) opens judges = tt
 
 -- what stands against both was so read
 pub opens_err : (h : Option Holding) (g c : Bytes) (halt : Halt) → JudgesBoth h g c (Err halt) → OpensBoth h g c (Err halt)

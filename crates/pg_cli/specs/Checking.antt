@@ -1,5 +1,5 @@
 -- What a check says.
-use Rattle.std.specs.Prelude.{◌≡◌, ℕ, List, [], ◌++◌, map, Option, Result, Ok, Err}
+use Rattle.std.specs.Prelude.{◌≡◌, ℕ, List, ◌++◌, map, Option, Result, Ok, Err}
 use Rattle.pg_io.specs.Console.{Grows}
 use Rattle.pg_io.specs.Files.{Bytes}
 use Rattle.pg_io.specs.declared.entry.Entry.{Entry}

@@ -11,7 +11,8 @@ use Rattle.pg_cli.specs.Generating.{TellsSize, has_source, names_of, searches}
 use Rattle.pg_cli.specs.Halts.{IsGameHalt, IsReadHalt, IsPlayHalt, IsPlayEnd, IsWriteHalt}
 use Rattle.pg_cli.specs.Reading.{both_held, game_held, lacking}
 use Rattle.pg_cli.specs.Reporting.{IsReportEnd}
-use Rattle.pg_cli.specs.Solving.{positions_for}
+use Rattle.pg_cli.specs.Solving.{LeavesSearch, positions_for}
+use Rattle.pg_cli.specs.declared.solving.TheConstants.{DEFAULT_POSITIONS}
 use Rattle.pg_cli.specs.Storing.{StoresAt}
 use Rattle.pg_pns.specs.Expanded.{Expanded}
 use Rattle.pg_io.specs.declared.stop.Stop.TheVariants.{Read, Write, Memory}
@@ -88,10 +89,11 @@ LeavesFiles (Some (Solve g c positions)) before after = StoresAt (c ∷ []) befo
 LeavesFiles (Some (Gen which g c)) before after = StoresAt (names_of g c) before after
 LeavesFiles _ before after = ReadsOnly before after
 
--- what a command leaves of the work of a search: all, unless it searches
+-- what a command leaves of the work of a search: all, unless it searches; then at every status what a search may leave
 abbrev pub LeavesWork : Option Command → Expanded → Expanded → Type 0
-LeavesWork (Some (Solve g c positions)) before after = ⊤
-LeavesWork (Some (Gen which g c)) before after = searches which c ≡ false → after ≡ before
+LeavesWork (Some (Solve g c None)) before after = LeavesSearch DEFAULT_POSITIONS before after
+LeavesWork (Some (Solve g c (Some positions))) before after = LeavesSearch positions before after
+LeavesWork (Some (Gen which g c)) before after = (searches which c ≡ false → after ≡ before) × LeavesSearch DEFAULT_POSITIONS before after
 LeavesWork _ before after = after ≡ before
 
 -- a name that the command reads, in the order of its work, isn't held

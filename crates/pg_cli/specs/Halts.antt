@@ -22,11 +22,6 @@ abbrev pub halt_status : Halt → ℕ
 halt_status (Refused refusal) = refusal_status refusal
 halt_status (Stopped stop) = stop_status stop
 
--- the status of a command that ends so
-abbrev pub status_of : Result ℕ Halt → ℕ
-status_of (Ok status) = status
-status_of (Err halt) = halt_status halt
-
 -- what can end early a command, or a part of one, that reads nothing: a failed write, or want of memory
 abbrev pub IsWriteHalt : Halt → Type 0
 IsWriteHalt (Refused refusal) = ⊥

@@ -1,5 +1,6 @@
 -- What a line that was heard says.
 use Rattle.std.specs.Prelude.{ℕ, ◌==◌, ◌||◌, Bool, [], ◌∷◌, reverse, nat_lt, Option, Some, None, Result, Ok, Err, if◌then◌else◌}
+use Rattle.pg_base.specs.declared.signs.TheConstants.{SPACE}
 use Rattle.pg_io.specs.Files.{Bytes}
 use Rattle.pg_text.specs.Text.{number}
 use Rattle.pg_game.specs.declared.game.Game.{Game}
@@ -11,7 +12,7 @@ use Rattle.pg_texts.specs.declared.message.ReplyFault.TheVariants.{NoNumber, NoP
 
 -- a space, a tab, or a carriage return
 abbrev pub is_blank : ℕ → Bool
-is_blank b = b == 32 || (b == 9 || b == 13)
+is_blank b = b == SPACE || (b == 9 || b == 13)
 
 -- the text without the blank bytes at its beginning
 abbrev pub trimmed_start : Bytes → Bytes

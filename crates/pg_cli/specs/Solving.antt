@@ -14,7 +14,7 @@ use Rattle.pg_cert.specs.declared.cert.Cert.{Cert}
 use Rattle.pg_pns.specs.Expanded.{Expanded}
 use Rattle.pg_solve.specs.Due.{heading}
 use Rattle.pg_solve.specs.Left.{budget, IsAskedLast, IsLeft, IsLeftOpen}
-use Rattle.pg_solve.specs.Solved.{certificate_of, due, is_class, IsTrueOf}
+use Rattle.pg_solve.specs.Solved.{certificate_of, due, is_class, IsTrueOf, IsShown}
 use Rattle.pg_solve.specs.declared.solution.Class.{Class}
 use Rattle.pg_solve.specs.declared.solution.Class.TheVariants.{Short, Cut, First}
 use Rattle.pg_solve.specs.declared.solution.Solution.{Solution}
@@ -68,10 +68,15 @@ result_alone g solution c = solution_text g solution ∷ []
 abbrev pub result_and_counts : Game → Expanded → Told
 result_and_counts g work solution c = solution_text g solution ∷ expanded_text (length work.positions) (node_count c.claims) ∷ []
 
--- the work holds the question that was asked last of a game on lines, and by the rules the positions expanded for it
+-- the work holds the question that was asked last of a game on lines, and by the rules the positions expanded for it, by which the certificate shows what was found; a class is shown by sets of edges
 pub record IsLeftBehind (g : Game) (positions : ℕ) (work : Expanded) (solution : Solution) : Type 0 where
   pub last : IsAskedLast g.kind work.question solution
   pub left : g.kind ≢ Switching → IsLeft g (budget g positions) work
+  pub shown : IsShown g (budget g positions) work.positions solution
+
+-- what solving leaves in the work: all as it was, or by the rules what it asked last of a game on lines
+abbrev pub LeavesSearch : ℕ → Expanded → Expanded → Type 0
+LeavesSearch positions before after = (after ≡ before) ⊎ ((g : Game) × (g.kind ≢ Switching) × IsLeft g (budget g positions) after)
 
 -- the question that was asked last of a game on lines is open after as many positions as the budget allows, and that is said
 pub record StaysOpen (g : Game) (positions : ℕ) (work : Expanded) (done : Done) (status : ℕ) : Type 0 where

@@ -26,7 +26,8 @@ use std::alloc::Global;
 
 /// Says that each claim is accepted.
 fn accept_all<C: Console>(console: &mut C, claims: &[ClaimHead]) -> Result<(), Stop>
-    ensures said { Speaks (map head_acceptance claims.now) (C.told console.old).log (C.told console.new).log result }
+    ensures said { Speaks (map head_acceptance claims.now)
+        (C.told console.old).log (C.told console.new).log result }
     ensures causes { Causes ⊥ (C.told console.old).faults (C.told console.new).faults result }
     ensures left { (C.told console.new).left ≡ (C.told console.old).left }
     ensures write { IfErr result (λ stop. stop ≡ Stop.Write) }
@@ -45,7 +46,8 @@ fn accept_all<C: Console>(console: &mut C, claims: &[ClaimHead]) -> Result<(), S
 /// Says that each claim of a certificate is accepted, where it is valid.
 fn accept<C: Console>(console: &mut C, verdict: &Verdict) -> Result<u8, Halt>
     ensures judged { (g : Game) (c : Cert) → g.bias ≡ 1 → IsFound g c verdict.now
-        → Performs (RefusesCheck (read_of g c)) (AcceptsAll (read_of g c)) (C.told console.old) (C.told console.new) result }
+        → Performs (RefusesCheck (read_of g c)) (AcceptsAll (read_of g c))
+        (C.told console.old) (C.told console.new) result }
     ensures quiet { Quiets (Some (Check [] [])) (C.told console.old) (C.told console.new) result }
     ensures causes { HaltCauses ⊥ (C.told console.old).faults (C.told console.new).faults result }
     ensures done { IfOk result (λ status. status ≡ DONE) }
@@ -77,7 +79,8 @@ pub fn check<F: Files, C: Console>(
         (F.told files.old) (F.told files.new) (C.told console.old) (C.told console.new) result }
     ensures causes { BothCauses (AreLacking (F.told files.old).held game.now certificate.now)
         (F.told files.old) (F.told files.new) (C.told console.old) (C.told console.new) result }
-    ensures quiet { Quiets (Some (Check game.now certificate.now)) (C.told console.old) (C.told console.new) result }
+    ensures quiet { Quiets (Some (Check game.now certificate.now))
+        (C.told console.old) (C.told console.new) result }
     ensures kept { ReadsOnly (F.told files.old) (F.told files.new) }
     ensures done { IfOk result (λ status. status ≡ DONE) }
     ensures halts { IfErr result IsReadHalt }

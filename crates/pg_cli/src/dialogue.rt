@@ -39,7 +39,9 @@ pub enum Turn {
 
 /// Refuses a reply, which ends the turn.
 fn refuse<C: Console>(console: &mut C, fault: ReplyFault) -> Result<Turn, Stop>
-    ensures talk { (g : Game) → (side : Side) → (p : Position) → (refused : ℕ) → Talks g side (C.told console.old) (C.told console.new) (Owes p refused fault) result (λ turn. turned p refused turn) }
+    ensures talk { (g : Game) → (side : Side) → (p : Position) → (refused : ℕ)
+        → Talks g side (C.told console.old) (C.told console.new) (Owes p refused fault) result
+        (λ turn. turned p refused turn) }
     ensures turn { IfOk result (λ turn. turn ≡ Turn.Refused) }
     ensures causes { Causes ⊥ (C.told console.old).faults (C.told console.new).faults result }
     ensures memory { result ≢ Err Stop.Memory }
@@ -52,7 +54,9 @@ fn refuse<C: Console>(console: &mut C, fault: ReplyFault) -> Result<Turn, Stop>
 fn take_point<C: Console>(player: &mut Player<'_>, console: &mut C, v: u16) -> Result<Turn, Stop>
     requires { IsTheirs player.old.game player.old.claim.side player.old.position }
     ensures talk { (refused : ℕ) → TalksFrom player.old (C.told console.old) (C.told console.new)
-        (after_reply player.old.game player.old.position refused (point_or_refusal player.old.game player.old.position (Some v))) result (λ turn. turned player.new.position refused turn) }
+        (after_reply player.old.game player.old.position refused
+        (point_or_refusal player.old.game player.old.position (Some v))) result
+        (λ turn. turned player.new.position refused turn) }
     ensures goes { Goes player.old player.new result }
     ensures causes { Causes ⊥ (C.told console.old).faults (C.told console.new).faults result }
     ensures memory { result ≢ Err Stop.Memory }
@@ -77,7 +81,9 @@ fn answer_line<C: Console>(
 ) -> Result<Turn, Stop>
     requires { IsTheirs player.old.game player.old.claim.side player.old.position }
     ensures talk { (refused : ℕ) → TalksFrom player.old (C.told console.old) (C.told console.new)
-        (after_reply player.old.game player.old.position refused (replied_point player.old.game player.old.position line.now)) result (λ turn. turned player.new.position refused turn) }
+        (after_reply player.old.game player.old.position refused
+        (replied_point player.old.game player.old.position line.now)) result
+        (λ turn. turned player.new.position refused turn) }
     ensures goes { Goes player.old player.new result }
     ensures causes { Causes ⊥ (C.told console.old).faults (C.told console.new).faults result }
     ensures memory { result ≢ Err Stop.Memory }
@@ -128,7 +134,8 @@ fn take_turn<C: Console>(player: &mut Player<'_>, console: &mut C) -> Result<Tur
     }
 }
 
-/// Plays the player's side over a console until the game is over, the input ends, or as many replies are refused as may be.
+/// Plays the player's side over a console until the game is over, the input ends, or as many replies are
+/// refused as may be.
 pub fn play_to_the_end<C: Console>(player: &mut Player<'_>, console: &mut C) -> Result<u8, Stop>
     ensures talk { TalksFrom player.old (C.told console.old) (C.told console.new)
         (At player.old.position 0) result (λ status. Over player.new.position status) }

@@ -1,10 +1,11 @@
 //! Making a game from numbers.
-ghost use Rattle.std.specs.Prelude.{◌≡◌, ◌≤◌, [], ◌∷◌, map, IfErr, IfOk};
+ghost use Rattle.std.specs.Prelude.{◌≡◌, ◌≢◌, ◌≤◌, [], ◌∷◌, map, IfErr, IfOk};
 ghost use Rattle.pg_io.specs.Console.{Grows};
 ghost use Rattle.pg_io.specs.declared.entry.Entry.TheVariants.{Said};
 ghost use Rattle.pg_cert.specs.Limits.{node_count};
 ghost use Rattle.pg_cert.specs.declared.limits.TheConstants.{MAX_NODES};
 ghost use Rattle.pg_base.specs.declared.kind.Kind.TheVariants.{Switching};
+ghost use Rattle.pg_solve.specs.Left.{budget, IsLeft};
 ghost use Rattle.pg_texts.specs.Texts.{message_text};
 ghost use Rattle.pg_texts.specs.declared.statuses.TheConstants.{DONE};
 ghost use Rattle.pg_words.specs.Ordered.{text};
@@ -32,7 +33,8 @@ use pg_texts::{Message, Refusal, UNKNOWN};
 use pg_words::Source;
 use std::alloc::Global;
 
-/// The game that is made of the numbers; none where a number is outside its range. The words ask for no such number.
+/// The game that is made of the numbers; none where a number is outside its range. The words ask for no such
+/// number.
 fn made(alloc: Global, which: Source) -> Result<Option<Game>, Memory>
     ensures { IfOk result (IsMadeOf which) }
 {
@@ -91,9 +93,11 @@ fn deliver_game<F: Files, C: Console>(
 ) -> Result<u8, Halt>
     ensures delivered { Does (Delivers (game_file name.now game.now) (size_texts game.now))
         (F.told files.old) (F.told files.new) (C.told console.old) (C.told console.new) result }
-    ensures said { IfOk result (λ _. Grows (C.told console.old).log (C.told console.new).log (map Said (size_texts game.now))) }
+    ensures said { IfOk result (λ _. Grows (C.told console.old).log (C.told console.new).log
+        (map Said (size_texts game.now))) }
     ensures files { StoresAt (name.now ∷ []) (F.told files.old) (F.told files.new) }
-    ensures causes { BothCauses ⊥ (F.told files.old) (F.told files.new) (C.told console.old) (C.told console.new) result }
+    ensures causes { BothCauses ⊥ (F.told files.old) (F.told files.new)
+        (C.told console.old) (C.told console.new) result }
     ensures quiet { MuteAtMemory (C.told console.old) (C.told console.new) result }
     ensures done { IfOk result (λ status. status ≡ DONE) }
     ensures halts { IfErr result IsWriteHalt }
@@ -102,8 +106,8 @@ fn deliver_game<F: Files, C: Console>(
     deliver(name, &text, size_message(game), None, files, console)
 }
 
-/// Solves a game that was made, and says behind the result how many positions were expanded and how many nodes the
-/// certificate has.
+/// Solves a game that was made, and says behind the result how many positions were expanded and how many nodes
+/// the certificate has.
 fn solve_made<F: Files, C: Console>(
     alloc: Global,
     game: &Game,
@@ -114,11 +118,14 @@ fn solve_made<F: Files, C: Console>(
 ) -> Result<u8, Halt>
     requires empty { work.old.positions ≡ [] }
     requires single { game.now.bias ≡ 1 }
-    ensures solved { Does (SolvesGame (result_and_counts game.now work.new) game.now certificate.now DEFAULT_POSITIONS work.new)
+    ensures solved { Does (SolvesGame (result_and_counts game.now work.new) game.now certificate.now
+        DEFAULT_POSITIONS work.new)
         (F.told files.old) (F.told files.new) (C.told console.old) (C.told console.new) result }
     ensures files { StoresAt (certificate.now ∷ []) (F.told files.old) (F.told files.new) }
-    ensures causes { BothCauses ⊥ (F.told files.old) (F.told files.new) (C.told console.old) (C.told console.new) result }
+    ensures causes { BothCauses ⊥ (F.told files.old) (F.told files.new)
+        (C.told console.old) (C.told console.new) result }
     ensures quiet { MuteAtMemory (C.told console.old) (C.told console.new) result }
+    ensures work { game.now.kind ≢ Switching → IsLeft game.now (budget game.now DEFAULT_POSITIONS) work.new }
     ensures untouched { game.now.kind ≡ Switching → work.new ≡ work.old }
     ensures done { IfOk result (IsSolveEnd game.now.kind) }
     ensures halts { IfErr result IsWriteHalt }
@@ -149,8 +156,8 @@ fn solve_made<F: Files, C: Console>(
     }
 }
 
-/// Makes a game and stores it under a name; and where a certificate is wanted, solves the game and stores the certificate
-/// under its name.
+/// Makes a game and stores it under a name; and where a certificate is wanted, solves the game and stores the
+/// certificate under its name.
 pub fn generate<F: Files, C: Console>(
     alloc: Global,
     which: Source,
@@ -163,9 +170,12 @@ pub fn generate<F: Files, C: Console>(
     requires { work.old.positions ≡ [] }
     ensures ran { Carries (built (Gen which game.now (text certificate.entry))) work.new
         (F.told files.old) (F.told files.new) (C.told console.old) (C.told console.new) result }
-    ensures causes { BothCauses ⊥ (F.told files.old) (F.told files.new) (C.told console.old) (C.told console.new) result }
-    ensures quiet { Quiets (built (Gen which game.now (text certificate.entry))) (C.told console.old) (C.told console.new) result }
-    ensures files { LeavesFiles (built (Gen which game.now (text certificate.entry))) (F.told files.old) (F.told files.new) }
+    ensures causes { BothCauses ⊥ (F.told files.old) (F.told files.new)
+        (C.told console.old) (C.told console.new) result }
+    ensures quiet { Quiets (built (Gen which game.now (text certificate.entry)))
+        (C.told console.old) (C.told console.new) result }
+    ensures files { LeavesFiles (built (Gen which game.now (text certificate.entry)))
+        (F.told files.old) (F.told files.new) }
     ensures work { LeavesWork (built (Gen which game.now (text certificate.entry))) work.old work.new }
     ensures gives { Gives (built (Gen which game.now (text certificate.entry))) result }
 {

@@ -15,7 +15,8 @@ use pg_judge::{JudgeFault, Judging};
 use pg_texts::Refusal;
 use std::alloc::Global;
 
-/// What judging the certificate under this name for a game finds. It is judged piece by piece as it is read, to its end.
+/// What judging the certificate under this name for a game finds. It is judged piece by piece as it is read, to
+/// its end.
 fn judge_certificate<F: Files>(
     alloc: Global,
     files: &mut F,
@@ -24,7 +25,8 @@ fn judge_certificate<F: Files>(
 ) -> Result<Verdict, Halt>
     ensures judged { JudgesCertificate (F.told files.old).held game.now name.now result }
     ensures halts { IfErr result IsReadHalt }
-    ensures causes { HaltCauses (IsAbsent (F.told files.old).held name.now) (F.told files.old).faults (F.told files.new).faults result }
+    ensures causes { HaltCauses (IsAbsent (F.told files.old).held name.now)
+        (F.told files.old).faults (F.told files.new).faults result }
     ensures kept { ReadsOnly (F.told files.old) (F.told files.new) }
 {
     let mut judging = Judging::begin(alloc, game)?;
@@ -39,8 +41,8 @@ fn judge_certificate<F: Files>(
     }
 }
 
-/// The game under one name, and what judging the certificate under another for it finds. The certificate is opened only
-/// where the game is taken.
+/// The game under one name, and what judging the certificate under another for it finds. The certificate is
+/// opened only where the game is taken.
 pub(crate) fn judge_both<F: Files>(
     alloc: Global,
     files: &mut F,
@@ -50,7 +52,8 @@ pub(crate) fn judge_both<F: Files>(
     ensures judged { JudgesBoth (F.told files.old).held game.now certificate.now result }
     ensures single { IfOk result (λ judged. judged.0.bias ≡ 1) }
     ensures halts { IfErr result IsReadHalt }
-    ensures causes { HaltCauses (AreLacking (F.told files.old).held game.now certificate.now) (F.told files.old).faults (F.told files.new).faults result }
+    ensures causes { HaltCauses (AreLacking (F.told files.old).held game.now certificate.now)
+        (F.told files.old).faults (F.told files.new).faults result }
     ensures kept { ReadsOnly (F.told files.old) (F.told files.new) }
 {
     let game = open_game(alloc, files, game)?;

@@ -35,7 +35,8 @@ fn play_checked<C: Console>(
     requires valid { IsValid checked.game.now checked.cert.now }
     requires single { checked.game.now.bias ≡ 1 }
     ensures played { Performs (RefusesPlay side (read_of checked.entry.game.now checked.entry.cert.now))
-        (PlaysOn side (read_of checked.entry.game.now checked.entry.cert.now)) (C.told console.old) (C.told console.new) result }
+        (PlaysOn side (read_of checked.entry.game.now checked.entry.cert.now))
+        (C.told console.old) (C.told console.new) result }
     ensures causes { HaltCauses ⊥ (C.told console.old).faults (C.told console.new).faults result }
     ensures done { IfOk result IsPlayEnd }
     ensures halts { IfErr result IsPlayHalt }
@@ -60,7 +61,8 @@ fn play_by<C: Console>(
 ) -> Result<u8, Halt>
     requires limits { IsWithinLimits certificate.now }
     requires single { game.now.bias ≡ 1 }
-    ensures played { Performs (RefusesPlay side (read_of game.now certificate.now)) (PlaysOn side (read_of game.now certificate.now))
+    ensures played { Performs (RefusesPlay side (read_of game.now certificate.now))
+        (PlaysOn side (read_of game.now certificate.now))
         (C.told console.old) (C.told console.new) result }
     ensures causes { HaltCauses ⊥ (C.told console.old).faults (C.told console.new).faults result }
     ensures done { IfOk result IsPlayEnd }
@@ -88,7 +90,8 @@ pub fn play<F: Files, C: Console>(
         (F.told files.old) (F.told files.new) (C.told console.old) (C.told console.new) result }
     ensures causes { BothCauses (AreLacking (F.told files.old).held game.now certificate.now)
         (F.told files.old) (F.told files.new) (C.told console.old) (C.told console.new) result }
-    ensures quiet { Quiets (Some (Play game.now certificate.now side)) (C.told console.old) (C.told console.new) result }
+    ensures quiet { Quiets (Some (Play game.now certificate.now side))
+        (C.told console.old) (C.told console.new) result }
     ensures kept { ReadsOnly (F.told files.old) (F.told files.new) }
     ensures done { IfOk result IsPlayEnd }
     ensures halts { IfErr result IsPlayHalt }

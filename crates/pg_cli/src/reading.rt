@@ -19,7 +19,8 @@ pub fn open_game<F: Files>(alloc: Global, files: &mut F, name: &str) -> Result<G
     ensures opened { OpensGame (F.told files.old).held name.now result }
     ensures single { IfOk result (λ game. game.bias ≡ 1) }
     ensures halts { IfErr result IsGameHalt }
-    ensures causes { HaltCauses (IsAbsent (F.told files.old).held name.now) (F.told files.old).faults (F.told files.new).faults result }
+    ensures causes { HaltCauses (IsAbsent (F.told files.old).held name.now)
+        (F.told files.old).faults (F.told files.new).faults result }
     ensures kept { ReadsOnly (F.told files.old) (F.told files.new) }
 {
     let text = read_whole(alloc, files, name, MAX_GAME_BYTES)?;
@@ -35,7 +36,8 @@ pub fn open_certificate<F: Files>(alloc: Global, files: &mut F, name: &str) -> R
     ensures opened { OpensCertificate (F.told files.old).held name.now result }
     ensures limits { IfOk result (λ certificate. IsWithinLimits certificate) }
     ensures halts { IfErr result IsReadHalt }
-    ensures causes { HaltCauses (IsAbsent (F.told files.old).held name.now) (F.told files.old).faults (F.told files.new).faults result }
+    ensures causes { HaltCauses (IsAbsent (F.told files.old).held name.now)
+        (F.told files.old).faults (F.told files.new).faults result }
     ensures kept { ReadsOnly (F.told files.old) (F.told files.new) }
 {
     let text = read_whole(alloc, files, name, MAX_CERT_BYTES)?;
@@ -59,7 +61,8 @@ pub fn open_both<F: Files>(
     ensures single { IfOk result (λ both. both.0.bias ≡ 1) }
     ensures limits { IfOk result (λ both. IsWithinLimits both.1) }
     ensures halts { IfErr result IsReadHalt }
-    ensures causes { HaltCauses (AreLacking (F.told files.old).held game.now certificate.now) (F.told files.old).faults (F.told files.new).faults result }
+    ensures causes { HaltCauses (AreLacking (F.told files.old).held game.now certificate.now)
+        (F.told files.old).faults (F.told files.new).faults result }
     ensures kept { ReadsOnly (F.told files.old) (F.told files.new) }
 {
     let game = open_game(alloc, files, game)?;

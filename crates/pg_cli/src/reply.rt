@@ -2,13 +2,14 @@
 ghost use Rattle.std.specs.Prelude.{◌≡◌};
 ghost use Rattle.pg_cli.specs.Reply.{is_blank, trimmed_start, trimmed_end, said_number};
 
+use pg_base::SPACE;
 use pg_text::number;
 
 /// Whether the byte is a space, a tab, or a carriage return.
 fn is_blank(b: u8) -> bool
     ensures { result ≡ is_blank b }
 {
-    b == b' ' || b == b'\t' || b == b'\r'
+    b == SPACE || b == b'\t' || b == b'\r'
 }
 
 /// The text without the blank bytes at its beginning.

@@ -24,7 +24,8 @@ use std::alloc::Global;
 
 /// What there is to say of a certificate for a game, and the status that goes with it.
 fn account(alloc: Global, game: &Game, verdict: &Verdict) -> Result<(String, u8), Memory>
-    ensures told { IfOk result (λ told. (c : Cert) → IsFound game.now c verdict.now → Accounts game.now c (string_bytes told.0) told.1) }
+    ensures told { IfOk result (λ told. (c : Cert) → IsFound game.now c verdict.now
+        → Accounts game.now c (string_bytes told.0) told.1) }
     ensures end { IfOk result (λ told. IsReportEnd told.1) }
 {
     match verdict {
@@ -45,7 +46,8 @@ fn report_on<C: Console>(
 ) -> Result<u8, Halt>
     requires { game.now.bias ≡ 1 }
     ensures reported { (c : Cert) → IsFound game.now c verdict.now
-        → Performs (RefusesReport (read_of game.now c)) (Reports (read_of game.now c)) (C.told console.old) (C.told console.new) result }
+        → Performs (RefusesReport (read_of game.now c)) (Reports (read_of game.now c))
+        (C.told console.old) (C.told console.new) result }
     ensures quiet { Quiets (Some (Report [] [])) (C.told console.old) (C.told console.new) result }
     ensures causes { HaltCauses ⊥ (C.told console.old).faults (C.told console.new).faults result }
     ensures done { IfOk result IsReportEnd }
@@ -69,7 +71,8 @@ pub fn report<F: Files, C: Console>(
         (F.told files.old) (F.told files.new) (C.told console.old) (C.told console.new) result }
     ensures causes { BothCauses (AreLacking (F.told files.old).held game.now certificate.now)
         (F.told files.old) (F.told files.new) (C.told console.old) (C.told console.new) result }
-    ensures quiet { Quiets (Some (Report game.now certificate.now)) (C.told console.old) (C.told console.new) result }
+    ensures quiet { Quiets (Some (Report game.now certificate.now))
+        (C.told console.old) (C.told console.new) result }
     ensures kept { ReadsOnly (F.told files.old) (F.told files.new) }
     ensures done { IfOk result IsReportEnd }
     ensures halts { IfErr result IsReadHalt }

@@ -34,66 +34,39 @@ fn carry_out<F: Files, C: Console>(
         (F.told files.old) (F.told files.new) (C.told console.old) (C.told console.new) result }
     ensures causes { BothCauses (IsLacking (F.told files.old).held (asked (map string_bytes words.now)))
         (F.told files.old) (F.told files.new) (C.told console.old) (C.told console.new) result }
-    ensures quiet { Quiets (asked (map string_bytes words.now)) (C.told console.old) (C.told console.new) result }
+    ensures quiet { Quiets (asked (map string_bytes words.now))
+        (C.told console.old) (C.told console.new) result }
     ensures files { LeavesFiles (asked (map string_bytes words.now)) (F.told files.old) (F.told files.new) }
     ensures work { LeavesWork (asked (map string_bytes words.now)) work.old work.new }
     ensures gives { Gives (asked (map string_bytes words.now)) result }
 {
-    match meaning(alloc, words)? {
-        Some(
-            Command::Solve {
-                game,
-                certificate,
-                positions,
-            },
-        ) => match positions_for(positions) {
-            Some(positions) => solve(
-                alloc,
-                game.as_str(),
-                certificate.as_str(),
-                positions,
-                files,
-                console,
-                work,
-            ),
+    let Some(command) = meaning(alloc, words)? else {
+        return Err(Halt::Refused(Refusal::NoMeaning));
+    };
+    match command {
+        Command::Solve {
+            game,
+            certificate,
+            positions,
+        } => match positions_for(positions) {
+            Some(most) => solve(alloc, &game, &certificate, most, files, console, work),
             None => Err(Halt::Refused(Refusal::NoMeaning)),
         },
-        Some(Command::Check { game, certificate }) => {
-            check(alloc, game.as_str(), certificate.as_str(), files, console)
-        }
-        Some(
-            Command::Play {
-                game,
-                certificate,
-                side,
-            },
-        ) => play(
-            alloc,
-            game.as_str(),
-            certificate.as_str(),
+        Command::Check { game, certificate } => check(alloc, &game, &certificate, files, console),
+        Command::Play {
+            game,
+            certificate,
             side,
-            files,
-            console,
-        ),
-        Some(Command::Report { game, certificate }) => {
-            report(alloc, game.as_str(), certificate.as_str(), files, console)
-        }
-        Some(
-            Command::Gen {
-                which,
-                game,
-                certificate,
-            },
-        ) => generate(
-            alloc,
+        } => play(alloc, &game, &certificate, side, files, console),
+        Command::Report { game, certificate } => report(alloc, &game, &certificate, files, console),
+        Command::Gen {
             which,
-            game.as_str(),
-            certificate.as_deref(),
-            files,
-            console,
-            work,
-        ),
-        None => Err(Halt::Refused(Refusal::NoMeaning)),
+            game,
+            certificate,
+        } => {
+            let certificate = certificate.as_deref();
+            generate(alloc, which, &game, certificate, files, console, work)
+        }
     }
 }
 
@@ -127,13 +100,14 @@ fn end_early<C: Console>(console: &mut C, halt: Halt) -> u8
 /// | 8 | the input has ended before the game that is played |
 /// | 9 | the hundredth reply was refused |
 ///
-/// A game that is made is stored before its size is said, and solved only then. The first failing call on files or console ends
-/// the run. Where the files tell what they hold, `ran` says what is said
-/// and stored at each status, by the command; in play, that the log is a dialogue of the side to its end, and that at 0
-/// the outcome reaches the goal of the claim. `forced` says that at any status every claim that is accepted or played is
-/// forced by its side. The other clauses hold for all files and consoles: `silent` says what is said at 5 and 7,
-/// `files` and `work` what is left as it was, `statuses` which statuses the command may give, `words` what is said of
-/// words without a meaning, and `causes` when a status comes from a failed call.
+/// A game that is made is stored before its size is said, and solved only then. Where the files tell what they
+/// hold, `ran` says what is said and stored at each status, by the command; in play, that the log is a dialogue
+/// of the side to its end, and that at 0 the outcome reaches the goal of the claim. `forced` says that at any
+/// status every claim that is accepted or played is forced by its side. `silent` says what is said at 5 and 7,
+/// `words` what is said of words without a meaning, `files` and `work` what is left, `statuses` which statuses
+/// the command may give, and `causes` when a status comes from a failed call. Of files and consoles that tell
+/// nothing, as the system's, the last four alone say something: what `work` holds, the statuses, their causes,
+/// and that no file is being made afterwards.
 pub fn run<F: Files, C: Console>(
     alloc: Global,
     words: &[String],
@@ -146,11 +120,13 @@ pub fn run<F: Files, C: Console>(
         (F.told files.old) (F.told files.new) (C.told console.old) (C.told console.new) result }
     ensures forced { AnnouncesForced (F.told files.old).held (asked (map string_bytes words.now))
         (C.told console.old).log (C.told console.new).log }
-    ensures silent { Silences (asked (map string_bytes words.now)) (C.told console.old) (C.told console.new) result }
+    ensures silent { Silences (asked (map string_bytes words.now))
+        (C.told console.old) (C.told console.new) result }
     ensures files { LeavesFiles (asked (map string_bytes words.now)) (F.told files.old) (F.told files.new) }
     ensures work { LeavesWork (asked (map string_bytes words.now)) work.old work.new }
     ensures statuses { Contains (statuses_of (asked (map string_bytes words.now))) result }
-    ensures words { asked (map string_bytes words.now) ≡ None → SaysNoMeaning (C.told console.old) (C.told console.new) result }
+    ensures words { asked (map string_bytes words.now) ≡ None
+        → SaysNoMeaning (C.told console.old) (C.told console.new) result }
     ensures causes { HasCause (IsLacking (F.told files.old).held (asked (map string_bytes words.now)))
         (F.told files.old) (F.told files.new) (C.told console.old) (C.told console.new) result }
 {

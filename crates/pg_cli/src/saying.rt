@@ -37,7 +37,8 @@ pub fn say_both<C: Console>(
     message: Message,
     further: Option<Message>,
 ) -> Result<(), Stop>
-    ensures said { SaysTexts (texts_of message further) (C.told console.old).log (C.told console.new).log result }
+    ensures said { SaysTexts (texts_of message further)
+        (C.told console.old).log (C.told console.new).log result }
     ensures causes { Causes ⊥ (C.told console.old).faults (C.told console.new).faults result }
     ensures left { (C.told console.new).left ≡ (C.told console.old).left }
     ensures write { IfErr result (λ stop. stop ≡ Stop.Write) }

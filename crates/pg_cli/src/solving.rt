@@ -1,15 +1,16 @@
 //! Solving a game, and storing what shows it.
-ghost use Rattle.std.specs.Prelude.{◌≡◌, ◌≤◌, [], ◌∷◌, length, map, IfErr, IfOk, IfSome, Some};
+ghost use Rattle.std.specs.Prelude.{◌≡◌, ◌≢◌, ◌≤◌, [], ◌∷◌, length, map, IfErr, IfOk, IfSome, Some};
 ghost use Rattle.pg_io.specs.Console.{Grows};
 ghost use Rattle.pg_io.specs.declared.entry.Entry.TheVariants.{Said};
 ghost use Rattle.pg_cert.specs.Limits.{IsWithinLimits};
 ghost use Rattle.pg_cert.specs.Print.{printed_certificate};
 ghost use Rattle.pg_base.specs.declared.kind.Kind.TheVariants.{Switching};
+ghost use Rattle.pg_solve.specs.Left.{budget, IsLeft};
 ghost use Rattle.pg_solve.specs.declared.solving.TheConstants.{LEAST_POSITIONS, MOST_POSITIONS};
 ghost use Rattle.pg_texts.specs.Texts.{message_text};
 ghost use Rattle.pg_texts.specs.declared.statuses.TheConstants.{DONE, UNKNOWN};
 ghost use Rattle.pg_words.specs.Words.{Solve};
-ghost use Rattle.pg_cli.specs.Commands.{Gives, Quiets};
+ghost use Rattle.pg_cli.specs.Commands.{Gives, LeavesWork, Quiets};
 ghost use Rattle.pg_cli.specs.Done.{Does};
 ghost use Rattle.pg_cli.specs.Halts.{BothCauses, IsWriteHalt, MuteAtMemory};
 ghost use Rattle.pg_cli.specs.Reading.{IsGameLacking};
@@ -32,8 +33,8 @@ use std::alloc::Global;
 /// How many positions may be expanded where the words say none.
 pub const DEFAULT_POSITIONS: u32 = 20_000;
 
-/// How many positions may be expanded, where so many are asked for or none are said. The words ask for no number that isn't
-/// allowed.
+/// How many positions may be expanded, where so many are asked for or none are said. The words ask for no
+/// number that isn't allowed.
 pub fn positions_for(positions: Option<u32>) -> Option<u32>
     ensures exact { result ≡ positions_for positions }
     ensures within { IfSome result (λ n. (LEAST_POSITIONS ≤ n) × (n ≤ MOST_POSITIONS)) }
@@ -67,9 +68,11 @@ pub fn deliver<F: Files, C: Console>(
 ) -> Result<u8, Halt>
     ensures delivered { Does (Delivers (name.now, text.now) (texts_of message further))
         (F.told files.old) (F.told files.new) (C.told console.old) (C.told console.new) result }
-    ensures said { IfOk result (λ _. Grows (C.told console.old).log (C.told console.new).log (map Said (texts_of message further))) }
+    ensures said { IfOk result (λ _. Grows (C.told console.old).log (C.told console.new).log
+        (map Said (texts_of message further))) }
     ensures files { StoresAt (name.now ∷ []) (F.told files.old) (F.told files.new) }
-    ensures causes { BothCauses ⊥ (F.told files.old) (F.told files.new) (C.told console.old) (C.told console.new) result }
+    ensures causes { BothCauses ⊥ (F.told files.old) (F.told files.new)
+        (C.told console.old) (C.told console.new) result }
     ensures quiet { MuteAtMemory (C.told console.old) (C.told console.new) result }
     ensures done { IfOk result (λ status. status ≡ DONE) }
     ensures halts { IfErr result IsWriteHalt }
@@ -79,7 +82,8 @@ pub fn deliver<F: Files, C: Console>(
     Ok(DONE)
 }
 
-/// Stores a certificate that shows what was found, and says what was found, and a further message where it is given.
+/// Stores a certificate that shows what was found, and says what was found, and a further message where it is
+/// given.
 pub fn deliver_solution<F: Files, C: Console>(
     alloc: Global,
     name: &str,
@@ -90,10 +94,12 @@ pub fn deliver_solution<F: Files, C: Console>(
     console: &mut C,
 ) -> Result<u8, Halt>
     requires { IsWithinLimits certificate.now }
-    ensures delivered { Does (Delivers (name.now, printed_certificate certificate.now) (texts_of message further))
+    ensures delivered { Does (Delivers (name.now, printed_certificate certificate.now)
+        (texts_of message further))
         (F.told files.old) (F.told files.new) (C.told console.old) (C.told console.new) result }
     ensures files { StoresAt (name.now ∷ []) (F.told files.old) (F.told files.new) }
-    ensures causes { BothCauses ⊥ (F.told files.old) (F.told files.new) (C.told console.old) (C.told console.new) result }
+    ensures causes { BothCauses ⊥ (F.told files.old) (F.told files.new)
+        (C.told console.old) (C.told console.new) result }
     ensures quiet { MuteAtMemory (C.told console.old) (C.told console.new) result }
     ensures done { IfOk result (λ status. status ≡ DONE) }
     ensures halts { IfErr result IsWriteHalt }
@@ -102,8 +108,8 @@ pub fn deliver_solution<F: Files, C: Console>(
     deliver(name, &text, message, further, files, console)
 }
 
-/// What is found of a game: the message that says it, and the certificate that shows it; none where the question that was
-/// asked last stays open.
+/// What is found of a game: the message that says it, and the certificate that shows it; none where the
+/// question that was asked last stays open.
 pub fn find(
     alloc: Global,
     game: &Game,
@@ -115,6 +121,7 @@ pub fn find(
     requires single { game.now.bias ≡ 1 }
     ensures found { IfOk result (IsFound game.now positions work.new) }
     ensures few { work.old.positions ≡ [] → length work.new.positions ≤ MOST_POSITIONS }
+    ensures work { game.now.kind ≢ Switching → IsLeft game.now (budget game.now positions) work.new }
     ensures untouched { game.now.kind ≡ Switching → work.new ≡ work.old }
 {
     match pg_solve::solve(alloc, game, positions, work)? {
@@ -143,8 +150,11 @@ fn solve_game<F: Files, C: Console>(
     ensures solved { Does (SolvesGame (result_alone game.now) game.now certificate.now positions work.new)
         (F.told files.old) (F.told files.new) (C.told console.old) (C.told console.new) result }
     ensures files { StoresAt (certificate.now ∷ []) (F.told files.old) (F.told files.new) }
-    ensures causes { BothCauses ⊥ (F.told files.old) (F.told files.new) (C.told console.old) (C.told console.new) result }
+    ensures causes { BothCauses ⊥ (F.told files.old) (F.told files.new)
+        (C.told console.old) (C.told console.new) result }
     ensures quiet { MuteAtMemory (C.told console.old) (C.told console.new) result }
+    ensures work { game.now.kind ≢ Switching → IsLeft game.now (budget game.now positions) work.new }
+    ensures untouched { game.now.kind ≡ Switching → work.new ≡ work.old }
     ensures done { IfOk result (IsSolveEnd game.now.kind) }
     ensures halts { IfErr result IsWriteHalt }
 {
@@ -175,8 +185,10 @@ pub fn solve<F: Files, C: Console>(
         (F.told files.old) (F.told files.new) (C.told console.old) (C.told console.new) result }
     ensures causes { BothCauses (IsGameLacking (F.told files.old).held game.now)
         (F.told files.old) (F.told files.new) (C.told console.old) (C.told console.new) result }
-    ensures quiet { Quiets (Some (Solve game.now certificate.now (Some positions))) (C.told console.old) (C.told console.new) result }
+    ensures quiet { Quiets (Some (Solve game.now certificate.now (Some positions)))
+        (C.told console.old) (C.told console.new) result }
     ensures files { StoresAt (certificate.now ∷ []) (F.told files.old) (F.told files.new) }
+    ensures work { LeavesWork (Some (Solve game.now certificate.now (Some positions))) work.old work.new }
     ensures gives { Gives (Some (Solve game.now certificate.now (Some positions))) result }
 {
     let game = open_game(alloc, files, game)?;

@@ -5,12 +5,12 @@ use Rattle.pg_io.specs.Files.{Bytes}
 use Rattle.pg_game.specs.declared.game.Game.{Game}
 use Rattle.pg_words.specs.Ordered.{text}
 use Rattle.pg_words.specs.Words.{Command, Gen}
-use Rattle.pg_cli.specs.Commands.{Quiets, built}
+use Rattle.pg_cli.specs.Commands.{LeavesWork, Quiets, built}
 use Rattle.pg_cli.specs.Generating.{IsMadeOf, game_file, size_texts}
 use Rattle.pg_cli.specs.Run.{Carries}
 use Rattle.pg_cli.specs.Solving.{SolvesGame, result_and_counts}
 use Rattle.pg_cli.specs.declared.solving.TheConstants.{DEFAULT_POSITIONS}
-use Rattle.pg_cli.proofs.Making.{carries_made, of_built, quiet_then, stores_halted}
+use Rattle.pg_cli.proofs.Making.{carries_made, of_built, quiet_then, stores_halted, work_left}
 use Rattle.pg_cli.proofs.Parts.{delivers_then}
 use Rattle.pg_cli.proofs.Runs.{carries_memory}
 use Rattle.pg_cli.proofs.generating.generate.Goals as goal
@@ -72,3 +72,12 @@ returns-clause-quiet g c =
     subst (λ (o : Option (Bor Bytes)). Quiets (built (Gen c.args.which c.args.game.now (text o))) before after c.solve_made.result) (sym c.in-Some-certificate.is)
     (of_built c.args.which c.args.game.now (Some certificate) (λ (command : Option Command). Quiets command before after c.solve_made.result) is.0
     (quiet_then c.args.which c.args.game.now certificate made before between after c.solve_made.result is.1 c.in_ok-status.ensures.said c.solve_made.ensures.quiet c.solve_made.ensures.halts))
+
+pub returns-clause-work : goal.returns-clause-work
+returns-clause-work g c =
+    let made = c.in-Some.made in
+    let certificate = c.in-Some-certificate.certificate.now in
+    let is = subst (λ (o : Option Game). IsMadeOf c.args.which o) c.in-Some.is c.in_ok-made.ensures in
+    subst (λ (o : Option (Bor Bytes)). LeavesWork (built (Gen c.args.which c.args.game.now (text o))) c.args.work.now c.solve_made.new.work) (sym c.in-Some-certificate.is)
+    (of_built c.args.which c.args.game.now (Some certificate) (λ (command : Option Command). LeavesWork command c.args.work.now c.solve_made.new.work) is.0
+    (work_left c.args.which c.args.game.now certificate made c.args.work.now c.solve_made.new.work is.1 c.solve_made.ensures.untouched c.solve_made.ensures.work))

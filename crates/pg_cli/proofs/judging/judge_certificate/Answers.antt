@@ -1,4 +1,4 @@
-use Rattle.std.proofs.Common.{ℕ, List, Ok, Err, subst}
+use Rattle.std.proofs.Common.{Ok, Err, subst}
 use Rattle.pg_cert_files.specs.CertFile.{certificate}
 use Rattle.pg_cert_files.specs.Views.{number_of}
 use Rattle.pg_judge.specs.Judged.{StandsAgainst}

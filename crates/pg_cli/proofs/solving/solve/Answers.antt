@@ -1,5 +1,6 @@
+use Rattle.std.proofs.Common.{inl, refl}
 use Rattle.std.proofs.lemmas.Result.{err_from_is_err_and}
-use Rattle.pg_cli.proofs.Solves.{carries_solve, halted_solve}
+use Rattle.pg_cli.proofs.Solves.{carries_solve, halted_solve, leaves_search}
 use Rattle.pg_cli.proofs.solving.solve.Goals as goal
 
 pub returns-in_err-game-clause-ran : goal.returns-in_err-game-clause-ran
@@ -12,3 +13,9 @@ pub returns-clause-ran : goal.returns-clause-ran
 returns-clause-ran g c =
     carries_solve c.args.game.now c.args.certificate.now c.args.positions c.in_ok-game.game c.solve_game.new.work (g.F.Files.told c.args.files.now) (g.F.Files.told c.open_game.new.files) (g.F.Files.told c.solve_game.new.files)
     (g.C.Console.told c.args.console.now) (g.C.Console.told c.solve_game.new.console) c.solve_game.result c.open_game.ensures.kept.held c.in_ok-game.ensures.opened c.in_ok-game.ensures.single c.solve_game.ensures.solved
+
+pub returns-in_err-game-clause-work : goal.returns-in_err-game-clause-work
+returns-in_err-game-clause-work g c = inl refl
+
+pub returns-clause-work : goal.returns-clause-work
+returns-clause-work g c = leaves_search c.in_ok-game.game c.args.positions c.args.work.now c.solve_game.new.work c.solve_game.ensures.work c.solve_game.ensures.untouched
