@@ -10,11 +10,10 @@ ghost use Rattle.std.specs.Prelude.{◌≡◌, ◌≢◌, ◌<◌, true, IfSome}
 ghost use Rattle.pg_base.specs.declared.kind.Kind.TheVariants.{Switching};
 ghost use Rattle.pg_game.specs.Game.{point_count};
 ghost use Rattle.pg_game.specs.Position.{is_free};
-ghost use Rattle.pg_game.specs.Threat.{may_attack};
 
 use pg_base::{Kind, PointSet, Side};
 use pg_board::Board;
-use pg_game::{Field, Game, LineField, Position};
+use pg_game::{Field, Game, LineField, Position, may_attack};
 use pg_threat::forced;
 use std::alloc::Global;
 use std::{env, io};
@@ -28,17 +27,6 @@ struct Tally {
     ask: bool,
     asked: u64,
     found: [u64; 4],
-}
-
-/// Whether the side to move may attack.
-fn may_attack(kind: Kind, side: Side) -> bool
-    ensures { result ≡ may_attack kind side }
-{
-    match kind {
-        Kind::MakerBreaker => matches!(side, Side::X),
-        Kind::MakerMaker => true,
-        Kind::AvoiderEnforcer | Kind::Switching => false,
-    }
 }
 
 /// The points of the rows of five that begin at a point and go on by a step across and one down, one after the other.

@@ -1,62 +1,34 @@
 -- The best of the values after the moves from a point on.
-use Rattle.std.proofs.Common.{◌≡◌, ℕ, suc, ◌+◌, ◌-◌, ◌<◌, true, false, List, ◌∷◌, [], Some, None, if◌then◌else◌, map, refl, sym, ap, ◌∙◌, subst, inl, inr, arith}
+use Rattle.std.proofs.Common.{◌≡◌, ℕ, ◌+◌, ◌<◌, true, false, List, ◌∷◌, Some, None, if◌then◌else◌, refl, sym, ◌∙◌, subst, inl, inr}
 use Rattle.std.proofs.lemmas.Bool.{cases_Bool, cond-true, cond-false}
-use Rattle.std.specs.List.{filter, range_with_len}
 use Rattle.pg_base.specs.declared.side.Side.{Side}
 use Rattle.pg_base.specs.declared.side.Side.TheVariants.{X, Y}
 use Rattle.pg_base.specs.declared.score.Score.{Score}
 use Rattle.pg_game.specs.declared.game.Game.{Game}
 use Rattle.pg_game.specs.declared.position.Position.{Position}
 use Rattle.pg_game.specs.Fit.{AreBelow}
-use Rattle.pg_game.specs.Game.{point_count, free_points, after, is_over, outcome}
+use Rattle.pg_game.specs.Game.{point_count, after, is_over, outcome}
 use Rattle.pg_game.specs.Position.{is_free}
 use Rattle.pg_game.specs.Value.{best, better, value}
 use Rattle.pg_game.proofs.Moves.{points-from}
+use Rattle.pg_plain.proofs.MovesFrom.{told_from, from-free, from-all}
 use Rattle.pg_game.proofs.ValueLaws.{value-step, value-over}
 
--- the best of the values after moves to the free points among so many from a on
-best_among : Game → Position → ℕ → ℕ → Score
-best_among g p a k = best p.turn (map (λ v. value g (after g p v)) (filter (is_free p) (range_with_len a k)))
-
--- the same of all points from a on
-pub best_from : Game → Position → ℕ → Score
-best_from g p a = best_among g p a (point_count g - a)
+-- the best of the values after moves to the free points from a on
+abbrev pub best_from : Game → Position → ℕ → Score
+best_from g p = told_from g p (best p.turn) (λ v. value g (after g p v))
 
 best-more : (side : Side) (s : Score) (ss : List Score) → best side (s ∷ ss) ≡ better side s (best side ss)
 best-more X s ss = refl
 best-more Y s ss = refl
 
-among-free : (g : Game) (p : Position) (a k : ℕ) → is_free p a ≡ true → best_among g p a (suc k) ≡ better p.turn (value g (after g p a)) (best_among g p (a + 1) k)
-unfolding best_among
-among-free g p a k free = rw free (best-more p.turn (value g (after g p a)) _)
-
-among-taken : (g : Game) (p : Position) (a k : ℕ) → is_free p a ≡ false → best_among g p a (suc k) ≡ best_among g p (a + 1) k
-unfolding best_among
-among-taken g p a k taken = rw taken refl
-
-from-next : (g : Game) (p : Position) (a : ℕ) → a < point_count g → best_from g p a ≡ best_among g p a (suc (point_count g - (a + 1)))
-unfolding best_from
-from-next g p a within = let one : point_count g - a ≡ suc (point_count g - (a + 1)) = omega arith in ap (best_among g p a) one
-
--- no point is left
-pub best-none : (g : Game) (p : Position) → best_from g p (point_count g) ≡ best p.turn []
-unfolding best_from best_among
-best-none g p = let none : point_count g - point_count g ≡ 0 = omega arith in ap (best_among g p (point_count g)) none
-
 -- a free point more
 pub best-free : (g : Game) (p : Position) (a : ℕ) → a < point_count g → is_free p a ≡ true → best_from g p a ≡ better p.turn (value g (after g p a)) (best_from g p (a + 1))
-unfolding best_from
-best-free g p a within free = from-next g p a within ∙ among-free g p a (point_count g - (a + 1)) free
-
--- a point more that isn't free
-pub best-taken : (g : Game) (p : Position) (a : ℕ) → a < point_count g → is_free p a ≡ false → best_from g p a ≡ best_from g p (a + 1)
-unfolding best_from
-best-taken g p a within taken = from-next g p a within ∙ among-taken g p a (point_count g - (a + 1)) taken
+best-free g p a within free = from-free g p (best p.turn) (λ v. value g (after g p v)) (better p.turn) (best-more p.turn) a within free
 
 -- all points
 pub best-all : (g : Game) (p : Position) → is_over g p ≡ false → best_from g p 0 ≡ value g p
-unfolding best_from best_among free_points
-best-all g p going = let whole : point_count g - 0 ≡ point_count g = omega arith in ap (best_among g p 0) whole ∙ sym (value-step g p going)
+best-all g p going = from-all g p (best p.turn) (λ v. value g (after g p v)) ∙ sym (value-step g p going)
 
 -- X's points stay points of the game
 pub x_range-after : (g : Game) (p : Position) (v : ℕ) → AreBelow p.x (point_count g) → v < point_count g → AreBelow (after g p v).x (point_count g)

@@ -1,5 +1,5 @@
 -- The first criterion that applies, asked one after the other.
-use Rattle.std.proofs.Common.{◌≡◌, ℕ, ◌<◌, Bool, true, false, ◌&&◌, Option, Some, None, List, option_map, if◌then◌else◌, refl, sym, ap, ◌∙◌, ltb, lt-ltb, inl, inr}
+use Rattle.std.proofs.Common.{◌≡◌, ℕ, Bool, true, false, ◌&&◌, Some, None, List, if◌then◌else◌, refl, sym, ap, ◌∙◌, ltb, lt-ltb, inl, inr}
 use Rattle.std.specs.FinSet.{FinSet, contains}
 use Rattle.std.specs.Ordering.{nat_cmp}
 use Rattle.std.proofs.lemmas.Bool.{cases_Bool, cond-true, cond-false}
@@ -11,8 +11,7 @@ use Rattle.pg_game.specs.declared.position.Position.{Position}
 use Rattle.pg_game.specs.Position.{is_free, points_of}
 use Rattle.pg_game.specs.Game.{is_over, outcome, lines_of, point_count}
 use Rattle.pg_game.specs.Pairs.{breaker_of}
-use Rattle.pg_game.specs.Decided.{Criterion, decided, first_criterion, answer_by, at_least, answer_for, defender, defends, attack_wins, pairs_exist, has_lines, avoider_can_pair}
-use Rattle.pg_game.specs.Decided.Criterion.{ByEnd, ByPotential, ByThreat, ByPairs}
+use Rattle.pg_game.specs.Decided.{decided, first_criterion, at_least, answer_for, defender, defends, attack_wins, pairs_exist, has_lines, avoider_can_pair}
 use Rattle.pg_game.proofs.Limits.{lines-range}
 use Rattle.pg_plain.specs.PairSearch.{have_pairs}
 use Rattle.pg_plain.proofs.PairSearches.{pairs-within}

@@ -1,3 +1,4 @@
+pub mod MovesFrom
 pub mod BestPlay
 pub mod ClassLaws
 pub mod LeafLaws

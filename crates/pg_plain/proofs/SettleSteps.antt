@@ -1,17 +1,18 @@
 -- What is known from the moves to the points from one on.
-use Rattle.std.proofs.Common.{◌≡◌, ℕ, suc, ◌+◌, ◌-◌, ◌<◌, Bool, true, false, Option, Some, None, is_some, List, ◌∷◌, [], map, refl, sym, ap, ◌∙◌, inl, inr, arith}
+use Rattle.std.proofs.Common.{◌≡◌, ℕ, ◌+◌, ◌<◌, Bool, true, false, Option, Some, None, is_some, List, ◌∷◌, [], refl, sym, ◌∙◌, inl, inr}
 use Rattle.std.proofs.lemmas.Bool.{cases_Bool, false≢true}
-use Rattle.std.specs.List.{filter, list_any, list_all, range_with_len}
+use Rattle.std.specs.List.{list_any, list_all}
 use Rattle.pg_base.specs.declared.score.Score.{Score}
 use Rattle.pg_base.specs.declared.side.Side.{Side}
 use Rattle.pg_base.specs.declared.side.Side.TheVariants.{X, Y}
 use Rattle.pg_game.specs.declared.game.Game.{Game}
 use Rattle.pg_game.specs.declared.position.Position.{Position}
-use Rattle.pg_game.specs.Game.{point_count, free_points, after}
+use Rattle.pg_game.specs.Game.{point_count, after}
 use Rattle.pg_game.specs.Position.{is_free}
 use Rattle.pg_game.specs.Decided.{decided}
 use Rattle.pg_game.specs.Settled.{by_moves, is_answer, is_listed, settled}
 use Rattle.pg_game.proofs.SettledLaws.{settle-decided, settle-listed}
+use Rattle.pg_plain.proofs.MovesFrom.{told_from, from-free, from-all}
 use Rattle.pg_plain.specs.Known.{with_move}
 
 -- what is known where there are no moves
@@ -40,45 +41,17 @@ known-more Y None os = elim (cases_Bool (list_any (is_answer false) os)) [
 ]
 
 module _ (g : Game) (t : Score) (table : List Position) (p : Position) where
-  -- what the moves to the free points among so many from a on give
-  known_among : ℕ → ℕ → Option Bool
-  known_among a k = by_moves p.turn (map (λ v. settled g t table (after g p v)) (filter (is_free p) (range_with_len a k)))
-
-  -- the same of all points from a on
-  pub known_from : ℕ → Option Bool
-  known_from a = known_among a (point_count g - a)
-
-  among-free : (a k : ℕ) → is_free p a ≡ true → known_among a (suc k) ≡ with_move p.turn (settled g t table (after g p a)) (known_among (a + 1) k)
-  unfolding known_among
-  among-free a k free = rw free (known-more p.turn (settled g t table (after g p a)) _)
-
-  among-taken : (a k : ℕ) → is_free p a ≡ false → known_among a (suc k) ≡ known_among (a + 1) k
-  unfolding known_among
-  among-taken a k taken = rw taken refl
-
-  from-next : (a : ℕ) → a < point_count g → known_from a ≡ known_among a (suc (point_count g - (a + 1)))
-  unfolding known_from
-  from-next a within = let one : point_count g - a ≡ suc (point_count g - (a + 1)) = omega arith in ap (known_among a) one
-
-  -- no point is left
-  pub known-none : known_from (point_count g) ≡ by_moves p.turn []
-  unfolding known_from known_among
-  known-none = let none : point_count g - point_count g ≡ 0 = omega arith in ap (known_among (point_count g)) none
+  -- what the moves to the free points from a on give
+  abbrev pub known_from : ℕ → Option Bool
+  known_from = told_from g p (by_moves p.turn) (λ v. settled g t table (after g p v))
 
   -- a free point more
   pub known-free : (a : ℕ) → a < point_count g → is_free p a ≡ true → known_from a ≡ with_move p.turn (settled g t table (after g p a)) (known_from (a + 1))
-  unfolding known_from
-  known-free a within free = from-next a within ∙ among-free a (point_count g - (a + 1)) free
-
-  -- a point more that isn't free
-  pub known-taken : (a : ℕ) → a < point_count g → is_free p a ≡ false → known_from a ≡ known_from (a + 1)
-  unfolding known_from
-  known-taken a within taken = from-next a within ∙ among-taken a (point_count g - (a + 1)) taken
+  known-free a within free = from-free g p (by_moves p.turn) (λ v. settled g t table (after g p v)) (with_move p.turn) (known-more p.turn) a within free
 
   -- all points of an undecided member
   pub known-all : decided g t p ≡ None → is_listed table p ≡ true → known_from 0 ≡ settled g t table p
-  unfolding known_from known_among free_points
-  known-all un listed = let whole : point_count g - 0 ≡ point_count g = omega arith in ap (known_among 0) whole ∙ sym (settle-listed g t table p un listed)
+  known-all un listed = from-all g p (by_moves p.turn) (λ v. settled g t table (after g p v)) ∙ sym (settle-listed g t table p un listed)
 
   -- what a criterion decides, and what is neither decided nor a member
   pub known-decided : (o : Option Bool) → o ≡ decided g t p → is_some o ≡ true → o ≡ settled g t table p

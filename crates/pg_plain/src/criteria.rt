@@ -1,6 +1,6 @@
 //! Which positions are decided, criterion by criterion.
 ghost use Rattle.std.specs.Prelude.{◌≡◌};
-ghost use Rattle.pg_game.specs.Decided.{at_least, defender, defends, answer_for, is_pairable, avoider_can_pair, has_lines, pairs_exist, decided};
+ghost use Rattle.pg_game.specs.Decided.{defends, answer_for, is_pairable, avoider_can_pair, has_lines, pairs_exist, decided};
 ghost use Rattle.pg_game.specs.Fit.{AreBelow};
 ghost use Rattle.pg_game.specs.Game.{point_count};
 ghost use Rattle.pg_game.specs.Judge.{IsMadeForGame};
@@ -10,28 +10,7 @@ use crate::leaves::{avoider_holds, potential_holds};
 use crate::private_pairs::have_private_pairs;
 use crate::threat_search::attack_wins;
 use pg_base::{Kind, Score, Side};
-use pg_game::{Game, Judge, Position};
-
-/// Whether the second score is at least the first.
-fn at_least(wanted: Score, score: Score) -> bool
-    ensures { result ≡ at_least wanted score }
-{
-    match wanted {
-        Score::XWins => score == Score::XWins,
-        Score::Draw => score != Score::YWins,
-        Score::YWins => true,
-    }
-}
-
-/// The side whose potential and private pairs speak to the question.
-fn defender(kind: Kind, wanted: Score) -> Side
-    ensures { result ≡ defender kind wanted }
-{
-    match (kind, wanted) {
-        (Kind::AvoiderEnforcer, _) | (Kind::MakerMaker, Score::Draw | Score::YWins) => Side::X,
-        (Kind::MakerBreaker | Kind::MakerMaker | Kind::Switching, _) => Side::Y,
-    }
-}
+use pg_game::{Game, Judge, Position, at_least, defender};
 
 /// Whether the potential of the kind holds for the side that defends.
 fn defends(g: &Game, wanted: Score, p: &Position) -> bool

@@ -2,12 +2,12 @@
 ghost use Rattle.std.specs.Prelude.{◌≡◌, ◌<◌, ◌↔◌, ℕ, IsTrue};
 ghost use Rattle.pg_game.specs.Decided.{attack_wins};
 ghost use Rattle.pg_game.specs.Game.{point_count};
-ghost use Rattle.pg_game.specs.Threat.{Filling, has_threat_line, may_attack};
+ghost use Rattle.pg_game.specs.Threat.{Filling, has_threat_line};
 ghost use Rattle.pg_plain.specs.Attacks.{LeadsWithin, ReplyLeads};
 
 use crate::threats::{is_filling, is_forcing, is_going};
-use pg_base::{Kind, Side};
-use pg_game::{Game, Position};
+use pg_base::Side;
+use pg_game::{Game, Position, may_attack};
 
 /// Whether some attack fills a line.
 fn can_fill(g: &Game, p: &Position, side: Side) -> bool
@@ -61,17 +61,6 @@ pub fn has_threat_line(g: &Game, p: &Position, depth: u8) -> bool
     ensures { result ≡ has_threat_line depth g.now p.now }
 {
     is_going(g, p) && leads_within(g, p, p.turn, depth)
-}
-
-/// Whether the side wins by filling a line.
-fn may_attack(kind: Kind, side: Side) -> bool
-    ensures { result ≡ may_attack kind side }
-{
-    match kind {
-        Kind::MakerBreaker => side == Side::X,
-        Kind::MakerMaker => true,
-        Kind::AvoiderEnforcer | Kind::Switching => false,
-    }
 }
 
 /// Whether the side to move wins by filling a line, and has a threat line of at most three forced replies.

@@ -8,7 +8,7 @@ ghost use Rattle.pg_plain.specs.Attacks.{IsGoing};
 
 use crate::leaves::is_on;
 use pg_base::{Kind, Line, MAX_MEMBERS, PointSet, Side};
-use pg_game::{Game, MAX_POINTS, Position};
+use pg_game::{Game, MAX_POINTS, Position, is_over_by};
 
 /// Whether the side has filled a line.
 fn has_filled(g: &Game, p: &Position, side: Side) -> bool
@@ -31,12 +31,9 @@ fn is_over(g: &Game, p: &Position) -> bool
     requires { g.now.kind ≢ Kind.Switching }
     ensures { result ≡ is_over g.now p.now }
 {
-    let filled = has_filled(g, p, Side::X);
-    match g.kind {
-        Kind::MakerBreaker | Kind::AvoiderEnforcer => filled || all_touched(g, p) || g.is_full(p),
-        Kind::MakerMaker => filled || has_filled(g, p, Side::Y) || g.is_full(p),
-        Kind::Switching => unreachable!(),
-    }
+    let x_filled = has_filled(g, p, Side::X);
+    let y_filled = has_filled(g, p, Side::Y);
+    is_over_by(g.kind, x_filled, y_filled, all_touched(g, p), g.is_full(p))
 }
 
 /// Whether each point of the line but u is in the set.

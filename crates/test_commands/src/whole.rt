@@ -77,7 +77,11 @@ fn told(alloc: Global, status: u8, console: &MemConsole) -> Result<String, Alloc
 }
 
 /// The status of a run without input and what it said, with `#` between them.
-pub(crate) fn ran(alloc: Global, words: &str, files: &mut MemFiles) -> Result<String, AllocError> {
+pub(crate) fn ran<F: Files>(
+    alloc: Global,
+    words: &str,
+    files: &mut F,
+) -> Result<String, AllocError> {
     let words = split(alloc, words)?;
     let input = Text::from_vec(Vec::new(alloc));
     let mut console = MemConsole::new(alloc, input, Vec::new(alloc));

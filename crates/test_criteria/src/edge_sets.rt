@@ -22,8 +22,8 @@ pub struct EdgeTally {
     pub faults: u32,
 }
 
-/// How many of all pairs of sets, with e among the edges, are trees at the position.
-fn count_trees(g: &Game, joiner: &mut Joiner, p: &Position) -> u32
+/// How many of all pairs of sets, with e among the edges, are the side's at the position: X's trees, or Y's cuts.
+fn count_sets(g: &Game, joiner: &mut Joiner, p: &Position, side: Side) -> u32
     requires switching { g.now.kind ≡ Switching }
     requires small { point_count g.now < 12 }
     requires made { IsMadeForGame joiner.old g.now }
@@ -33,24 +33,10 @@ fn count_trees(g: &Game, joiner: &mut Joiner, p: &Position) -> u32
     let mut count = 0u32;
     for number in 0..number_count(g.points() + 1) {
         let (first, second) = sets_of(g.points() + 1, number);
-        let holds = pg_switch::trees_hold(g, joiner, p, &first, &second);
-        count = count.saturating_add(u32::from(holds));
-    }
-    count
-}
-
-/// How many of all pairs of sets, with e among the edges, are cuts at the position.
-fn count_cuts(g: &Game, joiner: &mut Joiner, p: &Position) -> u32
-    requires switching { g.now.kind ≡ Switching }
-    requires small { point_count g.now < 12 }
-    requires made { IsMadeForGame joiner.old g.now }
-    requires position { IsPosition g.now p.now }
-    ensures kept { joiner.new ≡ joiner.old }
-{
-    let mut count = 0u32;
-    for number in 0..number_count(g.points() + 1) {
-        let (first, second) = sets_of(g.points() + 1, number);
-        let holds = pg_switch::cuts_hold(g, joiner, p, &first, &second);
+        let holds = match side {
+            Side::X => pg_switch::trees_hold(g, joiner, p, &first, &second),
+            Side::Y => pg_switch::cuts_hold(g, joiner, p, &first, &second),
+        };
         count = count.saturating_add(u32::from(holds));
     }
     count
@@ -89,8 +75,8 @@ fn tally_turn(judge: &mut Judge, g: &Game, joiner: &mut Joiner, turn: Side, tall
 {
     for number in 0..number_count(g.points()) {
         if let Some(p) = position_of(g, number, turn, 1) {
-            let trees = count_trees(g, joiner, &p);
-            let cuts = count_cuts(g, joiner, &p);
+            let trees = count_sets(g, joiner, &p, Side::X);
+            let cuts = count_sets(g, joiner, &p, Side::Y);
             tally.add(pg_plain::value(judge, g, &p), trees, cuts);
         }
     }

@@ -8,7 +8,7 @@ use pg_game::{Game, Position};
 use pg_pairing::{answer, holds};
 use std::alloc::Global;
 use std::test::Fail;
-use test_kit::{game, numbers, pairs, part};
+use test_kit::{game, numbers, pairs, part, wrong_rows};
 
 /// Whether pairs hold for a side: noughts and crosses with Breaker in the centre, five by five, and Avoider with one point to
 /// leave out. And the side's answer to the last reply after moves, or to none.
@@ -84,20 +84,9 @@ fn is_so(alloc: Global, row: &str) -> Option<bool> {
     Some(yes_or_no(holds(&g, &turn_of(&g, g.turn), asked_side(row), &pairs)) == due(row))
 }
 
-/// The rows of a table that don't say what is so.
-fn wrong(alloc: Global, table: &str) -> Result<String, Fail> {
-    let mut rows = String::new(alloc);
-    for row in table.split(';') {
-        if is_so(alloc, row) != Some(true) {
-            rows.push_str(row)?;
-            rows.push(';')?;
-        }
-    }
-    Ok(rows)
-}
-
 #[test]
 fn pairs_and_answers(rt: HostRuntime) -> Result<(), Fail> {
-    assert_eq!(rt; wrong(rt.alloc(), PAIRS)?.as_str(), "");
+    let wrong = wrong_rows(rt.alloc(), PAIRS, |alloc, row| is_so(alloc, row))?;
+    assert_eq!(rt; wrong.as_str(), "");
     Ok(())
 }

@@ -7,7 +7,7 @@ use pg_plain::{
 };
 use std::alloc::Global;
 use std::test::Fail;
-use test_kit::{game, numbers, part};
+use test_kit::{game, numbers, part, wrong_rows};
 
 /// The values of noughts and crosses after X's first move to the centre, a corner and an edge, and with more marks; and of
 /// small games: among them the sides of nine dominoes, a triangle, two halves, stars and angles.
@@ -155,32 +155,23 @@ fn is_so(alloc: Global, row: &str) -> Option<bool> {
     })
 }
 
-/// The rows of a table that don't say what is so.
-fn wrong(alloc: Global, table: &str) -> Result<String, Fail> {
-    let mut rows = String::new(alloc);
-    for row in table.split(';') {
-        if is_so(alloc, row) != Some(true) {
-            rows.push_str(row)?;
-            rows.push(';')?;
-        }
-    }
-    Ok(rows)
-}
-
 #[test]
 fn values_and_classes(rt: HostRuntime) -> Result<(), Fail> {
-    assert_eq!(rt; wrong(rt.alloc(), VALUES)?.as_str(), "");
+    let wrong = wrong_rows(rt.alloc(), VALUES, |alloc, row| is_so(alloc, row))?;
+    assert_eq!(rt; wrong.as_str(), "");
     Ok(())
 }
 
 #[test]
 fn threat_lines(rt: HostRuntime) -> Result<(), Fail> {
-    assert_eq!(rt; wrong(rt.alloc(), THREATS)?.as_str(), "");
+    let wrong = wrong_rows(rt.alloc(), THREATS, |alloc, row| is_so(alloc, row))?;
+    assert_eq!(rt; wrong.as_str(), "");
     Ok(())
 }
 
 #[test]
 fn private_pairs(rt: HostRuntime) -> Result<(), Fail> {
-    assert_eq!(rt; wrong(rt.alloc(), PRIVATE)?.as_str(), "");
+    let wrong = wrong_rows(rt.alloc(), PRIVATE, |alloc, row| is_so(alloc, row))?;
+    assert_eq!(rt; wrong.as_str(), "");
     Ok(())
 }

@@ -4,7 +4,7 @@ use pg_base::{Kind, Side};
 use pg_game::Game;
 use std::alloc::Global;
 use std::test::Fail;
-use test_kit::{game, part, word};
+use test_kit::{game, part, word, wrong_rows};
 
 /// For a side as Breaker: the total, the limit, and whether the potential holds with X and with Y to move; what a free point
 /// weighs; and the answer of the side that is to move, where a point is free.
@@ -116,26 +116,16 @@ fn is_so(alloc: Global, row: &str) -> Option<bool> {
     })
 }
 
-/// The rows of a table that don't say what is so.
-fn wrong(alloc: Global, table: &str) -> Result<String, Fail> {
-    let mut rows = String::new(alloc);
-    for row in table.split(';') {
-        if is_so(alloc, row) != Some(true) {
-            rows.push_str(row)?;
-            rows.push(';')?;
-        }
-    }
-    Ok(rows)
-}
-
 #[test]
 fn breakers_potential(rt: HostRuntime) -> Result<(), Fail> {
-    assert_eq!(rt; wrong(rt.alloc(), BREAKER)?.as_str(), "");
+    let wrong = wrong_rows(rt.alloc(), BREAKER, |alloc, row| is_so(alloc, row))?;
+    assert_eq!(rt; wrong.as_str(), "");
     Ok(())
 }
 
 #[test]
 fn avoiders_potential(rt: HostRuntime) -> Result<(), Fail> {
-    assert_eq!(rt; wrong(rt.alloc(), AVOIDER)?.as_str(), "");
+    let wrong = wrong_rows(rt.alloc(), AVOIDER, |alloc, row| is_so(alloc, row))?;
+    assert_eq!(rt; wrong.as_str(), "");
     Ok(())
 }

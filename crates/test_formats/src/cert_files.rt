@@ -187,7 +187,7 @@ fn uses_no_byte_behind(alloc: Global) -> Result<bool, Memory> {
     let fed = reader.feed(alloc, b"|1|x|potential")?;
     let rest = fed.used == 14 && fed.part.is_none();
     let last = match reader.end(alloc) {
-        Ok(Some(Part::Node(node))) => node.y.has(1),
+        Ok(Some(Part::Node(node))) => node.as_node().y.has(1),
         _ => false,
     };
     Ok(claim && first && rest && last)

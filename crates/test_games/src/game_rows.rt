@@ -3,7 +3,7 @@ use pg_base::{Grid, Kind, LineFault, PointSet, Score, Side};
 use pg_game::{Field, Game, Illegal, Judge, LineField, Position};
 use std::alloc::Global;
 use std::test::Fail;
-use test_kit::{game, numbers, part, set, side, word};
+use test_kit::{game, numbers, part, set, side, word, wrong_rows};
 
 /// The outcome with X's and Y's points, on two lines that share a point, on noughts and crosses, without lines, on the graph with two
 /// inner vertices, and on two parallel edges beside a loop.
@@ -183,88 +183,38 @@ fn grid_fits(alloc: Global, row: &str) -> Option<bool> {
     Some(yes_or_no(made.is_ok()) == word(head, 2))
 }
 
-/// The rows of outcomes that aren't so.
-fn wrong_outcomes(alloc: Global) -> Result<String, Fail> {
-    let mut rows = String::new(alloc);
-    for row in OUTCOMES.split(';') {
-        if has_outcome(alloc, row) != Some(true) {
-            rows.push_str(row)?;
-        }
-    }
-    Ok(rows)
-}
-
-/// The rows of moves that aren't so.
-fn wrong_moves(alloc: Global) -> Result<String, Fail> {
-    let mut rows = String::new(alloc);
-    for row in MOVES.split(';') {
-        if has_answers(alloc, row) != Some(true) {
-            rows.push_str(row)?;
-        }
-    }
-    Ok(rows)
-}
-
-/// The rows of free points that aren't so.
-fn wrong_free(alloc: Global) -> Result<String, Fail> {
-    let mut rows = String::new(alloc);
-    for row in FREE.split(';') {
-        if has_free(alloc, row) != Some(true) {
-            rows.push_str(row)?;
-        }
-    }
-    Ok(rows)
-}
-
-/// The rows of limits that aren't so.
-fn wrong_fits(alloc: Global) -> Result<String, Fail> {
-    let mut rows = String::new(alloc);
-    for row in FITS.split(';') {
-        if fits(alloc, row) != Some(true) {
-            rows.push_str(row)?;
-        }
-    }
-    Ok(rows)
-}
-
-/// The rows of grids that aren't so.
-fn wrong_grids(alloc: Global) -> Result<String, Fail> {
-    let mut rows = String::new(alloc);
-    for row in GRIDS.split(';') {
-        if grid_fits(alloc, row) != Some(true) {
-            rows.push_str(row)?;
-        }
-    }
-    Ok(rows)
-}
-
 #[test]
 fn outcomes(rt: HostRuntime) -> Result<(), Fail> {
-    assert_eq!(rt; wrong_outcomes(rt.alloc())?.as_str(), "");
+    let wrong = wrong_rows(rt.alloc(), OUTCOMES, |alloc, row| has_outcome(alloc, row))?;
+    assert_eq!(rt; wrong.as_str(), "");
     Ok(())
 }
 
 #[test]
 fn legal_moves(rt: HostRuntime) -> Result<(), Fail> {
-    assert_eq!(rt; wrong_moves(rt.alloc())?.as_str(), "");
+    let wrong = wrong_rows(rt.alloc(), MOVES, |alloc, row| has_answers(alloc, row))?;
+    assert_eq!(rt; wrong.as_str(), "");
     Ok(())
 }
 
 #[test]
 fn lines_and_free_points(rt: HostRuntime) -> Result<(), Fail> {
-    assert_eq!(rt; wrong_free(rt.alloc())?.as_str(), "");
+    let wrong = wrong_rows(rt.alloc(), FREE, |alloc, row| has_free(alloc, row))?;
+    assert_eq!(rt; wrong.as_str(), "");
     Ok(())
 }
 
 #[test]
 fn misfits(rt: HostRuntime) -> Result<(), Fail> {
-    assert_eq!(rt; wrong_fits(rt.alloc())?.as_str(), "");
+    let wrong = wrong_rows(rt.alloc(), FITS, |alloc, row| fits(alloc, row))?;
+    assert_eq!(rt; wrong.as_str(), "");
     Ok(())
 }
 
 #[test]
 fn misfits_of_grids_and_marks(rt: HostRuntime) -> Result<(), Fail> {
-    assert_eq!(rt; wrong_grids(rt.alloc())?.as_str(), "");
+    let wrong = wrong_rows(rt.alloc(), GRIDS, |alloc, row| grid_fits(alloc, row))?;
+    assert_eq!(rt; wrong.as_str(), "");
     Ok(())
 }
 

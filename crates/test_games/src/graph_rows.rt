@@ -82,7 +82,10 @@ fn answers_on_a_diamond(rt: HostRuntime) -> Result<(), Fail> {
         joiner.parting(&g, &set_of(6, &[2, 3, 5]), 0, 2, &set_of(6, &[2, 3])),
         Some(3)
     );
-    assert_eq!(rt; joiner.bridge(&g, &set_of(6, &[1, 2, 3]), 2), true);
+    assert_eq!(rt;
+        joiner.bridges_all(&g, &set_of(6, &[1, 2, 3]), &set_of(6, &[2])),
+        true
+    );
     Ok(())
 }
 
@@ -93,7 +96,7 @@ fn loops_cross_and_part_nothing(rt: HostRuntime) -> Result<(), Fail> {
     let loops = set_of(4, &[0]);
     assert_eq!(rt; joiner.joined(&g, &loops, 0, 1), false);
     assert_eq!(rt; joiner.joined(&g, &loops, 2, 2), true);
-    assert_eq!(rt; joiner.bridge(&g, &loops, 0), false);
+    assert_eq!(rt; joiner.bridges_all(&g, &loops, &loops), false);
     assert_eq!(rt; joiner.crossing(&g, &loops, 0, &loops), None);
     assert_eq!(rt;
         joiner.crossing(&g, &loops, 1, &set_of(4, &[0, 2, 3])),
@@ -108,12 +111,40 @@ fn one_of_two_parallel_edges_is_no_bridge(rt: HostRuntime) -> Result<(), Fail> {
     let g = loop_and_parallels(rt.alloc())?;
     let mut joiner = Joiner::new(rt.alloc(), &g)?;
     let both = set_of(4, &[1, 2]);
-    assert_eq!(rt; joiner.bridge(&g, &both, 1), false);
+    assert_eq!(rt; joiner.bridges_all(&g, &both, &set_of(4, &[1])), false);
     assert_eq!(rt; joiner.parting(&g, &both, 0, 1, &both), None);
-    assert_eq!(rt; joiner.bridge(&g, &set_of(4, &[0, 2]), 2), true);
     assert_eq!(rt;
         joiner.parting(&g, &set_of(4, &[0, 2]), 1, 0, &set_of(4, &[0, 1, 2])),
         Some(2)
+    );
+    Ok(())
+}
+
+/// Two parallel edges and e: only e is a bridge.
+#[test]
+fn members_are_bridges_all_or_not(rt: HostRuntime) -> Result<(), Fail> {
+    let g = loop_and_parallels(rt.alloc())?;
+    let mut joiner = Joiner::new(rt.alloc(), &g)?;
+    let set = set_of(4, &[1, 2, 3]);
+    let e = set_of(4, &[3]);
+    let both = set_of(4, &[1, 2]);
+    assert_eq!(rt; joiner.bridges_all(&g, &set, &e), true);
+    assert_eq!(rt; joiner.bridges_all(&g, &set, &set), false);
+    assert_eq!(rt; joiner.bridges_all(&g, &e, &both), true);
+    assert_eq!(rt; joiner.bridges_all(&g, &set_of(4, &[1, 3]), &both), false);
+    Ok(())
+}
+
+#[test]
+fn members_are_joined_all_or_not(rt: HostRuntime) -> Result<(), Fail> {
+    let g = loop_and_parallels(rt.alloc())?;
+    let mut joiner = Joiner::new(rt.alloc(), &g)?;
+    let one = set_of(4, &[1]);
+    assert_eq!(rt; joiner.joins_all(&g, &one, &set_of(4, &[0, 2])), true);
+    assert_eq!(rt; joiner.joins_all(&g, &one, &set_of(4, &[2, 3])), false);
+    assert_eq!(rt;
+        joiner.joins_all(&g, &set_of(4, &[]), &set_of(4, &[])),
+        true
     );
     Ok(())
 }
@@ -128,7 +159,7 @@ fn the_edge_between_the_terminals_has_the_last_number(rt: HostRuntime) -> Result
     let e = set_of(1, &[0]);
     assert_eq!(rt; joiner.joined(&g, &none, 0, 1), false);
     assert_eq!(rt; joiner.joined(&g, &e, 0, 1), true);
-    assert_eq!(rt; joiner.bridge(&g, &e, 0), true);
+    assert_eq!(rt; joiner.bridges_all(&g, &e, &e), true);
     assert_eq!(rt; joiner.crossing(&g, &none, 1, &e), Some(0));
     assert_eq!(rt; joiner.parting(&g, &e, 1, 0, &e), Some(0));
     Ok(())

@@ -1,12 +1,11 @@
 //! What both searches find at the positions of small games.
-ghost use Rattle.std.specs.Prelude.{◌≡◌, ◌≢◌, ◌≤◌};
+ghost use Rattle.std.specs.Prelude.{◌≢◌, ◌≤◌};
 ghost use Rattle.pg_base.specs.declared.kind.Kind.TheVariants.{Switching};
-ghost use Rattle.pg_game.specs.Threat.{may_attack};
 
 use crate::plain::first_line;
-use pg_base::{Kind, Memory, Side};
+use pg_base::Memory;
 use pg_board::Board;
-use pg_game::Game;
+use pg_game::{Game, may_attack};
 use pg_threat::{ThreatLine, forced};
 use std::alloc::Global;
 
@@ -17,17 +16,6 @@ pub struct Tally {
     pub found: [u32; 5],
     /// How often the two searches differ, or the board is left in another way.
     pub faults: u32,
-}
-
-/// Whether the side to move may attack.
-fn may_attack(kind: Kind, side: Side) -> bool
-    ensures { result ≡ may_attack kind side }
-{
-    match kind {
-        Kind::MakerBreaker => matches!(side, Side::X),
-        Kind::MakerMaker => true,
-        Kind::AvoiderEnforcer | Kind::Switching => false,
-    }
 }
 
 /// The line that the search finds to a depth at the game's marks, where the side to move may attack there.

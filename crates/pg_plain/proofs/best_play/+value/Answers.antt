@@ -5,7 +5,8 @@ use Rattle.pg_game.specs.Position.{is_free}
 use Rattle.pg_game.specs.Game.{point_count, free_points, after}
 use Rattle.pg_game.specs.Value.{better, value}
 use Rattle.pg_game.proofs.FreePoints.{length-free_points-after}
-use Rattle.pg_plain.proofs.BestPlay.{best_from, best-none, best-free, best-taken, best-all, x_range-after, over-none, over-some}
+use Rattle.pg_plain.proofs.BestPlay.{best_from, best-free, best-all, x_range-after, over-none, over-some}
+use Rattle.pg_plain.proofs.MovesFrom.{from-none, from-taken}
 use Rattle.pg_plain.proofs.best_play.+value.Goals as goal
 
 pub returns-in-Some-clause-value : goal.returns-in-Some-clause-value
@@ -14,7 +15,7 @@ returns-in-Some-clause-value t c = over-some c.args.g.now c.args.p.now c.in-Some
 pub loop-v-init : goal.loop-v-init
 loop-v-init t c = record {
   range = omega (arith, c.points-v.ensures.count);
-  best = c.worst-best.ensures ∙ sym (best-none c.args.g.now c.args.p.now) ∙ ap (best_from c.args.g.now c.args.p.now) (sym c.points-v.ensures.count);
+  best = c.worst-best.ensures ∙ sym (from-none _ _ _ _) ∙ ap (best_from c.args.g.now c.args.p.now) (sym c.points-v.ensures.count);
   kept = search rules;
 }
 
@@ -54,7 +55,7 @@ loop-v-preserved t c =
     let next : v + 1 ≡ c.loop-v.v = omega (arith, c.loop-v-test.true) in
     record {
       range = omega (arith, within);
-      best = c.loop-v.invariant.best ∙ ap (best_from g p) (sym next) ∙ sym (best-taken g p v within taken);
+      best = c.loop-v.invariant.best ∙ ap (best_from g p) (sym next) ∙ sym (from-taken _ _ _ _ v within taken);
       kept = search rules;
     }
 

@@ -1,5 +1,4 @@
-use Rattle.std.proofs.Common.{Some, Bool, sym, ap, ◌∙◌}
-use Rattle.pg_base.specs.declared.side.Side.{Side}
+use Rattle.std.proofs.Common.{Some, sym, ap, ◌∙◌}
 use Rattle.pg_game.specs.Decided.{at_least, answer_for, pairs_exist}
 use Rattle.pg_plain.proofs.BestPlay.{over-none}
 use Rattle.pg_plain.proofs.CriteriaLaws.{told-over, at-end, by-potential, by-threat, by-pairs, by-none}

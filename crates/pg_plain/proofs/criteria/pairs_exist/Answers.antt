@@ -1,5 +1,4 @@
-use Rattle.std.proofs.Common.{Bool, ap, sym, ◌∙◌}
-use Rattle.pg_base.specs.declared.side.Side.{Side}
+use Rattle.std.proofs.Common.{ap, sym, ◌∙◌}
 use Rattle.pg_game.specs.Position.{points_of}
 use Rattle.pg_plain.proofs.CriteriaLaws.{no_lines, unpairable, pairs-are}
 use Rattle.pg_plain.proofs.criteria.pairs_exist.Goals as goal

@@ -2,11 +2,15 @@ use Rattle.std.proofs.Common.{◌≡◌, sym, ◌∙◌, arith}
 use Rattle.pg_game.specs.Position.{is_free}
 use Rattle.pg_game.specs.Potential.{weight}
 use Rattle.pg_game.proofs.Greatest.{running-none, running-next, running-all}
+use Rattle.pg_game.proofs.WeightBounds.{few_points-lines}
 use Rattle.pg_plain.proofs.leaves.greatest_weight.Goals.{then-weight-greatest, else-weight-greatest}
 use Rattle.pg_plain.proofs.leaves.greatest_weight.Goals as goal
 
 pub loop-v-init : goal.loop-v-init
 loop-v-init c = sym (running-none (is_free c.args.p.now) (weight c.args.g.now c.args.p.now c.args.side))
+
+pub free_weight-weight-requires : goal.free_weight-weight-requires
+free_weight-weight-requires c = omega (arith, c.loop-v-test.true, c.loop-v.auto.v-end, c.points-v-end.ensures.count, few_points-lines c.args.g.now c.requires)
 
 pub loop-v-preserved : goal.loop-v-preserved
 loop-v-preserved c =

@@ -1,4 +1,4 @@
-use Rattle.std.proofs.Common.{ℕ, ◌+◌, ◌*◌, length}
+use Rattle.std.proofs.Common.{◌+◌, ◌*◌, length}
 use Rattle.std.specs.FinSet.{contains}
 use Rattle.pg_plain.specs.PairSearch.{is_pair, is_lesser}
 use Rattle.pg_plain.proofs.PairSearches.{PassesNone}

@@ -1,4 +1,4 @@
-use Rattle.std.proofs.Common.{rules, ◌≡◌, ◌-◌, ◌+◌, ◌<◌, Option, Bool, None, length, true, false, sym, ap, ◌∙◌, subst, arith}
+use Rattle.std.proofs.Common.{rules, ◌≡◌, ◌-◌, ◌+◌, ◌<◌, Option, Bool, length, true, false, sym, ap, ◌∙◌, subst, arith}
 use Rattle.pg_game.specs.declared.position.Position.{Position}
 use Rattle.pg_game.specs.Fit.{AreBelow}
 use Rattle.pg_game.specs.Position.{is_free}
@@ -8,7 +8,8 @@ use Rattle.pg_game.proofs.FreePoints.{length-free_points-after}
 use Rattle.pg_game.proofs.SettledLaws.{settle-unlisted}
 use Rattle.pg_plain.specs.Known.{with_move}
 use Rattle.pg_plain.proofs.BestPlay.{x_range-after}
-use Rattle.pg_plain.proofs.SettleSteps.{known_from, known-none, known-free, known-taken, known-all, known-decided, known-undecided}
+use Rattle.pg_plain.proofs.SettleSteps.{known_from, known-free, known-all, known-decided, known-undecided}
+use Rattle.pg_plain.proofs.MovesFrom.{from-none, from-taken}
 use Rattle.pg_plain.proofs.settling.+settled.Goals as goal
 
 pub returns-then-is_some-clause-settled : goal.returns-then-is_some-clause-settled
@@ -25,7 +26,7 @@ loop-v-init t c =
     let from = known_from c.args.g.now c.args.wanted c.args.table.now c.args.p.now in
     record {
       range = omega (arith, c.points-v.ensures.count);
-      known = c.without_moves-known.ensures ∙ sym (known-none c.args.g.now c.args.wanted c.args.table.now c.args.p.now) ∙ ap from (sym c.points-v.ensures.count);
+      known = c.without_moves-known.ensures ∙ sym (from-none _ _ _ _) ∙ ap from (sym c.points-v.ensures.count);
       kept = search rules;
     }
 
@@ -69,7 +70,7 @@ loop-v-preserved t c =
     let next : v + 1 ≡ c.loop-v.v = omega (arith, c.loop-v-test.true) in
     record {
       range = omega (arith, within);
-      known = c.loop-v.invariant.known ∙ ap (known_from g s table p) (sym next) ∙ sym (known-taken g s table p v within taken);
+      known = c.loop-v.invariant.known ∙ ap (known_from g s table p) (sym next) ∙ sym (from-taken _ _ _ _ v within taken);
       kept = search rules;
     }
 

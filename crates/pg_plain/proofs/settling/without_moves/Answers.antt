@@ -1,4 +1,3 @@
-use Rattle.std.proofs.Common.{sym, ap, ◌∙◌, refl}
 use Rattle.pg_plain.proofs.SettleSteps.{x-none, y-none}
 use Rattle.pg_plain.proofs.settling.without_moves.Goals as goal
 
