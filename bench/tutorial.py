@@ -15,7 +15,7 @@ import tempfile
 
 TOP = pathlib.Path(__file__).resolve().parent.parent
 COMMAND = "$ ./posgame "
-SAID = ("accepted ", "rejected ", "claim ", "move ", "refused: ", "result ", "class ", "unknown ", "words: ", "game ", "certificate ")
+SAID = ("accepted ", "rejected ", "claim ", "move ", "refused: ", "result ", "class ", "unknown ", "words: ", "game ", "certificate ", "expanded ")
 
 
 def blocks(text):
