@@ -12,7 +12,13 @@ use std::test::Fail;
 
 /// Adds a part.
 fn put_part(out: &mut String, part: &Part) -> Result<(), Memory> {
-    write!(out, "{part:?};")?;
+    match part {
+        Part::Claim { .. } => write!(out, "{part:?};")?,
+        Part::Node(node) => {
+            let node = node.as_node();
+            write!(out, "Node({node:?});")?;
+        }
+    }
     Ok(())
 }
 
