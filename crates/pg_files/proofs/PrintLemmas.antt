@@ -30,3 +30,6 @@ numbers_text key ns old = rw (spaced_numbers ns) (append_assoc old (key_name key
 
 pub joined_three : (old : Bytes) (v t : List Bytes) (es : List (List Bytes)) → ((old ++ spelled v) ++ spelled t) ++ flat_map spelled es ≡ old ++ flat_map spelled (v ∷ t ∷ es)
 joined_three old v t es = simp append_assoc
+
+pub joined_bias : (old : Bytes) (v : List Bytes) (bs es : List (List Bytes)) → ((old ++ spelled v) ++ flat_map spelled bs) ++ flat_map spelled es ≡ old ++ flat_map spelled (v ∷ (bs ++ es))
+joined_bias old v bs es = simp (append_assoc, flat_map-append)

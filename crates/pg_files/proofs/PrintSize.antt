@@ -1,5 +1,5 @@
 -- A printed game is within the limit of a file, and its lines are words.
-use Rattle.std.proofs.Common.{◌≡◌, ℕ, ◌+◌, ◌*◌, ◌<◌, ◌≤◌, lit<, lit≤, true, List, [], ◌∷◌, ◌++◌, length, map, arith, refl, ap, ◌∙◌}
+use Rattle.std.proofs.Common.{◌≡◌, ℕ, ◌+◌, ◌*◌, ◌<◌, ◌≤◌, lit<, lit≤, Bool, true, false, cond, List, [], ◌∷◌, ◌++◌, length, map, arith, refl, ap, ◌∙◌}
 use Rattle.std.specs.Prelude.{nat_lt, sum_by, Option, Some, None}
 use Rattle.std.specs.Fmt.{decimal}
 use Rattle.std.specs.List.{list_all, flat_map, All, AllByRecursion}
@@ -19,10 +19,10 @@ use Rattle.pg_game.specs.declared.field.Field.{Field}
 use Rattle.pg_game.specs.declared.field.Field.TheVariants as fields
 use Rattle.pg_game.specs.declared.field.LineField.{LineField}
 use Rattle.pg_game.specs.Field.{field_points}
-use Rattle.pg_game.specs.Fit.{IsLineOf, AreLinesOf, IsBoard, IsFit}
+use Rattle.pg_game.specs.Fit.{greatest_bias, IsLineOf, AreLinesOf, IsBoard, IsFit}
 use Rattle.pg_text.specs.Text.{Bytes, spaced}
 use Rattle.pg_base.specs.Points.{members}
-use Rattle.pg_files.specs.Print.{spelled, header, numbered, worded, marked, size_words, edge_words, field_words, printed, printed_lines}
+use Rattle.pg_files.specs.Print.{spelled, header, numbered, worded, marked, size_words, bias_words, edge_words, field_words, printed, printed_lines}
 use Rattle.pg_base.specs.Kind.{kind_word}
 use Rattle.pg_base.specs.Side.{side_word}
 use Rattle.pg_files.specs.Key.{key_name}
@@ -37,15 +37,15 @@ use Rattle.pg_files.proofs.RoundTrip.{AreSmall, smaller, one_small, two_small, a
 -- ---- what is printed is small numbers
 
 -- the field's numbers have three digits at most, and they are not too many
-pub record IsSmallField (field : Field) : Type 0 where
-  pub on_lines : (f : LineField) → field ≡ fields.Lines f → AreLinesOf 1 f
+pub record IsSmallField (bias : ℕ) (field : Field) : Type 0 where
+  pub on_lines : (f : LineField) → field ≡ fields.Lines f → AreLinesOf bias f
   pub on_graph : (h : Graph) → field ≡ fields.Graph h → IsBoard h
 
-lines_small : (points : ℕ) (ls : List (List ℕ)) → points ≤ 256 → All (IsLineOf points 1) ls → AllByRecursion AreSmall ls
-lines_small points [] few fits = tt
-lines_small points (l ∷ ls) few fits =
+lines_small : (points bias : ℕ) (ls : List (List ℕ)) → points ≤ 256 → All (IsLineOf points bias) ls → AllByRecursion AreSmall ls
+lines_small points bias [] few fits = tt
+lines_small points bias (l ∷ ls) few fits =
     let here = fits 0 [] (omega arith) in
-    (smaller points l (omega arith) (all_below points l here.range), lines_small points ls few (All-tail (IsLineOf points 1) l ls fits))
+    (smaller points l (omega arith) (all_below points l here.range), lines_small points bias ls few (All-tail (IsLineOf points bias) l ls fits))
 
 edges_small : (v : ℕ) (es : List (ℕ × ℕ)) → v ≤ 500 → All (λ e. (e.0 < v) × (e.1 < v)) es → AllByRecursion (λ e. AreSmall (e.0 ∷ e.1 ∷ [])) es
 edges_small v [] few fits = tt
@@ -94,6 +94,7 @@ key_len keys.Points = lit≤ tt
 key_len keys.Grid = lit≤ tt
 key_len keys.Vertices = lit≤ tt
 key_len keys.Terminals = lit≤ tt
+key_len keys.Bias = lit≤ tt
 key_len keys.Line = lit≤ tt
 key_len keys.Shape = lit≤ tt
 key_len keys.Edge = lit≤ tt
@@ -143,24 +144,41 @@ size_small points (Some g) some few cells =
     let small = two_small g.width g.height (omega (arith, sides.0)) (omega (arith, sides.1)) in
     (numbered_words keys.Grid (g.width ∷ g.height ∷ []) small, omega (arith, numbered_len keys.Grid (g.width ∷ g.height ∷ []) small))
 
+-- a line of the bias is a short line of words, and else there is none
+bias_small : (bias : ℕ) → bias ≤ 7 → AllByRecursion AreWords (bias_words bias) × (length (flat_map spelled (bias_words bias)) ≤ 14)
+bias_small bias few = by (nat_lt 1 bias)
+  where
+    small : AreSmall (bias ∷ [])
+    small = one_small bias (omega arith)
+
+    by : (t : Bool) → AllByRecursion AreWords (cond t (numbered keys.Bias (bias ∷ []) ∷ []) []) × (length (flat_map spelled (cond t (numbered keys.Bias (bias ∷ []) ∷ []) [])) ≤ 14)
+    by true =
+        let a : length (spelled (numbered keys.Bias (bias ∷ [])) ++ []) ≡ length (spelled (numbered keys.Bias (bias ∷ []))) + 0 = length-append (spelled (numbered keys.Bias (bias ∷ []))) [] in
+        ((numbered_words keys.Bias (bias ∷ []) small, tt), omega (arith, a, numbered_len keys.Bias (bias ∷ []) small))
+    by false = (tt, lit≤ tt)
+
 -- ---- the field
 
-abbrev pub IsShortField : Field → Type 0
-IsShortField field = AllByRecursion AreWords (field_words field) × (length (flat_map spelled (field_words field)) ≤ 2000000)
+abbrev pub IsShortField : ℕ → Field → Type 0
+IsShortField bias field = AllByRecursion AreWords (field_words bias field) × (length (flat_map spelled (field_words bias field)) ≤ 2000000)
 
-field_of_lines : (f : LineField) → AreLinesOf 1 f → IsShortField (fields.Lines f)
-field_of_lines f h =
+size_len : (s : List Bytes) (b ls : List (List Bytes)) → length (flat_map spelled (s ∷ (b ++ ls))) ≡ length (spelled s) + (length (flat_map spelled b) + length (flat_map spelled ls))
+size_len s b ls = simp (flat_map-append, length-append) (omega arith)
+
+field_of_lines : (bias : ℕ) (f : LineField) → bias ≤ 7 → AreLinesOf bias f → IsShortField bias (fields.Lines f)
+field_of_lines bias f small_bias h =
     let some = h.some_points in
     let few = h.few_points in
     let lines = h.few_lines in
     let total = h.few_summed in
     let size = size_small f.points f.grid some few h.cells in
-    let small = lines_small f.points f.lines few h.lines in
-    let a : length (spelled (size_words f.points f.grid) ++ flat_map spelled (map (numbered keys.Line) f.lines)) ≡ length (spelled (size_words f.points f.grid)) + length (flat_map spelled (map (numbered keys.Line) f.lines)) = length-append (spelled (size_words f.points f.grid)) (flat_map spelled (map (numbered keys.Line) f.lines)) in
-    ((size.0, lines_words f.lines small), omega (arith, a, size.1, lines_len f.lines small))
+    let small = lines_small f.points bias f.lines few h.lines in
+    let said = bias_small bias small_bias in
+    let cut = size_len (size_words f.points f.grid) (bias_words bias) (map (numbered keys.Line) f.lines) in
+    ((size.0, both_words (bias_words bias) (map (numbered keys.Line) f.lines) said.0 (lines_words f.lines small)), omega (arith, cut, size.1, said.1, lines_len f.lines small))
 
-field_of_graph : (h : Graph) → IsBoard h → IsShortField (fields.Graph h)
-field_of_graph h b =
+field_of_graph : (bias : ℕ) (h : Graph) → IsBoard h → IsShortField bias (fields.Graph h)
+field_of_graph bias h b =
     let few = b.few_vertices in
     let edges = b.few_edges in
     let first = b.s_range in
@@ -175,9 +193,16 @@ field_of_graph h b =
     let b : length (t ++ tail) ≡ length t + length tail = length-append t tail in
     ((numbered_words keys.Vertices (h.vertices ∷ []) one, (numbered_words keys.Terminals (h.s ∷ h.t ∷ []) two, edges_words h.ends small)), omega (arith, a, b, numbered_len keys.Vertices (h.vertices ∷ []) one, numbered_len keys.Terminals (h.s ∷ h.t ∷ []) two, edges_len h.ends small))
 
-few_points : (field : Field) → IsSmallField field → (field_points field ≤ 1000) × IsShortField field
-few_points (fields.Lines f) h = let fit = h.on_lines f refl in (omega (arith, fit.few_points), field_of_lines f fit)
-few_points (fields.Graph g) h = let fit = h.on_graph g refl in (fit.few_edges, field_of_graph g fit)
+few_points : (bias : ℕ) (field : Field) → bias ≤ 7 → IsSmallField bias field → (field_points field ≤ 1000) × IsShortField bias field
+few_points bias (fields.Lines f) few h = let fit = h.on_lines f refl in (omega (arith, fit.few_points), field_of_lines bias f few fit)
+few_points bias (fields.Graph g) few h = let fit = h.on_graph g refl in (fit.few_edges, field_of_graph bias g fit)
+
+-- no kind allows more than 7 points a turn
+pub greatest_bias-few : (kind : Kind) → greatest_bias kind ≤ 7
+greatest_bias-few kinds.MakerBreaker = lit≤ tt
+greatest_bias-few kinds.MakerMaker = lit≤ tt
+greatest_bias-few kinds.AvoiderEnforcer = lit≤ tt
+greatest_bias-few kinds.Switching = lit≤ tt
 
 -- ---- the file
 
@@ -192,19 +217,19 @@ printed_parts : (g : Entry) → printed g ≡ flat_map spelled (printed_lines g)
 unfolding printed
 printed_parts g = refl
 
-pub printed_small : (g : Entry) → IsFit g.kind g.field g.x g.y 1 → AllByRecursion AreWords (printed_lines g) × (length (printed g) ≤ 4194304)
+pub printed_small : (g : Entry) → IsFit g.kind g.field g.x g.y g.bias → AllByRecursion AreWords (printed_lines g) × (length (printed g) ≤ 4194304)
 printed_small g fit =
-    let field = few_points g.field (record { on_lines = fit.within.on_lines; on_graph = fit.within.on_graph }) in
+    let field = few_points g.bias g.field (omega (arith, fit.few_bias, greatest_bias-few g.kind)) (record { on_lines = fit.within.on_lines; on_graph = fit.within.on_graph }) in
     let x = smaller (field_points g.field) (members g.x) field.0 (below-members (field_points g.field) g.x fit.x_range) in
     let y = smaller (field_points g.field) (members g.y) field.0 (below-members (field_points g.field) g.y fit.y_range) in
-    let parts = parts_len header (worded keys.Kind (kind_word g.kind)) (worded keys.Turn (side_word g.turn)) (field_words g.field) (marked keys.X (members g.x)) (marked keys.Y (members g.y)) in
+    let parts = parts_len header (worded keys.Kind (kind_word g.kind)) (worded keys.Turn (side_word g.turn)) (field_words g.bias g.field) (marked keys.X (members g.x)) (marked keys.Y (members g.y)) in
     let kind_words : AreWords (worded keys.Kind (kind_word g.kind)) = rw (kind_is_word g.kind) refl in
     let turn_words : AreWords (worded keys.Turn (side_word g.turn)) = rw (side_is_word g.turn) refl in (
       (
         refl,
         (
           kind_words,
-          both_words (field_words g.field) (marked keys.X (members g.x) ++ (marked keys.Y (members g.y) ++ worded keys.Turn (side_word g.turn) ∷ [])) field.1.0
+          both_words (field_words g.bias g.field) (marked keys.X (members g.x) ++ (marked keys.Y (members g.y) ++ worded keys.Turn (side_word g.turn) ∷ [])) field.1.0
               (both_words (marked keys.X (members g.x)) (marked keys.Y (members g.y) ++ worded keys.Turn (side_word g.turn) ∷ []) (marks_words keys.X (members g.x) x)
               (both_words (marked keys.Y (members g.y)) (worded keys.Turn (side_word g.turn) ∷ []) (marks_words keys.Y (members g.y) y) (turn_words, tt))),
         ),

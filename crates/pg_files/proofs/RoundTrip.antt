@@ -1,6 +1,6 @@
 -- What is printed is read again.
 use Rattle.std.proofs.Common.{◌≡◌, ℕ, ◌+◌, ◌*◌, ◌<◌, ◌≤◌, true, false, ◌&&◌, inl, inr, List, [], ◌∷◌, ◌++◌, length, map, arith, refl, ap, ◌∙◌, Ok}
-use Rattle.std.specs.Prelude.{◌==◌, nat_lt, nat_le, sum_by, Some, None}
+use Rattle.std.specs.Prelude.{◌==◌, nat_lt, nat_le, sum_by, Option, Some, None}
 use Rattle.std.specs.Fmt.{decimal}
 use Rattle.std.specs.List.{list_all, All}
 use Rattle.std.specs.FinSet.{empty}
@@ -8,11 +8,12 @@ use Rattle.std.proofs.Math.Nat.{le-mul_of_pos_right, mul_comm}
 use Rattle.std.proofs.lemmas.Bool.{cases_lt, lt-ltb, ne_eqb, and_parts, and_right}
 use Rattle.std.proofs.lemmas.Bool.Decides.{nat_tests}
 use Rattle.std.proofs.lemmas.List.Elements.{All-tail}
+use Rattle.pg_base.specs.declared.grid.Grid.{Grid}
 use Rattle.pg_base.specs.declared.kind.Kind.{Kind}
 use Rattle.pg_base.specs.declared.kind.Kind.TheVariants as kinds
 use Rattle.pg_base.specs.declared.side.Side.{Side}
 use Rattle.pg_base.specs.declared.side.Side.TheVariants as sides
-use Rattle.pg_game.specs.Fit.{is_switching}
+use Rattle.pg_game.specs.Fit.{greatest_bias, is_switching, longest}
 use Rattle.pg_text.specs.Text.{Bytes, spaced, lines}
 use Rattle.pg_files.specs.Sets.{set_of, ascending, repeats}
 use Rattle.pg_base.specs.Kind.{kind_word, kind_of}
@@ -48,6 +49,7 @@ key_again keys.Points = refl
 key_again keys.Grid = refl
 key_again keys.Vertices = refl
 key_again keys.Terminals = refl
+key_again keys.Bias = refl
 key_again keys.Line = refl
 key_again keys.Shape = refl
 key_again keys.Edge = refl
@@ -61,6 +63,7 @@ key_is_word keys.Points = refl
 key_is_word keys.Grid = refl
 key_is_word keys.Vertices = refl
 key_is_word keys.Terminals = refl
+key_is_word keys.Bias = refl
 key_is_word keys.Line = refl
 key_is_word keys.Shape = refl
 key_is_word keys.Edge = refl
@@ -74,6 +77,7 @@ key_is_plain keys.Points arguments = refl
 key_is_plain keys.Grid arguments = refl
 key_is_plain keys.Vertices arguments = refl
 key_is_plain keys.Terminals arguments = refl
+key_is_plain keys.Bias arguments = refl
 key_is_plain keys.Line arguments = refl
 key_is_plain keys.Shape arguments = refl
 key_is_plain keys.Edge arguments = refl
@@ -158,13 +162,13 @@ edge_in_place d is three four =
 
 -- ---- lines with keys
 
-pub keyed_line : (d : Draft) (l : List ℕ) → is_out_of_place d keys.Line ≡ false → list_all (λ n. nat_lt n (points_so_far d)) l ≡ true → AreSmall l → repeats empty l ≡ false → 0 < length l → length l ≤ 100 → length d.lines < 20000 → sum_by length d.lines + length l ≤ 400000
+pub keyed_line : (d : Draft) (l : List ℕ) → is_out_of_place d keys.Line ≡ false → list_all (λ n. nat_lt n (points_so_far d)) l ≡ true → AreSmall l → repeats empty l ≡ false → 0 < length l → length l ≤ longest d.bias → length d.lines < 20000 → sum_by length d.lines + length l ≤ 400000
     → keyed d keys.Line (map decimal l) ≡ Ok (record d { rank = 4; lines = d.lines ++ ascending l ∷ [] })
 unfolding keyed
 keyed_line d l place below small different some short room total =
     let again = numbers_decimals l small in
     let a : (length l == 0) ≡ false = grind (arith, nat_tests) in
-    let b : nat_lt 100 (length l) ≡ false = grind (arith, nat_tests) in
+    let b : nat_lt (longest d.bias) (length l) ≡ false = grind (arith, nat_tests) in
     let c : nat_le 20000 (length d.lines) ≡ false = grind (arith, nat_tests) in
     let e : nat_lt 400000 (sum_by length d.lines + length l) ≡ false = grind (arith, nat_tests) in
     rw (place, again, below, different, a, b, c, e) refl
@@ -210,6 +214,15 @@ keyed_grid kind w h lines some few =
     let sides = factors w h (w * h) refl some in
     let again = numbers_decimals (w ∷ h ∷ []) (two_small w h (omega (arith, sides.0)) (omega (arith, sides.1))) in
     rw (lines, again, inside 1 256 (w * h) some few) refl
+
+-- after the number of points or the grid
+pub keyed_bias : (kind : Kind) (points : ℕ) (grid : Option Grid) (bias : ℕ) → 1 < bias → bias ≤ 7 → bias ≤ greatest_bias kind
+    → keyed (record (of_kind kind) { rank = 2; points = points; grid = grid }) keys.Bias (map decimal (bias ∷ [])) ≡ Ok (record (of_kind kind) { rank = 3; points = points; grid = grid; bias = bias })
+unfolding keyed
+keyed_bias kind points grid bias more few fits =
+    let again = numbers_decimals (bias ∷ []) (one_small bias (omega arith)) in
+    let has : nat_lt 1 (greatest_bias kind) ≡ true = lt-ltb 1 (greatest_bias kind) (omega arith) in
+    rw (has, again, inside 1 7 bias (omega arith) few) refl
 
 pub keyed_vertices : (n : ℕ) → 2 ≤ n → n ≤ 500 → keyed (of_kind kinds.Switching) keys.Vertices (map decimal (n ∷ [])) ≡ Ok (record (of_kind kinds.Switching) { rank = 2; vertices = n })
 unfolding keyed

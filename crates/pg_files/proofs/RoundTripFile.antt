@@ -1,10 +1,11 @@
 -- A printed file is read line by line, each line after those before it.
-use Rattle.std.proofs.Common.{◌≡◌, ℕ, ◌+◌, ◌*◌, ◌<◌, ◌≤◌, lit<, lit≤, Bool, true, false, cond, List, [], ◌∷◌, ◌++◌, length, map, arith, refl, sym, ap, subst, append_assoc, ◌∙◌, Ok, Err}
+use Rattle.std.proofs.Common.{◌≡◌, ℕ, ◌+◌, ◌*◌, ◌<◌, ◌≤◌, lit<, lit≤, Bool, true, false, cond, inl, inr, List, [], ◌∷◌, ◌++◌, length, map, arith, refl, sym, ap, subst, append_assoc, ◌∙◌, Ok, Err}
 use Rattle.std.specs.Prelude.{nat_lt, sum_by, Option, Some, None}
 use Rattle.std.specs.Fmt.{decimal}
 use Rattle.std.specs.List.{list_all, All}
 use Rattle.std.specs.FinSet.{FinSet, empty}
 use Rattle.std.specs.Ordering.{nat_cmp}
+use Rattle.std.proofs.lemmas.Bool.{cases_Bool, ltb-true, ltb-false}
 use Rattle.std.proofs.lemmas.Bool.Decides.{nat_tests}
 use Rattle.std.proofs.lemmas.List.{append-nil, length-append, map-append}
 use Rattle.std.proofs.lemmas.List.Elements.{All-tail}
@@ -19,13 +20,13 @@ use Rattle.pg_game.specs.declared.field.Field.TheVariants as fields
 use Rattle.pg_game.specs.declared.field.LineField.{LineField}
 use Rattle.pg_game.specs.declared.game.Game.{Game}
 use Rattle.pg_game.specs.Field.{field_points}
-use Rattle.pg_game.specs.Fit.{AreBelow, ShareNone, IsLineOf, AreLinesOf, IsBoard, IsFit, is_switching}
+use Rattle.pg_game.specs.Fit.{AreBelow, ShareNone, IsLineOf, AreLinesOf, IsBoard, IsFit, is_switching, longest, greatest_bias}
 use Rattle.pg_text.specs.Text.{Bytes, spaced, lines}
 use Rattle.pg_text.specs.Text.{words}
 use Rattle.pg_base.specs.Points.{members}
 use Rattle.pg_base.proofs.MemberLemmas.{points_below-ascend, from_list-points_below}
 use Rattle.pg_files.specs.Sets.{set_of, ascending, repeats}
-use Rattle.pg_files.specs.Print.{header, numbered, worded, marked, size_words, edge_words, field_words, printed, printed_lines}
+use Rattle.pg_files.specs.Print.{header, numbered, worded, marked, size_words, bias_words, edge_words, field_words, printed, printed_lines}
 use Rattle.pg_base.specs.Kind.{kind_word}
 use Rattle.pg_base.specs.Side.{side_word}
 use Rattle.pg_files.specs.GameFile.{Draft, Entry, nothing, after, significant, game, game_of, is_misplaced, points_for, points_so_far, field_of}
@@ -36,8 +37,8 @@ use Rattle.pg_files.specs.declared.key.Key.TheVariants as keys
 use Rattle.pg_files.proofs.Words.{lines_spelled, decimals_are_words}
 use Rattle.pg_files.proofs.SetLaws.{ascending_is, repeats_none, below-members, members-apart, below_more}
 use Rattle.pg_files.proofs.Sound.{lines_kind}
-use Rattle.pg_files.proofs.PrintSize.{printed_small}
-use Rattle.pg_files.proofs.RoundTrip.{smaller, one_small, two_small, all_below, factors, after_keyed, kind_is_word, side_is_word, in_place, line_in_place, edge_in_place, keyed_line, keyed_edge, keyed_x, keyed_y, keyed_turn, of_kind, keyed_kind, keyed_points, keyed_grid, keyed_vertices, keyed_terminals}
+use Rattle.pg_files.proofs.PrintSize.{printed_small, greatest_bias-few}
+use Rattle.pg_files.proofs.RoundTrip.{smaller, one_small, two_small, all_below, factors, after_keyed, kind_is_word, side_is_word, in_place, line_in_place, edge_in_place, keyed_line, keyed_edge, keyed_x, keyed_y, keyed_turn, of_kind, keyed_kind, keyed_points, keyed_grid, keyed_bias, keyed_vertices, keyed_terminals}
 
 -- ---- one line after the other
 
@@ -96,7 +97,7 @@ takes_next kind d l h = record { begun = h.begun; kind_is = h.kind_is; on_lines 
 points_are : (kind : Kind) (d : Draft) → d.kind ≡ Some kind → is_switching kind ≡ false → points_so_far d ≡ d.points
 points_are kind d is on = ap (λ (k : Option Kind). points_for k d.points (length d.ends)) is ∙ (lines_kind kind (rw on refl)).points d.points (length d.ends)
 
-one_line : (kind : Kind) (d : Draft) (l : List ℕ) → TakesLines kind d → IsLineOf d.points 1 l → length d.lines < 20000 → sum_by length d.lines + length l ≤ 400000
+one_line : (kind : Kind) (d : Draft) (l : List ℕ) → TakesLines kind d → IsLineOf d.points d.bias l → length d.lines < 20000 → sum_by length d.lines + length l ≤ 400000
     → Goes d (spaced (numbered keys.Line l) ∷ []) (record d { rank = 4; lines = d.lines ++ l ∷ [] })
 one_line kind d l h fits room total =
     let few = h.few in
@@ -105,12 +106,12 @@ one_line kind d l h fits room total =
     let counted = ap (λ n. list_all (λ p. nat_lt p n) l) (points_are kind d h.kind_is h.on_lines) ∙ below in
     let again : ascending l ≡ l = ascending_is l fits.ascending (below_more d.points l (omega arith) below) in
     let some : 0 < length l = fits.some in
-    let short : length l ≤ 100 = fits.short in
+    let short : length l ≤ longest d.bias = fits.short in
     let read = keyed_line d l (line_in_place kind d h.on_lines h.kind_is h.two h.four) counted small (repeats_none l fits.ascending) some short room total in
     goes_one d (record d { rank = 4; lines = d.lines ++ l ∷ [] }) (spaced (numbered keys.Line l))
     (after_keyed d keys.Line (map decimal l) h.begun (decimals_are_words l small) ∙ read ∙ ap (λ (k : List ℕ). Ok (record d { rank = 4; lines = d.lines ++ k ∷ [] })) again)
 
-all_lines : (kind : Kind) (d : Draft) (ls : List (List ℕ)) → TakesLines kind d → All (IsLineOf d.points 1) ls → length d.lines + length ls ≤ 20000 → sum_by length d.lines + sum_by length ls ≤ 400000
+all_lines : (kind : Kind) (d : Draft) (ls : List (List ℕ)) → TakesLines kind d → All (IsLineOf d.points d.bias) ls → length d.lines + length ls ≤ 20000 → sum_by length d.lines + sum_by length ls ≤ 400000
     → Goes d (text (map (numbered keys.Line) ls)) (with_lines d ls)
 all_lines kind d [] h fits room total = λ n others. (n, ap (λ (ls : List (List ℕ)). reading after n (record d { lines = ls }) others) (sym (append-nil d.lines)))
 all_lines kind d (l ∷ ls) h fits room total =
@@ -119,7 +120,7 @@ all_lines kind d (l ∷ ls) h fits room total =
     let added : sum_by length (d.lines ++ l ∷ []) ≡ sum_by length d.lines + length l = sum_by_push length d.lines l in
     let longer : length (d.lines ++ l ∷ []) ≡ length d.lines + 1 = length-append d.lines (l ∷ []) ∙ omega arith in
     let first = one_line kind d l h (fits 0 [] (omega arith)) (omega arith) (omega arith) in
-    let others = all_lines kind next ls (takes_next kind d l h) (All-tail (IsLineOf d.points 1) l ls fits) (omega arith) (omega arith) in
+    let others = all_lines kind next ls (takes_next kind d l h) (All-tail (IsLineOf d.points d.bias) l ls fits) (omega arith) (omega arith) in
     let both = goes_then d next (with_lines next ls) (spaced (numbered keys.Line l) ∷ []) (text (map (numbered keys.Line) ls)) first others in
     subst (λ (last : Draft). Goes d (text (map (numbered keys.Line) (l ∷ ls))) last) (next_lines d l ls) both
 
@@ -251,38 +252,60 @@ size_goes kind points (Some g) on some few cells =
     goes_one (of_kind kind) (of_size kind points (Some g)) (spaced (size_words points (Some g)))
     (after_keyed (of_kind kind) keys.Grid (map decimal (g.width ∷ g.height ∷ [])) refl (decimals_are_words (g.width ∷ g.height ∷ []) small) ∙ keyed_grid kind g.width g.height on (omega (arith, is)) (omega (arith, is)) ∙ ap (λ (n : ℕ). Ok (of_size kind n (Some g))) is)
 
-rank_bounds : {X : Type 0} (xs : List X) (r : ℕ) → r < 5 → (r ≤ 4) × (rank_after r xs < 5)
-rank_bounds [] r lt = (omega arith, lt)
-rank_bounds (x ∷ xs) r lt = (omega arith, lit< tt)
+-- the draft after the bias, where it is printed
+abbrev of_bias : Kind → ℕ → Option Grid → ℕ → Draft
+of_bias kind points grid bias = record (of_size kind points grid) { rank = cond (nat_lt 1 bias) 3 2; bias = bias }
+
+bias_rank : (more : Bool) → (2 ≤ cond more 3 2) × (cond more 3 2 ≤ 3)
+bias_rank true = (lit≤ tt, lit≤ tt)
+bias_rank false = (lit≤ tt, lit≤ tt)
+
+bias_goes : (kind : Kind) (points : ℕ) (grid : Option Grid) (bias : ℕ) → 1 ≤ bias → bias ≤ greatest_bias kind → Goes (of_size kind points grid) (text (bias_words bias)) (of_bias kind points grid bias)
+bias_goes kind points grid bias some fits = elim (cases_Bool (nat_lt 1 bias)) [
+  | inl more ↦
+      let few : bias ≤ 7 = omega (arith, fits, greatest_bias-few kind) in
+      rw more
+      (goes_one (of_size kind points grid) (record (of_size kind points grid) { rank = 3; bias = bias }) (spaced (numbered keys.Bias (bias ∷ [])))
+      (after_keyed (of_size kind points grid) keys.Bias (map decimal (bias ∷ [])) refl (decimals_are_words (bias ∷ []) (one_small bias (omega arith))) ∙ keyed_bias kind points grid bias (ltb-true 1 bias more) few fits))
+  | inr one ↦
+      let is : 1 ≡ bias = omega (arith, some, ltb-false 1 bias one) in
+      rw one (λ n others. (n, ap (λ (b : ℕ). reading after n (record (of_size kind points grid) { bias = b }) others) is))
+]
 
 -- ---- games with lines
 
 lines_needed : (kind : Kind) → is_switching kind ≡ false → (r : ℕ) → 2 ≤ r → cond (is_switching kind) 3 2 ≤ r
 lines_needed kind on r le = rw on le
 
-after_two : {X : Type 0} (xs : List X) → (2 ≤ rank_after 2 xs) × (rank_after 2 xs < 5)
-after_two [] = (lit≤ tt, lit< tt)
-after_two (x ∷ xs) = (lit≤ tt, lit< tt)
+after_size : {X : Type 0} (xs : List X) (r : ℕ) → 2 ≤ r → r ≤ 3 → (2 ≤ rank_after r xs) × (rank_after r xs < 5)
+after_size [] r two three = (two, omega arith)
+after_size (x ∷ xs) r two three = (lit≤ tt, lit< tt)
+
+after_bias : {X : Type 0} (xs : List X) (more : Bool) → (2 ≤ rank_after (cond more 3 2) xs) × (rank_after (cond more 3 2) xs < 5)
+after_bias xs more = after_size xs (cond more 3 2) (bias_rank more).0 (bias_rank more).1
 
 -- the draft after the lines
-abbrev of_lines : Kind → LineField → Draft
-of_lines kind f = with_lines (of_size kind f.points f.grid) f.lines
+abbrev of_lines : Kind → LineField → ℕ → Draft
+of_lines kind f bias = with_lines (of_bias kind f.points f.grid bias) f.lines
 
-lines_go : (kind : Kind) (f : LineField) → is_switching kind ≡ false → AreLinesOf 1 f → Goes (of_kind kind) (text (field_words (fields.Lines f))) (of_lines kind f)
-lines_go kind f on h =
+lines_go : (kind : Kind) (f : LineField) (bias : ℕ) → is_switching kind ≡ false → 1 ≤ bias → bias ≤ greatest_bias kind → AreLinesOf bias f → Goes (of_kind kind) (text (field_words bias (fields.Lines f))) (of_lines kind f bias)
+lines_go kind f bias on one fits h =
     let some = h.some_points in
     let few = h.few_points in
-    let d : Draft = of_size kind f.points f.grid in
-    let takes : TakesLines kind d = record { begun = refl; kind_is = refl; on_lines = on; two = lit≤ tt; four = lit≤ tt; few = few } in
-    goes_then (of_kind kind) d (of_lines kind f) (text (size_words f.points f.grid ∷ [])) (text (map (numbered keys.Line) f.lines)) (size_goes kind f.points f.grid on some few h.cells)
-    (all_lines kind d f.lines takes h.lines (omega (arith, h.few_lines)) (omega (arith, h.few_summed)))
+    let sized : Draft = of_size kind f.points f.grid in
+    let d : Draft = of_bias kind f.points f.grid bias in
+    let rank = bias_rank (nat_lt 1 bias) in
+    let takes : TakesLines kind d = record { begun = refl; kind_is = refl; on_lines = on; two = rank.0; four = omega (arith, rank.1); few = few } in
+    let lines = all_lines kind d f.lines takes h.lines (omega (arith, h.few_lines)) (omega (arith, h.few_summed)) in
+    goes_then (of_kind kind) sized (of_lines kind f bias) (text (size_words f.points f.grid ∷ [])) (text (bias_words bias ++ map (numbered keys.Line) f.lines)) (size_goes kind f.points f.grid on some few h.cells)
+    (goes_both sized d (of_lines kind f bias) (bias_words bias) (map (numbered keys.Line) f.lines) (bias_goes kind f.points f.grid bias one fits) lines)
 
-lines_take : (kind : Kind) (f : LineField) → is_switching kind ≡ false → AreLinesOf 1 f → TakesMarks kind (of_lines kind f)
-lines_take kind f on h = record {
+lines_take : (kind : Kind) (f : LineField) (bias : ℕ) → is_switching kind ≡ false → AreLinesOf bias f → TakesMarks kind (of_lines kind f bias)
+lines_take kind f bias on h = record {
   begun = refl;
   kind_is = refl;
-  needed = lines_needed kind on (rank_after 2 f.lines) (after_two f.lines).0;
-  few = omega (arith, points_are kind (of_lines kind f) refl on, h.few_points);
+  needed = lines_needed kind on (rank_after (cond (nat_lt 1 bias) 3 2) f.lines) (after_bias f.lines (nat_lt 1 bias)).0;
+  few = omega (arith, points_are kind (of_lines kind f bias) refl on, h.few_points);
 }
 
 field_is : (kind : Kind) (d : Draft) → is_switching kind ≡ false → field_of kind d ≡ fields.Lines (record { points = d.points; grid = d.grid; lines = d.lines })
@@ -308,8 +331,8 @@ of_terminals n s t = record (of_kind kinds.Switching) { rank = 3; vertices = n; 
 abbrev of_edges : Graph → Draft
 of_edges h = with_ends (of_terminals h.vertices h.s h.t) h.ends
 
-graph_goes : (h : Graph) → IsBoard h → Goes (of_kind kinds.Switching) (text (field_words (fields.Graph h))) (of_edges h)
-graph_goes h b =
+graph_goes : (h : Graph) (bias : ℕ) → IsBoard h → Goes (of_kind kinds.Switching) (text (field_words bias (fields.Graph h))) (of_edges h)
+graph_goes h bias b =
     let some = b.some_vertices in
     let few = b.few_vertices in
     let first = b.s_range in
@@ -333,60 +356,60 @@ abbrev at_end : Draft → Entry → Draft
 at_end d g = record d { rank = 7; x = g.x; y = g.y; turn = Some g.turn }
 
 -- what is read of the field is all that is left to show
-file_goes : (g : Entry) (d : Draft) → IsFit g.kind g.field g.x g.y 1 → Goes (of_kind g.kind) (text (field_words g.field)) d → TakesMarks g.kind d → d.rank < 5 → d.x ≡ empty → d.y ≡ empty → points_so_far d ≡ field_points g.field → Goes nothing (text (printed_lines g)) (at_end d g)
+file_goes : (g : Entry) (d : Draft) → IsFit g.kind g.field g.x g.y g.bias → Goes (of_kind g.kind) (text (field_words g.bias g.field)) d → TakesMarks g.kind d → d.rank < 5 → d.x ≡ empty → d.y ≡ empty → points_so_far d ≡ field_points g.field → Goes nothing (text (printed_lines g)) (at_end d g)
 file_goes g d fit field takes five no_x no_y is =
     let tail = marked keys.X (members g.x) ++ (marked keys.Y (members g.y) ++ worded keys.Turn (side_word g.turn) ∷ []) in
     let marks = tail_goes g.kind d g.x g.y g.turn (field_points g.field) takes five no_x no_y is fit.x_range fit.y_range fit.disjoint in
-    goes_then nothing (of_kind g.kind) (at_end d g) (text (header ∷ worded keys.Kind (kind_word g.kind) ∷ [])) (text (field_words g.field ++ tail)) (head_goes g.kind)
-    (goes_both (of_kind g.kind) d (at_end d g) (field_words g.field) tail field marks)
+    goes_then nothing (of_kind g.kind) (at_end d g) (text (header ∷ worded keys.Kind (kind_word g.kind) ∷ [])) (text (field_words g.bias g.field ++ tail)) (head_goes g.kind)
+    (goes_both (of_kind g.kind) d (at_end d g) (field_words g.bias g.field) tail field marks)
 
-chosen : (begun : Bool) (kind : Option Kind) (turn : Option Side) (d : Draft) (g : Entry) → begun ≡ true → kind ≡ Some g.kind → turn ≡ Some g.turn → field_of g.kind d ≡ g.field → d.x ≡ g.x → d.y ≡ g.y
+chosen : (begun : Bool) (kind : Option Kind) (turn : Option Side) (d : Draft) (g : Entry) → begun ≡ true → kind ≡ Some g.kind → turn ≡ Some g.turn → field_of g.kind d ≡ g.field → d.x ≡ g.x → d.y ≡ g.y → d.bias ≡ g.bias
     → cond begun (game_of d kind turn) (Err (faults.Header, 0)) ≡ Ok g
-chosen begun kind turn d g b k t field x y = rw (b, k, t, field, x, y) refl
+chosen begun kind turn d g b k t field x y bias = rw (b, k, t, field, x, y, bias) refl
 
-ends_as : (g : Entry) (d : Draft) → IsFit g.kind g.field g.x g.y 1 → Goes nothing (text (printed_lines g)) (at_end d g) → d.begun ≡ true → d.kind ≡ Some g.kind → field_of g.kind (at_end d g) ≡ g.field → game (printed g) ≡ Ok g
+ends_as : (g : Entry) (d : Draft) → IsFit g.kind g.field g.x g.y g.bias → Goes nothing (text (printed_lines g)) (at_end d g) → d.begun ≡ true → d.kind ≡ Some g.kind → field_of g.kind (at_end d g) ≡ g.field → d.bias ≡ g.bias → game (printed g) ≡ Ok g
 unfolding game printed reading
-ends_as g d fit goes begun kind field =
+ends_as g d fit goes begun kind field bias =
     let small = printed_small g fit in
     let short = small.1 in
     let fitting : nat_lt 4194304 (length (printed g)) ≡ false = grind (arith, nat_tests) in
     let cut : lines (printed g) ≡ text (printed_lines g) = lines_spelled (printed_lines g) small.0 in
     let last = goes 1 [] in
     let read : reading after 1 nothing (text (printed_lines g)) ≡ Ok (at_end d g) = ap (reading after 1 nothing) (sym (append-nil (text (printed_lines g)))) ∙ last.1 in
-    rw (fitting, cut, read) (chosen d.begun d.kind (Some g.turn) (at_end d g) g begun kind refl field refl refl)
+    rw (fitting, cut, read) (chosen d.begun d.kind (Some g.turn) (at_end d g) g begun kind refl field refl refl bias)
 
 -- a game of parts
-abbrev parts : Kind → Field → FinSet nat_cmp → FinSet nat_cmp → Side → Entry
-parts kind field x y turn = record { kind = kind; field = field; x = x; y = y; turn = turn }
+abbrev parts : Kind → Field → FinSet nat_cmp → FinSet nat_cmp → Side → ℕ → Entry
+parts kind field x y turn bias = record { kind = kind; field = field; x = x; y = y; turn = turn; bias = bias }
 
-lines_back : (kind : Kind) (f : LineField) (x y : FinSet nat_cmp) (turn : Side) → IsFit kind (fields.Lines f) x y 1 → game (printed (parts kind (fields.Lines f) x y turn)) ≡ Ok (parts kind (fields.Lines f) x y turn)
-lines_back kind f x y turn fit =
+lines_back : (kind : Kind) (f : LineField) (x y : FinSet nat_cmp) (turn : Side) (bias : ℕ) → IsFit kind (fields.Lines f) x y bias → game (printed (parts kind (fields.Lines f) x y turn bias)) ≡ Ok (parts kind (fields.Lines f) x y turn bias)
+lines_back kind f x y turn bias fit =
     let on : is_switching kind ≡ false = sym fit.within.kind_fits in
-    let g : Entry = parts kind (fields.Lines f) x y turn in
+    let g : Entry = parts kind (fields.Lines f) x y turn bias in
     let h = fit.within.on_lines f refl in
-    let d : Draft = of_lines kind f in
-    let goes = file_goes g d fit (lines_go kind f on h) (lines_take kind f on h) (after_two f.lines).1 refl refl (points_are kind d refl on) in
-    ends_as g d fit goes refl refl (field_is kind (at_end d g) on)
+    let d : Draft = of_lines kind f bias in
+    let goes = file_goes g d fit (lines_go kind f bias on fit.some_bias fit.few_bias h) (lines_take kind f bias on h) (after_bias f.lines (nat_lt 1 bias)).1 refl refl (points_are kind d refl on) in
+    ends_as g d fit goes refl refl (field_is kind (at_end d g) on) refl
 
-graph_back : (h : Graph) (x y : FinSet nat_cmp) (turn : Side) → IsFit kinds.Switching (fields.Graph h) x y 1 → game (printed (parts kinds.Switching (fields.Graph h) x y turn)) ≡ Ok (parts kinds.Switching (fields.Graph h) x y turn)
-graph_back h x y turn fit =
-    let g : Entry = parts kinds.Switching (fields.Graph h) x y turn in
+graph_back : (h : Graph) (x y : FinSet nat_cmp) (turn : Side) (bias : ℕ) → IsFit kinds.Switching (fields.Graph h) x y bias → game (printed (parts kinds.Switching (fields.Graph h) x y turn bias)) ≡ Ok (parts kinds.Switching (fields.Graph h) x y turn bias)
+graph_back h x y turn bias fit =
+    let g : Entry = parts kinds.Switching (fields.Graph h) x y turn bias in
     let b = fit.within.on_graph h refl in
     let d : Draft = of_edges h in
     let takes : TakesMarks kinds.Switching d = record { begun = refl; kind_is = refl; needed = (after_three h.ends).0; few = b.few_edges } in
-    let goes = file_goes g d fit (graph_goes h b) takes (after_three h.ends).1 refl refl refl in
-    ends_as g d fit goes refl refl refl
+    let goes = file_goes g d fit (graph_goes h bias b) takes (after_three h.ends).1 refl refl refl in
+    ends_as g d fit goes refl refl refl (omega (arith, fit.some_bias, fit.few_bias))
 
-pub back : (kind : Kind) (field : Field) (x y : FinSet nat_cmp) (turn : Side) → IsFit kind field x y 1 → game (printed (parts kind field x y turn)) ≡ Ok (parts kind field x y turn)
-back kind (fields.Lines f) x y turn fit = lines_back kind f x y turn fit
-back kinds.Switching (fields.Graph h) x y turn fit = graph_back h x y turn fit
-back kinds.MakerBreaker (fields.Graph h) x y turn fit = absurd (cc fit.within.kind_fits)
-back kinds.MakerMaker (fields.Graph h) x y turn fit = absurd (cc fit.within.kind_fits)
-back kinds.AvoiderEnforcer (fields.Graph h) x y turn fit = absurd (cc fit.within.kind_fits)
+pub back : (kind : Kind) (field : Field) (x y : FinSet nat_cmp) (turn : Side) (bias : ℕ) → IsFit kind field x y bias → game (printed (parts kind field x y turn bias)) ≡ Ok (parts kind field x y turn bias)
+back kind (fields.Lines f) x y turn bias fit = lines_back kind f x y turn bias fit
+back kinds.Switching (fields.Graph h) x y turn bias fit = graph_back h x y turn bias fit
+back kinds.MakerBreaker (fields.Graph h) x y turn bias fit = absurd (cc fit.within.kind_fits)
+back kinds.MakerMaker (fields.Graph h) x y turn bias fit = absurd (cc fit.within.kind_fits)
+back kinds.AvoiderEnforcer (fields.Graph h) x y turn bias fit = absurd (cc fit.within.kind_fits)
 
--- a game within the limits in which Y claims one point a turn is read as it is printed
-pub entry_back : (g : Entry) → IsFit g.kind g.field g.x g.y 1 → game (printed g) ≡ Ok g
-entry_back g fit = back g.kind g.field g.x g.y g.turn fit
+-- a game within the limits is read as it is printed
+pub entry_back : (g : Entry) → IsFit g.kind g.field g.x g.y g.bias → game (printed g) ≡ Ok g
+entry_back g fit = back g.kind g.field g.x g.y g.turn g.bias fit
 
-pub game_back : (g : Game) → g.bias ≡ 1 → game (printed (entry g)) ≡ Ok (entry g)
-game_back g one = entry_back (entry g) (subst (λ (b : ℕ). IsFit g.kind g.field g.x g.y b) one g.fits)
+pub game_back : (g : Game) → game (printed (entry g)) ≡ Ok (entry g)
+game_back g = entry_back (entry g) g.fits

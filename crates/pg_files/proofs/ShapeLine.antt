@@ -5,6 +5,7 @@ use Rattle.std.proofs.lemmas.Bool.Decides.{nat_tests}
 use Rattle.std.proofs.lemmas.List.Sums.{sum_by-append}
 use Rattle.pg_base.specs.declared.grid.Grid.{Grid}
 use Rattle.pg_text.specs.Text.{Bytes}
+use Rattle.pg_game.specs.Fit.{longest}
 use Rattle.pg_poly.specs.declared.cell.Cell.{Cell}
 use Rattle.pg_poly.specs.Decided.{is_shape}
 use Rattle.pg_poly.specs.Listed.{placements_of}
@@ -26,12 +27,12 @@ limit_of false true c s x e f g = absurd cc
 limit_of false false true s x e f g = refl
 limit_of false false false s x e f g = absurd cc
 
-pub keyed_limit : (d : Draft) (word : Bytes) (grid : Grid) (count points total : ℕ) (lines : List (List ℕ)) (cells : List Cell) → is_out_of_place d keys.Shape ≡ false → ones word ≤ 100 → is_shape word ≡ true → d.grid ≡ Some grid → 0 < length cells
+pub keyed_limit : (d : Draft) (word : Bytes) (grid : Grid) (count points total : ℕ) (lines : List (List ℕ)) (cells : List Cell) → is_out_of_place d keys.Shape ≡ false → ones word ≤ longest d.bias → is_shape word ≡ true → d.grid ≡ Some grid → 0 < length cells
     → cells ≡ cells_of word → lines ≡ placements_of grid cells → count ≡ length lines → points ≡ length cells → total ≡ sum_by length d.lines
     → (nat_lt 20000 (length d.lines + count) || nat_lt 400000 (total + count * points)) ≡ true → keyed d keys.Shape (word ∷ []) ≡ Err faults.Limit
 unfolding keyed
 keyed_limit d word grid count points total lines cells place few is on some same listed counted pointed totalled over =
-    limit_of (is_out_of_place d keys.Shape) (nat_lt 100 (ones word)) (is_shape word && exceeds_with d (placed_in d.grid (cells_of word))) (not (is_shape word)) (said d keys.Shape (word ∷ [])) place (grind (arith, nat_tests, few)) (ap₂ (λ (x y : Bool). x && y) is exceeded)
+    limit_of (is_out_of_place d keys.Shape) (nat_lt (longest d.bias) (ones word)) (is_shape word && exceeds_with d (placed_in d.grid (cells_of word))) (not (is_shape word)) (said d keys.Shape (word ∷ [])) place (grind (arith, nat_tests, few)) (ap₂ (λ (x y : Bool). x && y) is exceeded)
   where
     placed_is : lines ≡ placed_in d.grid (cells_of word)
     placed_is = listed ∙ ap (placements_of grid) same ∙ sym (ap (λ g. placed_in g (cells_of word)) on)
@@ -49,7 +50,7 @@ totalled_with old new lines grid cells count points total some listed is counted
     ∙ sym (sum_by-append length old lines) ∙ sym (ap (sum_by length) is)
 
 pub keyed_limit_of : (args : List (Bor (List ℕ))) (e : Bor (List ℕ)) (d : Draft) (grid : Grid) (count points total : ℕ) (lines : List (List ℕ)) (cells : List Cell) → length args ≡ 1 → is_out_of_place d keys.Shape ≡ false
-    → ones (get_or args 0 e).now ≤ 100 → is_shape (get_or args 0 e).now ≡ true → d.grid ≡ Some grid → 0 < length cells
+    → ones (get_or args 0 e).now ≤ longest d.bias → is_shape (get_or args 0 e).now ≡ true → d.grid ≡ Some grid → 0 < length cells
     → cells ≡ cells_of (get_or args 0 e).now → lines ≡ placements_of grid cells → count ≡ length lines → points ≡ length cells → total ≡ sum_by length d.lines
     → (nat_lt 20000 (length d.lines + count) || nat_lt 400000 (total + count * points)) ≡ true → keyed d keys.Shape (map (λ w. w.now) args) ≡ Err faults.Limit
 keyed_limit_of [] e d grid count points total lines cells one place few is on some same listed counted pointed totalled over = absurd (omega arith)

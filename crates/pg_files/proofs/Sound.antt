@@ -17,7 +17,7 @@ use Rattle.pg_graph.specs.declared.graph.Graph.{Graph}
 use Rattle.pg_game.specs.declared.field.Field.{Field}
 use Rattle.pg_game.specs.declared.field.Field.TheVariants as fields
 use Rattle.pg_game.specs.declared.field.LineField.{LineField}
-use Rattle.pg_game.specs.Fit.{AreBelow, ShareNone, IsLineOf, AreLinesOf, IsBoard, IsFit, is_switching, greatest_bias}
+use Rattle.pg_game.specs.Fit.{AreBelow, ShareNone, IsLineOf, AreLinesOf, IsBoard, IsFit, is_switching, greatest_bias, longest}
 use Rattle.pg_text.specs.Text.{Bytes, number, lines}
 use Rattle.pg_poly.specs.declared.cell.Cell.{Cell}
 use Rattle.pg_poly.specs.Decided.{is_shape}
@@ -72,19 +72,25 @@ abbrev pub HasTerminals : Option Kind → ℕ → ℕ → ℕ → Type 0
 HasTerminals (Some kinds.Switching) vertices s t = (s < vertices) × (t < vertices) × (s ≢ t)
 HasTerminals _ vertices s t = Unit {0}
 
+-- the bias is one that a game of the kind may have
+abbrev pub HasBias : Option Kind → ℕ → Type 0
+HasBias None bias = Unit {0}
+HasBias (Some kind) bias = (1 ≤ bias) × (bias ≤ greatest_bias kind)
+
 -- nothing has been said before its rank
 pub record IsBefore (d : Draft) : Type 0 where
   pub kind : d.kind ≡ None → d.rank ≡ 0
   pub grid : d.rank < 2 → d.grid ≡ None
+  pub bias : d.rank < 3 → d.bias ≡ 1
   pub lines : d.rank < 4 → (d.lines ≡ []) × (d.ends ≡ [])
   pub x : d.rank < 5 → d.x ≡ empty
   pub y : d.rank < 6 → d.y ≡ empty
   pub turn : d.rank < 7 → d.turn ≡ None
 
 -- the grid and the lines are within the limits
-pub record AreLines (points : ℕ) (grid : Option Grid) (lines : List (List ℕ)) : Type 0 where
+pub record AreLines (points bias : ℕ) (grid : Option Grid) (lines : List (List ℕ)) : Type 0 where
   pub cells : (g : Grid) → grid ≡ Some g → g.width * g.height ≡ points
-  pub each : All (IsLineOf points 1) lines
+  pub each : All (IsLineOf points bias) lines
   pub count : length lines ≤ 20000
   pub total : sum_by length lines ≤ 400000
 
@@ -104,7 +110,8 @@ pub record IsSound (d : Draft) : Type 0 where
   pub order : IsBefore d
   pub count : 2 ≤ d.rank → HasCount d.kind d.points d.vertices
   pub terminals : 3 ≤ d.rank → HasTerminals d.kind d.vertices d.s d.t
-  pub lines : AreLines d.points d.grid d.lines
+  pub bias : HasBias d.kind d.bias
+  pub lines : AreLines d.points d.bias d.grid d.lines
   pub ends : AreEnds d.vertices d.ends
   pub marks : AreMarks (points_for d.kind d.points (length d.ends)) d.x d.y
 
@@ -183,6 +190,27 @@ graph_kind kinds.Switching h = record { count = λ p v a b. (a, b); terminals = 
 in_graph : {kind : Option Kind} {d : Draft} {key : Key} → IsPlaced kind d key → ((of : Kind) → belongs of key ≡ is_switching of) → IsGraphKind kind
 in_graph at has = subst IsGraphKind (sym at.is) (graph_kind at.of (sym (has at.of) ∙ at.fits))
 
+-- a kind in which Y may claim several points a turn
+record IsBiasedKind (kind : Option Kind) : Type 0 where
+  terminals : (v s t : ℕ) → HasTerminals kind v s t
+  bias : (b : ℕ) → 1 ≤ b → b ≤ 7 → HasBias kind b
+
+biased_kind : (kind : Kind) → nat_lt 1 (greatest_bias kind) ≡ true → IsBiasedKind (Some kind)
+biased_kind kinds.MakerBreaker h = record { terminals = λ v s t. tt; bias = λ b some few. (some, few) }
+biased_kind kinds.MakerMaker h = absurd cc
+biased_kind kinds.AvoiderEnforcer h = record { terminals = λ v s t. tt; bias = λ b some few. (some, few) }
+biased_kind kinds.Switching h = absurd cc
+
+in_biased : {kind : Option Kind} {d : Draft} → IsPlaced kind d keys.Bias → IsBiasedKind kind
+in_biased at = subst IsBiasedKind (sym at.is) (biased_kind at.of at.fits)
+
+one_fits : (kind : Option Kind) → HasBias kind 1
+one_fits None = tt
+one_fits (Some kinds.MakerBreaker) = (lit≤ tt, lit≤ tt)
+one_fits (Some kinds.MakerMaker) = (lit≤ tt, lit≤ tt)
+one_fits (Some kinds.AvoiderEnforcer) = (lit≤ tt, lit≤ tt)
+one_fits (Some kinds.Switching) = (lit≤ tt, lit≤ tt)
+
 kind_place : (kind : Option Kind) (d : Draft) → is_misplaced kind d keys.Kind ≡ false → (kind ≡ None → d.rank ≡ 0) → d.rank ≡ 0
 kind_place None d h first = first refl
 kind_place (Some of) d h first = omega (arith, (placed of d keys.Kind h).under refl)
@@ -202,23 +230,23 @@ no_marks limit x y e f = record {
 set_below : (limit : ℕ) (ns : List ℕ) → list_all (λ n. nat_lt n limit) ns ≡ true → AreBelow (set_of ns) limit
 set_below limit ns all = λ v h. ltb-true v limit (has-below limit ns v all (sym (in_set_of ns v) ∙ h))
 
-no_lines : (points : ℕ) (grid : Option Grid) (lines : List (List ℕ)) → ((g : Grid) → grid ≡ Some g → g.width * g.height ≡ points) → lines ≡ [] → AreLines points grid lines
-no_lines points grid lines cells e = rw e (record { cells = cells; each = λ i d lt. absurd (omega arith); count = lit≤ tt; total = lit≤ tt })
+no_lines : (points bias : ℕ) (grid : Option Grid) (lines : List (List ℕ)) → ((g : Grid) → grid ≡ Some g → g.width * g.height ≡ points) → lines ≡ [] → AreLines points bias grid lines
+no_lines points bias grid lines cells e = rw e (record { cells = cells; each = λ i d lt. absurd (omega arith); count = lit≤ tt; total = lit≤ tt })
 
 no_ends : (vertices : ℕ) (ends : List (ℕ × ℕ)) → ends ≡ [] → AreEnds vertices ends
 no_ends vertices ends e = rw e (record { each = λ i d lt. absurd (omega arith); count = lit≤ tt })
 
-line_is : (points : ℕ) (ns : List ℕ) → points ≤ 256 → list_all (λ n. nat_lt n points) ns ≡ true → repeats empty ns ≡ false → 0 < length ns → length ns ≤ 100 → IsLineOf points 1 (ascending ns)
-line_is points ns few below different some short =
+line_is : (points bias : ℕ) (ns : List ℕ) → points ≤ 256 → list_all (λ n. nat_lt n points) ns ≡ true → repeats empty ns ≡ false → 0 < length ns → length ns ≤ longest bias → IsLineOf points bias (ascending ns)
+line_is points bias ns few below different some short =
     let small = below_more points ns (omega arith) below in
     let len = length-ascending ns small different in
     let all = AllPass-from_list_all (λ n. nat_lt n points) (ascending ns) (below-ascending points ns below) in
     record { some = omega arith; short = omega arith; ascending = points_below-ascend (set_of ns) 1024; range = λ i d lt. ltb-true _ points (all i d lt) }
 
-more_lines : (points : ℕ) (grid : Option Grid) (lines : List (List ℕ)) (line : List ℕ) → AreLines points grid lines → IsLineOf points 1 line → length lines < 20000 → sum_by length lines + length line ≤ 400000 → AreLines points grid (lines ++ line ∷ [])
-more_lines points grid lines line h one few summed = record {
+more_lines : (points bias : ℕ) (grid : Option Grid) (lines : List (List ℕ)) (line : List ℕ) → AreLines points bias grid lines → IsLineOf points bias line → length lines < 20000 → sum_by length lines + length line ≤ 400000 → AreLines points bias grid (lines ++ line ∷ [])
+more_lines points bias grid lines line h one few summed = record {
   cells = h.cells;
-  each = All-push (IsLineOf points 1) lines line h.each one;
+  each = All-push (IsLineOf points bias) lines line h.each one;
   count = omega (arith, length-append lines (line ∷ []));
   total = omega (arith, sum_by_push length lines line);
 }
@@ -258,6 +286,7 @@ has_kind d order low e = let zero : d.rank ≡ 0 = order.kind e in omega arith
 abbrev behind : ℕ → Draft → Draft
 behind r d = record nothing {
   grid = cond (nat_lt r 2) d.grid None;
+  bias = cond (nat_lt r 3) d.bias 1;
   lines = cond (nat_lt r 4) d.lines [];
   ends = cond (nat_lt r 4) d.ends [];
   x = cond (nat_lt r 5) d.x empty;
@@ -277,6 +306,7 @@ raised : (d new : Draft) → IsBefore d → 1 ≤ d.rank → d.rank ≤ new.rank
 raised d new order some up kind same = record {
   kind = λ none. absurd (has_kind d order some (sym kind ∙ none));
   grid = λ lt. same_part new.rank 2 new.grid d.grid None lt (ap (λ (u : Draft). u.grid) same) ∙ order.grid (omega (arith, lt, up));
+  bias = λ lt. same_part new.rank 3 new.bias d.bias 1 lt (ap (λ (u : Draft). u.bias) same) ∙ order.bias (omega (arith, lt, up));
   lines = λ lt. let old = order.lines (omega (arith, lt, up)) in (
     same_part new.rank 4 new.lines d.lines [] lt (ap (λ (u : Draft). u.lines) same) ∙ old.0,
     same_part new.rank 4 new.ends d.ends [] lt (ap (λ (u : Draft). u.ends) same) ∙ old.1,
@@ -296,6 +326,7 @@ sound_turn d arguments sound e =
       order = raised d (said d keys.Turn arguments) sound.order (omega (arith, two)) (omega (arith, at.up)) refl refl;
       count = λ h. sound.count two;
       terminals = λ h. before.terminals d.vertices d.s d.t sound.terminals;
+      bias = sound.bias;
       lines = sound.lines;
       ends = sound.ends;
       marks = sound.marks;
@@ -313,6 +344,7 @@ sound_x d arguments sound e =
       order = raised d (said d keys.X arguments) sound.order (omega (arith, two)) (omega (arith, at.up)) refl refl;
       count = λ h. sound.count two;
       terminals = λ h. before.terminals d.vertices d.s d.t sound.terminals;
+      bias = sound.bias;
       lines = sound.lines;
       ends = sound.ends;
       marks = record {
@@ -333,6 +365,7 @@ sound_y d arguments sound e =
       order = raised d (said d keys.Y arguments) sound.order (omega (arith, two)) (omega (arith, at.up)) refl refl;
       count = λ h. sound.count two;
       terminals = λ h. before.terminals d.vertices d.s d.t sound.terminals;
+      bias = sound.bias;
       lines = sound.lines;
       ends = sound.ends;
       marks = record {
@@ -354,7 +387,7 @@ sound_line d arguments sound e =
     let same = kind.points d.points (length d.ends) in
     let few = (kind.few d.points d.vertices count).1 in
     let below = ap (λ n. list_all (λ p. nat_lt p n) ns) (sym same) ∙ not_false (list_all (λ n. nat_lt n (points_for d.kind d.points (length d.ends))) ns) rows.1.1.1.0 in
-    let len = or_parts (length ns == 0) (nat_lt 100 (length ns)) rows.1.1.1.1.1.0 in
+    let len = or_parts (length ns == 0) (nat_lt (longest d.bias) (length ns)) rows.1.1.1.1.1.0 in
     let some : 0 < length ns = grind (arith, nat_tests, len.0) in
     let room = or_parts (nat_le 20000 (length d.lines)) (nat_lt 400000 (sum_by length d.lines + length ns)) rows.1.1.1.1.1.1.0 in
     let fewer : length d.lines < 20000 = grind (arith, nat_tests, room.0) in
@@ -363,7 +396,8 @@ sound_line d arguments sound e =
       order = raised d (said d keys.Line arguments) sound.order (omega (arith, two)) (omega (arith, at.up)) refl refl;
       count = λ h. count;
       terminals = λ h. before.terminals d.vertices d.s d.t sound.terminals;
-      lines = more_lines d.points d.grid d.lines (ascending ns) sound.lines (line_is d.points ns few below rows.1.1.1.1.0 some (ltb-false 100 (length ns) len.1)) fewer (omega (arith, kept, ltb-false 400000 (sum_by length d.lines + length ns) room.1));
+      bias = sound.bias;
+      lines = more_lines d.points d.bias d.grid d.lines (ascending ns) sound.lines (line_is d.points d.bias ns few below rows.1.1.1.1.0 some (ltb-false (longest d.bias) (length ns) len.1)) fewer (omega (arith, kept, ltb-false 400000 (sum_by length d.lines + length ns) room.1));
       ends = sound.ends;
       marks = sound.marks;
     }
@@ -384,6 +418,7 @@ sound_edge d arguments sound e =
       order = raised d (said d keys.Edge arguments) sound.order (omega (arith, two)) (omega (arith, at.up)) refl refl;
       count = λ h. sound.count two;
       terminals = λ h. before.terminals d.vertices d.s d.t sound.terminals;
+      bias = sound.bias;
       lines = sound.lines;
       ends = more_ends d.vertices (first_number ns) (second_number ns) d.ends sound.ends each.0 each.1 fewer;
       marks = no_marks _ d.x d.y (sound.order.x (omega (arith, at.up))) (sound.order.y (omega (arith, at.up)));
@@ -403,7 +438,26 @@ sound_terminals d arguments sound e =
       order = raised d (said d keys.Terminals arguments) sound.order (omega (arith, two)) (omega (arith, at.up)) refl refl;
       count = λ h. sound.count two;
       terminals = λ h. (in_graph at (λ of. refl)).terminals d.vertices (first_number ns) (second_number ns) each.0 each.1 (eqb-false (first_number ns) (second_number ns) one);
+      bias = sound.bias;
       lines = sound.lines;
+      ends = sound.ends;
+      marks = sound.marks;
+    }
+
+sound_bias : (d : Draft) (arguments : List Bytes) → IsSound d → keyed_fault d keys.Bias arguments ≡ None → IsSound (said d keys.Bias arguments)
+sound_bias d arguments sound e =
+    let rows = none_applies (keyed_faults d keys.Bias arguments) e in
+    let n = first_number (numbers_of arguments) in
+    let at = place d.kind d keys.Bias refl rows.1.0 in
+    let two : 2 ≤ d.rank = at.needed in
+    let biased = in_biased at in
+    let limits = outside_not 1 7 n rows.1.1.1.1.1.1.0 in
+    record {
+      order = raised d (said d keys.Bias arguments) sound.order (omega (arith, two)) (omega (arith, at.up)) refl refl;
+      count = λ h. sound.count two;
+      terminals = λ h. biased.terminals d.vertices d.s d.t;
+      bias = biased.bias n limits.0 limits.1;
+      lines = no_lines d.points n d.grid d.lines sound.lines.cells (sound.order.lines (omega (arith, at.up))).0;
       ends = sound.ends;
       marks = sound.marks;
     }
@@ -418,6 +472,7 @@ sound_vertices d arguments sound e =
       order = raised d (said d keys.Vertices arguments) sound.order at.needed (omega (arith, at.up)) refl refl;
       count = λ h. (in_graph at (λ of. refl)).count d.points n limits.0 limits.1;
       terminals = λ h. absurd (omega arith);
+      bias = sound.bias;
       lines = sound.lines;
       ends = no_ends n d.ends (sound.order.lines (omega (arith, at.up))).1;
       marks = sound.marks;
@@ -431,7 +486,8 @@ sized d n grid sound some up kind inside cells =
       order = raised d (record d { rank = 2; points = n; grid = grid }) sound.order some up refl refl;
       count = λ h. kind.count n d.vertices limits.0 limits.1;
       terminals = λ h. absurd (omega arith);
-      lines = no_lines n grid d.lines cells (sound.order.lines (omega (arith, up))).0;
+      bias = sound.bias;
+      lines = no_lines n d.bias grid d.lines cells (sound.order.lines (omega (arith, up))).0;
       ends = sound.ends;
       marks = no_marks _ d.x d.y (sound.order.x (omega (arith, up))) (sound.order.y (omega (arith, up)));
     }
@@ -466,6 +522,7 @@ sound_kind d (word ∷ others) sound e =
       order = record {
         kind = λ none. absurd (known (kind_of word) rows.0 none);
         grid = λ lt. sound.order.grid (omega arith);
+        bias = λ lt. sound.order.bias (omega arith);
         lines = λ lt. sound.order.lines (omega arith);
         x = λ lt. sound.order.x (omega arith);
         y = λ lt. sound.order.y (omega arith);
@@ -473,6 +530,7 @@ sound_kind d (word ∷ others) sound e =
       };
       count = λ h. absurd (omega arith);
       terminals = λ h. absurd (omega arith);
+      bias = subst (λ (b : ℕ). HasBias (kind_of word) b) (sym (sound.order.bias (omega arith))) (one_fits (kind_of word));
       lines = sound.lines;
       ends = sound.ends;
       marks = no_marks _ d.x d.y (sound.order.x (omega arith)) (sound.order.y (omega arith));
@@ -493,18 +551,18 @@ all_append : {A : Type 0} (P : A → Type 0) (xs ys : List A) → All P xs → A
 all_append P [] ys h k = k
 all_append P (x ∷ xs) ys h k = All-cons P x (xs ++ ys) (h 0 x (omega arith)) (all_append P xs ys (All-tail P x xs h) k)
 
-further_lines : (points : ℕ) (grid : Option Grid) (lines more : List (List ℕ)) → AreLines points grid lines → All (IsLineOf points 1) more → length lines + length more ≤ 20000 → sum_by length lines + sum_by length more ≤ 400000
-    → AreLines points grid (lines ++ more)
-further_lines points grid lines more h each few summed = record {
+further_lines : (points bias : ℕ) (grid : Option Grid) (lines more : List (List ℕ)) → AreLines points bias grid lines → All (IsLineOf points bias) more → length lines + length more ≤ 20000 → sum_by length lines + sum_by length more ≤ 400000
+    → AreLines points bias grid (lines ++ more)
+further_lines points bias grid lines more h each few summed = record {
   cells = h.cells;
-  each = all_append (IsLineOf points 1) lines more h.each each;
+  each = all_append (IsLineOf points bias) lines more h.each each;
   count = omega (arith, length-append lines more);
   total = omega (arith, sum_by-append length lines more);
 }
 
-placed_fit : (points : ℕ) (grid : Option Grid) (cells : List Cell) → ((g : Grid) → grid ≡ Some g → g.width * g.height ≡ points) → 0 < length cells → length cells ≤ 100 → All (IsLineOf points 1) (placed_in grid cells)
-placed_fit points None cells is some few = λ i d lt. absurd (omega arith)
-placed_fit points (Some grid) cells is some few = λ i d lt.
+placed_fit : (points bias : ℕ) (grid : Option Grid) (cells : List Cell) → ((g : Grid) → grid ≡ Some g → g.width * g.height ≡ points) → 0 < length cells → length cells ≤ longest bias → All (IsLineOf points bias) (placed_in grid cells)
+placed_fit points bias None cells is some few = λ i d lt. absurd (omega arith)
+placed_fit points bias (Some grid) cells is some few = λ i d lt.
     let line = line_of_cells grid cells some i d lt in
     let count = line.count in
     record {
@@ -523,7 +581,7 @@ sound_shape d arguments sound e =
     let two = before.two in
     let is = not_false (is_shape word) rows.1.1.1.1.1.0 in
     let shape = shape_from word is in
-    let small = ltb-false 100 (ones word) rows.1.1.1.0 in
+    let small = ltb-false (longest d.bias) (ones word) rows.1.1.1.0 in
     let count = count_cells 0 0 word in
     let more = placed_in d.grid (cells_of word) in
     let within = or_parts (nat_lt 20000 (length d.lines + length more)) (nat_lt 400000 (sum_by length d.lines + sum_by length more)) (sym (ap (λ b. b && exceeds_with d more) is) ∙ rows.1.1.1.1.0) in
@@ -531,7 +589,8 @@ sound_shape d arguments sound e =
       order = raised d (said d keys.Shape arguments) sound.order (omega (arith, two)) (omega (arith, at.up)) refl refl;
       count = λ h. sound.count two;
       terminals = λ h. before.terminals d.vertices d.s d.t sound.terminals;
-      lines = further_lines d.points d.grid d.lines more sound.lines (placed_fit d.points d.grid (cells_of word) sound.lines.cells shape.some (omega arith)) (ltb-false _ _ within.0) (ltb-false _ _ within.1);
+      bias = sound.bias;
+      lines = further_lines d.points d.bias d.grid d.lines more sound.lines (placed_fit d.points d.bias d.grid (cells_of word) sound.lines.cells shape.some (omega arith)) (ltb-false _ _ within.0) (ltb-false _ _ within.1);
       ends = sound.ends;
       marks = sound.marks;
     }
@@ -542,6 +601,7 @@ sound_key d keys.Points arguments sound e = sound_points d arguments sound e
 sound_key d keys.Grid arguments sound e = sound_grid d arguments sound e
 sound_key d keys.Vertices arguments sound e = sound_vertices d arguments sound e
 sound_key d keys.Terminals arguments sound e = sound_terminals d arguments sound e
+sound_key d keys.Bias arguments sound e = sound_bias d arguments sound e
 sound_key d keys.Line arguments sound e = sound_line d arguments sound e
 sound_key d keys.Shape arguments sound e = sound_shape d arguments sound e
 sound_key d keys.Edge arguments sound e = sound_edge d arguments sound e
@@ -569,9 +629,10 @@ sound_named d next (Some key) arguments sound e =
 
 begins : (d : Draft) → IsSound d → IsSound (record d { begun = true })
 begins d sound = record {
-  order = record { kind = sound.order.kind; grid = sound.order.grid; lines = sound.order.lines; x = sound.order.x; y = sound.order.y; turn = sound.order.turn };
+  order = record { kind = sound.order.kind; grid = sound.order.grid; bias = sound.order.bias; lines = sound.order.lines; x = sound.order.x; y = sound.order.y; turn = sound.order.turn };
   count = sound.count;
   terminals = sound.terminals;
+  bias = sound.bias;
   lines = sound.lines;
   ends = sound.ends;
   marks = sound.marks;
@@ -615,10 +676,11 @@ sound_reading n d last (line ∷ others) sound e = sound_step n (after d line) o
 
 pub sound_nothing : IsSound nothing
 sound_nothing = record {
-  order = record { kind = λ e. refl; grid = λ lt. refl; lines = λ lt. (refl, refl); x = λ lt. refl; y = λ lt. refl; turn = λ lt. refl };
+  order = record { kind = λ e. refl; grid = λ lt. refl; bias = λ lt. refl; lines = λ lt. (refl, refl); x = λ lt. refl; y = λ lt. refl; turn = λ lt. refl };
   count = λ h. absurd (omega arith);
   terminals = λ h. absurd (omega arith);
-  lines = no_lines 0 None [] (λ g is. absurd cc) refl;
+  bias = tt;
+  lines = no_lines 0 1 None [] (λ g is. absurd cc) refl;
   ends = no_ends 0 [] refl;
   marks = no_marks 0 empty empty refl refl;
 }
@@ -631,56 +693,56 @@ same_lines f g e = cc
 same_graph : (f g : Graph) → ◌≡◌ {A = Field} (fields.Graph f) (fields.Graph g) → f ≡ g
 same_graph f g e = cc
 
-pub lines_field : (points : ℕ) (grid : Option Grid) (lines : List (List ℕ)) → 1 ≤ points → points ≤ 256 → AreLines points grid lines → AreLinesOf 1 (record { points = points; grid = grid; lines = lines })
-lines_field points grid lines some few h = record { some_points = some; few_points = few; cells = h.cells; few_lines = h.count; few_summed = h.total; lines = h.each }
+pub lines_field : (points bias : ℕ) (grid : Option Grid) (lines : List (List ℕ)) → 1 ≤ points → points ≤ 256 → AreLines points bias grid lines → AreLinesOf bias (record { points = points; grid = grid; lines = lines })
+lines_field points bias grid lines some few h = record { some_points = some; few_points = few; cells = h.cells; few_lines = h.count; few_summed = h.total; lines = h.each }
 
 graph_field : (v s t : ℕ) (ends : List (ℕ × ℕ)) → 2 ≤ v → v ≤ 500 → s < v → t < v → s ≢ t → AreEnds v ends → IsBoard (record { vertices = v; s = s; t = t; ends = ends })
 graph_field v s t ends some few first second apart h = record { some_vertices = some; few_vertices = few; few_edges = h.count; ends = h.each; s_range = first; t_range = second; apart = apart }
 
-fits_lines : (kind : Kind) (f : LineField) (x y : FinSet nat_cmp) → false ≡ is_switching kind → 1 ≤ greatest_bias kind → AreLinesOf 1 f → AreMarks f.points x y → IsFit kind (fields.Lines f) x y 1
-fits_lines kind f x y is bias h marks = record {
-  some_bias = lit≤ tt;
-  few_bias = bias;
-  within = record { kind_fits = is; on_lines = λ g e. subst (λ (k : LineField). AreLinesOf 1 k) (same_lines f g e) h; on_graph = λ g e. absurd cc };
+fits_lines : (kind : Kind) (f : LineField) (x y : FinSet nat_cmp) (bias : ℕ) → false ≡ is_switching kind → HasBias (Some kind) bias → AreLinesOf bias f → AreMarks f.points x y → IsFit kind (fields.Lines f) x y bias
+fits_lines kind f x y bias is within h marks = record {
+  some_bias = within.0;
+  few_bias = within.1;
+  within = record { kind_fits = is; on_lines = λ g e. subst (λ (k : LineField). AreLinesOf bias k) (same_lines f g e) h; on_graph = λ g e. absurd cc };
   x_range = marks.x_below;
   y_range = marks.y_below;
   disjoint = marks.apart;
 }
 
-fits_graph : (f : Graph) (x y : FinSet nat_cmp) → IsBoard f → AreMarks (length f.ends) x y → IsFit kinds.Switching (fields.Graph f) x y 1
-fits_graph f x y h marks = record {
-  some_bias = lit≤ tt;
-  few_bias = lit≤ tt;
+fits_graph : (f : Graph) (x y : FinSet nat_cmp) (bias : ℕ) → HasBias (Some kinds.Switching) bias → IsBoard f → AreMarks (length f.ends) x y → IsFit kinds.Switching (fields.Graph f) x y bias
+fits_graph f x y bias within h marks = record {
+  some_bias = within.0;
+  few_bias = within.1;
   within = record { kind_fits = refl; on_lines = λ g e. absurd cc; on_graph = λ g e. subst IsBoard (same_graph f g e) h };
   x_range = marks.x_below;
   y_range = marks.y_below;
   disjoint = marks.apart;
 }
 
-fits_kind : (kind : Kind) (d : Draft) → HasCount (Some kind) d.points d.vertices → HasTerminals (Some kind) d.vertices d.s d.t → AreLines d.points d.grid d.lines → AreEnds d.vertices d.ends → AreMarks (points_for (Some kind) d.points (length d.ends)) d.x d.y
-    → IsFit kind (field_of kind d) d.x d.y 1
-fits_kind kinds.MakerBreaker d count terminals lines ends marks = fits_lines kinds.MakerBreaker _ d.x d.y refl (lit≤ tt) (lines_field d.points d.grid d.lines count.0 count.1 lines) marks
-fits_kind kinds.MakerMaker d count terminals lines ends marks = fits_lines kinds.MakerMaker _ d.x d.y refl (lit≤ tt) (lines_field d.points d.grid d.lines count.0 count.1 lines) marks
-fits_kind kinds.AvoiderEnforcer d count terminals lines ends marks = fits_lines kinds.AvoiderEnforcer _ d.x d.y refl (lit≤ tt) (lines_field d.points d.grid d.lines count.0 count.1 lines) marks
-fits_kind kinds.Switching d count terminals lines ends marks = fits_graph _ d.x d.y (graph_field d.vertices d.s d.t d.ends count.0 count.1 terminals.0 terminals.1 terminals.2 ends) marks
+fits_kind : (kind : Kind) (d : Draft) → HasCount (Some kind) d.points d.vertices → HasTerminals (Some kind) d.vertices d.s d.t → HasBias (Some kind) d.bias → AreLines d.points d.bias d.grid d.lines → AreEnds d.vertices d.ends → AreMarks (points_for (Some kind) d.points (length d.ends)) d.x d.y
+    → IsFit kind (field_of kind d) d.x d.y d.bias
+fits_kind kinds.MakerBreaker d count terminals bias lines ends marks = fits_lines kinds.MakerBreaker _ d.x d.y d.bias refl bias (lines_field d.points d.bias d.grid d.lines count.0 count.1 lines) marks
+fits_kind kinds.MakerMaker d count terminals bias lines ends marks = fits_lines kinds.MakerMaker _ d.x d.y d.bias refl bias (lines_field d.points d.bias d.grid d.lines count.0 count.1 lines) marks
+fits_kind kinds.AvoiderEnforcer d count terminals bias lines ends marks = fits_lines kinds.AvoiderEnforcer _ d.x d.y d.bias refl bias (lines_field d.points d.bias d.grid d.lines count.0 count.1 lines) marks
+fits_kind kinds.Switching d count terminals bias lines ends marks = fits_graph _ d.x d.y d.bias bias (graph_field d.vertices d.s d.t d.ends count.0 count.1 terminals.0 terminals.1 terminals.2 ends) marks
 
 -- a game whose turn has been said is within the limits
-pub fits_sound : (d : Draft) (kind : Kind) (turn : Side) → IsSound d → d.kind ≡ Some kind → d.turn ≡ Some turn → IsFit kind (field_of kind d) d.x d.y 1
+pub fits_sound : (d : Draft) (kind : Kind) (turn : Side) → IsSound d → d.kind ≡ Some kind → d.turn ≡ Some turn → IsFit kind (field_of kind d) d.x d.y d.bias
 fits_sound d kind turn sound is said =
     let high : 7 ≤ d.rank = elim (cases_lt d.rank 7) [ inl lt ↦ let none : d.turn ≡ None = sound.order.turn lt in absurd cc | inr ge ↦ ge ] in
     fits_kind kind d
     (subst (λ (k : Option Kind). HasCount k d.points d.vertices) is (sound.count (omega arith)))
     (subst (λ (k : Option Kind). HasTerminals k d.vertices d.s d.t) is (sound.terminals (omega arith)))
-    sound.lines sound.ends
+    (subst (λ (k : Option Kind). HasBias k d.bias) is sound.bias) sound.lines sound.ends
     (subst (λ (k : Option Kind). AreMarks (points_for k d.points (length d.ends)) d.x d.y) is sound.marks)
 
 -- ---- a whole file
 
 abbrev entry_of : Draft → Kind → Side → Entry
-entry_of d kind turn = record { kind = kind; field = field_of kind d; x = d.x; y = d.y; turn = turn }
+entry_of d kind turn = record { kind = kind; field = field_of kind d; x = d.x; y = d.y; turn = turn; bias = d.bias }
 
 abbrev IsFitting : Entry → Type 0
-IsFitting g = IsFit g.kind g.field g.x g.y 1
+IsFitting g = IsFit g.kind g.field g.x g.y g.bias
 
 game_of_fits : (d : Draft) (kind : Option Kind) (turn : Option Side) (g : Entry) → IsSound d → d.kind ≡ kind → d.turn ≡ turn → game_of d kind turn ≡ Ok g → IsFitting g
 game_of_fits d (Some kind) (Some turn) g sound is said e = subst IsFitting (ok_is (entry_of d kind turn) g e) (fits_sound d kind turn sound is said)
@@ -699,6 +761,6 @@ size_fits : (big : Bool) (read : Result Draft (Fault × ℕ)) (g : Entry) → ((
 size_fits true read g sound e = absurd cc
 size_fits false read g sound e = ended_fits read g sound e
 
-pub fits_game : (text : Bytes) (g : Entry) → game text ≡ Ok g → IsFit g.kind g.field g.x g.y 1
+pub fits_game : (text : Bytes) (g : Entry) → game text ≡ Ok g → IsFit g.kind g.field g.x g.y g.bias
 unfolding game
 fits_game text g e = size_fits (nat_lt 4194304 (length text)) (reading after 1 nothing (lines text)) g (λ d h. sound_reading 1 nothing d (lines text) sound_nothing h) e

@@ -17,7 +17,8 @@ use Rattle.pg_poly.specs.Decided.{is_shape}
 use Rattle.pg_poly.specs.Listed.{placements_of}
 use Rattle.pg_poly.specs.Shapes.{cells_of, ones}
 use Rattle.pg_base.specs.declared.limits.TheConstants.{MAX_EDGES}
-use Rattle.pg_game.specs.declared.bounds.TheConstants.{MAX_LINE_POINTS, MAX_LINES, MAX_POINTS, MAX_SUMMED_POINTS, MAX_VERTICES}
+use Rattle.pg_game.specs.declared.bounds.TheConstants.{MAX_BIAS, MAX_LINES, MAX_POINTS, MAX_SUMMED_POINTS, MAX_VERTICES}
+use Rattle.pg_game.specs.Fit.{longest}
 use Rattle.pg_text.specs.Faults.{least, unless, reading}
 use Rattle.pg_files.specs.declared.limits.TheConstants.{MAX_GAME_BYTES}
 use Rattle.pg_files.specs.Sets.{set_of, ascending, repeats}
@@ -43,6 +44,8 @@ pub record Draft : Type 0 where
   pub vertices : ℕ
   pub s : ℕ
   pub t : ℕ
+  -- how many points Y claims in a turn, 1 before that is said
+  pub bias : ℕ
   pub lines : List (List ℕ)
   -- the ends of each edge
   pub ends : List (ℕ × ℕ)
@@ -52,7 +55,7 @@ pub record Draft : Type 0 where
 
 -- the draft before the first line
 abbrev pub nothing : Draft
-nothing = record { begun = false; rank = 0; kind = None; points = 0; grid = None; vertices = 0; s = 0; t = 0; lines = []; ends = []; x = empty; y = empty; turn = None }
+nothing = record { begun = false; rank = 0; kind = None; points = 0; grid = None; vertices = 0; s = 0; t = 0; bias = 1; lines = []; ends = []; x = empty; y = empty; turn = None }
 
 -- how many points a game of the kind has, by the number of points said and that of its edges: the points of a switching
 -- game are its edges
@@ -118,6 +121,7 @@ is_ill_formed keys.Turn arguments = not (length arguments == 1)
 is_ill_formed keys.Shape arguments = not (length arguments == 1)
 is_ill_formed keys.Points arguments = not (length arguments == 1) || is_none (numbers arguments)
 is_ill_formed keys.Vertices arguments = not (length arguments == 1) || is_none (numbers arguments)
+is_ill_formed keys.Bias arguments = not (length arguments == 1) || is_none (numbers arguments)
 is_ill_formed keys.Grid arguments = not (length arguments == 2) || is_none (numbers arguments)
 is_ill_formed keys.Terminals arguments = not (length arguments == 2) || is_none (numbers arguments)
 is_ill_formed keys.Edge arguments = not (length arguments == 2) || is_none (numbers arguments)
@@ -139,10 +143,10 @@ is_repeated d keys.X ns = repeats empty ns
 is_repeated d keys.Y ns = repeats d.x ns
 is_repeated d _ ns = false
 
--- a line without points, or one of more than 100
-abbrev pub has_wrong_length : Key → List ℕ → Bool
-has_wrong_length keys.Line ns = length ns == 0 || nat_lt MAX_LINE_POINTS (length ns)
-has_wrong_length _ ns = false
+-- a line without points, or one of more than 100, or 33 where the bias said before is above 1
+abbrev pub has_wrong_length : Draft → Key → List ℕ → Bool
+has_wrong_length d keys.Line ns = length ns == 0 || nat_lt (longest d.bias) (length ns)
+has_wrong_length d _ ns = false
 
 -- a count that isn't from the first number to the second
 abbrev pub is_outside : ℕ → ℕ → ℕ → Bool
@@ -153,6 +157,7 @@ abbrev pub exceeds : Draft → Key → List ℕ → Bool
 exceeds d keys.Points ns = is_outside 1 MAX_POINTS (first_number ns)
 exceeds d keys.Grid ns = is_outside 1 MAX_POINTS (first_number ns * second_number ns)
 exceeds d keys.Vertices ns = is_outside 2 MAX_VERTICES (first_number ns)
+exceeds d keys.Bias ns = is_outside 1 MAX_BIAS (first_number ns)
 exceeds d keys.Line ns = nat_le MAX_LINES (length d.lines) || nat_lt MAX_SUMMED_POINTS (sum_by length d.lines + length ns)
 exceeds d keys.Edge ns = nat_le MAX_EDGES (length d.ends)
 exceeds _ _ _ = false
@@ -177,7 +182,7 @@ abbrev pub numbers_faults : Draft → Key → List ℕ → List (Fault × Bool)
 numbers_faults d key ns =
     (faults.Range, is_out_of_range d key ns) ∷
     (faults.Repeated, is_repeated d key ns) ∷
-    (faults.Length, has_wrong_length key ns) ∷
+    (faults.Length, has_wrong_length d key ns) ∷
     (faults.Limit, exceeds d key ns) ∷
     (faults.Terminals, is_one_terminal key ns) ∷ []
 
@@ -193,7 +198,7 @@ exceeds_with d more = nat_lt MAX_LINES (length d.lines + length more) || nat_lt 
 -- the faults that are told from the word of a shape
 abbrev pub shape_faults : Draft → Bytes → List (Fault × Bool)
 shape_faults d word =
-    (faults.Length, nat_lt MAX_LINE_POINTS (ones word)) ∷
+    (faults.Length, nat_lt (longest d.bias) (ones word)) ∷
     (faults.Limit, is_shape word && exceeds_with d (placed_in d.grid (cells_of word))) ∷
     (faults.Shape, not (is_shape word)) ∷ []
 
@@ -222,6 +227,7 @@ with_numbers d keys.Points ns = record d { rank = 2; points = first_number ns }
 with_numbers d keys.Grid ns = record d { rank = 2; points = first_number ns * second_number ns; grid = Some (record { width = first_number ns; height = second_number ns }) }
 with_numbers d keys.Vertices ns = record d { rank = 2; vertices = first_number ns }
 with_numbers d keys.Terminals ns = record d { rank = 3; s = first_number ns; t = second_number ns }
+with_numbers d keys.Bias ns = record d { rank = 3; bias = first_number ns }
 with_numbers d keys.Line ns = record d { rank = 4; lines = d.lines ++ ascending ns ∷ [] }
 with_numbers d keys.Edge ns = record d { rank = 4; ends = d.ends ++ (first_number ns, second_number ns) ∷ [] }
 with_numbers d keys.X ns = record d { rank = 5; x = set_of ns }
@@ -270,13 +276,15 @@ after d line = if not (list_all is_printable line) then Err faults.Bytes else if
 
 -- ---- the whole file
 
--- a game as a file says it: Y claims one point a turn
+-- a game as a file says it
 pub record Entry : Type 0 where
   pub kind : Kind
   pub field : Field
   pub x : FinSet nat_cmp
   pub y : FinSet nat_cmp
   pub turn : Side
+  -- how many points Y claims in a turn
+  pub bias : ℕ
 
 -- some lines say this
 pub record IsSaid (d : Draft) : Type 0 where
@@ -290,7 +298,7 @@ field_of _ d = fields.Lines (record { points = d.points; grid = d.grid; lines = 
 
 -- The game of a file without a faulty line. At the end of the file it lacks its header or its last line.
 abbrev pub game_of : Draft → Option Kind → Option Side → Result Entry (Fault × ℕ)
-game_of d (Some kind) (Some turn) = Ok (record { kind = kind; field = field_of kind d; x = d.x; y = d.y; turn = turn })
+game_of d (Some kind) (Some turn) = Ok (record { kind = kind; field = field_of kind d; x = d.x; y = d.y; turn = turn; bias = d.bias })
 game_of d _ _ = Err (faults.Ends, 0)
 
 -- the game after the last line

@@ -1,9 +1,9 @@
 -- The keys of a game file.
-use Rattle.std.specs.Prelude.{ℕ, Bool, true, not, Option, List, [], ◌∷◌, codes, find, if◌then◌else◌}
+use Rattle.std.specs.Prelude.{ℕ, Bool, true, not, nat_lt, Option, List, [], ◌∷◌, codes, find, if◌then◌else◌}
 use Rattle.std.specs.Str.{bytes_eq}
 use Rattle.pg_text.specs.Text.{Bytes}
 use Rattle.pg_base.specs.declared.kind.Kind.{Kind}
-use Rattle.pg_game.specs.Fit.{is_switching}
+use Rattle.pg_game.specs.Fit.{is_switching, greatest_bias}
 use Rattle.pg_files.specs.declared.key.Key.{Key}
 use Rattle.pg_files.specs.declared.key.Key.TheVariants as keys
 
@@ -14,6 +14,7 @@ key_name keys.Points = codes "points"
 key_name keys.Grid = codes "grid"
 key_name keys.Vertices = codes "vertices"
 key_name keys.Terminals = codes "terminals"
+key_name keys.Bias = codes "bias"
 key_name keys.Line = codes "line"
 key_name keys.Shape = codes "shape"
 key_name keys.Edge = codes "edge"
@@ -23,7 +24,7 @@ key_name keys.Turn = codes "turn"
 
 -- all keys
 abbrev pub all_keys : List Key
-all_keys = keys.Kind ∷ keys.Points ∷ keys.Grid ∷ keys.Vertices ∷ keys.Terminals ∷ keys.Line ∷ keys.Shape ∷ keys.Edge ∷ keys.X ∷ keys.Y ∷ keys.Turn ∷ []
+all_keys = keys.Kind ∷ keys.Points ∷ keys.Grid ∷ keys.Vertices ∷ keys.Terminals ∷ keys.Bias ∷ keys.Line ∷ keys.Shape ∷ keys.Edge ∷ keys.X ∷ keys.Y ∷ keys.Turn ∷ []
 
 -- the key that a word stands for
 abbrev pub key_of : Bytes → Option Key
@@ -36,6 +37,7 @@ rank_of keys.Points = 2
 rank_of keys.Grid = 2
 rank_of keys.Vertices = 2
 rank_of keys.Terminals = 3
+rank_of keys.Bias = 3
 rank_of keys.Line = 4
 rank_of keys.Shape = 4
 rank_of keys.Edge = 4
@@ -52,6 +54,7 @@ belongs kind keys.Shape = not (is_switching kind)
 belongs kind keys.Vertices = is_switching kind
 belongs kind keys.Terminals = is_switching kind
 belongs kind keys.Edge = is_switching kind
+belongs kind keys.Bias = nat_lt 1 (greatest_bias kind)
 belongs kind _ = true
 
 -- the greatest rank below the key's of which a key is needed
@@ -61,4 +64,5 @@ needed_rank kind keys.Points = 1
 needed_rank kind keys.Grid = 1
 needed_rank kind keys.Vertices = 1
 needed_rank kind keys.Terminals = 2
+needed_rank kind keys.Bias = 2
 needed_rank kind _ = if is_switching kind then 3 else 2

@@ -1,5 +1,5 @@
 -- The printed text of a game.
-use Rattle.std.specs.Prelude.{ℕ, List, [], ◌∷◌, ◌++◌, map, codes, Option, Some, None}
+use Rattle.std.specs.Prelude.{ℕ, nat_lt, if◌then◌else◌, List, [], ◌∷◌, ◌++◌, map, codes, Option, Some, None}
 use Rattle.std.specs.List.{flat_map}
 use Rattle.std.specs.Fmt.{decimal}
 use Rattle.pg_base.specs.declared.signs.TheConstants.{LINE_FEED}
@@ -41,18 +41,22 @@ abbrev pub size_words : ℕ → Option Grid → List Bytes
 size_words points None = numbered keys.Points (points ∷ [])
 size_words points (Some grid) = numbered keys.Grid (grid.width ∷ grid.height ∷ [])
 
+-- a line of the bias, where it is above 1
+abbrev pub bias_words : ℕ → List (List Bytes)
+bias_words bias = if nat_lt 1 bias then numbered keys.Bias (bias ∷ []) ∷ [] else []
+
 -- the words of an edge
 abbrev pub edge_words : ℕ × ℕ → List Bytes
 edge_words ends = numbered keys.Edge (ends.0 ∷ ends.1 ∷ [])
 
--- the lines that say what a game is played on
-abbrev pub field_words : Field → List (List Bytes)
-field_words (fields.Lines f) = size_words f.points f.grid ∷ map (numbered keys.Line) f.lines
-field_words (fields.Graph h) = numbered keys.Vertices (h.vertices ∷ []) ∷ numbered keys.Terminals (h.s ∷ h.t ∷ []) ∷ map edge_words h.ends
+-- the lines that say the bias and what a game is played on; on a graph the bias is 1
+abbrev pub field_words : ℕ → Field → List (List Bytes)
+field_words bias (fields.Lines f) = size_words f.points f.grid ∷ (bias_words bias ++ map (numbered keys.Line) f.lines)
+field_words bias (fields.Graph h) = numbered keys.Vertices (h.vertices ∷ []) ∷ numbered keys.Terminals (h.s ∷ h.t ∷ []) ∷ map edge_words h.ends
 
 -- the lines of a game, each as its words
 abbrev pub printed_lines : Entry → List (List Bytes)
-printed_lines g = header ∷ worded keys.Kind (kind_word g.kind) ∷ (field_words g.field ++ (marked keys.X (members g.x) ++ (marked keys.Y (members g.y) ++ worded keys.Turn (side_word g.turn) ∷ [])))
+printed_lines g = header ∷ worded keys.Kind (kind_word g.kind) ∷ (field_words g.bias g.field ++ (marked keys.X (members g.x) ++ (marked keys.Y (members g.y) ++ worded keys.Turn (side_word g.turn) ∷ [])))
 
 -- The printed text of a game.
 unfoldable pub printed : Entry → Bytes

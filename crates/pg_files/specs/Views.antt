@@ -10,11 +10,11 @@ use Rattle.pg_files.specs.declared.fault.Fault.{Fault}
 
 -- what a draft in memory says
 abbrev pub view : Kept → Draft
-view d = record { begun = d.begun; rank = d.rank; kind = d.kind; points = d.points; grid = d.grid; vertices = d.vertices; s = d.s; t = d.t; lines = d.lines.items; ends = d.ends.items; x = d.x; y = d.y; turn = d.turn }
+view d = record { begun = d.begun; rank = d.rank; kind = d.kind; points = d.points; grid = d.grid; vertices = d.vertices; s = d.s; t = d.t; bias = d.bias; lines = d.lines.items; ends = d.ends.items; x = d.x; y = d.y; turn = d.turn }
 
 -- a game as a file says it
 abbrev pub entry : Game → Entry
-entry g = record { kind = g.kind; field = g.field; x = g.x; y = g.y; turn = g.turn }
+entry g = record { kind = g.kind; field = g.field; x = g.x; y = g.y; turn = g.turn; bias = g.bias }
 
 -- the number that a fault is told by
 abbrev pub number_of : Fault → ℕ

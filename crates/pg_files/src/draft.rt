@@ -25,6 +25,8 @@ pub struct Draft {
     pub s: u16,
     /// The other terminal.
     pub t: u16,
+    /// How many points Y claims in a turn, 1 before that is said.
+    pub bias: u8,
     /// The lines in their order.
     pub lines: Vec<Line>,
     /// How many points the lines have together.

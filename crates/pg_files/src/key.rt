@@ -17,6 +17,8 @@ pub enum Key {
     Vertices,
     /// The two terminals.
     Terminals,
+    /// How many points Y claims in a turn.
+    Bias,
     /// A line of points.
     Line,
     /// A shape, all of whose placements are lines.
@@ -42,6 +44,7 @@ impl Key {
             Key::Grid => "grid",
             Key::Vertices => "vertices",
             Key::Terminals => "terminals",
+            Key::Bias => "bias",
             Key::Line => "line",
             Key::Shape => "shape",
             Key::Edge => "edge",
@@ -61,6 +64,7 @@ impl Key {
             Key::Grid,
             Key::Vertices,
             Key::Terminals,
+            Key::Bias,
             Key::Line,
             Key::Shape,
             Key::Edge,
@@ -82,7 +86,7 @@ impl Key {
         match self {
             Key::Kind => 1,
             Key::Points | Key::Grid | Key::Vertices => 2,
-            Key::Terminals => 3,
+            Key::Terminals | Key::Bias => 3,
             Key::Line | Key::Shape | Key::Edge => 4,
             Key::X => 5,
             Key::Y => 6,
@@ -97,6 +101,7 @@ impl Key {
         match self {
             Key::Points | Key::Grid | Key::Line | Key::Shape => kind != Kind::Switching,
             Key::Vertices | Key::Terminals | Key::Edge => kind == Kind::Switching,
+            Key::Bias => kind == Kind::MakerBreaker || kind == Kind::AvoiderEnforcer,
             _ => true,
         }
     }
@@ -108,7 +113,7 @@ impl Key {
         match self {
             Key::Kind => 0,
             Key::Points | Key::Grid | Key::Vertices => 1,
-            Key::Terminals => 2,
+            Key::Terminals | Key::Bias => 2,
             _ if kind == Kind::Switching => 3,
             _ => 2,
         }

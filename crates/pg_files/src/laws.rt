@@ -17,10 +17,10 @@ pub fn first_fault_is_told()
 
 /// A game that is read is within the limits, and its parts fit together.
 pub fn what_is_read_fits()
-    ensures { (text : List ℕ) (g : Entry) → game text ≡ Ok g → IsFit g.kind g.field g.x g.y 1 }
+    ensures { (text : List ℕ) (g : Entry) → game text ≡ Ok g → IsFit g.kind g.field g.x g.y g.bias }
 {}
 
-/// Reading what is printed gives the game back, where Y claims one point a turn.
+/// Reading what is printed gives the game back.
 pub fn printed_game_is_read()
-    ensures { (g : Game) → g.bias ≡ 1 → game (printed (entry g)) ≡ Ok (entry g) }
+    ensures { (g : Game) → game (printed (entry g)) ≡ Ok (entry g) }
 {}

@@ -6,6 +6,8 @@ ghost use Rattle.std.specs.List.{list_all};
 ghost use Rattle.pg_files.specs.declared.key.Key.TheVariants as keys;
 ghost use Rattle.pg_files.specs.GameFile.{nothing, points_so_far, is_out_of_place, keyed, numbers_faults, significant, after, is_header, is_printable, begins_comment, grid_of, IsMarks};
 ghost use Rattle.pg_base.specs.declared.limits.TheConstants.{MAX_EDGES, MAX_MEMBERS};
+ghost use Rattle.pg_game.specs.Fit.{longest};
+ghost use Rattle.pg_poly.specs.Shapes.{ones};
 ghost use Rattle.pg_game.specs.declared.bounds.TheConstants.{MAX_LINE_POINTS, MAX_LINES, MAX_POINTS, MAX_SUMMED_POINTS};
 ghost use Rattle.pg_text.specs.Text.{numbers};
 ghost use Rattle.pg_text.specs.Faults.{least, Becomes};
@@ -16,7 +18,10 @@ use crate::fault::Fault;
 use crate::key::Key;
 use crate::sets::{are_below, line_of, repeats, set_of};
 use pg_base::{Grid, Kind, MAX_EDGES, PointSet, SPACE, Side};
-use pg_game::{MAX_LINE_POINTS, MAX_LINES, MAX_POINTS, MAX_SUMMED_POINTS, MAX_VERTICES};
+use pg_game::{
+    MAX_BIAS, MAX_BIASED_LINE_POINTS, MAX_LINE_POINTS, MAX_LINES, MAX_POINTS, MAX_SUMMED_POINTS,
+    MAX_VERTICES,
+};
 use pg_poly::{Shape, ShapeFault, placed};
 use pg_text::{LineError, number, number_list, word_list};
 use std::alloc::Global;
@@ -35,6 +40,7 @@ impl Draft {
             vertices: 0,
             s: 0,
             t: 0,
+            bias: 1,
             lines: Vec::new(alloc),
             total: 0,
             ends: Vec::new(alloc),
@@ -180,6 +186,38 @@ impl Draft {
         Ok(())
     }
 
+    #[tactic(auto, unfolding(crate::specs::GameFile::keyed, pg_text::specs::Text::numbers))]
+    fn add_bias(&mut self, arguments: &[&[u8]]) -> Result<(), LineError<Fault>>
+        ensures { Becomes result (view self.new) (keyed (view self.old) keys.Bias (map (λ w. w.now) arguments.now)) }
+    {
+        if self.is_out_of_place(Key::Bias) {
+            return Err(LineError::Fault(Fault::Order));
+        }
+        let [word] = arguments else {
+            return Err(LineError::Fault(Fault::Arguments));
+        };
+        let Some(bias) = number(word) else {
+            return Err(LineError::Fault(Fault::Arguments));
+        };
+        if bias < 1 || bias > u32::from(MAX_BIAS) {
+            return Err(LineError::Fault(Fault::Limit));
+        }
+        self.bias = bias as u8;
+        self.rank = 3;
+        Ok(())
+    }
+
+    /// How many points a line may have: fewer where the bias is above 1.
+    fn longest(&self) -> usize
+        ensures { result ≡ longest (view self.now).bias }
+    {
+        if self.bias == 1 {
+            MAX_LINE_POINTS
+        } else {
+            MAX_BIASED_LINE_POINTS
+        }
+    }
+
     /// The fault of a line with these numbers.
     fn line_fault(&self, numbers: &[u32]) -> Option<Fault>
         ensures fault { result ≡ least (numbers_faults (view self.now) keys.Line numbers.now) }
@@ -193,7 +231,7 @@ impl Draft {
         if repeats(numbers, PointSet::empty()) {
             return Some(Fault::Repeated);
         }
-        if numbers.is_empty() || numbers.len() > MAX_LINE_POINTS {
+        if numbers.is_empty() || numbers.len() > self.longest() {
             return Some(Fault::Length);
         }
         if self.lines.len() >= MAX_LINES || self.total + numbers.len() > MAX_SUMMED_POINTS {
@@ -243,9 +281,12 @@ impl Draft {
         let [word] = arguments else {
             return Err(LineError::Fault(Fault::Arguments));
         };
+        if ones(word) > self.longest() {
+            return Err(LineError::Fault(Fault::Length));
+        }
         let shape = match Shape::read(alloc, word) {
             Ok(shape) => shape,
-            Err(ShapeFault::Large) => return Err(LineError::Fault(Fault::Length)),
+            Err(ShapeFault::Large) => unreachable!(),
             Err(ShapeFault::Form) => return Err(LineError::Fault(Fault::Shape)),
             Err(ShapeFault::Memory) => return Err(LineError::Memory),
         };
@@ -377,6 +418,7 @@ impl Draft {
             Key::Grid => self.add_grid(arguments),
             Key::Vertices => self.add_vertices(arguments),
             Key::Terminals => self.add_terminals(arguments),
+            Key::Bias => self.add_bias(arguments),
             Key::Line => self.add_line(alloc, arguments),
             Key::Shape => self.add_shape(alloc, arguments),
             Key::Edge => self.add_edge(arguments),
@@ -450,6 +492,13 @@ fn two_numbers(words: &[&[u8]]) -> Option<(u32, u32)>
         return None;
     };
     Some((number(first)?, number(second)?))
+}
+
+/// How many signs `1` a word has.
+fn ones(word: &[u8]) -> usize
+    ensures { result ≡ ones word.now }
+{
+    word.iter().filter(|b| **b == b'1').count()
 }
 
 fn is_header(words: &[&[u8]]) -> bool

@@ -2,7 +2,7 @@
 ghost use Rattle.std.specs.Prelude.{◌≡◌, ◌++◌, [], ◌∷◌, OnOk, IfOk, string_bytes};
 ghost use Rattle.std.specs.List.{flat_map};
 ghost use Rattle.pg_base.specs.Points.{members};
-ghost use Rattle.pg_files.specs.Print.{spelled, numbered, worded, marked, size_words, edge_words, field_words, printed};
+ghost use Rattle.pg_files.specs.Print.{spelled, numbered, worded, marked, size_words, bias_words, edge_words, field_words, printed};
 ghost use Rattle.pg_files.specs.declared.key.Key.TheVariants as keys;
 ghost use Rattle.pg_game.specs.declared.field.Field.TheVariants as fields;
 ghost use Rattle.pg_files.specs.Views.{entry};
@@ -56,6 +56,16 @@ fn put_size(out: &mut String, points: u16, grid: Option<Grid>) -> Result<(), All
     }
 }
 
+/// A line of the bias, where it is above 1.
+fn put_bias(out: &mut String, bias: u8) -> Result<(), AllocError>
+    ensures { OnOk result (string_bytes out.new ≡ string_bytes out.old ++ flat_map spelled (bias_words bias)) }
+{
+    if bias <= 1 {
+        return Ok(());
+    }
+    put_numbers(out, Key::Bias, &[u16::from(bias)])
+}
+
 /// The lines of a game.
 fn put_lines(out: &mut String, lines: &[Line]) -> Result<(), AllocError>
     ensures { OnOk result (string_bytes out.new ≡ string_bytes out.old ++ flat_map (λ line. spelled (numbered keys.Line line)) lines.now) }
@@ -76,18 +86,19 @@ fn put_edges(out: &mut String, edges: &[(u16, u16)]) -> Result<(), AllocError>
     Ok(())
 }
 
-/// Lines and what their points are.
-fn put_line_field(out: &mut String, field: &LineField) -> Result<(), AllocError>
-    ensures { OnOk result (string_bytes out.new ≡ string_bytes out.old ++ flat_map spelled (field_words (fields.Lines field.now))) }
+/// Lines, what their points are, and the bias.
+fn put_line_field(out: &mut String, bias: u8, field: &LineField) -> Result<(), AllocError>
+    ensures { OnOk result (string_bytes out.new ≡ string_bytes out.old ++ flat_map spelled (field_words bias (fields.Lines field.now))) }
 {
     put_size(out, field.points, field.grid)?;
+    put_bias(out, bias)?;
     put_lines(out, field.lines.as_slice())?;
     Ok(())
 }
 
 /// A graph with its terminals.
 fn put_graph(out: &mut String, graph: &Graph) -> Result<(), AllocError>
-    ensures { OnOk result (string_bytes out.new ≡ string_bytes out.old ++ flat_map spelled (field_words (fields.Graph graph.now))) }
+    ensures { OnOk result (string_bytes out.new ≡ string_bytes out.old ++ flat_map spelled (field_words 1 (fields.Graph graph.now))) }
 {
     put_numbers(out, Key::Vertices, &[graph.vertices])?;
     put_numbers(out, Key::Terminals, &[graph.s, graph.t])?;
@@ -95,19 +106,19 @@ fn put_graph(out: &mut String, graph: &Graph) -> Result<(), AllocError>
     Ok(())
 }
 
-/// What a game is played on.
-fn put_field(out: &mut String, field: &Field) -> Result<(), AllocError>
-    ensures { OnOk result (string_bytes out.new ≡ string_bytes out.old ++ flat_map spelled (field_words field.now)) }
+/// What a game is played on, and the bias.
+fn put_field(out: &mut String, bias: u8, field: &Field) -> Result<(), AllocError>
+    ensures { OnOk result (string_bytes out.new ≡ string_bytes out.old ++ flat_map spelled (field_words bias field.now)) }
 {
     match field {
-        Field::Lines(field) => put_line_field(out, field),
+        Field::Lines(field) => put_line_field(out, bias, field),
         Field::Graph(graph) => put_graph(out, graph),
     }
 }
 
-/// The text of a game: reading it gives the game back, where Y claims one point a turn.
+/// The text of a game: reading it gives the game back.
 ///
-/// The marks of each side stand in ascending order, and a side without marks has no line.
+/// The marks of each side stand in ascending order, and a side without marks has no line. A bias of 1 isn't said.
 #[tactic(auto, unfolding(crate::specs::Print::printed))]
 pub fn print_game(alloc: Global, g: &Game) -> Result<Vec<u8>, Memory>
     ensures { IfOk result (λ text. text.items ≡ printed (entry g.now)) }
@@ -117,7 +128,7 @@ pub fn print_game(alloc: Global, g: &Game) -> Result<Vec<u8>, Memory>
     let mut out = String::new(alloc);
     out.push_str("posgame 1\n")?;
     put_word(&mut out, Key::Kind, g.kind.word())?;
-    put_field(&mut out, &g.field)?;
+    put_field(&mut out, g.bias, &g.field)?;
     put_marks(&mut out, Key::X, &x)?;
     put_marks(&mut out, Key::Y, &y)?;
     put_word(&mut out, Key::Turn, g.turn.word())?;

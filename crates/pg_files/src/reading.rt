@@ -1,5 +1,5 @@
 //! A game from its text.
-ghost use Rattle.std.specs.Prelude.{◌≡◌, ◌≤◌, length, IfOk, Ok};
+ghost use Rattle.std.specs.Prelude.{◌≡◌, ◌≤◌, length, Ok};
 ghost use Rattle.pg_text.specs.Text.{lines};
 ghost use Rattle.pg_text.specs.Faults.{reading, IsReadAs as IsReadBy};
 ghost use Rattle.pg_files.specs.GameFile.{nothing, after, ended, field_of, game, IsSaid};
@@ -33,8 +33,7 @@ fn read_lines(alloc: Global, text: &[u8]) -> Result<Draft, FileError>
 /// The game that the lines have said, or what the end of the file lacks.
 fn finish(draft: Draft) -> Result<Game, FileError>
     requires { IsSaid (view draft) }
-    ensures read { IsReadAs entry result (ended (Ok (view draft))) }
-    ensures single { IfOk result (λ g. g.bias ≡ 1) }
+    ensures { IsReadAs entry result (ended (Ok (view draft))) }
 {
     if !draft.begun {
         return Err(FileError::at_line(Fault::Header, 0));
@@ -45,7 +44,7 @@ fn finish(draft: Draft) -> Result<Game, FileError>
     let Some(turn) = draft.turn else {
         return Err(FileError::at_line(Fault::Ends, 0));
     };
-    let (x, y) = (draft.x, draft.y);
+    let (x, y, bias) = (draft.x, draft.y, draft.bias);
     let field = field_of(kind, draft);
     Ok(Game {
         kind,
@@ -53,7 +52,7 @@ fn finish(draft: Draft) -> Result<Game, FileError>
         x,
         y,
         turn,
-        bias: 1,
+        bias,
     })
 }
 
@@ -80,11 +79,10 @@ fn field_of(kind: Kind, draft: Draft) -> Field
 ///
 /// A file with several faults has that of its first faulty line, and of that line's the one with the least number.
 /// The fault of the whole file, such as a missing last line, comes only where no line is faulty, with line 0.
-/// The text is read once, and no copy of it is made. In every game that is read Y claims one point a turn.
+/// The text is read once, and no copy of it is made.
 #[tactic(auto, unfolding(crate::specs::GameFile::game))]
 pub fn read_game(alloc: Global, bytes: &[u8]) -> Result<Game, FileError>
-    ensures read { IsReadAs entry result (game bytes.now) }
-    ensures single { IfOk result (λ g. g.bias ≡ 1) }
+    ensures { IsReadAs entry result (game bytes.now) }
 {
     if bytes.len() > MAX_GAME_BYTES {
         return Err(FileError::at_line(Fault::Size, 0));

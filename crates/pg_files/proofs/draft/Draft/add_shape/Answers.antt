@@ -14,7 +14,7 @@ returns-then-exceeds_with c =
     let counted : c.len.result ≡ length c.in_ok-lines.lines.items = search rules in
     let on : c.args.self.now.grid ≡ Some c.in-Some.grid = search rules in
     keyed_limit_of c.args.arguments.now _ (view c.args.self.now) c.in-Some.grid c.len.result (length c.as_slice-points.result.now) c.args.self.now.total c.in_ok-lines.lines.items c.in-Ok.shape one place
-    c.in-Ok.ensures.shape.0 c.in-Ok.ensures.told on c.as_slice-points.ensures.some c.in-Ok.ensures.cells c.in_ok-lines.ensures.listed counted (ap length c.as_slice-points.ensures.cells) c.args.self.now.totalled (sym c.if-exceeds_with.ensures.limit)
+    (omega (arith, c.if-ones-longest.false, c.ones.ensures, c.longest.ensures)) c.in-Ok.ensures.told on c.as_slice-points.ensures.some c.in-Ok.ensures.cells c.in_ok-lines.ensures.listed counted (ap length c.as_slice-points.ensures.cells) c.args.self.now.totalled (sym c.if-exceeds_with.ensures.limit)
 
 pub invariant_of-self-2 : goal.invariant_of-self-2
 invariant_of-self-2 c =
