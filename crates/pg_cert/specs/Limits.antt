@@ -1,10 +1,13 @@
 -- Certificates within the ranges, orders and limits of the format.
-use Rattle.std.specs.Prelude.{◌≡◌, ℕ, ◌%◌, ◌<◌, ◌≤◌, true, false, List, length, map, sum_by}
+use Rattle.std.specs.Prelude.{◌≡◌, ℕ, Bool, ◌%◌, ◌<◌, ◌≤◌, true, false, List, length, map, sum_by}
 use Rattle.std.specs.FinSet.{FinSet, contains}
 use Rattle.std.specs.List.{All}
 use Rattle.std.specs.Ordering.{nat_cmp}
 use Rattle.pg_base.specs.declared.pair.Pair.{Pair}
 use Rattle.pg_base.specs.declared.limits.TheConstants.{MAX_MEMBERS}
+use Rattle.pg_base.specs.declared.side.Side.{Side}
+use Rattle.pg_base.specs.declared.side.Side.TheVariants.{X, Y}
+use Rattle.pg_game.specs.declared.bounds.TheConstants.{MAX_BIAS}
 use Rattle.pg_text.specs.Text.{ascend_from}
 use Rattle.pg_cert.specs.declared.limits.TheConstants.{MAX_CLAIMS, MAX_CLAIM_NODES, MAX_NODES}
 use Rattle.pg_cert.specs.declared.reply.Reply.{Reply}
@@ -13,6 +16,8 @@ use Rattle.pg_cert.specs.declared.node.Body.TheVariants as bodies
 use Rattle.pg_cert.specs.declared.node.Node.{Node}
 use Rattle.pg_cert.specs.declared.cert.Claim.{Claim}
 use Rattle.pg_cert.specs.declared.cert.Cert.{Cert}
+use Rattle.pg_cert.specs.declared.cert.Version.{Version}
+use Rattle.pg_cert.specs.declared.cert.Version.TheVariants.{One}
 
 -- each member is a point
 abbrev pub ArePoints : FinSet nat_cmp → Type 0
@@ -36,13 +41,19 @@ IsBody bodies.Potential = Unit {0}
 IsBody (bodies.Trees e first second) = ArePoints first × ArePoints second
 IsBody (bodies.Cuts e first second) = ArePoints first × ArePoints second
 IsBody (bodies.Threat ps) = All (λ p. p < MAX_MEMBERS) ps × (length ps % 2 ≡ 1)
+IsBody (bodies.Weaker j) = j < MAX_CLAIM_NODES
+
+-- a turn that a file can say: X claims one point, and Y still claims one to seven
+abbrev pub IsTurn : Side → ℕ → Type 0
+IsTurn X left = left ≡ 1
+IsTurn Y left = (0 < left) × (left ≤ MAX_BIAS)
 
 -- a node of a file: its points are in range and no point is both sides'
 pub record IsNode (node : Node) : Type 0 where
   pub x : ArePoints node.x
   pub y : ArePoints node.y
   pub apart : (v : ℕ) → contains node.x v ≡ true → contains node.y v ≡ false
-  pub left : node.left ≡ 1
+  pub turn : IsTurn node.turn node.left
   pub body : IsBody node.body
 
 -- a claim of a file: 1 to 100,000 nodes
@@ -51,13 +62,23 @@ pub record IsClaim (claim : Claim) : Type 0 where
   pub few : length claim.nodes ≤ MAX_CLAIM_NODES
   pub nodes : All IsNode claim.nodes
 
+-- whether the version has the body: `weaker` stands in version 2 alone
+abbrev pub has_body : Version → Body → Bool
+has_body One (bodies.Weaker j) = false
+has_body version body = true
+
+-- the version has the bodies of the claim's nodes
+abbrev pub IsOfVersion : Version → Claim → Type 0
+IsOfVersion version claim = All (λ node. has_body version node.body ≡ true) claim.nodes
+
 -- how many nodes claims have together
 abbrev pub node_count : List Claim → ℕ
 node_count claims = sum_by (λ claim. length claim.nodes) claims
 
--- a certificate within the limits: 1 to 8 claims, and at most 200,000 nodes together
+-- a certificate within the limits: 1 to 8 claims, at most 200,000 nodes together, and the bodies of its version
 pub record IsWithinLimits (c : Cert) : Type 0 where
   pub some : 0 < length c.claims
   pub few : length c.claims ≤ MAX_CLAIMS
   pub claims : All IsClaim c.claims
   pub nodes : node_count c.claims ≤ MAX_NODES
+  pub bodies : All (IsOfVersion c.version) c.claims

@@ -1,7 +1,7 @@
 -- The numbers of the faults of nodes.
 use Rattle.std.specs.Prelude.{ℕ}
 use Rattle.pg_cert.specs.declared.node_fault.NodeFault.{NodeFault}
-use Rattle.pg_cert.specs.declared.node_fault.NodeFault.TheVariants.{Child, Marks, Turn, Moves, End, Pairs, Potential, Trees, Cuts, Threat, Root, Body}
+use Rattle.pg_cert.specs.declared.node_fault.NodeFault.TheVariants.{Child, Marks, Turn, Moves, End, Pairs, Potential, Trees, Cuts, Threat, Root, Body, Weaker}
 
 -- the number of a fault's code
 abbrev pub fault_number : NodeFault → ℕ
@@ -17,3 +17,4 @@ fault_number Cuts = 9
 fault_number Threat = 10
 fault_number Root = 11
 fault_number Body = 12
+fault_number Weaker = 13

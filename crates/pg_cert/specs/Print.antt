@@ -1,11 +1,12 @@
 -- The printed text of a certificate.
-use Rattle.std.specs.Prelude.{ℕ, Bool, true, false, List, [], ◌∷◌, ◌++◌, length, map, codes}
+use Rattle.std.specs.Prelude.{ℕ, nat_lt, if◌then◌else◌, Bool, true, false, List, [], ◌∷◌, ◌++◌, length, map, codes}
 use Rattle.std.specs.FinSet.{FinSet}
 use Rattle.std.specs.Fmt.{decimal}
 use Rattle.std.specs.List.{flat_map}
 use Rattle.std.specs.Ordering.{nat_cmp}
 use Rattle.pg_base.specs.declared.signs.TheConstants.{BAR, LINE_FEED, SPACE}
 use Rattle.pg_base.specs.Side.{side_word}
+use Rattle.pg_base.specs.declared.side.Side.{Side}
 use Rattle.pg_base.specs.Goal.{goal_word}
 use Rattle.pg_base.specs.Points.{members}
 use Rattle.pg_base.specs.declared.pair.Pair.{Pair}
@@ -16,6 +17,8 @@ use Rattle.pg_cert.specs.declared.node.Body.TheVariants as bodies
 use Rattle.pg_cert.specs.declared.node.Node.{Node}
 use Rattle.pg_cert.specs.declared.cert.Claim.{Claim}
 use Rattle.pg_cert.specs.declared.cert.Cert.{Cert}
+use Rattle.pg_cert.specs.declared.cert.Version.{Version}
+use Rattle.pg_cert.specs.declared.cert.Version.TheVariants.{One, Two}
 
 -- the first number, behind a space if others stand before it
 abbrev pub separated : Bool → List ℕ → Bytes
@@ -54,6 +57,7 @@ body_name bodies.Potential = codes "potential"
 body_name (bodies.Trees e first second) = codes "trees"
 body_name (bodies.Cuts e first second) = codes "cuts"
 body_name (bodies.Threat ps) = codes "threat"
+body_name (bodies.Weaker j) = codes "weaker"
 
 -- the words behind it
 abbrev pub body_words : Body → List Bytes
@@ -65,14 +69,19 @@ body_words bodies.Potential = []
 body_words (bodies.Trees e first second) = edge_words e first second
 body_words (bodies.Cuts e first second) = edge_words e first second
 body_words (bodies.Threat ps) = map decimal ps
+body_words (bodies.Weaker j) = decimal j ∷ []
 
 -- a body
 abbrev pub body_text : Body → Bytes
 body_text body = spaced (body_name body ∷ body_words body)
 
+-- a turn: the side, and behind it how many points it still claims, where these are several
+unfoldable pub turn_word : Side → ℕ → Bytes
+turn_word side left = side_word side ++ (if nat_lt 1 left then decimal left else [])
+
 -- a node line with its line feed
 unfoldable pub node_text : Node → Bytes
-node_text n = spaced (set_words n.x) ++ BAR ∷ (spaced (set_words n.y) ++ BAR ∷ (side_word n.turn ++ BAR ∷ (body_text n.body ++ LINE_FEED ∷ [])))
+node_text n = spaced (set_words n.x) ++ BAR ∷ (spaced (set_words n.y) ++ BAR ∷ (turn_word n.turn n.left ++ BAR ∷ (body_text n.body ++ LINE_FEED ∷ [])))
 
 -- the words of a claim line
 abbrev pub claim_words : Claim → List Bytes
@@ -86,10 +95,11 @@ count_words n = codes "nodes" ∷ decimal n ∷ []
 unfoldable pub claim_text : Claim → Bytes
 claim_text c = spaced (claim_words c) ++ LINE_FEED ∷ (spaced (count_words (length c.nodes)) ++ LINE_FEED ∷ flat_map node_text c.nodes)
 
--- the first line
-abbrev pub header : Bytes
-header = codes "posgame-cert 1"
+-- the first line, which names the version
+abbrev pub header : Version → Bytes
+header One = codes "posgame-cert 1"
+header Two = codes "posgame-cert 2"
 
 -- the text of a certificate
 unfoldable pub printed_certificate : Cert → Bytes
-printed_certificate c = header ++ LINE_FEED ∷ flat_map claim_text c.claims
+printed_certificate c = header c.version ++ LINE_FEED ∷ flat_map claim_text c.claims

@@ -21,13 +21,14 @@ use Rattle.pg_game.specs.Potential.{PotentialHolds}
 use Rattle.pg_game.specs.Avoider.{AvoiderHolds}
 use Rattle.pg_game.specs.Trees.{TreesHold, CutsHold}
 use Rattle.pg_game.specs.Threat.{may_attack, IsThreatLine}
+use Rattle.pg_weaker.specs.Weaker.{IsNoWorse}
 use Rattle.pg_cert.specs.Node.{position_of}
 use Rattle.pg_cert.specs.NodeFault.{fault_number}
 use Rattle.pg_cert.specs.declared.cert.Cert.{Cert}
 use Rattle.pg_cert.specs.declared.cert.Claim.{Claim}
 use Rattle.pg_cert.specs.declared.node.Node.{Node}
 use Rattle.pg_cert.specs.declared.node.Body.{Body}
-use Rattle.pg_cert.specs.declared.node.Body.TheVariants.{Over, Move, All, Pairs, Potential, Trees, Cuts, Threat}
+use Rattle.pg_cert.specs.declared.node.Body.TheVariants.{Over, Move, All, Pairs, Potential, Trees, Cuts, Threat, Weaker}
 use Rattle.pg_cert.specs.declared.node_fault.NodeFault.{NodeFault}
 use Rattle.pg_cert.specs.declared.node_fault.NodeFault.TheVariants as faults
 
@@ -57,6 +58,11 @@ abbrev pub pairs_fit : Kind → ℕ → Bool
 pairs_fit AvoiderEnforcer bias = bias == 1
 pairs_fit _ bias = true
 
+-- whether a weaker position serves as well in a game of the kind: in Maker-Breaker alone
+abbrev pub allows_weaker : Kind → Bool
+allows_weaker MakerBreaker = true
+allows_weaker _ = false
+
 -- whether the body is allowed for a side and its goal in a game of the kind with the bias
 abbrev pub is_allowed : Kind → ℕ → Side → Goal → Body → Bool
 is_allowed kind bias side goal Over = true
@@ -67,6 +73,7 @@ is_allowed kind bias side goal Potential = shows_defence kind side goal
 is_allowed kind bias side goal (Trees with_e first second) = shows_trees kind side
 is_allowed kind bias side goal (Cuts with_e first second) = shows_cuts kind side
 is_allowed kind bias side goal (Threat points) = may_attack kind side && bias == 1
+is_allowed kind bias side goal (Weaker child) = allows_weaker kind
 
 -- ---- what a node owes
 
@@ -80,6 +87,7 @@ pub record IsInGame (g : Game) (n : Node) : Type 0 where
 abbrev pub NamesEarlier : ℕ → Body → Type 0
 NamesEarlier k (Move point child) = child < k
 NamesEarlier k (All replies) = Each (λ r. r.child < k) replies
+NamesEarlier k (Weaker child) = child < k
 NamesEarlier k _ = Unit {0}
 
 -- the node of that number has the position
@@ -151,11 +159,21 @@ abbrev pub HasThreat : Game → Side → Position → Body → Type 0
 HasThreat g side p (Threat points) = IsThreatLine g p side points
 HasThreat g side p _ = Unit {0}
 
+-- the position is no worse for the side than that of the node with that number
+pub record IsNoWorseThanNode (nodes : List Node) (side : Side) (p : Position) (child : ℕ) : Type 0 where
+  pub node : Node
+  pub at : slice_get nodes child ≡ Some node
+  pub no_worse : IsNoWorse side (position_of node) p
+
+abbrev pub HasWeaker : List Node → Side → Position → Body → Type 0
+HasWeaker nodes side p (Weaker child) = IsNoWorseThanNode nodes side p child
+HasWeaker nodes side p _ = Unit {0}
+
 -- the claim's last node is the game's marks with the claim's turn
 abbrev pub IsRoot : Game → Claim → ℕ → Node → Type 0
 IsRoot g c k n = k + 1 ≡ length c.nodes → position_of n ≡ with_turn g c.turn
 
--- more than its marks, its children and its place is asked of a node only where its body is allowed and it stands on the game's points
+-- more than its marks, its children and its place is asked of a node only where its body is allowed and it stands in the game
 pub record IsOwed (g : Game) (c : Claim) (n : Node) : Type 0 where
   pub allowed : is_allowed g.kind g.bias c.side c.goal n.body ≡ true
   pub in_game : IsInGame g n
@@ -163,9 +181,9 @@ pub record IsOwed (g : Game) (c : Claim) (n : Node) : Type 0 where
 abbrev pub Owes : Game → Claim → Node → Type 0 → Type 0
 Owes g c n P = IsOwed g c n → P
 
--- THE TABLE: what node number k of the claim owes under each fault's name
+-- THE TABLE: what node number k of the claim owes under each fault's name; numbers of children are asked for where the body is allowed, and a child of `weaker` is looked at where its number is below k
 abbrev pub Passes : Game → Claim → ℕ → Node → NodeFault → Type 0
-Passes g c k n faults.Child = NamesEarlier k n.body
+Passes g c k n faults.Child = is_allowed g.kind g.bias c.side c.goal n.body ≡ true → NamesEarlier k n.body
 Passes g c k n faults.Marks = IsInGame g n × FollowMoves g c.nodes (position_of n) n.body
 Passes g c k n faults.Turn = Owes g c n (HasTurn c.side (position_of n) n.body)
 Passes g c k n faults.Moves = Owes g c n (TakesFree g (position_of n) n.body)
@@ -177,6 +195,7 @@ Passes g c k n faults.Cuts = Owes g c n (HasCuts g (position_of n) n.body)
 Passes g c k n faults.Threat = Owes g c n (HasThreat g c.side (position_of n) n.body)
 Passes g c k n faults.Root = IsRoot g c k n
 Passes g c k n faults.Body = is_allowed g.kind g.bias c.side c.goal n.body ≡ true
+Passes g c k n faults.Weaker = Owes g c n (NamesEarlier k n.body → HasWeaker c.nodes c.side (position_of n) n.body)
 
 -- ---- nodes, claims, certificates
 

@@ -54,9 +54,20 @@ impl Claims {
     }
 }
 
+/// A version of the format.
+#[derive(Clone, Copy, Debug, PartialEq, Eq)]
+pub enum Version {
+    /// All bodies but `weaker`.
+    One,
+    /// All bodies.
+    Two,
+}
+
 /// Claims of one game: 1 to 8, with at most 200,000 nodes together.
 #[derive(Debug, Drop)]
 pub struct Cert {
+    /// The version of the format, which says what bodies its nodes may have.
+    pub version: Version,
     /// The claims.
     pub claims: Claims,
 }

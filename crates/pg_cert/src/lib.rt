@@ -11,7 +11,7 @@ mod part;
 mod printing;
 mod reply;
 
-pub use cert::{Cert, Claim, Claims};
+pub use cert::{Cert, Claim, Claims, Version};
 pub use edge_set::EdgeSet;
 pub use limits::{MAX_CLAIM_NODES, MAX_CLAIMS, MAX_NODES};
 pub use node::{Body, Node, Nodes, with_e_named};

@@ -47,6 +47,11 @@ pub enum Body {
     },
     /// The claimer's moves of a line of threats, each with the answer that it forces; the last fills a line.
     Threat(Points),
+    /// The position is no worse for the claimer than that of another node. It stands in version 2 alone.
+    Weaker {
+        /// The number of that node: 0 to 99,999.
+        child: u32,
+    },
 }
 
 /// A position and why the claimer reaches its goal from it.
@@ -58,7 +63,7 @@ pub struct Node {
     pub y: PointSet,
     /// The side to move.
     pub turn: Side,
-    /// How many points the side to move still claims in this turn: always 1 in a node that was read.
+    /// How many points the side to move still claims in this turn: 1, and for Y up to 7.
     pub left: u8,
     /// Why the claimer reaches its goal.
     pub body: Body,

@@ -2,12 +2,13 @@
 ghost use Rattle.std.specs.Prelude.{◌≡◌};
 ghost use Rattle.pg_cert.specs.NodeFault.{fault_number};
 
-/// What can be wrong with a node of a claim, the least first. The number of each is its code, J1 to J12.
+/// What can be wrong with a node of a claim, the least first. The number of each is its code, J1 to J13.
 #[derive(Clone, Copy, Debug, PartialEq, Eq, PartialOrd, Ord, Hash)]
 pub enum NodeFault {
     /// J1: the body names a child whose number isn't below the node's own.
     Child,
-    /// J2: a mark isn't a point of the game, or the child of a move isn't the position after it.
+    /// J2: a mark isn't a point of the game, or the turn claims more points than its side may, or the child of a move isn't the
+    /// position after it.
     Marks,
     /// J3: the wrong side is to move for the body.
     Turn,
@@ -25,14 +26,16 @@ pub enum NodeFault {
     Cuts,
     /// J10: the points aren't a threat line.
     Threat,
-    /// J11: the claim's last node isn't the game's marks with the claim's turn.
+    /// J11: the claim's last node isn't the game's marks at the beginning of the claim's turn.
     Root,
-    /// J12: the body isn't allowed for the kind of the game, the side and the goal.
+    /// J12: the body isn't allowed for the kind of the game, the bias, the side and the goal.
     Body,
+    /// J13: the position is worse for the claimer than that of the child of `weaker`.
+    Weaker,
 }
 
 impl NodeFault {
-    /// The number of its code: 1 to 12.
+    /// The number of its code: 1 to 13.
     pub fn number(self) -> u8
         ensures { result ≡ fault_number self }
     {
@@ -49,6 +52,7 @@ impl NodeFault {
             NodeFault::Threat => 10,
             NodeFault::Root => 11,
             NodeFault::Body => 12,
+            NodeFault::Weaker => 13,
         }
     }
 }

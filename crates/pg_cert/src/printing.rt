@@ -6,14 +6,15 @@ ghost use Rattle.std.specs.Fmt.{decimal};
 ghost use Rattle.std.specs.List.{flat_map};
 ghost use Rattle.pg_base.specs.Points.{one_where};
 ghost use Rattle.pg_base.specs.declared.limits.TheConstants.{MAX_MEMBERS};
+ghost use Rattle.pg_base.specs.declared.signs.TheConstants.{BAR};
 ghost use Rattle.pg_text.specs.Text.{spaced, behind_spaces};
 ghost use Rattle.pg_cert.specs.Limits.{IsNode, IsWithinLimits};
-ghost use Rattle.pg_cert.specs.Print.{separated, set_words, reply_word, pair_word, e_words, edge_words, body_name, body_words, body_text, node_text, claim_text, printed_certificate};
+ghost use Rattle.pg_cert.specs.Print.{separated, set_words, reply_word, pair_word, e_words, edge_words, body_name, body_words, body_text, turn_word, node_text, claim_text, header, printed_certificate};
 
-use crate::cert::{Cert, Claim};
+use crate::cert::{Cert, Claim, Version};
 use crate::node::{Body, Node};
 use crate::reply::Reply;
-use pg_base::{MAX_MEMBERS, Memory, Pair, PointSet};
+use pg_base::{MAX_MEMBERS, Memory, Pair, PointSet, Side};
 use std::alloc::{AllocError, Global};
 use std::fmt::Write;
 
@@ -139,6 +140,7 @@ fn body_name(body: &Body) -> &'static str
         Body::Trees { .. } => "trees",
         Body::Cuts { .. } => "cuts",
         Body::Threat(_) => "threat",
+        Body::Weaker { .. } => "weaker",
     }
 }
 
@@ -162,7 +164,16 @@ fn put_words(out: &mut String, body: &Body) -> Result<(), AllocError>
             second,
         } => put_edges(out, *with_e, first.as_set(), second.as_set()),
         Body::Threat(points) => put_points(out, points.as_slice()),
+        Body::Weaker { child } => put_child(out, *child),
     }
+}
+
+/// Puts a child behind a space.
+fn put_child(out: &mut String, child: u32) -> Result<(), AllocError>
+    ensures { OnOk result (string_bytes out.new ≡ string_bytes out.old ++ behind_spaces (decimal child ∷ [])) }
+{
+    write!(out, " {child}")?;
+    Ok(())
 }
 
 /// Puts a point and a child, each behind a space.
@@ -173,18 +184,46 @@ fn put_move(out: &mut String, point: u16, child: u32) -> Result<(), AllocError>
     Ok(())
 }
 
+/// Puts a turn: the side, and how many points it still claims, where these are several.
+#[tactic(auto, unfolding(crate::specs::Print::turn_word))]
+fn put_turn(out: &mut String, turn: Side, left: u8) -> Result<(), AllocError>
+    ensures { OnOk result (string_bytes out.new ≡ string_bytes out.old ++ turn_word turn left) }
+{
+    let side = turn.word();
+    if left > 1 {
+        write!(out, "{side}{left}")?;
+        return Ok(());
+    }
+    out.push_str(side)
+}
+
+/// Puts a body.
+fn put_body(out: &mut String, body: &Body) -> Result<(), AllocError>
+    ensures { OnOk result (string_bytes out.new ≡ string_bytes out.old ++ body_text body.now) }
+{
+    out.push_str(body_name(body))?;
+    put_words(out, body)
+}
+
+/// Puts the points of both sides, with a bar between them.
+fn put_sides(out: &mut String, x: &PointSet, y: &PointSet) -> Result<(), AllocError>
+    ensures { OnOk result (string_bytes out.new ≡ string_bytes out.old ++ (spaced (set_words x.now) ++ BAR ∷ spaced (set_words y.now))) }
+{
+    put_field(out, x)?;
+    out.push_str("|")?;
+    put_field(out, y)
+}
+
 /// Puts a node line.
 #[tactic(auto, unfolding(crate::specs::Print::node_text))]
 fn put_node(out: &mut String, n: &Node) -> Result<(), AllocError>
     ensures { OnOk result (string_bytes out.new ≡ string_bytes out.old ++ node_text n.now) }
 {
-    put_field(out, &n.x)?;
+    put_sides(out, &n.x, &n.y)?;
     out.push_str("|")?;
-    put_field(out, &n.y)?;
-    let turn = n.turn.word();
-    let name = body_name(&n.body);
-    write!(out, "|{turn}|{name}")?;
-    put_words(out, &n.body)?;
+    put_turn(out, n.turn, n.left)?;
+    out.push_str("|")?;
+    put_body(out, &n.body)?;
     out.push_str("\n")?;
     Ok(())
 }
@@ -223,6 +262,16 @@ fn put_claims(out: &mut String, claims: &[Claim]) -> Result<(), AllocError>
     Ok(())
 }
 
+/// The first line of a certificate of the version.
+fn header(version: Version) -> &'static str
+    ensures { result.now ≡ header version }
+{
+    match version {
+        Version::One => "posgame-cert 1",
+        Version::Two => "posgame-cert 2",
+    }
+}
+
 /// The text of a certificate within the limits of the format, with a line feed after every line.
 #[tactic(auto, unfolding(crate::specs::Print::printed_certificate))]
 pub fn print_cert(alloc: Global, c: &Cert) -> Result<Vec<u8>, Memory>
@@ -230,7 +279,8 @@ pub fn print_cert(alloc: Global, c: &Cert) -> Result<Vec<u8>, Memory>
     ensures { IfOk result (λ text. text.items ≡ printed_certificate c.now) }
 {
     let mut out = String::new(alloc);
-    out.push_str("posgame-cert 1\n")?;
+    out.push_str(header(c.version))?;
+    out.push_str("\n")?;
     put_claims(&mut out, c.claims.as_slice())?;
     Ok(out.into_bytes())
 }

@@ -1,5 +1,5 @@
 -- A printed certificate is read again as the same certificate.
-use Rattle.std.proofs.Common.{◌≡◌, ℕ, suc, ◌+◌, ◌-◌, ◌^◌, ◌<◌, ◌≤◌, lit<, false, List, [], ◌∷◌, ◌++◌, length, arith, refl, sym, ap, subst, ◌∙◌, append_assoc, Option, Some, None, Ok}
+use Rattle.std.proofs.Common.{◌≡◌, ℕ, suc, ◌+◌, ◌-◌, ◌^◌, ◌<◌, ◌≤◌, lit<, false, List, [], ◌∷◌, ◌++◌, length, arith, refl, sym, ap, ap₂, subst, ◌∙◌, append_assoc, Option, Some, None, Ok}
 use Rattle.std.specs.Prelude.{◌==◌, nat_lt, nat_le, codes, fold}
 use Rattle.std.specs.Fmt.{decimal}
 use Rattle.std.specs.List.{flat_map, AllByRecursion}
@@ -13,13 +13,15 @@ use Rattle.pg_base.specs.declared.goal.Goal.{Goal}
 use Rattle.pg_base.specs.declared.goal.Goal.TheVariants as goals
 use Rattle.pg_text.specs.Text.{Bytes, Lacks, two_parts, four_parts, spaced}
 use Rattle.pg_cert_files.specs.Form.{has_bar}
-use Rattle.pg_cert_files.specs.Lines.{cut, head_of, count_of, count_of_two}
-use Rattle.pg_cert_files.specs.CertFile.{start, behind, step, Seen, listed, taken, seen, end_fault, outcome, fault_of, text_parts, Gathered, closed, with_part, none_gathered, gathered, unless_faulty, certificate}
-use Rattle.pg_cert.specs.Limits.{IsNode, IsClaim, IsWithinLimits, node_count}
+use Rattle.pg_cert_files.specs.Lines.{cut, version_of, head_of, count_of, count_of_two}
+use Rattle.pg_cert_files.specs.CertFile.{start, headed, behind, step, Seen, listed, taken, seen, end_fault, outcome, fault_of, text_version, text_parts, Gathered, closed, with_part, none_gathered, gathered, unless_faulty, certificate}
+use Rattle.pg_cert.specs.Limits.{IsNode, IsClaim, IsOfVersion, IsWithinLimits, node_count}
 use Rattle.pg_base.specs.Side.{side_word}
 use Rattle.pg_base.specs.Goal.{goal_word}
 use Rattle.pg_cert.specs.Print.{node_text, claim_words, count_words, claim_text, header, printed_certificate}
 use Rattle.pg_cert_files.specs.Reader.{told}
+use Rattle.pg_cert.specs.declared.cert.Version.{Version}
+use Rattle.pg_cert.specs.declared.cert.Version.TheVariants.{One, Two}
 use Rattle.pg_cert_files.specs.declared.fault.Fault.{Fault}
 use Rattle.pg_cert_files.specs.declared.head.Head.{Head}
 use Rattle.pg_cert.specs.declared.part.Part.{Part}
@@ -33,9 +35,10 @@ use Rattle.pg_text.proofs.Cuts.{just_two}
 use Rattle.pg_cert_files.proofs.Growing.{told_line, rest_line}
 use Rattle.pg_cert_files.proofs.Stands.{after_none, at_feed}
 use Rattle.pg_cert_files.proofs.WholeFile.{gathered_more, gathered_none, fits_file, cert_of}
-use Rattle.pg_cert_files.proofs.CertLimits.{behind_more}
+use Rattle.pg_cert_files.proofs.CertLimits.{HasNodeBody, behind_more}
 use Rattle.pg_text.proofs.Decimals.{number_decimal}
 use Rattle.pg_text.proofs.PlainWords.{IsWord, decimal_is_word, lacks_space, spaced_quiet, quiet_lacks_feed}
+use Rattle.pg_cert_files.proofs.NodeLimits.{IsRead}
 use Rattle.pg_cert_files.proofs.NodeBack.{side_is_word, node_line_text, node_back, node_lacks_feed}
 
 -- a text of whole lines without a fault, and what they have said
@@ -115,9 +118,9 @@ count_step_back p head n e some few room =
 
 -- ---- node lines
 
-node_step_back : (p : Progress) (others : ℕ) (n : Node) → p.due ≡ due.Node others → IsNode n → step p (node_line_text n) ≡ Ok (record p { due = behind others }, Some (parts.Node n))
+node_step_back : (p : Progress) (others : ℕ) (n : Node) → p.due ≡ due.Node others → IsRead p.version n → step p (node_line_text n) ≡ Ok (record p { due = behind others }, Some (parts.Node n))
 unfolding step
-node_step_back p others n e h = let back = node_back n h in rw (e, back) refl
+node_step_back p others n e h = let back = node_back p.version n h in rw (e, back) refl
 
 node_text_is : (n : Node) → node_text n ≡ node_line_text n ++ 10 ∷ []
 unfolding node_text
@@ -126,12 +129,12 @@ node_text_is n = simp append_assoc
 abbrev with_nodes : Gathered → List Node → Gathered
 with_nodes g nodes = record g { nodes = nodes }
 
-node_read : (text : Bytes) (p : Progress) (g : Gathered) (others : ℕ) (n : Node) → IsAt text p g → p.due ≡ due.Node others → IsNode n → IsAt (text ++ node_text n) (record p { due = behind others }) (with_nodes g (g.nodes ++ n ∷ []))
+node_read : (text : Bytes) (p : Progress) (g : Gathered) (others : ℕ) (n : Node) → IsAt text p g → p.due ≡ due.Node others → IsRead p.version n → IsAt (text ++ node_text n) (record p { due = behind others }) (with_nodes g (g.nodes ++ n ∷ []))
 node_read text p g others n at e h =
-    let read = line_read text (node_line_text n) p (record p { due = behind others }) (Some (parts.Node n)) g at (node_lacks_feed n h) (node_step_back p others n e h) in
+    let read = line_read text (node_line_text n) p (record p { due = behind others }) (Some (parts.Node n)) g at (node_lacks_feed n h.0) (node_step_back p others n e h) in
     subst (λ (t : Bytes). IsAt (text ++ t) (record p { due = behind others }) (with_nodes g (g.nodes ++ n ∷ []))) (sym (node_text_is n)) read
 
-nodes_read : (ns : List Node) (text : Bytes) (p : Progress) (g : Gathered) (n : Node) → IsAt text p g → p.due ≡ due.Node (length ns) → IsNode n → AllByRecursion IsNode ns
+nodes_read : (ns : List Node) (text : Bytes) (p : Progress) (g : Gathered) (n : Node) → IsAt text p g → p.due ≡ due.Node (length ns) → IsRead p.version n → AllByRecursion (IsRead p.version) ns
     → IsAt (text ++ flat_map node_text (n ∷ ns)) (record p { due = due.Claim }) (with_nodes g (g.nodes ++ n ∷ ns))
 nodes_read [] text p g n at e h k =
     subst (λ (t : Bytes). IsAt (text ++ t) (record p { due = due.Claim }) (with_nodes g (g.nodes ++ n ∷ []))) (sym (append-nil (node_text n))) (node_read text p g 0 n at e h)
@@ -143,20 +146,24 @@ nodes_read (m ∷ ns) text p g n at e h k =
     subst (λ (t : Bytes). IsAt t (record p { due = due.Claim }) (with_nodes g (g.nodes ++ n ∷ m ∷ ns))) all
     (subst (λ (xs : List Node). IsAt ((text ++ node_text n) ++ flat_map node_text (m ∷ ns)) (record p { due = due.Claim }) (with_nodes g xs)) more others)
 
-some_nodes : (ns : List Node) (text : Bytes) (p : Progress) (g : Gathered) → 0 < length ns → IsAt text p g → p.due ≡ due.Node (length ns - 1) → AllByRecursion IsNode ns
+some_nodes : (ns : List Node) (text : Bytes) (p : Progress) (g : Gathered) → 0 < length ns → IsAt text p g → p.due ≡ due.Node (length ns - 1) → AllByRecursion (IsRead p.version) ns
     → IsAt (text ++ flat_map node_text ns) (record p { due = due.Claim }) (with_nodes g (g.nodes ++ ns))
 some_nodes [] text p g some at e k = absurd (omega arith)
 some_nodes (n ∷ ns) text p g some at e k = let less : suc (length ns) - 1 ≡ length ns = omega arith in nodes_read ns text p g n at (e ∙ ap (λ (x : ℕ). due.Node x) less) k.0 k.1
 
 -- ---- claims
 
+all_read : (version : Version) (ns : List Node) → AllByRecursion IsNode ns → AllByRecursion (HasNodeBody version) ns → AllByRecursion (IsRead version) ns
+all_read version [] h k = tt
+all_read version (n ∷ ns) h k = ((h.0, k.0), all_read version ns h.1 k.1)
+
 joined : (text a b d : Bytes) → ((text ++ (a ++ 10 ∷ [])) ++ (b ++ 10 ∷ [])) ++ d ≡ text ++ (a ++ 10 ∷ (b ++ 10 ∷ d))
 joined text a b d = simp append_assoc
 
-claim_read : (text : Bytes) (p : Progress) (g : Gathered) (c : Claim) → IsAt text p g → p.due ≡ due.Claim → p.claims < 8 → p.nodes + length c.nodes ≤ 200000 → IsClaim c
-    → IsAt (text ++ claim_text c) (record { due = due.Claim; claims = p.claims + 1; nodes = p.nodes + length c.nodes }) (record { whole = closed g; head = Some (head_is c); nodes = c.nodes })
+claim_read : (text : Bytes) (p : Progress) (g : Gathered) (c : Claim) → IsAt text p g → p.due ≡ due.Claim → p.claims < 8 → p.nodes + length c.nodes ≤ 200000 → IsClaim c → IsOfVersion p.version c
+    → IsAt (text ++ claim_text c) (record p { due = due.Claim; claims = p.claims + 1; nodes = p.nodes + length c.nodes }) (record { whole = closed g; head = Some (head_is c); nodes = c.nodes })
 unfolding claim_text
-claim_read text p g c at e few room h =
+claim_read text p g c at e few room h has =
     let first = spaced (claim_words c) ++ 10 ∷ [] in
     let second = spaced (count_words (length c.nodes)) ++ 10 ∷ [] in
     let n = length c.nodes in
@@ -164,21 +171,21 @@ claim_read text p g c at e few room h =
     let p2 : Progress = record p1 { due = due.Node (n - 1); nodes = p.nodes + n } in
     let told1 = line_read text (spaced (claim_words c)) p p1 None g at (quiet_lacks_feed (spaced (claim_words c)) (spaced_quiet (claim_words c) (five_word, (side_is_word c.turn, (side_is_word c.side, (goal_is_word c.goal, tt)))))) (claim_step_back p c e few) in
     let told2 = line_read (text ++ first) (spaced (count_words n)) p1 p2 (Some (parts.Claim c.turn c.side c.goal n)) g told1 (quiet_lacks_feed (spaced (count_words n)) (spaced_quiet (count_words n) (nodes_word, (decimal_is_word n (omega (arith, h.few)), tt)))) (count_step_back p1 (head_is c) n refl h.some h.few room) in
-    let told3 = some_nodes c.nodes ((text ++ first) ++ second) p2 (record { whole = closed g; head = Some (head_is c); nodes = [] }) h.some told2 refl (recursion_from_All IsNode c.nodes h.nodes) in
+    let told3 = some_nodes c.nodes ((text ++ first) ++ second) p2 (record { whole = closed g; head = Some (head_is c); nodes = [] }) h.some told2 refl (all_read p.version c.nodes (recursion_from_All IsNode c.nodes h.nodes) (recursion_from_All (HasNodeBody p.version) c.nodes has)) in
     let all : ((text ++ first) ++ second) ++ flat_map node_text c.nodes ≡ text ++ (spaced (claim_words c) ++ 10 ∷ (spaced (count_words n) ++ 10 ∷ flat_map node_text c.nodes)) = joined text (spaced (claim_words c)) (spaced (count_words n)) (flat_map node_text c.nodes) in
     subst (λ (t : Bytes). IsAt t (record p2 { due = due.Claim }) (record { whole = closed g; head = Some (head_is c); nodes = c.nodes })) all told3
 
-claims_read : (cs : List Claim) (text : Bytes) (p : Progress) (g : Gathered) → IsAt text p g → p.due ≡ due.Claim → p.claims + length cs ≤ 8 → p.nodes + node_count cs ≤ 200000 → AllByRecursion IsClaim cs
-    → (q : Progress) × (h : Gathered) × IsAt (text ++ flat_map claim_text cs) q h × (q.due ≡ due.Claim) × (q.claims ≡ p.claims + length cs) × (closed h ≡ closed g ++ cs)
-claims_read [] text p g at e few room k = (p, g, subst (λ (t : Bytes). IsAt t p g) (sym (append-nil text)) at, e, omega arith, sym (append-nil (closed g)))
-claims_read (c ∷ cs) text p g at e few room k =
+claims_read : (cs : List Claim) (text : Bytes) (p : Progress) (g : Gathered) → IsAt text p g → p.due ≡ due.Claim → p.claims + length cs ≤ 8 → p.nodes + node_count cs ≤ 200000 → AllByRecursion IsClaim cs → AllByRecursion (IsOfVersion p.version) cs
+    → (q : Progress) × (h : Gathered) × IsAt (text ++ flat_map claim_text cs) q h × (q.due ≡ due.Claim) × (q.claims ≡ p.claims + length cs) × (closed h ≡ closed g ++ cs) × (q.version ≡ p.version)
+claims_read [] text p g at e few room k has = (p, g, subst (λ (t : Bytes). IsAt t p g) (sym (append-nil text)) at, e, omega arith, sym (append-nil (closed g)), refl)
+claims_read (c ∷ cs) text p g at e few room k has =
     let split : node_count (c ∷ cs) ≡ length c.nodes + node_count cs = sum_by-cons (λ (claim : Claim). length claim.nodes) c cs in
-    let one = claim_read text p g c at e (omega arith) (omega (arith, split)) k.0 in
-    let p1 : Progress = record { due = due.Claim; claims = p.claims + 1; nodes = p.nodes + length c.nodes } in
+    let one = claim_read text p g c at e (omega arith) (omega (arith, split)) k.0 has.0 in
+    let p1 : Progress = record p { due = due.Claim; claims = p.claims + 1; nodes = p.nodes + length c.nodes } in
     let g1 : Gathered = record { whole = closed g; head = Some (head_is c); nodes = c.nodes } in
-    let t = claims_read cs (text ++ claim_text c) p1 g1 one refl (omega arith) (omega (arith, split)) k.1 in
+    let t = claims_read cs (text ++ claim_text c) p1 g1 one refl (omega arith) (omega (arith, split)) k.1 has.1 in
     let all : (text ++ claim_text c) ++ flat_map claim_text cs ≡ text ++ flat_map claim_text (c ∷ cs) = append_assoc text (claim_text c) (flat_map claim_text cs) in
-    (t.0, t.1, subst (λ (x : Bytes). IsAt x t.0 t.1) all t.2, t.3, omega (arith, t.4), t.5 ∙ append_assoc (closed g) (c ∷ []) cs)
+    (t.0, t.1, subst (λ (x : Bytes). IsAt x t.0 t.1) all t.2, t.3, omega (arith, t.4), t.5 ∙ append_assoc (closed g) (c ∷ []) cs, t.6)
 
 -- ---- the file
 
@@ -186,18 +193,23 @@ at_start : IsAt [] start none_gathered
 unfolding cut seen
 at_start = record { rest = refl; fault = refl; progress = refl; parts = gathered_none }
 
-header_lacks : Lacks 10 header
-header_lacks = All-from_recursion (λ b. (b == 10) ≡ false) header (refl, (refl, (refl, (refl, (refl, (refl, (refl, (refl, (refl, (refl, (refl, (refl, (refl, (refl, tt))))))))))))))
+header_lacks : (version : Version) → Lacks 10 (header version)
+header_lacks One = All-from_recursion (λ b. (b == 10) ≡ false) (header One) (refl, (refl, (refl, (refl, (refl, (refl, (refl, (refl, (refl, (refl, (refl, (refl, (refl, (refl, tt))))))))))))))
+header_lacks Two = All-from_recursion (λ b. (b == 10) ≡ false) (header Two) (refl, (refl, (refl, (refl, (refl, (refl, (refl, (refl, (refl, (refl, (refl, (refl, (refl, (refl, tt))))))))))))))
 
-after_header : IsAt (header ++ 10 ∷ []) (record start { due = due.Claim }) none_gathered
+header_back : (version : Version) → version_of (header version) ≡ Some version
+header_back One = refl
+header_back Two = refl
+
+after_header : (version : Version) → IsAt (header version ++ 10 ∷ []) (record start { due = due.Claim; version = version }) none_gathered
 unfolding step
-after_header = line_read [] header start (record start { due = due.Claim }) None none_gathered at_start header_lacks refl
+after_header version = line_read [] (header version) start (record start { due = due.Claim; version = version }) None none_gathered at_start (header_lacks version) (ap (headed start) (header_back version))
 
 at_outcome : (s : Seen) (p : Progress) → s.fault ≡ None → s.progress ≡ p → end_fault p p.due ≡ None → outcome s ≡ None
 at_outcome s p fault progress ends = rw (fault, progress, ends) refl
 
-closed_none : (text : Bytes) (p : Progress) (g : Gathered) (claims : List Claim) → IsAt text p g → p.due ≡ due.Claim → 0 < p.claims → closed g ≡ claims → length text ≤ 268435456 → certificate text ≡ Ok (record { claims = claims })
-unfolding fault_of text_parts
+closed_none : (text : Bytes) (p : Progress) (g : Gathered) (claims : List Claim) → IsAt text p g → p.due ≡ due.Claim → 0 < p.claims → closed g ≡ claims → length text ≤ 268435456 → certificate text ≡ Ok (record { version = p.version; claims = claims })
+unfolding fault_of text_version text_parts
 closed_none text p g claims at e some is few =
     let all = at_feed text at.rest in
     let t : (p.claims == 0) ≡ false = grind (arith, nat_tests) in
@@ -205,12 +217,16 @@ closed_none text p g claims at e some is few =
     let fault : outcome (told text) ≡ None = at_outcome (told text) p at.fault at.progress ends in
     let none : fault_of text ≡ None = ap outcome all ∙ fault in
     let gives : closed (gathered (text_parts text)) ≡ claims = ap (λ (s : Seen). closed (gathered s.parts)) all ∙ ap (λ (x : Gathered). closed x) at.parts ∙ is in
-    fits_file text few ∙ ap (λ (o : Option (Fault × ℕ)). unless_faulty o (text_parts text)) none ∙ ap (λ (cs : List Claim). cert_of cs) gives
+    let named : text_version text ≡ p.version = ap (λ (s : Seen). s.progress.version) all ∙ ap (λ (q : Progress). q.version) at.progress in
+    fits_file text few ∙ ap (λ (o : Option (Fault × ℕ)). unless_faulty o (text_version text) (text_parts text)) none ∙ ap₂ (λ (v : Version) (cs : List Claim). cert_of v cs) named gives
 
 -- a printed certificate is read as itself
 pub reads_back : (c : Cert) → IsWithinLimits c → length (printed_certificate c) ≤ 268435456 → certificate (printed_certificate c) ≡ Ok c
 unfolding printed_certificate
 reads_back c h few =
-    let t = claims_read c.claims (header ++ 10 ∷ []) (record start { due = due.Claim }) none_gathered after_header refl (omega (arith, h.few)) (omega (arith, h.nodes)) (recursion_from_All IsClaim c.claims h.claims) in
-    let all : (header ++ 10 ∷ []) ++ flat_map claim_text c.claims ≡ header ++ 10 ∷ flat_map claim_text c.claims = append_assoc header (10 ∷ []) (flat_map claim_text c.claims) in
-    closed_none (header ++ 10 ∷ flat_map claim_text c.claims) t.0 t.1 c.claims (subst (λ (x : Bytes). IsAt x t.0 t.1) all t.2) t.3 (omega (arith, t.4, h.some)) t.5 few
+    let first = header c.version in
+    let t = claims_read c.claims (first ++ 10 ∷ []) (record start { due = due.Claim; version = c.version }) none_gathered (after_header c.version) refl (omega (arith, h.few)) (omega (arith, h.nodes)) (recursion_from_All IsClaim c.claims h.claims)
+    (recursion_from_All (IsOfVersion c.version) c.claims h.bodies) in
+    let all : (first ++ 10 ∷ []) ++ flat_map claim_text c.claims ≡ first ++ 10 ∷ flat_map claim_text c.claims = append_assoc first (10 ∷ []) (flat_map claim_text c.claims) in
+    closed_none (first ++ 10 ∷ flat_map claim_text c.claims) t.0 t.1 c.claims (subst (λ (x : Bytes). IsAt x t.0 t.1) all t.2) t.3 (omega (arith, t.4, h.some)) t.5 few
+    ∙ ap (λ (v : Version). cert_of v c.claims) t.6

@@ -1,8 +1,7 @@
 -- A certificate that is read is within the limits.
-use Rattle.std.proofs.Common.{◌≡◌, ℕ, zero, suc, ◌+◌, ◌-◌, ◌<◌, ◌≤◌, false, cond, ◌||◌, inl, inr, List, [], ◌∷◌, ◌++◌, length, arith, refl, sym, ap, subst, ◌∙◌, Option, Some, None, Result, Ok, Err}
-use Rattle.std.specs.Prelude.{◌==◌, nat_lt, nat_le, fold, codes}
+use Rattle.std.proofs.Common.{◌≡◌, ℕ, zero, suc, ◌+◌, ◌-◌, ◌<◌, ◌≤◌, false, cond, ◌||◌, inl, inr, List, [], ◌∷◌, ◌++◌, length, arith, refl, sym, ap, subst, Option, Some, None, Result, Ok, Err}
+use Rattle.std.specs.Prelude.{◌==◌, nat_lt, nat_le, fold}
 use Rattle.std.specs.List.{AllByRecursion}
-use Rattle.std.specs.Str.{bytes_eq}
 use Rattle.std.proofs.lemmas.Bool.{ltb-false, or_parts}
 use Rattle.std.proofs.lemmas.Bool.Decides.{nat_tests}
 use Rattle.std.proofs.lemmas.List.{length-append}
@@ -11,12 +10,13 @@ use Rattle.std.proofs.lemmas.List.Sums.{sum_by_push}
 use Rattle.pg_text.specs.Text.{Bytes, number, lines}
 use Rattle.pg_cert_files.specs.Form.{has_bar}
 use Rattle.pg_cert_files.specs.NodeLine.{node_line}
-use Rattle.pg_cert_files.specs.Lines.{head_of, count_of}
-use Rattle.pg_cert_files.specs.CertFile.{Step, header_step, claimed, claim_step, numbered, counted, behind, node_step, step_due, step, Seen, nothing, listed, taken, goes_on, after, seen, end_fault, or_at_end, fault_of, text_parts, Gathered, last_claim, closed, with_part, none_gathered, gathered, unless_faulty, certificate, at_number}
-use Rattle.pg_cert.specs.Limits.{IsNode, IsClaim, IsWithinLimits, node_count}
+use Rattle.pg_cert_files.specs.Lines.{version_of, head_of, count_of}
+use Rattle.pg_cert_files.specs.CertFile.{Step, headed, claimed, claim_step, numbered, counted, behind, node_step, step_due, step, Seen, nothing, listed, taken, goes_on, after, seen, end_fault, or_at_end, fault_of, text_version, text_parts, Gathered, last_claim, closed, with_part, none_gathered, gathered, unless_faulty, certificate, at_number}
+use Rattle.pg_cert.specs.Limits.{IsNode, IsClaim, IsOfVersion, IsWithinLimits, node_count}
 use Rattle.pg_cert_files.specs.declared.fault.Fault.{Fault}
 use Rattle.pg_cert_files.specs.declared.fault.Fault.TheVariants as faults
 use Rattle.pg_cert_files.specs.declared.head.Head.{Head}
+use Rattle.pg_cert.specs.declared.cert.Version.{Version}
 use Rattle.pg_cert.specs.declared.part.Part.{Part}
 use Rattle.pg_cert.specs.declared.part.Part.TheVariants as parts
 use Rattle.pg_cert_files.specs.declared.progress.Due.{Due}
@@ -25,16 +25,21 @@ use Rattle.pg_cert_files.specs.declared.progress.Progress.{Progress}
 use Rattle.pg_cert.specs.declared.node.Node.{Node}
 use Rattle.pg_cert.specs.declared.cert.Claim.{Claim}
 use Rattle.pg_cert.specs.declared.cert.Cert.{Cert}
-use Rattle.pg_cert_files.proofs.NodeLimits.{ok_is, err_not, then_ok, chosen, done, node_ok}
+use Rattle.pg_cert_files.proofs.NodeLimits.{ok_is, err_not, then_ok, chosen, done, HasBody, IsRead, node_ok}
 use Rattle.pg_cert_files.proofs.WholeFile.{gathered_more, gathered_none}
 
--- claims that are whole, so many, with so many nodes
-pub record AreTold (claims nodes : ℕ) (cs : List Claim) : Type 0 where
+-- claims that are whole, so many, with so many nodes, whose bodies the version has
+pub record AreTold (version : Version) (claims nodes : ℕ) (cs : List Claim) : Type 0 where
   pub count : length cs ≡ claims
   pub few : claims ≤ 8
   pub each : AllByRecursion IsClaim cs
   pub sum : node_count cs ≡ nodes
   pub room : nodes ≤ 200000
+  pub bodies : AllByRecursion (IsOfVersion version) cs
+
+-- a body of the version
+abbrev pub HasNodeBody : Version → Node → Type 0
+HasNodeBody version node = HasBody version node.body
 
 -- a claim whose nodes come, behind the next of which so many others stand
 pub record AreComing (others : ℕ) (p : Progress) (g : Gathered) : Type 0 where
@@ -44,8 +49,9 @@ pub record AreComing (others : ℕ) (p : Progress) (g : Gathered) : Type 0 where
   pub before : ℕ
   pub counted : p.claims ≡ claims + 1
   pub few : claims < 8
-  pub whole : AreTold claims before g.whole
+  pub whole : AreTold p.version claims before g.whole
   pub nodes : AllByRecursion IsNode g.nodes
+  pub bodies : AllByRecursion (HasNodeBody p.version) g.nodes
   pub total : length g.nodes + (others + 1) ≤ 100000
   pub sum : p.nodes ≡ before + (length g.nodes + (others + 1))
   pub room : p.nodes ≤ 200000
@@ -53,8 +59,8 @@ pub record AreComing (others : ℕ) (p : Progress) (g : Gathered) : Type 0 where
 -- what was gathered, by which line is due
 abbrev pub IsSound : Due → Progress → Gathered → Type 0
 IsSound due.Header p g = (g ≡ none_gathered) × (p.claims ≡ 0) × (p.nodes ≡ 0)
-IsSound due.Claim p g = AreTold p.claims p.nodes (closed g)
-IsSound (due.Count head) p g = (n : ℕ) × (p.claims ≡ n + 1) × (n < 8) × AreTold n p.nodes (closed g)
+IsSound due.Claim p g = AreTold p.version p.claims p.nodes (closed g)
+IsSound (due.Count head) p g = (n : ℕ) × (p.claims ≡ n + 1) × (n < 8) × AreTold p.version n p.nodes (closed g)
 IsSound (due.Node others) p g = AreComing others p g
 
 abbrev pub Next : Type 0
@@ -64,13 +70,11 @@ Next = Progress × Option Part
 abbrev IsKept : Gathered → Next → Type 0
 IsKept g next = IsSound next.0.due next.0 (fold with_part g (listed next.1))
 
-sound_header : (p : Progress) (g : Gathered) (line : Bytes) (next : Next) → IsSound due.Header p g → header_step p line ≡ Ok next → IsKept g next
-sound_header p g line next sound e =
-    let made : Next = (record p { due = due.Claim }, None) in
-    elim (chosen (bytes_eq line (codes "posgame-cert 1")) (done made) (Err faults.Header) (Ok next) e) [
-      | inl h ↦ subst (IsKept g) (ok_is made next h.1) (rw sound.0 (record { count = sym sound.1; few = omega (arith, sound.1); each = tt; sum = sym sound.2; room = omega (arith, sound.2) }))
-      | inr h ↦ err_not faults.Header next (IsKept g next) h.1
-    ]
+sound_headed : (p : Progress) (g : Gathered) (version : Option Version) (next : Next) → IsSound due.Header p g → headed p version ≡ Ok next → IsKept g next
+sound_headed p g None next sound e = absurd cc
+sound_headed p g (Some version) next sound e =
+    let made : Next = (record p { due = due.Claim; version = version }, None) in
+    subst (IsKept g) (ok_is made next e) (rw sound.0 (record { count = sym sound.1; few = omega (arith, sound.1); each = tt; sum = sym sound.2; room = omega (arith, sound.2); bodies = tt }))
 
 sound_claimed : (p : Progress) (g : Gathered) (head : Option Head) (next : Next) → IsSound due.Claim p g → claimed p head ≡ Ok next → IsKept g next
 sound_claimed p g None next sound e = absurd cc
@@ -109,6 +113,7 @@ sound_numbered head p g (Some n) next sound e =
               few = sound.2;
               whole = sound.3;
               nodes = tt;
+              bodies = tt;
               total = omega arith;
               sum = omega arith;
               room = room;
@@ -125,42 +130,44 @@ push_each P [] a h f = (f, tt)
 push_each P (b ∷ bs) a h f = (h.0, push_each P bs a h.1 f)
 
 -- one node more, where others come
-node_comes : (others : ℕ) (p q : Progress) (g : Gathered) (node : Node) → q.claims ≡ p.claims → q.nodes ≡ p.nodes → AreComing (suc others) p g → IsNode node → AreComing others q (record g { nodes = g.nodes ++ node ∷ [] })
-node_comes others p q g node e f h fits =
+node_comes : (others : ℕ) (p : Progress) (d : Due) (g : Gathered) (node : Node) → AreComing (suc others) p g → IsRead p.version node → AreComing others (record p { due = d }) (record g { nodes = g.nodes ++ node ∷ [] })
+node_comes others p d g node h fits =
     let len = length-append g.nodes (node ∷ []) in
     record {
       head = h.head;
       is = h.is;
       claims = h.claims;
       before = h.before;
-      counted = e ∙ h.counted;
+      counted = h.counted;
       few = h.few;
       whole = h.whole;
-      nodes = push_each IsNode g.nodes node h.nodes fits;
+      nodes = push_each IsNode g.nodes node h.nodes fits.0;
+      bodies = push_each (HasNodeBody p.version) g.nodes node h.bodies fits.1;
       total = omega (arith, len, h.total);
-      sum = omega (arith, len, h.sum, f);
-      room = omega (arith, h.room, f);
+      sum = omega (arith, len, h.sum);
+      room = h.room;
     }
 
 abbrev pub claim_with : Head → List Node → Claim
 claim_with head nodes = record { turn = head.turn; side = head.side; goal = head.goal; nodes = nodes }
 
 -- the last node of a claim
-node_ends : (p q : Progress) (g : Gathered) (node : Node) → q.claims ≡ p.claims → q.nodes ≡ p.nodes → AreComing 0 p g → IsNode node → AreTold q.claims q.nodes (closed (record g { nodes = g.nodes ++ node ∷ [] }))
-node_ends p q g node e f h fits =
+node_ends : (p : Progress) (g : Gathered) (node : Node) → AreComing 0 p g → IsRead p.version node → AreTold p.version p.claims p.nodes (closed (record g { nodes = g.nodes ++ node ∷ [] }))
+node_ends p g node h fits =
     let len = length-append g.nodes (node ∷ []) in
     let all = g.nodes ++ node ∷ [] in
     let claim = claim_with h.head all in
     let is : closed (record g { nodes = all }) ≡ g.whole ++ claim ∷ [] = ap (λ (o : Option Head). g.whole ++ last_claim o all) h.is in
-    let fit : IsClaim claim = record { some = omega (arith, len); few = omega (arith, len, h.total); nodes = All-from_recursion IsNode all (push_each IsNode g.nodes node h.nodes fits) } in
-    let told : AreTold q.claims q.nodes (g.whole ++ claim ∷ []) = record {
-      count = omega (arith, length-append g.whole (claim ∷ []), h.whole.count, h.counted, e);
-      few = omega (arith, h.few, h.counted, e);
+    let fit : IsClaim claim = record { some = omega (arith, len); few = omega (arith, len, h.total); nodes = All-from_recursion IsNode all (push_each IsNode g.nodes node h.nodes fits.0) } in
+    let told : AreTold p.version p.claims p.nodes (g.whole ++ claim ∷ []) = record {
+      count = omega (arith, length-append g.whole (claim ∷ []), h.whole.count, h.counted);
+      few = omega (arith, h.few, h.counted);
       each = push_each IsClaim g.whole claim h.whole.each fit;
-      sum = omega (arith, sum_by_push (λ (c : Claim). length c.nodes) g.whole claim, h.whole.sum, len, h.sum, f);
-      room = omega (arith, h.room, f);
+      sum = omega (arith, sum_by_push (λ (c : Claim). length c.nodes) g.whole claim, h.whole.sum, len, h.sum);
+      room = h.room;
+      bodies = push_each (IsOfVersion p.version) g.whole claim h.whole.bodies (All-from_recursion (HasNodeBody p.version) all (push_each (HasNodeBody p.version) g.nodes node h.bodies fits.1));
     } in
-    subst (AreTold q.claims q.nodes) (sym is) told
+    subst (AreTold p.version p.claims p.nodes) (sym is) told
 
 pub behind_more : (others : ℕ) → behind (suc others) ≡ due.Node others
 behind_more others =
@@ -170,17 +177,17 @@ behind_more others =
 
 sound_node : (others : ℕ) (p : Progress) (g : Gathered) (line : Bytes) (next : Next) → IsSound (due.Node others) p g → node_step others p line ≡ Ok next → IsKept g next
 sound_node zero p g line next sound e =
-    let t = then_ok (node_line line) (λ node. done (record p { due = due.Claim }, Some (parts.Node node))) next e in
-    subst (IsKept g) (ok_is (record p { due = due.Claim }, Some (parts.Node t.0)) next t.2) (node_ends p (record p { due = due.Claim }) g t.0 refl refl sound (node_ok line t.0 t.1))
+    let t = then_ok (node_line p.version line) (λ node. done (record p { due = due.Claim }, Some (parts.Node node))) next e in
+    subst (IsKept g) (ok_is (record p { due = due.Claim }, Some (parts.Node t.0)) next t.2) (node_ends p g t.0 sound (node_ok p.version line t.0 t.1))
 sound_node (suc others) p g line next sound e =
     let q : Progress = record p { due = behind (suc others) } in
     let less : behind (suc others) ≡ due.Node others = behind_more others in
-    let t = then_ok (node_line line) (λ node. done (q, Some (parts.Node node))) next e in
-    let comes : AreComing others q (record g { nodes = g.nodes ++ t.0 ∷ [] }) = node_comes others p q g t.0 refl refl sound (node_ok line t.0 t.1) in
+    let t = then_ok (node_line p.version line) (λ node. done (q, Some (parts.Node node))) next e in
+    let comes : AreComing others q (record g { nodes = g.nodes ++ t.0 ∷ [] }) = node_comes others p (behind (suc others)) g t.0 sound (node_ok p.version line t.0 t.1) in
     subst (IsKept g) (ok_is (q, Some (parts.Node t.0)) next t.2) (subst (λ (d : Due). IsSound d q (record g { nodes = g.nodes ++ t.0 ∷ [] })) (sym less) comes)
 
 sound_due : (d : Due) (p : Progress) (g : Gathered) (line : Bytes) (next : Next) → IsSound d p g → step_due d p line ≡ Ok next → IsKept g next
-sound_due due.Header p g line next sound e = sound_header p g line next sound e
+sound_due due.Header p g line next sound e = sound_headed p g (version_of line) next sound e
 sound_due due.Claim p g line next sound e = sound_claim p g line next sound e
 sound_due (due.Count head) p g line next sound e = sound_counted head p g (count_of line) next sound e
 sound_due (due.Node others) p g line next sound e = sound_node others p g line next sound e
@@ -217,7 +224,7 @@ sound_seen ls = sound_lines ls nothing (gathered_none, refl, refl)
 
 -- ---- the end
 
-end_of : (d : Due) (p : Progress) (g : Gathered) → IsSound d p g → end_fault p d ≡ None → AreTold p.claims p.nodes (closed g) × (0 < p.claims)
+end_of : (d : Due) (p : Progress) (g : Gathered) → IsSound d p g → end_fault p d ≡ None → AreTold p.version p.claims p.nodes (closed g) × (0 < p.claims)
 end_of due.Header p g sound e = absurd cc
 end_of due.Claim p g sound e = elim (chosen (p.claims == 0) (Some faults.Form) None None e) [
   | inl h ↦ absurd (cc h.1)
@@ -230,17 +237,17 @@ pub none_at : (n : ℕ) (o : Option Fault) → at_number n o ≡ None → o ≡ 
 none_at n None e = refl
 none_at n (Some fault) e = absurd cc
 
-pub told_within : (claims nodes : ℕ) (cs : List Claim) → AreTold claims nodes cs → 0 < claims → IsWithinLimits (record { claims = cs })
-told_within claims nodes cs told some = record { some = omega (arith, told.count); few = omega (arith, told.count, told.few); claims = All-from_recursion IsClaim cs told.each; nodes = omega (arith, told.sum, told.room) }
+pub told_within : (version : Version) (claims nodes : ℕ) (cs : List Claim) → AreTold version claims nodes cs → 0 < claims → IsWithinLimits (record { version = version; claims = cs })
+told_within version claims nodes cs told some = record { some = omega (arith, told.count); few = omega (arith, told.count, told.few); claims = All-from_recursion IsClaim cs told.each; nodes = omega (arith, told.sum, told.room); bodies = All-from_recursion (IsOfVersion version) cs told.bodies }
 
-ended : (s : Seen) (fault : Option (Fault × ℕ)) → IsSeen s → or_at_end s fault ≡ None → IsWithinLimits (record { claims = closed (gathered s.parts) })
+ended : (s : Seen) (fault : Option (Fault × ℕ)) → IsSeen s → or_at_end s fault ≡ None → IsWithinLimits (record { version = s.progress.version; claims = closed (gathered s.parts) })
 ended s None sound e =
     let t = end_of s.progress.due s.progress (gathered s.parts) sound (none_at (s.count + 1) (end_fault s.progress s.progress.due) e) in
-    told_within s.progress.claims s.progress.nodes (closed (gathered s.parts)) t.0 t.1
+    told_within s.progress.version s.progress.claims s.progress.nodes (closed (gathered s.parts)) t.0 t.1
 ended s (Some fault) sound e = absurd cc
 
-without_fault : (text : Bytes) → fault_of text ≡ None → IsWithinLimits (record { claims = closed (gathered (text_parts text)) })
-unfolding fault_of text_parts
+without_fault : (text : Bytes) → fault_of text ≡ None → IsWithinLimits (record { version = text_version text; claims = closed (gathered (text_parts text)) })
+unfolding fault_of text_version text_parts
 without_fault text e = ended (seen (lines text)) (seen (lines text)).fault (sound_seen (lines text)) e
 
 abbrev whole : Cert → Result Cert (Fault × ℕ)
@@ -253,14 +260,14 @@ cert_or c (Err bad) = c
 cert_is : (c d : Cert) → whole c ≡ whole d → c ≡ d
 cert_is c d e = ap (cert_or c) e
 
-within : (o : Option (Fault × ℕ)) (ps : List Part) (c : Cert) → (o ≡ None → IsWithinLimits (record { claims = closed (gathered ps) })) → unless_faulty o ps ≡ Ok c → IsWithinLimits c
-within None ps c h e = subst IsWithinLimits (cert_is (record { claims = closed (gathered ps) }) c e) (h refl)
-within (Some fault) ps c h e = absurd cc
+within : (o : Option (Fault × ℕ)) (version : Version) (ps : List Part) (c : Cert) → (o ≡ None → IsWithinLimits (record { version = version; claims = closed (gathered ps) })) → unless_faulty o version ps ≡ Ok c → IsWithinLimits c
+within None version ps c h e = subst IsWithinLimits (cert_is (record { version = version; claims = closed (gathered ps) }) c e) (h refl)
+within (Some fault) version ps c h e = absurd cc
 
 -- what reading gives is within the limits
 pub read_within : (text : Bytes) (c : Cert) → certificate text ≡ Ok c → IsWithinLimits c
 unfolding certificate
-read_within text c e = elim (chosen (nat_lt 268435456 (length text)) (Err (faults.Size, 0)) (unless_faulty (fault_of text) (text_parts text)) (Ok c) e) [
+read_within text c e = elim (chosen (nat_lt 268435456 (length text)) (Err (faults.Size, 0)) (unless_faulty (fault_of text) (text_version text) (text_parts text)) (Ok c) e) [
   | inl h ↦ absurd (cc h.1)
-  | inr h ↦ within (fault_of text) (text_parts text) c (λ none. without_fault text none) h.1
+  | inr h ↦ within (fault_of text) (text_version text) (text_parts text) c (λ none. without_fault text none) h.1
 ]

@@ -1,5 +1,5 @@
 -- Numbers at the front of a text.
-use Rattle.std.proofs.Common.{◌≡◌, ℕ, zero, suc, ◌+◌, ◌-◌, ◌*◌, ◌^◌, ◌<◌, ◌≤◌, Bool, true, false, ◌||◌, List, [], ◌∷◌, ◌++◌, length, take, drop, get_or, arith, refl, sym, ap, subst, ◌∙◌, append_assoc, inl, inr, Option, Some, None}
+use Rattle.std.proofs.Common.{◌≡◌, ℕ, zero, suc, ◌+◌, ◌-◌, ◌*◌, ◌^◌, ◌<◌, ◌≤◌, lit<, Bool, true, false, ◌||◌, [], ◌∷◌, ◌++◌, length, take, drop, get_or, arith, refl, sym, ap, subst, ◌∙◌, append_assoc, inl, inr, Option, Some, None}
 use Rattle.std.specs.Prelude.{◌==◌, ◌≢◌, not, nat_lt, nat_le, slice_index}
 use Rattle.std.specs.Char.{is_ascii_digit}
 use Rattle.std.specs.List.{list_all, AllByRecursion}
@@ -71,6 +71,18 @@ number_whole text count value h e = record { word = take count text; cut = sym (
 
 pub number_space : (text : Bytes) (count value : ℕ) → IsLeading text count value → count < length text → get_or text count 0 ≡ 32 → IsFirstNumber text value (Some (take (length text - (count + 1)) (drop (count + 1) text)))
 number_space text count value h lt is = record { word = take count text; cut = split text count 32 lt is; digits = h.digits; spells = h.spells }
+
+-- before the first digit
+no_digit : (text : Bytes) → BeginsWith text 0 0
+no_digit text = record { few = omega arith; within = omega arith; digits = refl; value = refl }
+
+-- one digit with a space behind it
+pub one_digit : (text : Bytes) (d : ℕ) → 0 < length text → is_ascii_digit (get_or text 0 0) ≡ true → d ≡ get_or text 0 0 - 48 → 1 < length text → get_or text 1 0 ≡ 32 → IsFirstNumber text d (Some (take (length text - 2) (drop 2 text)))
+one_digit text d some is e more space =
+    let grown = grows text 0 0 d (no_digit text) (lit< tt) some is e in
+    let value : 0 * 10 + d ≡ d = omega arith in
+    let one : BeginsWith text 1 d = subst (λ (v : ℕ). BeginsWith text 1 v) value grown.1 in
+    number_space text 1 d (leads text 1 d one (lit< tt) (λ several. absurd (omega (arith, several)))) more space
 
 pub number_sign : (sign : ℕ) (text : Bytes) (count value : ℕ) → IsLeading text count value → count < length text → get_or text count 0 ≡ sign → IsNumberBefore sign text value (take (length text - (count + 1)) (drop (count + 1) text))
 number_sign sign text count value h lt is = record { front = take count text; cut = split text count sign lt is; digits = h.digits; spells = h.spells }

@@ -3,10 +3,11 @@ use Rattle.std.proofs.Common.{◌≡◌, ℕ, suc, ◌+◌, ◌⊎◌, inl, inr,
 use Rattle.std.specs.Prelude.{fold, nat_lt}
 use Rattle.std.proofs.lemmas.Bool.{ltb-true}
 use Rattle.pg_text.specs.Text.{Bytes, lines}
-use Rattle.pg_cert_files.specs.CertFile.{Step, Seen, nothing, taken, after, seen, step, end_fault, at_number, or_at_end, fault_of, text_parts, unless_faulty, certificate}
+use Rattle.pg_cert_files.specs.CertFile.{Step, Seen, nothing, taken, after, seen, step, end_fault, at_number, or_at_end, fault_of, text_version, text_parts, unless_faulty, certificate}
 use Rattle.pg_cert_files.specs.FirstFault.{IsFaultOfLine, IsFaultOfEnd, IsFirstFault}
 use Rattle.pg_cert_files.specs.declared.fault.Fault.{Fault}
 use Rattle.pg_cert_files.specs.declared.fault.Fault.TheVariants as faults
+use Rattle.pg_cert.specs.declared.cert.Version.{Version}
 use Rattle.pg_cert.specs.declared.part.Part.{Part}
 use Rattle.pg_cert.specs.declared.cert.Cert.{Cert}
 use Rattle.pg_cert_files.proofs.NodeLimits.{chosen}
@@ -110,16 +111,16 @@ fault_is : (text : Bytes) (fault : Fault) (number : ℕ) → fault_of text ≡ S
 unfolding fault_of
 fault_is text fault number e = either_is text (seen (lines text)).fault fault number refl e
 
-bad_is : (o : Option Bad) (ps : List Part) (b : Bad) → unless_faulty o ps ≡ failed b → o ≡ Some b
-bad_is None ps b e = absurd cc
-bad_is (Some found) ps b e = ap (λ (x : Bad). Some x) (ap (bad_or found) e)
+bad_is : (o : Option Bad) (version : Version) (ps : List Part) (b : Bad) → unless_faulty o version ps ≡ failed b → o ≡ Some b
+bad_is None version ps b e = absurd cc
+bad_is (Some found) version ps b e = ap (λ (x : Bad). Some x) (ap (bad_or found) e)
 
 -- a fault that reading gives is the first
 pub first_fault : (text : Bytes) (fault : Fault) (number : ℕ) → certificate text ≡ Err (fault, number) → IsFirstFault text fault number
 unfolding certificate
-first_fault text fault number e = elim (chosen (nat_lt 268435456 (length text)) (failed (faults.Size, 0)) (unless_faulty (fault_of text) (text_parts text)) (failed (fault, number)) e) [
+first_fault text fault number e = elim (chosen (nat_lt 268435456 (length text)) (failed (faults.Size, 0)) (unless_faulty (fault_of text) (text_version text) (text_parts text)) (failed (fault, number)) e) [
   | inl h ↦
       let p : bad faults.Size 0 ≡ bad fault number = ap (bad_or (bad faults.Size 0)) h.1 in
       inl (record { large = ltb-true 268435456 (length text) h.0; fault_is = sym (ap (λ (x : Bad). x.0) p); whole_file = sym (ap (λ (x : Bad). x.1) p) })
-  | inr h ↦ inr (fault_is text fault number (bad_is (fault_of text) (text_parts text) (fault, number) h.1))
+  | inr h ↦ inr (fault_is text fault number (bad_is (fault_of text) (text_version text) (text_parts text) (fault, number) h.1))
 ]

@@ -1,5 +1,5 @@
 -- Points that are put into a set as they are read make the set of the list of these points.
-use Rattle.std.proofs.Common.{◌≡◌, ◌∙◌, append_assoc, ℕ, ◌+◌, ◌≤◌, Bool, true, false, not, ◌&&◌, ◌||◌, nat_lt, if◌then◌else◌, List, [], ◌∷◌, ◌++◌, Result, Ok, Err, refl, sym, ap, subst, inl, inr, arith}
+use Rattle.std.proofs.Common.{◌≡◌, ◌∙◌, append_assoc, ℕ, ◌+◌, Bool, true, false, not, ◌&&◌, ◌||◌, nat_lt, if◌then◌else◌, List, [], ◌∷◌, ◌++◌, Result, Ok, Err, refl, sym, ap, inl, inr, arith}
 use Rattle.std.specs.Prelude.{nat_le}
 use Rattle.std.specs.FinSet.{FinSet, contains, contains-empty, empty, insert, from_list, from_list_push, nat_cmp-IsAntisymmetric}
 use Rattle.std.specs.Ordering.{nat_cmp}
@@ -12,7 +12,7 @@ use Rattle.pg_text.specs.Text.{Bytes, ascend_from}
 use Rattle.pg_cert.specs.declared.node.Body.{Body}
 use Rattle.pg_cert.specs.declared.node.Node.{Node}
 use Rattle.pg_cert_files.specs.Form.{Shape}
-use Rattle.pg_cert_files.specs.NodeLine.{point_of, if_ascending, ascending_of, field_words, meets, node_with, node_of}
+use Rattle.pg_cert_files.specs.NodeLine.{point_of, if_ascending, ascending_of, field_words, meets, node_with}
 use Rattle.pg_cert_files.specs.Outline.{gathered_from, read_fields}
 use Rattle.pg_cert_files.specs.declared.fault.Fault.{Fault}
 use Rattle.pg_cert_files.specs.declared.fault.Fault.TheVariants as faults
@@ -20,7 +20,7 @@ use Rattle.pg_cert_files.proofs.LeastFaults.{OnlyNumber, only_each, only_point}
 
 -- the node of two sets and a body
 abbrev node_is : Shape → Body → FinSet nat_cmp → FinSet nat_cmp → Result Node Fault
-node_is shape body x y = Ok (record { x = x; y = y; turn = shape.turn; left = 1; body = body })
+node_is shape body x y = Ok (record { x = x; y = y; turn = shape.turn.side; left = shape.turn.left; body = body })
 
 -- points put into a set one after the other
 abbrev put_all : FinSet nat_cmp → List ℕ → FinSet nat_cmp

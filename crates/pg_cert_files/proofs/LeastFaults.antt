@@ -1,19 +1,19 @@
 -- The fault of a line is the first of its table that applies.
 use Rattle.std.proofs.Common.{◌≡◌, ℕ, ◌+◌, Bool, true, false, ◌||◌, inl, inr, List, [], ◌∷◌, map, refl, sym, ap, ◌∙◌, Option, Some, None, Result, Ok, Err}
-use Rattle.std.specs.Prelude.{◌==◌, nat_lt, nat_le, not, codes, is_none, is_err}
+use Rattle.std.specs.Prelude.{◌==◌, nat_lt, nat_le, not, is_none, is_err}
 use Rattle.std.specs.FinSet.{from_list}
-use Rattle.std.specs.Str.{bytes_eq}
 use Rattle.std.proofs.lemmas.Bool.{cases_Bool}
 use Rattle.pg_text.specs.Faults.{and_then, each_of, onto, least}
 use Rattle.pg_text.specs.Text.{Bytes, pair_of, two_parts, number}
 use Rattle.pg_text.specs.Text.{ascend_from}
+use Rattle.pg_cert.specs.declared.cert.Version.{Version}
 use Rattle.pg_cert.specs.declared.node.Body.{Body}
 use Rattle.pg_cert.specs.declared.node.Body.TheVariants as bodies
 use Rattle.pg_cert.specs.declared.node.Node.{Node}
-use Rattle.pg_cert_files.specs.Form.{has_bar, Shape, shape_of}
-use Rattle.pg_cert_files.specs.NodeLine.{below, point_of, child_of, both_of, if_ascending, ascending_of, field_words, reply_of, points_pair, move_of, word_reply, word_pair, replies_of, begins_with_e, after_e, before_slash, after_slash, edges_with, edges_of, body_of, meets, node_with, node_of, formed, node_line}
-use Rattle.pg_cert_files.specs.Lines.{head_of, count_of}
-use Rattle.pg_cert_files.specs.CertFile.{header_step, claimed, claim_step, numbered, counted, behind, step_due, step}
+use Rattle.pg_cert_files.specs.Form.{has_bar, only_word, Shape, shape_of}
+use Rattle.pg_cert_files.specs.NodeLine.{below, point_of, child_of, both_of, if_ascending, ascending_of, field_words, reply_of, points_pair, move_of, weaker_of, word_reply, word_pair, replies_of, begins_with_e, after_e, before_slash, after_slash, edges_with, edges_of, body_of, meets, node_with, node_of, formed, node_line}
+use Rattle.pg_cert_files.specs.Lines.{version_of, head_of, count_of}
+use Rattle.pg_cert_files.specs.CertFile.{headed, claimed, claim_step, numbered, counted, behind, step_due, step}
 use Rattle.pg_cert_files.specs.FirstFault.{counted_number, is_no_count, is_too_many, has_wrong_number, line_faults}
 use Rattle.pg_cert_files.specs.declared.fault.Fault.{Fault}
 use Rattle.pg_cert_files.specs.declared.fault.Fault.TheVariants as faults
@@ -78,6 +78,10 @@ only_move : (p : Option (Bytes × Bytes)) → OnlyNumber (move_of p)
 only_move None = refl
 only_move (Some p) = only_both (λ v j. bodies.Move v j) (point_of p.0) (child_of p.1) (only_point p.0) (only_child p.1)
 
+only_weaker : (word : Option Bytes) → OnlyNumber (weaker_of word)
+only_weaker None = refl
+only_weaker (Some word) = only_then (child_of word) _ (only_child word) (λ j. tt)
+
 only_edges : (with_e : Bool) (ws : List Bytes) → OnlyNumber (edges_with with_e ws)
 only_edges with_e ws = only_then (ascending_of (before_slash ws)) _ (only_points (before_slash ws)) (λ first. only_then (ascending_of (after_slash ws)) _ (only_points (after_slash ws)) (λ second. tt))
 
@@ -90,6 +94,7 @@ only_body forms.Potential ws = tt
 only_body forms.Trees ws = only_then (edges_of ws) _ (only_edges (begins_with_e ws) (after_e ws)) (λ e. tt)
 only_body forms.Cuts ws = only_then (edges_of ws) _ (only_edges (begins_with_e ws) (after_e ws)) (λ e. tt)
 only_body forms.Threat ws = only_then (each_of point_of ws) _ (only_each point_of only_point ws) (λ ps. tt)
+only_body forms.Weaker ws = only_weaker (only_word ws)
 
 only_node_with : (shape : Shape) (x y : List ℕ) (body : Result Body Fault) → OnlyNumber body → OnlyNumber (node_with shape x y body)
 only_node_with shape x y (Err fault) h = h
@@ -106,11 +111,9 @@ applies fault = Some fault
 same : {A : Type 0} (f g : Fault) → ◌≡◌ {A = Result A Fault} (Err f) (Err g) → applies f ≡ applies g
 same f g e = let is : f ≡ g = cc in ap applies is
 
-header_first : (p : Progress) (line : Bytes) (fault : Fault) → header_step p line ≡ Err fault → least (line_faults due.Header p line) ≡ Some fault
-header_first p line fault e = elim (chosen (bytes_eq line (codes "posgame-cert 1")) (Ok (record p { due = due.Claim }, None)) (Err faults.Header) (Err fault) e) [
-  | inl h ↦ absurd (cc h.1)
-  | inr h ↦ rw h.0 (same faults.Header fault h.1)
-]
+headed_first : (p : Progress) (version : Option Version) (fault : Fault) → headed p version ≡ Err fault → least ((faults.Header, is_none version) ∷ []) ≡ Some fault
+headed_first p None fault e = same faults.Header fault e
+headed_first p (Some version) fault e = absurd cc
 
 claimed_first : (p : Progress) (head : Option Head) (fault : Fault) → claimed p head ≡ Err fault → least ((faults.Form, is_none head) ∷ (faults.Limit, nat_le 8 p.claims) ∷ []) ≡ Some fault
 claimed_first p None fault e = same faults.Form fault e
@@ -147,11 +150,11 @@ formed_first : (shape : Option Shape) (fault : Fault) → formed shape ≡ Err f
 formed_first None fault e = same faults.Form fault e
 formed_first (Some shape) fault e = node_first (node_of shape) fault (only_node shape) e
 
-node_line_first : (p : Progress) (others : ℕ) (line : Bytes) (fault : Fault) → node_line line ≡ Err fault → least (line_faults (due.Node others) p line) ≡ Some fault
+node_line_first : (p : Progress) (others : ℕ) (line : Bytes) (fault : Fault) → node_line p.version line ≡ Err fault → least (line_faults (due.Node others) p line) ≡ Some fault
 unfolding node_line
-node_line_first p others line fault e = elim (chosen (not (has_bar line)) (Err faults.Place) (formed (shape_of line)) (Err fault) e) [
+node_line_first p others line fault e = elim (chosen (not (has_bar line)) (Err faults.Place) (formed (shape_of p.version line)) (Err fault) e) [
   | inl h ↦ rw h.0 (same faults.Place fault h.1)
-  | inr h ↦ rw h.0 (formed_first (shape_of line) fault h.1)
+  | inr h ↦ rw h.0 (formed_first (shape_of p.version line) fault h.1)
 ]
 
 then_err : {A B : Type 0} (r : Result A Fault) (next : A → Result B Fault) (fault : Fault) → ((a : A) → is_err (next a) ≡ false) → and_then r next ≡ Err fault → r ≡ Err fault
@@ -159,10 +162,10 @@ then_err (Ok a) next fault works e = let on : is_err (next a) ≡ true = ap is_e
 then_err (Err found) next fault works e = let is : found ≡ fault = cc in ap (λ (k : Fault). Err k) is
 
 due_first : (d : Due) (p : Progress) (line : Bytes) (fault : Fault) → step_due d p line ≡ Err fault → least (line_faults d p line) ≡ Some fault
-due_first due.Header p line fault e = header_first p line fault e
+due_first due.Header p line fault e = headed_first p (version_of line) fault e
 due_first due.Claim p line fault e = claim_first p line fault e
 due_first (due.Count head) p line fault e = counted_first head p (count_of line) fault e
-due_first (due.Node others) p line fault e = node_line_first p others line fault (then_err (node_line line) (λ node. Ok (record p { due = behind others }, Some (parts.Node node))) fault (λ node. refl) e)
+due_first (due.Node others) p line fault e = node_line_first p others line fault (then_err (node_line p.version line) (λ node. Ok (record p { due = behind others }, Some (parts.Node node))) fault (λ node. refl) e)
 
 pub step_first : (p : Progress) (line : Bytes) (fault : Fault) → step p line ≡ Err fault → least (line_faults p.due p line) ≡ Some fault
 unfolding step

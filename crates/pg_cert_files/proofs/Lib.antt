@@ -11,6 +11,7 @@ pub mod Words
 pub mod NodeBack
 pub mod Back
 pub mod Within
+pub mod TextVersion
 pub mod ReadsWhole
 pub mod DigitRuns
 pub mod Gathering

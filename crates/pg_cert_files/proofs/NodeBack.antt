@@ -1,6 +1,6 @@
 -- A printed node line is read again as the same node.
-use Rattle.std.proofs.Common.{◌≡◌, ℕ, suc, ◌+◌, ◌%◌, ◌<◌, ◌≤◌, lit<, Bool, true, false, inl, inr, List, [], ◌∷◌, ◌++◌, length, map, arith, refl, sym, ap, subst, ◌∙◌, Option, Some, Result, Ok}
-use Rattle.std.specs.Prelude.{◌==◌, nat_le, codes, is_some, slice_index}
+use Rattle.std.proofs.Common.{◌≡◌, ℕ, zero, suc, ◌+◌, ◌-◌, ◌%◌, ◌<◌, ◌≤◌, lit<, Bool, true, false, inl, inr, List, [], ◌∷◌, ◌++◌, length, map, arith, refl, sym, ap, subst, ◌∙◌, Option, Some, Result, Ok}
+use Rattle.std.specs.Prelude.{◌==◌, nat_lt, nat_le, codes, is_some, slice_index}
 use Rattle.std.specs.FinSet.{FinSet, contains, from_list}
 use Rattle.std.specs.Fmt.{decimal}
 use Rattle.std.specs.List.{list_any, AllByRecursion}
@@ -9,7 +9,7 @@ use Rattle.std.specs.Ordering.{nat_cmp}
 use Rattle.std.proofs.lemmas.Bool.{cases_Bool, or_right, false≢true}
 use Rattle.std.proofs.lemmas.Bool.Decides.{nat_tests}
 use Rattle.std.proofs.lemmas.List.{length-map, length-append}
-use Rattle.std.proofs.lemmas.Fmt.{decimal_is_IsNumeral}
+use Rattle.std.proofs.lemmas.Fmt.{decimal_is_IsNumeral, decimal_digit}
 use Rattle.std.proofs.lemmas.List.Elements.{All-from_recursion, recursion_from_All}
 use Rattle.pg_text.specs.Faults.{and_then}
 use Rattle.pg_base.specs.declared.side.Side.{Side}
@@ -18,22 +18,24 @@ use Rattle.pg_base.specs.declared.pair.Pair.{Pair}
 use Rattle.pg_base.specs.Points.{members}
 use Rattle.pg_base.proofs.MemberLemmas.{points_below-each, points_below-small, points_below-ascend, from_list-points_below}
 use Rattle.pg_text.specs.Text.{Bytes, Lacks, parts, two_parts, four_parts, spaced, behind_spaces}
-use Rattle.pg_cert_files.specs.Form.{form_of, are_odd, each_has_one, is_slash, has_one_slash, fits, Shape, with_fields, shape_of}
+use Rattle.pg_cert_files.specs.Form.{has_form, named_form, of_version, form_of, are_odd, each_has_one, is_slash, has_one_slash, fits, Shape, with_fields, turn_of, shape_of}
 use Rattle.pg_cert_files.specs.NodeLine.{ascending_of, field_words, reply_of, points_pair, word_reply, word_pair, is_e, begins_with_e, after_e, before_slash, after_slash, edges_with, edges_of, body_of, meets, node_of, node_line}
-use Rattle.pg_cert.specs.Limits.{ArePoints, IsReply, IsPair, IsBody, IsNode}
+use Rattle.pg_cert.specs.Limits.{ArePoints, IsReply, IsPair, IsBody, IsTurn, IsNode, has_body}
 use Rattle.pg_text.specs.Text.{ascend_from}
-use Rattle.pg_base.specs.Side.{side_word, side_of}
-use Rattle.pg_cert.specs.Print.{set_words, reply_word, pair_word, edge_words, body_name, body_words, body_text}
+use Rattle.pg_base.specs.Side.{side_word}
+use Rattle.pg_cert.specs.Print.{set_words, reply_word, pair_word, edge_words, body_name, body_words, body_text, turn_word}
 use Rattle.pg_cert_files.specs.declared.fault.Fault.{Fault}
 use Rattle.pg_cert_files.specs.declared.form.Form.{Form}
 use Rattle.pg_cert_files.specs.declared.form.Form.TheVariants as forms
+use Rattle.pg_cert.specs.declared.cert.Version.{Version}
+use Rattle.pg_cert.specs.declared.cert.Version.TheVariants.{One, Two}
 use Rattle.pg_cert.specs.declared.node.Body.{Body}
 use Rattle.pg_cert.specs.declared.node.Body.TheVariants as bodies
 use Rattle.pg_cert.specs.declared.node.Node.{Node}
 use Rattle.pg_cert.specs.declared.reply.Reply.{Reply}
 use Rattle.pg_cert_files.specs.declared.values.Edges.{Edges}
 use Rattle.pg_text.proofs.Cuts.{just_two, four_three}
-use Rattle.pg_cert_files.proofs.NodeLimits.{odd_len, set_from}
+use Rattle.pg_cert_files.proofs.NodeLimits.{odd_len, set_from, IsRead}
 use Rattle.pg_text.proofs.Decimals.{all_append, all_map, decimal_not, two_decimals}
 use Rattle.pg_text.proofs.PlainWords.{IsPlain, IsQuiet, IsWord, decimal_is_word, word_quiet, spaced_quiet, words_spaced, quiet_text}
 use Rattle.pg_cert_files.proofs.Words.{lacks_bar, point_decimal, child_decimal, each_back, points_back}
@@ -100,16 +102,35 @@ form_is bodies.Potential = forms.Potential
 form_is (bodies.Trees e a b) = forms.Trees
 form_is (bodies.Cuts e a b) = forms.Cuts
 form_is (bodies.Threat ps) = forms.Threat
+form_is (bodies.Weaker j) = forms.Weaker
 
-form_back : (body : Body) → form_of (body_name body) ≡ Some (form_is body)
-form_back bodies.Over = refl
-form_back (bodies.Move v j) = refl
-form_back (bodies.All rs) = refl
-form_back (bodies.Pairs ps) = refl
-form_back bodies.Potential = refl
-form_back (bodies.Trees e a b) = refl
-form_back (bodies.Cuts e a b) = refl
-form_back (bodies.Threat ps) = refl
+name_back : (body : Body) → named_form (body_name body) ≡ Some (form_is body)
+name_back bodies.Over = refl
+name_back (bodies.Move v j) = refl
+name_back (bodies.All rs) = refl
+name_back (bodies.Pairs ps) = refl
+name_back bodies.Potential = refl
+name_back (bodies.Trees e a b) = refl
+name_back (bodies.Cuts e a b) = refl
+name_back (bodies.Threat ps) = refl
+name_back (bodies.Weaker j) = refl
+
+form_has : (version : Version) (body : Body) → has_form version (form_is body) ≡ has_body version body
+form_has Two body = refl
+form_has One bodies.Over = refl
+form_has One (bodies.Move v j) = refl
+form_has One (bodies.All rs) = refl
+form_has One (bodies.Pairs ps) = refl
+form_has One bodies.Potential = refl
+form_has One (bodies.Trees e a b) = refl
+form_has One (bodies.Cuts e a b) = refl
+form_has One (bodies.Threat ps) = refl
+form_has One (bodies.Weaker j) = refl
+
+form_back : (version : Version) (body : Body) → has_body version body ≡ true → form_of version (body_name body) ≡ Some (form_is body)
+form_back version body has =
+    let fits : has_form version (form_is body) ≡ true = form_has version body ∙ has in
+    ap (of_version version) (name_back body) ∙ rw fits refl
 
 plain_at : (b : ℕ) → 32 < b → b < 124 → IsPlain b
 plain_at b low high = (low, high)
@@ -123,6 +144,7 @@ name_is_word bodies.Potential = ((lit< tt, lit< tt), ((lit< tt, lit< tt), ((lit<
 name_is_word (bodies.Trees e a b) = ((lit< tt, lit< tt), ((lit< tt, lit< tt), ((lit< tt, lit< tt), ((lit< tt, lit< tt), ((lit< tt, lit< tt), tt)))))
 name_is_word (bodies.Cuts e a b) = ((lit< tt, lit< tt), ((lit< tt, lit< tt), ((lit< tt, lit< tt), ((lit< tt, lit< tt), tt))))
 name_is_word (bodies.Threat ps) = ((lit< tt, lit< tt), ((lit< tt, lit< tt), ((lit< tt, lit< tt), ((lit< tt, lit< tt), ((lit< tt, lit< tt), ((lit< tt, lit< tt), tt))))))
+name_is_word (bodies.Weaker j) = ((lit< tt, lit< tt), ((lit< tt, lit< tt), ((lit< tt, lit< tt), ((lit< tt, lit< tt), ((lit< tt, lit< tt), ((lit< tt, lit< tt), tt))))))
 
 reply_is_word : (r : Reply) → IsReply r → IsWord (reply_word r)
 reply_is_word r h = all_append IsPlain (decimal r.point) (58 ∷ decimal r.child) (decimal_is_word r.point (omega (arith, h.0))) ((lit< tt, lit< tt), decimal_is_word r.child (omega (arith, h.1)))
@@ -143,6 +165,7 @@ body_are_words bodies.Potential h = tt
 body_are_words (bodies.Trees e a b) h = edges_are_words e a b
 body_are_words (bodies.Cuts e a b) h = edges_are_words e a b
 body_are_words (bodies.Threat ps) h = points_words ps (recursion_from_All (λ p. p < 1024) ps h.0)
+body_are_words (bodies.Weaker j) h = (decimal_is_word j (omega (arith, h)), tt)
 
 reply_parts : (r : Reply) → IsReply r → two_parts 58 (reply_word r) ≡ Some (decimal r.point, decimal r.child)
 reply_parts r h = two_decimals 58 r.point r.child (omega (arith, h.0)) (omega (arith, h.1)) (inr (lit< tt))
@@ -249,6 +272,7 @@ body_fits bodies.Potential h = refl
 body_fits (bodies.Trees e a b) h = edges_fit e a b
 body_fits (bodies.Cuts e a b) h = edges_fit e a b
 body_fits (bodies.Threat ps) h = odd_back ps h.1
+body_fits (bodies.Weaker j) h = refl
 
 body_back : (body : Body) → IsBody body → body_of (form_is body) (body_words body) ≡ Ok body
 body_back bodies.Over h = refl
@@ -259,42 +283,59 @@ body_back bodies.Potential h = refl
 body_back (bodies.Trees e a b) h = ap (λ (r : Result Edges Fault). and_then r (λ s. read_body (bodies.Trees s.with_e s.first s.second))) (edges_back e a b h.0 h.1)
 body_back (bodies.Cuts e a b) h = ap (λ (r : Result Edges Fault). and_then r (λ s. read_body (bodies.Cuts s.with_e s.first s.second))) (edges_back e a b h.0 h.1)
 body_back (bodies.Threat ps) h = let read = points_back ps (recursion_from_All (λ p. p < 1024) ps h.0) in rw read refl
+body_back (bodies.Weaker j) h = let child = child_decimal j h in rw child refl
 
 -- ---- the line
 
 -- a node line without its line feed
 abbrev pub node_line_text : Node → Bytes
-node_line_text n = spaced (set_words n.x) ++ 124 ∷ (spaced (set_words n.y) ++ 124 ∷ (side_word n.turn ++ 124 ∷ body_text n.body))
+node_line_text n = spaced (set_words n.x) ++ 124 ∷ (spaced (set_words n.y) ++ 124 ∷ (turn_word n.turn n.left ++ 124 ∷ body_text n.body))
 
 pub side_is_word : (side : Side) → IsWord (side_word side)
 side_is_word sides.X = ((lit< tt, lit< tt), tt)
 side_is_word sides.Y = ((lit< tt, lit< tt), tt)
 
-pub side_back : (side : Side) → side_of (side_word side) ≡ Some side
-side_back sides.X = refl
-side_back sides.Y = refl
+-- a turn's word is a word, and it is read as the turn
+turn_is_word : (side : Side) (left : ℕ) → IsTurn side left → IsWord (turn_word side left)
+unfolding turn_word
+turn_is_word sides.X left h = subst (λ (n : ℕ). IsWord (turn_word sides.X n)) (sym h) ((lit< tt, lit< tt), tt)
+turn_is_word sides.Y left h = ((lit< tt, lit< tt), elim (cases_Bool (nat_lt 1 left)) [ inl more ↦ rw more (decimal_is_word left (omega (arith, h.1))) | inr one ↦ rw one tt ])
+
+turn_back : (side : Side) (left : ℕ) → IsTurn side left → turn_of (turn_word side left) ≡ Some (record { side = side; left = left })
+unfolding turn_word
+turn_back sides.X left h = subst (λ (n : ℕ). turn_of (turn_word sides.X n) ≡ Some (record { side = sides.X; left = n })) (sym h) refl
+turn_back sides.Y zero h = absurd (omega (arith, h.0))
+turn_back sides.Y (suc zero) h = refl
+turn_back sides.Y (suc (suc n)) h =
+    let left : ℕ = suc (suc n) in
+    let more : nat_lt 1 left ≡ true = grind (arith, nat_tests) in
+    let digit = decimal_digit left (omega (arith, h.1)) in
+    let low : nat_le 50 (48 + left) ≡ true = grind (arith, nat_tests) in
+    let high : nat_le (48 + left) 55 ≡ true = grind (arith, nat_tests, h.1) in
+    let same : 48 + left - 48 ≡ left = omega arith in
+    rw (more, digit, low, high, same) refl
 
 body_quiet : (body : Body) → IsBody body → AllByRecursion IsQuiet (body_text body)
 body_quiet body h = spaced_quiet (body_name body ∷ body_words body) (name_is_word body, body_are_words body h)
 
 abbrev shape_is : Node → Shape
-shape_is n = record { x = spaced (set_words n.x); y = spaced (set_words n.y); turn = n.turn; form = form_is n.body; words = body_words n.body }
+shape_is n = record { x = spaced (set_words n.x); y = spaced (set_words n.y); turn = record { side = n.turn; left = n.left }; form = form_is n.body; words = body_words n.body }
 
-four_is : (n : Node) → IsBody n.body → four_parts 124 (node_line_text n) ≡ Some (record { first = spaced (set_words n.x); second = spaced (set_words n.y); third = side_word n.turn; fourth = body_text n.body })
-four_is n h =
-    let last = side_word n.turn ++ 124 ∷ body_text n.body in
+four_is : (n : Node) → IsTurn n.turn n.left → IsBody n.body → four_parts 124 (node_line_text n) ≡ Some (record { first = spaced (set_words n.x); second = spaced (set_words n.y); third = turn_word n.turn n.left; fourth = body_text n.body })
+four_is n told h =
+    let last = turn_word n.turn n.left ++ 124 ∷ body_text n.body in
     let others = spaced (set_words n.y) ++ 124 ∷ last in
-    let two = just_two 124 last (side_word n.turn) (body_text n.body) refl (lacks_bar (side_word n.turn) (word_quiet (side_word n.turn) (side_is_word n.turn))) (lacks_bar (body_text n.body) (body_quiet n.body h)) in
-    four_three 124 (node_line_text n) (spaced (set_words n.x)) others (spaced (set_words n.y)) last (side_word n.turn) (body_text n.body) refl (lacks_bar _ (spaced_quiet (set_words n.x) (set_are_words n.x))) refl (lacks_bar _ (spaced_quiet (set_words n.y) (set_are_words n.y))) two
+    let two = just_two 124 last (turn_word n.turn n.left) (body_text n.body) refl (lacks_bar (turn_word n.turn n.left) (word_quiet (turn_word n.turn n.left) (turn_is_word n.turn n.left told))) (lacks_bar (body_text n.body) (body_quiet n.body h)) in
+    four_three 124 (node_line_text n) (spaced (set_words n.x)) others (spaced (set_words n.y)) last (turn_word n.turn n.left) (body_text n.body) refl (lacks_bar _ (spaced_quiet (set_words n.x) (set_are_words n.x))) refl (lacks_bar _ (spaced_quiet (set_words n.y) (set_are_words n.y))) two
 
-shape_back : (n : Node) → IsBody n.body → shape_of (node_line_text n) ≡ Some (shape_is n)
+shape_back : (version : Version) (n : Node) → IsTurn n.turn n.left → IsBody n.body → has_body version n.body ≡ true → shape_of version (node_line_text n) ≡ Some (shape_is n)
 unfolding shape_of
-shape_back n h =
-    let side = side_back n.turn in
+shape_back version n told h has =
+    let turn = turn_back n.turn n.left told in
     let words = words_spaced (body_name n.body) (body_words n.body) (name_is_word n.body) (body_are_words n.body h) in
-    let form = form_back n.body in
+    let form = form_back version n.body has in
     let fit = body_fits n.body h in
-    ap with_fields (four_is n h) ∙ rw (side, words, form, fit) refl
+    ap (with_fields version) (four_is n told h) ∙ rw (turn, words, form, fit) refl
 
 bar_behind : (front : Bytes) (others : Bytes) → list_any (λ b. b == 124) (front ++ 124 ∷ others) ≡ true
 bar_behind [] others = refl
@@ -308,15 +349,15 @@ node_is_back n h =
     let xs = from_list-points_below n.x 1024 h.x in
     let ys = from_list-points_below n.y 1024 h.y in
     let apart = apart_back n.x n.y h.apart in
-    rw (x, y, body, xs, apart, ys, sym h.left) refl
+    rw (x, y, body, xs, apart, ys) refl
 
--- a printed node line is read as the node
-pub node_back : (n : Node) → IsNode n → node_line (node_line_text n) ≡ Ok n
+-- a printed node line is read as the node, where the version has its body
+pub node_back : (version : Version) (n : Node) → IsRead version n → node_line version (node_line_text n) ≡ Ok n
 unfolding node_line
-node_back n h =
-    let bar = bar_behind (spaced (set_words n.x)) (spaced (set_words n.y) ++ 124 ∷ (side_word n.turn ++ 124 ∷ body_text n.body)) in
-    let shape = shape_back n h.body in
-    rw (bar, shape) (node_is_back n h)
+node_back version n h =
+    let bar = bar_behind (spaced (set_words n.x)) (spaced (set_words n.y) ++ 124 ∷ (turn_word n.turn n.left ++ 124 ∷ body_text n.body)) in
+    let shape = shape_back version n h.0.turn h.0.body h.1 in
+    rw (bar, shape) (node_is_back n h.0)
 
 -- no line feed stands in it
 pub node_lacks_feed : (n : Node) → IsNode n → Lacks 10 (node_line_text n)
@@ -327,7 +368,7 @@ node_lacks_feed n h =
       refl,
       all_append P (spaced (set_words n.y)) _ (quiet_text _ (spaced_quiet (set_words n.y) (set_are_words n.y))) (
         refl,
-        all_append P (side_word n.turn) _ (quiet_text _ (word_quiet (side_word n.turn) (side_is_word n.turn)))
+        all_append P (turn_word n.turn n.left) _ (quiet_text _ (word_quiet (turn_word n.turn n.left) (turn_is_word n.turn n.left h.turn)))
             (refl, quiet_text (body_text n.body) (body_quiet n.body h.body)),
       ),
     ))

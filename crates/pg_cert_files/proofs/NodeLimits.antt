@@ -1,31 +1,34 @@
 -- A node that is read is within the limits.
-use Rattle.std.proofs.Common.{◌≡◌, ℕ, suc, ◌%◌, ◌<◌, Bool, true, false, cond, ◌⊎◌, inl, inr, List, [], ◌∷◌, length, map, arith, refl, sym, ap, subst, ◌∙◌, Option, Some, None, Result, Ok, Err}
-use Rattle.std.specs.Prelude.{IfOk, nat_lt, nat_eq, not}
+use Rattle.std.proofs.Common.{◌≡◌, ℕ, suc, ◌-◌, ◌%◌, ◌<◌, ◌≤◌, Bool, true, false, cond, ◌⊎◌, inl, inr, List, [], ◌∷◌, length, map, arith, refl, sym, ap, subst, ◌∙◌, Option, Some, None, Result, Ok, Err}
+use Rattle.std.specs.Prelude.{IfOk, nat_lt, nat_le, nat_eq, not, ◌&&◌, ◌==◌, codes}
 use Rattle.std.specs.FinSet.{FinSet, contains, from_list, contains-from_list_nat}
 use Rattle.std.specs.List.{list_any, All, AllByRecursion}
 use Rattle.std.specs.Ordering.{nat_cmp}
+use Rattle.std.specs.Str.{bytes_eq}
 use Rattle.std.proofs.lemmas.Bool.{cases_Bool, ltb-true, or_cases, or_parts, false≢true}
 use Rattle.std.proofs.lemmas.Bool.Decides.{nat_tests}
 use Rattle.std.proofs.lemmas.List.Elements.{All-from_recursion}
 use Rattle.std.specs.Global.{Vec}
 use Rattle.pg_text.specs.declared.error.LineError.{LineError}
 use Rattle.pg_text.specs.Faults.{Gives, and_then, each_of, onto}
-use Rattle.pg_base.specs.declared.side.Side.{Side}
+use Rattle.pg_base.specs.declared.side.Side.TheVariants as sides
 use Rattle.pg_base.specs.declared.pair.Pair.{Pair}
 use Rattle.pg_text.specs.Text.{Bytes, Four, parts, pair_of, two_parts, four_parts, number}
-use Rattle.pg_base.specs.Side.{side_of}
-use Rattle.pg_cert_files.specs.Form.{form_of, are_odd, fits, Shape, with_form, with_body, with_fields, shape_of, has_bar}
-use Rattle.pg_cert_files.specs.NodeLine.{below, point_of, child_of, both_of, if_ascending, ascending_of, field_words, reply_of, points_pair, move_of, word_reply, word_pair, replies_of, begins_with_e, after_e, before_slash, after_slash, edges_of, body_of, meets, node_with, node_of, formed, node_line}
-use Rattle.pg_cert.specs.Limits.{ArePoints, IsReply, IsPair, IsBody, IsNode}
+use Rattle.pg_cert_files.specs.Form.{several_of, turn_of, has_form, named_form, of_version, form_of, only_word, are_odd, fits, Shape, with_form, with_body, with_fields, shape_of, has_bar}
+use Rattle.pg_cert_files.specs.NodeLine.{below, point_of, child_of, both_of, if_ascending, ascending_of, field_words, reply_of, points_pair, move_of, weaker_of, word_reply, word_pair, replies_of, begins_with_e, after_e, before_slash, after_slash, edges_of, body_of, meets, node_with, node_of, formed, node_line}
+use Rattle.pg_cert.specs.Limits.{ArePoints, IsReply, IsPair, IsBody, IsTurn, IsNode, has_body}
 use Rattle.pg_text.specs.Text.{ascend_from}
 use Rattle.pg_cert_files.specs.declared.fault.Fault.{Fault}
 use Rattle.pg_cert_files.specs.declared.fault.Fault.TheVariants as faults
 use Rattle.pg_cert_files.specs.declared.form.Form.{Form}
 use Rattle.pg_cert_files.specs.declared.form.Form.TheVariants as forms
+use Rattle.pg_cert.specs.declared.cert.Version.{Version}
+use Rattle.pg_cert.specs.declared.cert.Version.TheVariants.{One, Two}
 use Rattle.pg_cert.specs.declared.node.Body.{Body}
 use Rattle.pg_cert.specs.declared.node.Body.TheVariants as bodies
 use Rattle.pg_cert.specs.declared.node.Node.{Node}
 use Rattle.pg_cert.specs.declared.reply.Reply.{Reply}
+use Rattle.pg_cert_files.specs.declared.turn.Turn.{Turn}
 use Rattle.pg_cert_files.specs.declared.values.Edges.{Edges}
 
 abbrev pub done : {A : Type 0} → A → Result A Fault
@@ -111,6 +114,12 @@ pair_ok (Some p) r e = both_ok (λ a b. record { a = a; b = b }) IsPair (point_o
 move_ok : (o : Option (Bytes × Bytes)) (body : Body) → move_of o ≡ Ok body → IsBody body
 move_ok None body e = absurd cc
 move_ok (Some p) body e = both_ok (λ v j. bodies.Move v j) IsBody (point_of p.0) (child_of p.1) body (λ v j a b. (below_ok 1024 (number p.0) v a, below_ok 100000 (number p.1) j b)) e
+
+weaker_ok : (o : Option Bytes) (body : Body) → weaker_of o ≡ Ok body → IsBody body
+weaker_ok None body e = absurd cc
+weaker_ok (Some word) body e =
+    let t = then_ok (child_of word) (λ j. done (bodies.Weaker j)) body e in
+    subst IsBody (ok_is (bodies.Weaker t.0) body t.2) (below_ok 100000 (number word) t.0 t.1)
 
 abbrev points_of_replies : List Reply → List ℕ
 points_of_replies rs = map (λ r. r.point) rs
@@ -198,57 +207,129 @@ body_ok forms.Threat ws body fit e =
     let odd : length ws % 2 ≡ 1 = (odd_len ws).0 fit in
     let len = each_len point_of ws t.0 t.1 in
     subst IsBody (ok_is (bodies.Threat t.0) body t.2) (All-from_recursion (λ p. p < 1024) t.0 (points_ok ws t.0 t.1), ap (λ (n : ℕ). n % 2) len ∙ odd)
+body_ok forms.Weaker ws body fit e = weaker_ok (only_word ws) body e
+
+-- a body that the version has
+abbrev pub HasBody : Version → Body → Type 0
+HasBody version body = has_body version body ≡ true
+
+-- a body of a form of the version
+body_has : (version : Version) (form : Form) (ws : List Bytes) (body : Body) → has_form version form ≡ true → body_of form ws ≡ Ok body → HasBody version body
+body_has Two form ws body has e = refl
+body_has One forms.Over ws body has e = subst (HasBody One) (ok_is bodies.Over body e) refl
+body_has One forms.Move ws body has e = move_has (pair_of ws) e
+  where
+    move_has : (o : Option (Bytes × Bytes)) → move_of o ≡ Ok body → HasBody One body
+    move_has None e = absurd cc
+    move_has (Some p) e = both_ok (λ v j. bodies.Move v j) (HasBody One) (point_of p.0) (child_of p.1) body (λ v j a b. refl) e
+body_has One forms.All ws body has e = let t = then_ok (replies_of ws) (λ rs. done (bodies.All rs)) body e in subst (HasBody One) (ok_is (bodies.All t.0) body t.2) refl
+body_has One forms.Pairs ws body has e = let t = then_ok (each_of word_pair ws) (λ ps. done (bodies.Pairs ps)) body e in subst (HasBody One) (ok_is (bodies.Pairs t.0) body t.2) refl
+body_has One forms.Potential ws body has e = subst (HasBody One) (ok_is bodies.Potential body e) refl
+body_has One forms.Trees ws body has e =
+    let t = then_ok (edges_of ws) (λ s. done (bodies.Trees s.with_e s.first s.second)) body e in
+    subst (HasBody One) (ok_is (bodies.Trees t.0.with_e t.0.first t.0.second) body t.2) refl
+body_has One forms.Cuts ws body has e =
+    let t = then_ok (edges_of ws) (λ s. done (bodies.Cuts s.with_e s.first s.second)) body e in
+    subst (HasBody One) (ok_is (bodies.Cuts t.0.with_e t.0.first t.0.second) body t.2) refl
+body_has One forms.Threat ws body has e = let t = then_ok (each_of point_of ws) (λ ps. done (bodies.Threat ps)) body e in subst (HasBody One) (ok_is (bodies.Threat t.0) body t.2) refl
+body_has One forms.Weaker ws body has e = absurd (cc has)
 
 -- ---- lines
 
 some_is : {A : Type 0} (a b : A) → Some a ≡ Some b → a ≡ b
 some_is a b e = cc
 
-with_form_ok : (x y : Bytes) (turn : Side) (form : Option Form) (ws : List Bytes) (shape : Shape) → with_form x y turn form ws ≡ Some shape → fits shape.form shape.words ≡ true
-with_form_ok x y turn None ws shape e = absurd cc
-with_form_ok x y turn (Some form) ws shape e =
+-- ---- turns
+
+abbrev IsTold : Turn → Type 0
+IsTold turn = IsTurn turn.side turn.left
+
+several_ok : (word : Bytes) (turn : Turn) → several_of word ≡ Some turn → IsTold turn
+several_ok [] turn e = absurd cc
+several_ok (sign ∷ []) turn e = absurd cc
+several_ok (sign ∷ digit ∷ []) turn e =
+    let made : Turn = record { side = sides.Y; left = digit - 48 } in
+    elim (chosen (sign == 121 && nat_le 50 digit && nat_le digit 55) (Some made) None (Some turn) e) [
+      | inl h ↦
+          let low : 50 ≤ digit = grind (arith, nat_tests, h.0) in
+          let high : digit ≤ 55 = grind (arith, nat_tests, h.0) in
+          subst IsTold (some_is made turn h.1) (omega (arith, low), omega (arith, high))
+      | inr h ↦ absurd (cc h.1)
+    ]
+several_ok (sign ∷ digit ∷ other ∷ others) turn e = absurd cc
+
+turn_ok : (word : Bytes) (turn : Turn) → turn_of word ≡ Some turn → IsTold turn
+turn_ok word turn e =
+    let x : Turn = record { side = sides.X; left = 1 } in
+    let y : Turn = record { side = sides.Y; left = 1 } in
+    elim (chosen (bytes_eq word (codes "x")) (Some x) (cond (bytes_eq word (codes "y")) (Some y) (several_of word)) (Some turn) e) [
+      | inl h ↦ subst IsTold (some_is x turn h.1) refl
+      | inr h ↦ elim (chosen (bytes_eq word (codes "y")) (Some y) (several_of word) (Some turn) h.1) [
+        | inl k ↦ subst IsTold (some_is y turn k.1) (omega arith, omega arith)
+        | inr k ↦ several_ok word turn k.1
+      ]
+    ]
+
+-- a shape's words fit its body, a file can say its turn, and the version has its body
+abbrev IsFit : Version → Shape → Type 0
+IsFit version shape = (fits shape.form shape.words ≡ true) × IsTold shape.turn × (has_form version shape.form ≡ true)
+
+form_ok : (version : Version) (o : Option Form) (form : Form) → of_version version o ≡ Some form → has_form version form ≡ true
+form_ok version None form e = absurd cc
+form_ok version (Some named) form e = elim (chosen (has_form version named) (Some named) None (Some form) e) [
+  | inl h ↦ subst (λ (f : Form). has_form version f ≡ true) (some_is named form h.1) h.0
+  | inr h ↦ absurd (cc h.1)
+]
+
+with_form_ok : (version : Version) (x y : Bytes) (turn : Turn) (form : Option Form) (ws : List Bytes) (shape : Shape) → IsTold turn → ((f : Form) → form ≡ Some f → has_form version f ≡ true) → with_form x y turn form ws ≡ Some shape → IsFit version shape
+with_form_ok version x y turn None ws shape told has e = absurd cc
+with_form_ok version x y turn (Some form) ws shape told has e =
     let made : Shape = record { x = x; y = y; turn = turn; form = form; words = ws } in
     elim (chosen (fits form ws) (Some made) None (Some shape) e) [
-      | inl h ↦ subst (λ (s : Shape). fits s.form s.words ≡ true) (some_is made shape h.1) h.0
+      | inl h ↦ subst (IsFit version) (some_is made shape h.1) (h.0, told, has form refl)
       | inr h ↦ absurd (cc h.1)
     ]
 
-with_body_ok : (x y : Bytes) (turn : Option Side) (ws : List Bytes) (shape : Shape) → with_body x y turn ws ≡ Some shape → fits shape.form shape.words ≡ true
-with_body_ok x y None ws shape e = absurd cc
-with_body_ok x y (Some turn) [] shape e = absurd cc
-with_body_ok x y (Some turn) (name ∷ ws) shape e = with_form_ok x y turn (form_of name) ws shape e
+with_body_ok : (version : Version) (x y : Bytes) (turn : Option Turn) (ws : List Bytes) (shape : Shape) → ((t : Turn) → turn ≡ Some t → IsTold t) → with_body version x y turn ws ≡ Some shape → IsFit version shape
+with_body_ok version x y None ws shape told e = absurd cc
+with_body_ok version x y (Some turn) [] shape told e = absurd cc
+with_body_ok version x y (Some turn) (name ∷ ws) shape told e = with_form_ok version x y turn (form_of version name) ws shape (told turn refl) (λ form is. form_ok version (named_form name) form is) e
 
-with_fields_ok : (fields : Option Four) (shape : Shape) → with_fields fields ≡ Some shape → fits shape.form shape.words ≡ true
-with_fields_ok None shape e = absurd cc
-with_fields_ok (Some f) shape e = with_body_ok f.first f.second (side_of f.third) (parts 32 f.fourth) shape e
+with_fields_ok : (version : Version) (fields : Option Four) (shape : Shape) → with_fields version fields ≡ Some shape → IsFit version shape
+with_fields_ok version None shape e = absurd cc
+with_fields_ok version (Some f) shape e = with_body_ok version f.first f.second (turn_of f.third) (parts 32 f.fourth) shape (λ turn is. turn_ok f.third turn is) e
 
-shape_ok : (line : Bytes) (shape : Shape) → shape_of line ≡ Some shape → fits shape.form shape.words ≡ true
+shape_ok : (version : Version) (line : Bytes) (shape : Shape) → shape_of version line ≡ Some shape → IsFit version shape
 unfolding shape_of
-shape_ok line shape e = with_fields_ok (four_parts 124 line) shape e
+shape_ok version line shape e = with_fields_ok version (four_parts 124 line) shape e
 
-with_ok : (shape : Shape) (x y : List ℕ) (r : Result Body Fault) (node : Node) → AllByRecursion (λ p. p < 1024) x → AllByRecursion (λ p. p < 1024) y → ((body : Body) → r ≡ Ok body → IsBody body) → node_with shape x y r ≡ Ok node → IsNode node
-with_ok shape x y (Err fault) node hx hy h e = absurd cc
-with_ok shape x y (Ok body) node hx hy h e =
-    let made : Node = record { x = from_list x; y = from_list y; turn = shape.turn; left = 1; body = body } in
+-- a node within the limits whose body the version has
+abbrev pub IsRead : Version → Node → Type 0
+IsRead version node = IsNode node × HasBody version node.body
+
+with_ok : (version : Version) (shape : Shape) (x y : List ℕ) (r : Result Body Fault) (node : Node) → IsTold shape.turn → AllByRecursion (λ p. p < 1024) x → AllByRecursion (λ p. p < 1024) y → ((body : Body) → r ≡ Ok body → IsBody body × HasBody version body) → node_with shape x y r ≡ Ok node → IsRead version node
+with_ok version shape x y (Err fault) node told hx hy h e = absurd cc
+with_ok version shape x y (Ok body) node told hx hy h e =
+    let made : Node = record { x = from_list x; y = from_list y; turn = shape.turn.side; left = shape.turn.left; body = body } in
     elim (chosen (meets (from_list x) y) (Err faults.Number) (done made) (Ok node) e) [
-      | inl bad ↦ err_not faults.Number node (IsNode node) bad.1
-      | inr good ↦ subst IsNode (ok_is made node good.1) (record { x = set_ok x hx; y = set_ok y hy; apart = apart_ok (from_list x) y good.0; left = refl; body = h body refl })
+      | inl bad ↦ err_not faults.Number node (IsRead version node) bad.1
+      | inr good ↦ let fit = h body refl in subst (IsRead version) (ok_is made node good.1) (record { x = set_ok x hx; y = set_ok y hy; apart = apart_ok (from_list x) y good.0; turn = told; body = fit.0 }, fit.1)
     ]
 
-node_of_ok : (shape : Shape) (node : Node) → fits shape.form shape.words ≡ true → node_of shape ≡ Ok node → IsNode node
-node_of_ok shape node fit e =
+node_of_ok : (version : Version) (shape : Shape) (node : Node) → IsFit version shape → node_of shape ≡ Ok node → IsRead version node
+node_of_ok version shape node fit e =
     let a = then_ok (ascending_of (field_words shape.x)) (λ x. and_then (ascending_of (field_words shape.y)) (λ y. node_with shape x y (body_of shape.form shape.words))) node e in
     let b = then_ok (ascending_of (field_words shape.y)) (λ y. node_with shape a.0 y (body_of shape.form shape.words)) node a.2 in
-    with_ok shape a.0 b.0 (body_of shape.form shape.words) node (ascending_ok _ a.0 a.1) (ascending_ok _ b.0 b.1) (λ body f. body_ok shape.form shape.words body fit f) b.2
+    with_ok version shape a.0 b.0 (body_of shape.form shape.words) node fit.1 (ascending_ok _ a.0 a.1) (ascending_ok _ b.0 b.1) (λ body f. (body_ok shape.form shape.words body fit.0 f, body_has version shape.form shape.words body fit.2 f)) b.2
 
-formed_ok : (o : Option Shape) (node : Node) → ((shape : Shape) → o ≡ Some shape → fits shape.form shape.words ≡ true) → formed o ≡ Ok node → IsNode node
-formed_ok None node h e = absurd cc
-formed_ok (Some shape) node h e = node_of_ok shape node (h shape refl) e
+formed_ok : (version : Version) (o : Option Shape) (node : Node) → ((shape : Shape) → o ≡ Some shape → IsFit version shape) → formed o ≡ Ok node → IsRead version node
+formed_ok version None node h e = absurd cc
+formed_ok version (Some shape) node h e = node_of_ok version shape node (h shape refl) e
 
 -- what a node line says
-pub node_ok : (line : Bytes) (node : Node) → node_line line ≡ Ok node → IsNode node
+pub node_ok : (version : Version) (line : Bytes) (node : Node) → node_line version line ≡ Ok node → IsRead version node
 unfolding node_line
-node_ok line node e = elim (chosen (not (has_bar line)) (Err faults.Place) (formed (shape_of line)) (Ok node) e) [
-  | inl h ↦ err_not faults.Place node (IsNode node) h.1
-  | inr h ↦ formed_ok (shape_of line) node (λ shape f. shape_ok line shape f) h.1
+node_ok version line node e = elim (chosen (not (has_bar line)) (Err faults.Place) (formed (shape_of version line)) (Ok node) e) [
+  | inl h ↦ err_not faults.Place node (IsRead version node) h.1
+  | inr h ↦ formed_ok version (shape_of version line) node (λ shape f. shape_ok version line shape f) h.1
 ]

@@ -1,6 +1,6 @@
 -- A line that is read by its outline is read as its form and its numbers say.
 use Rattle.std.proofs.Common.{◌≡◌, ◌∙◌, Bool, true, false, List, [], ◌∷◌, ◌++◌, ℕ, ◌+◌, ◌<◌, append_assoc, Result, Ok, Err, Option, Some, None, refl, sym, ap, subst, inl, inr, arith}
-use Rattle.std.specs.Prelude.{is_some, nat_lt, ◌||◌, ◌==◌, option_map, ◌&&◌, if◌then◌else◌}
+use Rattle.std.specs.Prelude.{nat_lt, ◌||◌, ◌==◌, option_map, ◌&&◌, if◌then◌else◌}
 use Rattle.std.specs.List.{list_any, AllByRecursion}
 use Rattle.std.specs.Borrow.{Bor}
 use Rattle.std.specs.FinSet.{FinSet, contains, insert}
@@ -9,29 +9,27 @@ use Rattle.std.proofs.lemmas.Bool.{cases_Bool, or_parts}
 use Rattle.std.proofs.lemmas.Bool.Decides.{nat_tests}
 use Rattle.std.proofs.lemmas.List.{append-nil}
 use Rattle.std.proofs.lemmas.List.Elements.{All-from_recursion}
-use Rattle.pg_base.specs.Side.{side_of}
-use Rattle.pg_base.specs.declared.pair.Pair.{Pair}
-use Rattle.pg_base.specs.declared.side.Side.{Side}
+use Rattle.pg_cert.specs.declared.cert.Version.{Version}
 use Rattle.pg_cert.specs.declared.node.Body.{Body}
 use Rattle.pg_cert.specs.declared.node.Node.{Node}
-use Rattle.pg_cert.specs.declared.reply.Reply.{Reply}
 use Rattle.pg_cert.specs.declared.part.Part.{Part}
 use Rattle.pg_cert.specs.declared.part.Part.TheVariants as part
 use Rattle.pg_text.specs.Faults.{Gives, and_then, onto, each_of, following}
 use Rattle.pg_text.specs.declared.error.LineError.{LineError}
 use Rattle.pg_text.specs.declared.error.LineError.TheVariants as errors
 use Rattle.pg_text.proofs.Cuts.{four_none}
-use Rattle.pg_text.specs.Text.{Bytes, Four, parts, four_parts, words_of, two_parts}
-use Rattle.pg_cert_files.specs.Form.{has_bar, form_of, each_has_one, fits, Shape, with_form, with_body, with_fields, shape_of}
-use Rattle.pg_cert_files.specs.NodeLine.{point_of, ascending_of, field_words, word_reply, word_pair, body_of, node_with, node_of, formed, node_line}
+use Rattle.pg_text.specs.Text.{Bytes, Four, parts, four_parts, words_of}
+use Rattle.pg_cert_files.specs.Form.{has_bar, form_of, turn_of, each_has_one, fits, Shape, with_form, with_body, with_fields, shape_of}
+use Rattle.pg_cert_files.specs.NodeLine.{point_of, ascending_of, field_words, word_reply, word_pair, body_of, node_with, formed, node_line}
 use Rattle.pg_cert_files.specs.Numerals.{IsFirstNumber, AreTwoNumbers, SaysFirst}
-use Rattle.pg_cert_files.specs.Outline.{outline_form, outline_body, outline_fields, outline_of, formed_each, formed_body, IsFirstPoint, gathered_from, read_fields, read_node, node_part}
+use Rattle.pg_cert_files.specs.Outline.{outline_form, outline_body, outline_fields, outline_of, formed_each, IsFirstPoint, gathered_from, read_fields, read_node, node_part}
 use Rattle.pg_cert_files.specs.CertFile.{behind, node_step}
 use Rattle.pg_cert_files.specs.Steps.{Steps}
 use Rattle.pg_cert_files.specs.declared.progress.Progress.{Progress}
 use Rattle.pg_cert_files.specs.declared.fault.Fault.{Fault}
 use Rattle.pg_cert_files.specs.declared.fault.Fault.TheVariants as faults
 use Rattle.pg_cert_files.specs.declared.form.Form.{Form}
+use Rattle.pg_cert_files.specs.declared.turn.Turn.{Turn}
 use Rattle.pg_cert_files.proofs.Gathering.{fields_are}
 use Rattle.pg_cert_files.proofs.LeastFaults.{OnlyNumber, only_body, only_points}
 use Rattle.pg_cert_files.proofs.DigitRuns.{first_parts}
@@ -53,59 +51,59 @@ body_first : (shape : Shape) (body : Result Body Fault) → OnlyNumber body
 body_first shape (Ok body) only = fields_are shape body
 body_first shape (Err fault) only = number_first shape fault (ascending_of (field_words shape.x)) (ascending_of (field_words shape.y)) only (only_points (field_words shape.x)) (only_points (field_words shape.y))
 
-node_formed : (x y : Bytes) (turn : Side) (form : Option Form) (ws : List Bytes) → read_outline (outline_form x y turn form ws) ≡ formed (with_form x y turn form ws)
+node_formed : (x y : Bytes) (turn : Turn) (form : Option Form) (ws : List Bytes) → read_outline (outline_form x y turn form ws) ≡ formed (with_form x y turn form ws)
 node_formed x y turn None ws = refl
 node_formed x y turn (Some form) ws = elim (cases_Bool (fits form ws)) [
   | inl on ↦ let shape : Shape = record { x = x; y = y; turn = turn; form = form; words = ws } in rw on (body_first shape (body_of form ws) (only_body form ws))
   | inr off ↦ rw off refl
 ]
 
-node_body : (x y : Bytes) (turn : Option Side) (ws : List Bytes) → read_outline (outline_body x y turn ws) ≡ formed (with_body x y turn ws)
-node_body x y None [] = refl
-node_body x y None (name ∷ ws) = refl
-node_body x y (Some turn) [] = refl
-node_body x y (Some turn) (name ∷ ws) = node_formed x y turn (form_of name) ws
+node_body : (version : Version) (x y : Bytes) (turn : Option Turn) (ws : List Bytes) → read_outline (outline_body version x y turn ws) ≡ formed (with_body version x y turn ws)
+node_body version x y None [] = refl
+node_body version x y None (name ∷ ws) = refl
+node_body version x y (Some turn) [] = refl
+node_body version x y (Some turn) (name ∷ ws) = node_formed x y turn (form_of version name) ws
 
-node_fields : (fields : Option Four) → read_outline (outline_fields fields) ≡ formed (with_fields fields)
-node_fields None = refl
-node_fields (Some f) = node_body f.first f.second (side_of f.third) (parts 32 f.fourth)
+node_fields : (version : Version) (fields : Option Four) → read_outline (outline_fields version fields) ≡ formed (with_fields version fields)
+node_fields version None = refl
+node_fields version (Some f) = node_body version f.first f.second (turn_of f.third) (parts 32 f.fourth)
 
-pub outline_read : (line : Bytes) → read_outline (outline_of line) ≡ formed (shape_of line)
+pub outline_read : (version : Version) (line : Bytes) → read_outline (outline_of version line) ≡ formed (shape_of version line)
 unfolding outline_of shape_of
-outline_read line = node_fields (four_parts 124 line)
+outline_read version line = node_fields version (four_parts 124 line)
 
 -- a line without a bar has no outline
 all_lack : (line : Bytes) → list_any (λ b. b == 124) line ≡ false → AllByRecursion (λ b. (b == 124) ≡ false) line
 all_lack [] e = tt
 all_lack (b ∷ bs) e = let both = or_parts (b == 124) (list_any (λ b. b == 124) bs) e in (both.0, all_lack bs both.1)
 
-no_outline : (line : Bytes) → has_bar line ≡ false → outline_of line ≡ None
+no_outline : (version : Version) (line : Bytes) → has_bar line ≡ false → outline_of version line ≡ None
 unfolding outline_of
-no_outline line none = ap outline_fields (four_none 124 line (All-from_recursion (λ b. (b == 124) ≡ false) line (all_lack line none)))
+no_outline version line none = ap (outline_fields version) (four_none 124 line (All-from_recursion (λ b. (b == 124) ≡ false) line (all_lack line none)))
 
 abbrev some_or_none : Option Shape → Bool
 some_or_none None = false
 some_or_none (Some shape) = true
 
 -- what a line with an outline says
-pub line_read : (line : Bytes) (shape : Shape) → outline_of line ≡ Some shape → node_line line ≡ read_node shape
+pub line_read : (version : Version) (line : Bytes) (shape : Shape) → outline_of version line ≡ Some shape → node_line version line ≡ read_node shape
 unfolding node_line
-line_read line shape some = elim (cases_Bool (has_bar line)) [
-  | inl bar ↦ rw bar (sym (outline_read line) ∙ ap read_outline some)
-  | inr none ↦ let e : true ≡ false = sym (ap some_or_none some) ∙ ap some_or_none (no_outline line none) in absurd cc
+line_read version line shape some = elim (cases_Bool (has_bar line)) [
+  | inl bar ↦ rw bar (sym (outline_read version line) ∙ ap read_outline some)
+  | inr none ↦ let e : true ≡ false = sym (ap some_or_none some) ∙ ap some_or_none (no_outline version line none) in absurd cc
 ]
 
 -- and a line without one
-pub line_fault : (line : Bytes) → outline_of line ≡ None → node_line line ≡ Err (if has_bar line then faults.Form else faults.Place)
+pub line_fault : (version : Version) (line : Bytes) → outline_of version line ≡ None → node_line version line ≡ Err (if has_bar line then faults.Form else faults.Place)
 unfolding node_line
-line_fault line none = elim (cases_Bool (has_bar line)) [
-  | inl bar ↦ rw bar (sym (outline_read line) ∙ ap read_outline none)
+line_fault version line none = elim (cases_Bool (has_bar line)) [
+  | inl bar ↦ rw bar (sym (outline_read version line) ∙ ap read_outline none)
   | inr lacks ↦ rw lacks refl
 ]
 
 -- the step of a node line, by its part
-pub node_steps : (result : Result (Option Part) (LineError Fault)) (others : ℕ) (p : Progress) (line : Bytes) → Gives (λ o. o) result (node_part (node_line line)) → Steps result (record p { due = behind others }) (node_step others p line)
-node_steps result others p line h = stepped result (node_line line) h
+pub node_steps : (result : Result (Option Part) (LineError Fault)) (others : ℕ) (p : Progress) (line : Bytes) → Gives (λ o. o) result (node_part (node_line p.version line)) → Steps result (record p { due = behind others }) (node_step others p line)
+node_steps result others p line h = stepped result (node_line p.version line) h
   where
     stepped : (result : Result (Option Part) (LineError Fault)) (read : Result Node Fault) → Gives (λ o. o) result (node_part read) → Steps result (record p { due = behind others }) (and_then read (λ node. Ok (record p { due = behind others }, Some (part.Node node))))
     stepped (Ok o) (Ok node) h = ap (λ (r : Result (Option Part) Fault). and_then r (λ o. Ok (record p { due = behind others }, o))) h

@@ -1,11 +1,9 @@
 -- The parts that lines make begin those of a certificate within the limits, and at a good end they are all of them.
-use Rattle.std.proofs.Common.{◌≡◌, ℕ, zero, suc, ◌+◌, ◌-◌, ◌<◌, ◌≤◌, cond, ◌||◌, inl, inr, List, [], ◌∷◌, ◌++◌, length, map, arith, refl, sym, ap, subst, ◌∙◌, append_assoc, Option, Some, None, Result, Ok, Err}
-use Rattle.std.specs.Prelude.{◌==◌, nat_lt, nat_le, fold, codes}
+use Rattle.std.proofs.Common.{◌≡◌, ℕ, zero, suc, ◌+◌, ◌-◌, ◌<◌, ◌≤◌, cond, ◌||◌, inl, inr, List, [], ◌∷◌, ◌++◌, length, map, arith, refl, sym, ap, subst, ◌∙◌, append_assoc, Option, Some, None, Ok, Err}
+use Rattle.std.specs.Prelude.{◌==◌, nat_lt, nat_le, fold}
 use Rattle.std.specs.FinSet.{empty, contains-empty}
 use Rattle.std.specs.List.{AllByRecursion}
 use Rattle.std.specs.Ordering.{nat_cmp}
-use Rattle.std.specs.Str.{bytes_eq}
-use Rattle.std.proofs.lemmas.Bool.{ltb-false, or_parts}
 use Rattle.std.proofs.lemmas.Bool.Decides.{nat_tests}
 use Rattle.std.proofs.lemmas.Grind.{flat_map-append}
 use Rattle.std.proofs.lemmas.List.{append-nil, length-append, map-append}
@@ -14,17 +12,19 @@ use Rattle.std.proofs.lemmas.List.Sums.{sum_by_push, fold-append}
 use Rattle.pg_base.specs.declared.goal.Goal.TheVariants.{Win}
 use Rattle.pg_base.specs.declared.side.Side.TheVariants.{X}
 use Rattle.pg_text.specs.Text.{Bytes, number, lines}
-use Rattle.pg_cert.specs.Limits.{IsNode, IsClaim, IsWithinLimits}
+use Rattle.pg_cert.specs.Limits.{IsNode, IsClaim, IsOfVersion, IsWithinLimits}
 use Rattle.pg_cert.specs.Parts.{claim_parts, all_parts, BeginCert}
 use Rattle.pg_cert.specs.declared.cert.Cert.{Cert}
 use Rattle.pg_cert.specs.declared.cert.Claim.{Claim}
+use Rattle.pg_cert.specs.declared.cert.Version.{Version}
+use Rattle.pg_cert.specs.declared.cert.Version.TheVariants.{One, Two}
 use Rattle.pg_cert.specs.declared.node.Body.TheVariants.{Over}
 use Rattle.pg_cert.specs.declared.node.Node.{Node}
 use Rattle.pg_cert.specs.declared.part.Part.{Part}
 use Rattle.pg_cert.specs.declared.part.Part.TheVariants as parts
-use Rattle.pg_cert_files.specs.CertFile.{Step, header_step, claimed, claim_step, numbered, counted, behind, node_step, step_due, step, Seen, nothing, listed, taken, goes_on, after, seen, end_fault, or_at_end, Gathered, last_claim, closed, with_part, none_gathered, gathered, fault_of, text_parts}
+use Rattle.pg_cert_files.specs.CertFile.{Step, headed, claimed, claim_step, numbered, counted, behind, node_step, step_due, step, Seen, nothing, listed, taken, goes_on, after, seen, end_fault, or_at_end, Gathered, last_claim, closed, with_part, none_gathered, gathered, fault_of, text_parts}
 use Rattle.pg_cert_files.specs.Form.{has_bar}
-use Rattle.pg_cert_files.specs.Lines.{head_of, count_of}
+use Rattle.pg_cert_files.specs.Lines.{version_of, head_of, count_of}
 use Rattle.pg_cert_files.specs.NodeLine.{node_line}
 use Rattle.pg_cert_files.specs.Reader.{told}
 use Rattle.pg_cert_files.specs.declared.fault.Fault.{Fault}
@@ -33,9 +33,9 @@ use Rattle.pg_cert_files.specs.declared.head.Head.{Head}
 use Rattle.pg_cert_files.specs.declared.progress.Due.{Due}
 use Rattle.pg_cert_files.specs.declared.progress.Due.TheVariants as due
 use Rattle.pg_cert_files.specs.declared.progress.Progress.{Progress}
-use Rattle.pg_cert_files.proofs.NodeLimits.{ok_is, err_not, then_ok, chosen, done, node_ok}
+use Rattle.pg_cert_files.proofs.NodeLimits.{ok_is, err_not, then_ok, chosen, done}
 use Rattle.pg_cert_files.proofs.WholeFile.{gathered_more, gathered_none}
-use Rattle.pg_cert_files.proofs.CertLimits.{AreTold, AreComing, IsSound, Next, IsSeen, sound_after, sound_seen, told_within, push_each, claim_with, behind_more, none_at}
+use Rattle.pg_cert_files.proofs.CertLimits.{HasNodeBody, AreTold, AreComing, IsSound, Next, IsSeen, sound_after, sound_seen, told_within, push_each, claim_with, behind_more, none_at}
 
 -- ---- the parts by what was gathered of them
 
@@ -70,13 +70,9 @@ nodes_more whole head n nodes more =
 
 -- ---- each line
 
-made_header : (p : Progress) (g : Gathered) (ps : List Part) (line : Bytes) (next : Next) → IsSound due.Header p g → AreMade due.Header g ps → header_step p line ≡ Ok next → AreMore g ps next
-made_header p g ps line next sound made e =
-    let is : Next = (record p { due = due.Claim }, None) in
-    elim (chosen (bytes_eq line (codes "posgame-cert 1")) (done is) (Err faults.Header) (Ok next) e) [
-      | inl h ↦ subst (AreMore g ps) (ok_is is next h.1) (append-nil ps ∙ made ∙ rw sound.0 refl)
-      | inr h ↦ err_not faults.Header next (AreMore g ps next) h.1
-    ]
+made_headed : (p : Progress) (g : Gathered) (ps : List Part) (version : Option Version) (next : Next) → IsSound due.Header p g → AreMade due.Header g ps → headed p version ≡ Ok next → AreMore g ps next
+made_headed p g ps None next sound made e = absurd cc
+made_headed p g ps (Some version) next sound made e = subst (AreMore g ps) (ok_is (record p { due = due.Claim; version = version }, None) next e) (append-nil ps ∙ made ∙ rw sound.0 refl)
 
 made_claimed : (p : Progress) (g : Gathered) (ps : List Part) (head : Option Head) (next : Next) → AreMade due.Claim g ps → claimed p head ≡ Ok next → AreMore g ps next
 made_claimed p g ps None next made e = absurd cc
@@ -121,7 +117,7 @@ node_more g head n ps node is made =
 
 made_node : (others : ℕ) (p : Progress) (g : Gathered) (ps : List Part) (line : Bytes) (next : Next) → IsSound (due.Node others) p g → AreMade (due.Node others) g ps → node_step others p line ≡ Ok next → AreMore g ps next
 made_node zero p g ps line next sound made e =
-    let t = then_ok (node_line line) (λ node. done (record p { due = due.Claim }, Some (parts.Node node))) next e in
+    let t = then_ok (node_line p.version line) (λ node. done (record p { due = due.Claim }, Some (parts.Node node))) next e in
     let all = g.nodes ++ t.0 ∷ [] in
     let count : length g.nodes + 1 ≡ length all = sym (length-append g.nodes (t.0 ∷ [])) in
     let is : closed (record g { nodes = all }) ≡ g.whole ++ claim_with sound.head all ∷ [] = ap (λ (o : Option Head). g.whole ++ last_claim o all) sound.is in
@@ -130,7 +126,7 @@ made_node zero p g ps line next sound made e =
     ∙ sym (ap (λ (cs : List Claim). all_parts cs) is ∙ claim_ends g.whole sound.head all))
 made_node (suc others) p g ps line next sound made e =
     let q : Progress = record p { due = behind (suc others) } in
-    let t = then_ok (node_line line) (λ node. done (q, Some (parts.Node node))) next e in
+    let t = then_ok (node_line p.version line) (λ node. done (q, Some (parts.Node node))) next e in
     let all = g.nodes ++ t.0 ∷ [] in
     let count : length g.nodes + (suc others + 1) ≡ length all + (others + 1) = omega (arith, length-append g.nodes (t.0 ∷ [])) in
     let more : AreMade (due.Node others) (record g { nodes = all }) (ps ++ parts.Node t.0 ∷ []) =
@@ -139,7 +135,7 @@ made_node (suc others) p g ps line next sound made e =
     subst (AreMore g ps) (ok_is (q, Some (parts.Node t.0)) next t.2) (subst (λ (d : Due). AreMade d (record g { nodes = all }) (ps ++ parts.Node t.0 ∷ [])) (sym (behind_more others)) more)
 
 made_due : (d : Due) (p : Progress) (g : Gathered) (ps : List Part) (line : Bytes) (next : Next) → IsSound d p g → AreMade d g ps → step_due d p line ≡ Ok next → AreMore g ps next
-made_due due.Header p g ps line next sound made e = made_header p g ps line next sound made e
+made_due due.Header p g ps line next sound made e = made_headed p g ps (version_of line) next sound made e
 made_due due.Claim p g ps line next sound made e = made_claim p g ps line next made e
 made_due (due.Count head) p g ps line next sound made e = made_counted head p g ps (count_of line) next made e
 made_due (due.Node others) p g ps line next sound made e = made_node others p g ps line next sound made e
@@ -192,22 +188,26 @@ filler_fits = record {
   x = λ v e. let none = contains-empty nat_cmp v in absurd (cc (sym none ∙ e));
   y = λ v e. let none = contains-empty nat_cmp v in absurd (cc (sym none ∙ e));
   apart = λ v e. contains-empty nat_cmp v;
-  left = refl;
+  turn = refl;
   body = tt;
 }
 
-filled : (nodes : List Node) (n : ℕ) → AllByRecursion IsNode nodes → AllByRecursion IsNode (nodes ++ fill n)
-filled [] zero h = tt
-filled [] (suc n) h = (filler_fits, filled [] n tt)
-filled (node ∷ nodes) n h = (h.0, filled nodes n h.1)
+filler_has : (version : Version) → HasNodeBody version filler
+filler_has One = refl
+filler_has Two = refl
 
-abbrev with_claim : List Claim → Head → List Node → Cert
-with_claim whole head nodes = record { claims = whole ++ claim_with head nodes ∷ [] }
+filled : (P : Node → Type 0) → P filler → (nodes : List Node) (n : ℕ) → AllByRecursion P nodes → AllByRecursion P (nodes ++ fill n)
+filled P one [] zero h = tt
+filled P one [] (suc n) h = (one, filled P one [] n tt)
+filled P one (node ∷ nodes) n h = (h.0, filled P one nodes n h.1)
+
+abbrev with_claim : Version → List Claim → Head → List Node → Cert
+with_claim version whole head nodes = record { version = version; claims = whole ++ claim_with head nodes ∷ [] }
 
 -- one claim more, whose nodes are in range
-within_more : (claims before total : ℕ) (whole : List Claim) (head : Head) (nodes : List Node) → AreTold claims before whole → claims < 8 → AllByRecursion IsNode nodes → 0 < length nodes → length nodes ≤ 100000
-    → total ≡ before + length nodes → total ≤ 200000 → IsWithinLimits (with_claim whole head nodes)
-within_more claims before total whole head nodes told few each some most sum room =
+within_more : (version : Version) (claims before total : ℕ) (whole : List Claim) (head : Head) (nodes : List Node) → AreTold version claims before whole → claims < 8 → AllByRecursion IsNode nodes → AllByRecursion (HasNodeBody version) nodes → 0 < length nodes → length nodes ≤ 100000
+    → total ≡ before + length nodes → total ≤ 200000 → IsWithinLimits (with_claim version whole head nodes)
+within_more version claims before total whole head nodes told few each has some most sum room =
     let claim = claim_with head nodes in
     let len = length-append whole (claim ∷ []) in
     let fit : IsClaim claim = record { some = some; few = most; nodes = All-from_recursion IsNode nodes each } in
@@ -216,28 +216,29 @@ within_more claims before total whole head nodes told few each some most sum roo
       few = omega (arith, len, told.count, few);
       claims = All-from_recursion IsClaim (whole ++ claim ∷ []) (push_each IsClaim whole claim told.each fit);
       nodes = omega (arith, sum_by_push (λ (c : Claim). length c.nodes) whole claim, told.sum, sum, room);
+      bodies = All-from_recursion (IsOfVersion version) (whole ++ claim ∷ []) (push_each (IsOfVersion version) whole claim told.bodies (All-from_recursion (HasNodeBody version) nodes has));
     }
 
 abbrev any_head : Head
 any_head = record { turn = X; side = X; goal = Win }
 
-none_told : AreTold 0 0 []
-none_told = record { count = refl; few = omega arith; each = tt; sum = refl; room = omega arith }
+none_told : AreTold One 0 0 []
+none_told = record { count = refl; few = omega arith; each = tt; sum = refl; room = omega arith; bodies = tt }
 
 -- nothing begins any certificate
 begin_none : (ps : List Part) → ps ≡ [] → BeginCert ps
 begin_none ps none = record {
-  cert = with_claim [] any_head (fill 1);
-  limits = within_more 0 0 1 [] any_head (fill 1) none_told (omega arith) (filled [] 1 tt) (omega arith) (omega arith) refl (omega arith);
+  cert = with_claim One [] any_head (fill 1);
+  limits = within_more One 0 0 1 [] any_head (fill 1) none_told (omega arith) (filled IsNode filler_fits [] 1 tt) (filled (HasNodeBody One) refl [] 1 tt) (omega arith) (omega arith) refl (omega arith);
   rest = all_parts (claim_with any_head (fill 1) ∷ []);
   parts = rw none refl;
 }
 
-begin_whole : (claims nodes : ℕ) (cs : List Claim) (ps : List Part) → AreTold claims nodes cs → ps ≡ all_parts cs → BeginCert ps
-begin_whole claims nodes [] ps told made = begin_none ps made
-begin_whole claims nodes (c ∷ cs) ps told made = record {
-  cert = record { claims = c ∷ cs };
-  limits = told_within claims nodes (c ∷ cs) told (omega (arith, told.count));
+begin_whole : (version : Version) (claims nodes : ℕ) (cs : List Claim) (ps : List Part) → AreTold version claims nodes cs → ps ≡ all_parts cs → BeginCert ps
+begin_whole version claims nodes [] ps told made = begin_none ps made
+begin_whole version claims nodes (c ∷ cs) ps told made = record {
+  cert = record { version = version; claims = c ∷ cs };
+  limits = told_within version claims nodes (c ∷ cs) told (omega (arith, told.count));
   rest = [];
   parts = append-nil ps ∙ made;
 }
@@ -248,8 +249,8 @@ begin_coming others p g ps sound made =
     let all = g.nodes ++ more in
     let count : length all ≡ length g.nodes + (others + 1) = length-append g.nodes more ∙ ap (λ (k : ℕ). length g.nodes + k) (fill_length (others + 1)) in
     record {
-      cert = with_claim g.whole sound.head all;
-      limits = within_more sound.claims sound.before p.nodes g.whole sound.head all sound.whole sound.few (filled g.nodes (others + 1) sound.nodes) (omega (arith, count)) (omega (arith, count, sound.total)) (omega (arith, count, sound.sum)) sound.room;
+      cert = with_claim p.version g.whole sound.head all;
+      limits = within_more p.version sound.claims sound.before p.nodes g.whole sound.head all sound.whole sound.few (filled IsNode filler_fits g.nodes (others + 1) sound.nodes) (filled (HasNodeBody p.version) (filler_has p.version) g.nodes (others + 1) sound.bodies) (omega (arith, count)) (omega (arith, count, sound.total)) (omega (arith, count, sound.sum)) sound.room;
       rest = map parts.Node more;
       parts =
           ap (λ (x : List Part). x ++ map parts.Node more) (made ∙ ap (λ (o : Option Head). all_parts g.whole ++ coming_parts o (length g.nodes + (others + 1)) g.nodes) sound.is)
@@ -258,8 +259,8 @@ begin_coming others p g ps sound made =
 
 begin_due : (d : Due) (p : Progress) (g : Gathered) (ps : List Part) → IsSound d p g → AreMade d g ps → BeginCert ps
 begin_due due.Header p g ps sound made = begin_none ps made
-begin_due due.Claim p g ps sound made = begin_whole p.claims p.nodes (closed g) ps sound made
-begin_due (due.Count head) p g ps sound made = begin_whole sound.0 p.nodes (closed g) ps sound.3 made
+begin_due due.Claim p g ps sound made = begin_whole p.version p.claims p.nodes (closed g) ps sound made
+begin_due (due.Count head) p g ps sound made = begin_whole p.version sound.0 p.nodes (closed g) ps sound.3 made
 begin_due (due.Node others) p g ps sound made = begin_coming others p g ps sound made
 
 -- the parts of any lines begin a certificate, also where a fault comes later

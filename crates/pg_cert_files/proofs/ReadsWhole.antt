@@ -1,21 +1,21 @@
 -- A file that is read whole: a reader is fed all of it, and the parts are gathered.
-use Rattle.std.proofs.Common.{◌≡◌, ℕ, ◌-◌, ◌≤◌, List, [], ◌++◌, length, take, drop, arith, refl, sym, ap, subst, ◌∙◌, append_assoc, Option, Result, Ok, Err}
-use Rattle.std.specs.Prelude.{fold, IfOk}
+use Rattle.std.proofs.Common.{◌≡◌, ℕ, ◌-◌, ◌≤◌, List, ◌++◌, length, take, drop, arith, sym, ap, subst, ◌∙◌, append_assoc, Option, refl, Ok, Err}
+use Rattle.std.specs.Prelude.{fold}
 use Rattle.std.proofs.lemmas.List.{append-nil, nil_from_length, take_all, length-drop, take-append-drop}
 use Rattle.pg_text.specs.Text.{Bytes}
 use Rattle.pg_text.specs.declared.error.FileError.{FileError}
 use Rattle.pg_text.specs.declared.error.FileError.TheVariants as outcomes
 use Rattle.pg_cert.specs.Limits.{IsWithinLimits}
 use Rattle.pg_cert.specs.Parts.{all_parts}
-use Rattle.pg_cert.specs.declared.cert.Cert.{Cert}
 use Rattle.pg_cert.specs.declared.cert.Claim.{Claim}
+use Rattle.pg_cert.specs.declared.cert.Version.{Version}
+use Rattle.pg_cert.specs.declared.cert.Cert.{Cert}
 use Rattle.pg_cert.specs.declared.part.Part.{Part}
 use Rattle.pg_cert_files.specs.CertFile.{Gathered, with_part, gathered, closed, listed, certificate}
 use Rattle.pg_cert_files.specs.Gatherer.{view}
 use Rattle.pg_cert_files.specs.Pieces.{parts_told, IsFed, AreAllParts, IsEnd}
 use Rattle.pg_cert_files.specs.Views.{IsReadAs}
 use Rattle.pg_cert_files.specs.declared.cert_state.CertReader.{CertReader}
-use Rattle.pg_cert_files.specs.declared.fault.Fault.{Fault}
 use Rattle.pg_cert_files.specs.declared.reading.Gatherer.{Gatherer}
 use Rattle.pg_cert_files.proofs.WholeFile.{gathered_more, cert_of}
 use Rattle.pg_cert_files.proofs.PartsBegin.{parts_gathered}
@@ -56,10 +56,11 @@ read_bad bytes outcomes.Memory ends = tt
 read_bad bytes (outcomes.Bad number line) ends = ends
 
 -- the claims that were gathered are those of the certificate
-pub read_good : (bytes : Bytes) (g more : Gatherer) (last : Option Part) (claims : List Claim) → AreAllParts bytes (parts_told bytes ++ listed last) → view g ≡ gathered (parts_told bytes)
-    → view more ≡ fold with_part (view g) (listed last) → claims ≡ closed (view more) → (certificate bytes ≡ cert_of claims) × IsWithinLimits (record { claims = claims })
-read_good bytes g more last claims whole read with all =
+pub read_good : (bytes : Bytes) (version : Version) (g more : Gatherer) (last : Option Part) (claims : List Claim) → ((cert : Cert) → certificate bytes ≡ Ok cert → version ≡ cert.version) → AreAllParts bytes (parts_told bytes ++ listed last) → view g ≡ gathered (parts_told bytes)
+    → view more ≡ fold with_part (view g) (listed last) → claims ≡ closed (view more) → (certificate bytes ≡ cert_of version claims) × IsWithinLimits (record { version = version; claims = claims })
+read_good bytes version g more last claims named whole read with all =
     let seen : view more ≡ gathered (all_parts whole.cert.claims) =
     with ∙ ap (λ (x : Gathered). fold with_part x (listed last)) read ∙ sym (gathered_more (parts_told bytes) (listed last)) ∙ ap (λ (ps : List Part). gathered ps) whole.parts in
     let same : claims ≡ whole.cert.claims = all ∙ ap (λ (x : Gathered). closed x) seen ∙ parts_gathered whole.cert.claims in
-    (whole.read ∙ ap (λ (cs : List Claim). cert_of cs) (sym same), subst (λ (cs : List Claim). IsWithinLimits (record { claims = cs })) (sym same) whole.limits)
+    let is : whole.cert ≡ record { version = version; claims = claims } = rw (named whole.cert whole.read, same) refl in
+    (whole.read ∙ ap (λ (c : Cert). Ok c) is, subst IsWithinLimits is whole.limits)

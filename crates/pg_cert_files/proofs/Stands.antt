@@ -36,7 +36,7 @@ pub none_is : (fault : Option (Fault × ℕ)) → is_some fault ≡ false → fa
 none_is None e = refl
 none_is (Some f) e = absurd cc
 
-at_none : (fault : Option (Fault × ℕ)) (P : Type 0) → fault ≡ None → IfNone fault P → P
+pub at_none : (fault : Option (Fault × ℕ)) (P : Type 0) → fault ≡ None → IfNone fault P → P
 at_none None P e h = h
 at_none (Some f) P e h = absurd cc
 

@@ -10,7 +10,7 @@ use Rattle.pg_cert.specs.declared.part.Part.{Part}
 use Rattle.pg_cert.specs.Parts.{BeginCert}
 use Rattle.pg_text.specs.declared.error.FileError.{FileError}
 use Rattle.pg_text.specs.declared.error.FileError.TheVariants as outcomes
-use Rattle.pg_cert_files.specs.CertFile.{listed, fault_of, file_fault, text_parts, gathered, closed, unless_faulty, certificate}
+use Rattle.pg_cert_files.specs.CertFile.{listed, fault_of, file_fault, text_version, text_parts, gathered, closed, unless_faulty, certificate}
 use Rattle.pg_cert_files.specs.Lines.{cut}
 use Rattle.pg_cert_files.specs.Reader.{StandsFor, told, IsBad, IsLinesEnd}
 use Rattle.pg_cert_files.specs.Pieces.{parts_told, size_of, IsFed, IsEnd}
@@ -153,10 +153,10 @@ none_given text piece ps room used (Some part) none all h = absurd cc
 pub begins : (text piece : Bytes) (used : ℕ) (part : Option Part) → parts_told (text ++ take used piece) ≡ parts_told text ++ listed part → BeginCert (parts_told text ++ listed part)
 begins text piece used part e = subst BeginCert e (begin_seen (cut (take MAX_CERT_BYTES (text ++ take used piece))).whole)
 
-cert_read : (text : Bytes) → file_fault text ≡ None → certificate text ≡ cert_of (closed (gathered (text_parts text)))
+cert_read : (text : Bytes) → file_fault text ≡ None → certificate text ≡ cert_of (text_version text) (closed (gathered (text_parts text)))
 cert_read text none = elim (cases_lt MAX_CERT_BYTES (length text)) [
   | inl past ↦ absurd (cc (sym (fault_past text past) ∙ none))
-  | inr within ↦ fits_file text within ∙ ap (λ (o : Option (Fault × ℕ)). unless_faulty o (text_parts text)) (sym (fault_within text within) ∙ none)
+  | inr within ↦ fits_file text within ∙ ap (λ (o : Option (Fault × ℕ)). unless_faulty o (text_version text) (text_parts text)) (sym (fault_within text within) ∙ none)
 ]
 
 none_of : (text : Bytes) → file_fault text ≡ None → fault_of text ≡ None
@@ -171,14 +171,14 @@ bad_read text number line bad = elim (cases_lt MAX_CERT_BYTES (length text)) [
   | inr within ↦
       let found : IsBad number line (fault_of text) = subst (IsBad number line) (fault_within text within) bad in
       let same = fits_file text within in
-      rw same (err_from (fault_of text) (text_parts text) number line found)
+      rw same (err_from (fault_of text) (text_version text) (text_parts text) number line found)
 ]
 
 -- what callers get at the end
 pub end_is : (text : Bytes) (result : Result (Option Part) FileError) → IsLinesEnd result (file_fault text) (text_parts text) (parts_told text) → IsEnd result text
 end_is text (Ok last) h =
     let read = cert_read text h.0 in
-    record { cert = record { claims = closed (gathered (text_parts text)) }; read = read; limits = read_within text (record { claims = closed (gathered (text_parts text)) }) read; parts = sym h.1 ∙ all_made text (none_of text h.0) }
+    record { cert = record { version = text_version text; claims = closed (gathered (text_parts text)) }; read = read; limits = read_within text (record { version = text_version text; claims = closed (gathered (text_parts text)) }) read; parts = sym h.1 ∙ all_made text (none_of text h.0) }
 end_is text (Err outcomes.Memory) h = tt
 end_is text (Err (outcomes.Bad number line)) h = bad_read text number line h
 

@@ -1,14 +1,15 @@
 -- Certificate files: which line is due, what each line adds, and the first fault.
-use Rattle.std.specs.Prelude.{ℕ, ◌+◌, ◌-◌, ◌||◌, nat_lt, nat_le, ◌==◌, if◌then◌else◌, List, [], ◌∷◌, ◌++◌, length, Option, Some, None, Result, Ok, Err, codes, fold}
-use Rattle.std.specs.Str.{bytes_eq}
+use Rattle.std.specs.Prelude.{ℕ, ◌+◌, ◌-◌, ◌||◌, nat_lt, nat_le, ◌==◌, if◌then◌else◌, List, [], ◌∷◌, ◌++◌, length, Option, Some, None, Result, Ok, Err, fold}
 use Rattle.pg_text.specs.Faults.{and_then}
 use Rattle.pg_text.specs.Text.{Bytes, number, lines}
 use Rattle.pg_cert_files.specs.Form.{has_bar}
 use Rattle.pg_cert_files.specs.NodeLine.{node_line}
-use Rattle.pg_cert_files.specs.Lines.{head_of, count_of}
+use Rattle.pg_cert_files.specs.Lines.{version_of, head_of, count_of}
 use Rattle.pg_cert_files.specs.declared.fault.Fault.{Fault}
 use Rattle.pg_cert_files.specs.declared.fault.Fault.TheVariants as faults
 use Rattle.pg_cert_files.specs.declared.head.Head.{Head}
+use Rattle.pg_cert.specs.declared.cert.Version.{Version}
+use Rattle.pg_cert.specs.declared.cert.Version.TheVariants.{One}
 use Rattle.pg_cert.specs.declared.part.Part.{Part}
 use Rattle.pg_cert.specs.declared.part.Part.TheVariants as parts
 use Rattle.pg_cert_files.specs.declared.progress.Due.{Due}
@@ -26,11 +27,16 @@ Step = Result (Progress × Option Part) Fault
 
 -- before the first line
 abbrev pub start : Progress
-start = record { due = due.Header; claims = 0; nodes = 0 }
+start = record { due = due.Header; version = One; claims = 0; nodes = 0 }
+
+-- a first line, by the version that it names
+abbrev pub headed : Progress → Option Version → Step
+headed p None = Err faults.Header
+headed p (Some version) = Ok (record p { due = due.Claim; version = version }, None)
 
 -- the first line
 abbrev pub header_step : Progress → Bytes → Step
-header_step p line = if bytes_eq line (codes "posgame-cert 1") then Ok (record p { due = due.Claim }, None) else Err faults.Header
+header_step p line = headed p (version_of line)
 
 -- a claim line of the right form: the ninth is too many
 abbrev pub claimed : Progress → Option Head → Step
@@ -64,7 +70,7 @@ behind others = if others == 0 then due.Claim else due.Node (others - 1)
 
 -- where a node line is due
 abbrev pub node_step : ℕ → Progress → Bytes → Step
-node_step others p line = and_then (node_line line) (λ node. Ok (record p { due = behind others }, Some (parts.Node node)))
+node_step others p line = and_then (node_line p.version line) (λ node. Ok (record p { due = behind others }, Some (parts.Node node)))
 
 -- a line, by which line is due
 abbrev pub step_due : Due → Progress → Bytes → Step
@@ -137,6 +143,10 @@ outcome s = or_at_end s s.fault
 unfoldable pub fault_of : Bytes → Option (Fault × ℕ)
 fault_of text = outcome (seen (lines text))
 
+-- the version of a text
+unfoldable pub text_version : Bytes → Version
+text_version text = (seen (lines text)).progress.version
+
 -- the parts of a text
 unfoldable pub text_parts : Bytes → List Part
 text_parts text = (seen (lines text)).parts
@@ -169,14 +179,14 @@ none_gathered = record { whole = []; head = None; nodes = [] }
 unfoldable pub gathered : List Part → Gathered
 gathered ps = fold with_part none_gathered ps
 
--- a certificate, where there is no fault
-abbrev pub unless_faulty : Option (Fault × ℕ) → List Part → Result Cert (Fault × ℕ)
-unless_faulty (Some fault) ps = Err fault
-unless_faulty None ps = Ok (record { claims = closed (gathered ps) })
+-- a certificate of the version, where there is no fault
+abbrev pub unless_faulty : Option (Fault × ℕ) → Version → List Part → Result Cert (Fault × ℕ)
+unless_faulty (Some fault) version ps = Err fault
+unless_faulty None version ps = Ok (record { version = version; claims = closed (gathered ps) })
 
 -- the certificate of a file, or its first fault with the number of the line
 unfoldable pub certificate : Bytes → Result Cert (Fault × ℕ)
-certificate text = if nat_lt MAX_CERT_BYTES (length text) then Err (faults.Size, 0) else unless_faulty (fault_of text) (text_parts text)
+certificate text = if nat_lt MAX_CERT_BYTES (length text) then Err (faults.Size, 0) else unless_faulty (fault_of text) (text_version text) (text_parts text)
 
 -- the first fault of a file: C1 before all others
 abbrev pub file_fault : Bytes → Option (Fault × ℕ)

@@ -1,13 +1,12 @@
 -- What the first fault of a file is, in words of its lines.
-use Rattle.std.specs.Prelude.{◌≡◌, ℕ, ◌+◌, ◌<◌, ◌⊎◌, ◌||◌, ◌==◌, Bool, true, false, not, nat_lt, nat_le, is_none, is_err, codes, List, [], ◌∷◌, ◌++◌, length, Option, Some, None, Err}
-use Rattle.std.specs.Str.{bytes_eq}
+use Rattle.std.specs.Prelude.{◌≡◌, ℕ, ◌+◌, ◌<◌, ◌⊎◌, ◌||◌, ◌==◌, Bool, true, false, not, nat_lt, nat_le, is_none, is_err, List, [], ◌∷◌, ◌++◌, length, Option, Some, None, Err}
 use Rattle.pg_text.specs.Text.{Bytes, number, lines}
 use Rattle.pg_text.specs.Faults.{least}
 use Rattle.pg_cert.specs.declared.limits.TheConstants.{MAX_CLAIMS, MAX_CLAIM_NODES, MAX_NODES}
 use Rattle.pg_cert_files.specs.declared.limits.TheConstants.{MAX_CERT_BYTES}
 use Rattle.pg_cert_files.specs.Form.{has_bar, Shape, shape_of}
 use Rattle.pg_cert_files.specs.NodeLine.{node_of}
-use Rattle.pg_cert_files.specs.Lines.{head_of, count_of}
+use Rattle.pg_cert_files.specs.Lines.{version_of, head_of, count_of}
 use Rattle.pg_cert_files.specs.CertFile.{seen, step, end_fault}
 use Rattle.pg_cert_files.specs.declared.fault.Fault.{Fault}
 use Rattle.pg_cert_files.specs.declared.fault.Fault.TheVariants as faults
@@ -37,10 +36,10 @@ has_wrong_number (Some shape) = is_err (node_of shape)
 
 -- the faults that a line can have where this one is due, each with whether it applies; what stands higher counts first
 abbrev pub line_faults : Due → Progress → Bytes → List (Fault × Bool)
-line_faults due.Header p line = (faults.Header, not (bytes_eq line (codes "posgame-cert 1"))) ∷ []
+line_faults due.Header p line = (faults.Header, is_none (version_of line)) ∷ []
 line_faults due.Claim p line = (faults.Place, has_bar line) ∷ (faults.Form, is_none (head_of line)) ∷ (faults.Limit, nat_le MAX_CLAIMS p.claims) ∷ []
 line_faults (due.Count head) p line = (faults.Form, is_none (count_of line)) ∷ (faults.Number, is_no_count (counted_number (count_of line))) ∷ (faults.Limit, is_too_many p (counted_number (count_of line))) ∷ []
-line_faults (due.Node others) p line = (faults.Place, not (has_bar line)) ∷ (faults.Form, is_none (shape_of line)) ∷ (faults.Number, has_wrong_number (shape_of line)) ∷ []
+line_faults (due.Node others) p line = (faults.Place, not (has_bar line)) ∷ (faults.Form, is_none (shape_of p.version line)) ∷ (faults.Number, has_wrong_number (shape_of p.version line)) ∷ []
 
 -- the file is too large
 pub record IsTooLarge (text : Bytes) (fault : Fault) (number : ℕ) : Type 0 where

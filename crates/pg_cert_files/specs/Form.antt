@@ -1,21 +1,35 @@
 -- The form of a node line, save for its numbers.
-use Rattle.std.specs.Prelude.{ℕ, Bool, true, false, not, ◌==◌, if◌then◌else◌, List, [], ◌∷◌, Option, Some, None, is_some, codes}
+use Rattle.std.specs.Prelude.{ℕ, ◌-◌, Bool, true, false, not, ◌&&◌, nat_le, ◌==◌, if◌then◌else◌, List, [], ◌∷◌, Option, Some, None, is_some, codes}
 use Rattle.std.specs.List.{list_all, list_any}
 use Rattle.std.specs.Str.{bytes_eq}
 use Rattle.pg_base.specs.declared.signs.TheConstants.{BAR, SPACE}
-use Rattle.pg_base.specs.declared.side.Side.{Side}
-use Rattle.pg_base.specs.Side.{side_of}
+use Rattle.pg_base.specs.declared.side.Side.TheVariants.{X, Y}
+use Rattle.pg_cert.specs.declared.cert.Version.{Version}
+use Rattle.pg_cert.specs.declared.cert.Version.TheVariants.{One}
 use Rattle.pg_text.specs.Text.{Bytes, Four, parts, pair_of, two_parts, four_parts}
 use Rattle.pg_cert_files.specs.declared.form.Form.{Form}
 use Rattle.pg_cert_files.specs.declared.form.Form.TheVariants as forms
+use Rattle.pg_cert_files.specs.declared.turn.Turn.{Turn}
 
 -- whether a bar stands in the line
 abbrev pub has_bar : Bytes → Bool
 has_bar line = list_any (λ b. b == BAR) line
 
+-- a turn in which Y still claims several points: its sign, and a digit from `2` to `7`
+abbrev pub several_of : Bytes → Option Turn
+several_of (sign ∷ digit ∷ []) = if sign == 121 && nat_le 50 digit && nat_le digit 55 then Some (record { side = Y; left = digit - 48 }) else None
+several_of _ = None
+
+-- the turn that a word names
+abbrev pub turn_of : Bytes → Option Turn
+turn_of word =
+    if bytes_eq word (codes "x") then Some (record { side = X; left = 1 })
+    else if bytes_eq word (codes "y") then Some (record { side = Y; left = 1 })
+    else several_of word
+
 -- the body that a word begins
-abbrev pub form_of : Bytes → Option Form
-form_of word =
+abbrev pub named_form : Bytes → Option Form
+named_form word =
     if bytes_eq word (codes "over") then Some forms.Over
     else if bytes_eq word (codes "move") then Some forms.Move
     else if bytes_eq word (codes "all") then Some forms.All
@@ -24,12 +38,32 @@ form_of word =
     else if bytes_eq word (codes "trees") then Some forms.Trees
     else if bytes_eq word (codes "cuts") then Some forms.Cuts
     else if bytes_eq word (codes "threat") then Some forms.Threat
+    else if bytes_eq word (codes "weaker") then Some forms.Weaker
     else None
+
+-- whether the version has the body: `weaker` stands in version 2 alone
+abbrev pub has_form : Version → Form → Bool
+has_form One forms.Weaker = false
+has_form version form = true
+
+-- the body, if the version has it
+abbrev pub of_version : Version → Option Form → Option Form
+of_version version None = None
+of_version version (Some form) = if has_form version form then Some form else None
+
+-- the body of the version that a word begins
+abbrev pub form_of : Version → Bytes → Option Form
+form_of version word = of_version version (named_form word)
 
 -- no word
 abbrev pub are_none : List Bytes → Bool
 are_none [] = true
 are_none (w ∷ ws) = false
+
+-- the word, if it is the only one
+abbrev pub only_word : List Bytes → Option Bytes
+only_word (w ∷ []) = Some w
+only_word _ = None
 
 -- two words
 abbrev pub are_two : List Bytes → Bool
@@ -63,6 +97,7 @@ fits forms.Potential ws = are_none ws
 fits forms.Trees ws = has_one_slash ws
 fits forms.Cuts ws = has_one_slash ws
 fits forms.Threat ws = are_odd ws
+fits forms.Weaker ws = is_some (only_word ws)
 
 -- a node line of the right form
 pub record Shape : Type 0 where
@@ -70,26 +105,26 @@ pub record Shape : Type 0 where
   pub x : Bytes
   -- the field of Y's points
   pub y : Bytes
-  pub turn : Side
+  pub turn : Turn
   pub form : Form
   -- the words behind the first of the body
   pub words : List Bytes
 
 -- the line with these fields, if the body has its form
-abbrev pub with_form : Bytes → Bytes → Side → Option Form → List Bytes → Option Shape
+abbrev pub with_form : Bytes → Bytes → Turn → Option Form → List Bytes → Option Shape
 with_form x y turn None ws = None
 with_form x y turn (Some form) ws = if fits form ws then Some (record { x = x; y = y; turn = turn; form = form; words = ws }) else None
 
 -- the same by the words of the body
-abbrev pub with_body : Bytes → Bytes → Option Side → List Bytes → Option Shape
-with_body x y (Some turn) (name ∷ ws) = with_form x y turn (form_of name) ws
-with_body x y _ _ = None
+abbrev pub with_body : Version → Bytes → Bytes → Option Turn → List Bytes → Option Shape
+with_body version x y (Some turn) (name ∷ ws) = with_form x y turn (form_of version name) ws
+with_body version x y _ _ = None
 
 -- the same by the four fields
-abbrev pub with_fields : Option Four → Option Shape
-with_fields (Some f) = with_body f.first f.second (side_of f.third) (parts SPACE f.fourth)
-with_fields None = None
+abbrev pub with_fields : Version → Option Four → Option Shape
+with_fields version (Some f) = with_body version f.first f.second (turn_of f.third) (parts SPACE f.fourth)
+with_fields version None = None
 
--- a line that has the form of a node line
-unfoldable pub shape_of : Bytes → Option Shape
-shape_of line = with_fields (four_parts BAR line)
+-- a line that has the form of a node line of the version
+unfoldable pub shape_of : Version → Bytes → Option Shape
+shape_of version line = with_fields version (four_parts BAR line)

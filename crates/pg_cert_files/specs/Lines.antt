@@ -1,6 +1,8 @@
--- A text as its whole lines and what stands behind them, and what claim lines and `nodes` lines say.
+-- A text as its whole lines and what stands behind them, and what first lines, claim lines and `nodes` lines say.
 use Rattle.std.specs.Prelude.{ℕ, ◌==◌, if◌then◌else◌, List, [], ◌∷◌, ◌++◌, fold, Option, Some, None, codes}
 use Rattle.std.specs.Str.{bytes_eq}
+use Rattle.pg_cert.specs.declared.cert.Version.{Version}
+use Rattle.pg_cert.specs.declared.cert.Version.TheVariants.{One, Two}
 use Rattle.pg_base.specs.declared.signs.TheConstants.{LINE_FEED, SPACE}
 use Rattle.pg_base.specs.declared.side.Side.{Side}
 use Rattle.pg_base.specs.declared.goal.Goal.{Goal}
@@ -22,6 +24,13 @@ with_byte c b = if b == LINE_FEED then record { whole = c.whole ++ c.rest ∷ []
 -- the text, byte for byte
 unfoldable pub cut : Bytes → Cut
 cut text = fold with_byte (record { whole = []; rest = [] }) text
+
+-- the version that a first line names
+abbrev pub version_of : Bytes → Option Version
+version_of line =
+    if bytes_eq line (codes "posgame-cert 1") then Some One
+    else if bytes_eq line (codes "posgame-cert 2") then Some Two
+    else None
 
 -- a claim of two sides and a goal
 abbrev pub head_with : Option Side → Option Side → Option Goal → Option Head

@@ -10,7 +10,8 @@ use Rattle.pg_base.specs.declared.limits.TheConstants.{MAX_MEMBERS}
 use Rattle.pg_base.specs.declared.pair.Pair.{Pair}
 use Rattle.pg_text.specs.Text.{Bytes, parts, pair_of, two_parts, number, ascend_from}
 use Rattle.pg_cert.specs.declared.limits.TheConstants.{MAX_CLAIM_NODES}
-use Rattle.pg_cert_files.specs.Form.{has_bar, is_slash, Shape, shape_of}
+use Rattle.pg_cert.specs.declared.cert.Version.{Version}
+use Rattle.pg_cert_files.specs.Form.{has_bar, only_word, is_slash, Shape, shape_of}
 use Rattle.pg_cert_files.specs.declared.fault.Fault.{Fault}
 use Rattle.pg_cert_files.specs.declared.fault.Fault.TheVariants as faults
 use Rattle.pg_cert_files.specs.declared.form.Form.{Form}
@@ -67,6 +68,11 @@ abbrev pub move_of : Option (Bytes × Bytes) → Result Body Fault
 move_of None = Err faults.Number
 move_of (Some p) = both_of (λ v j. bodies.Move v j) (point_of p.0) (child_of p.1)
 
+-- another node
+abbrev pub weaker_of : Option Bytes → Result Body Fault
+weaker_of None = Err faults.Number
+weaker_of (Some word) = and_then (child_of word) (λ j. Ok (bodies.Weaker j))
+
 -- what a word of replies says
 abbrev pub word_reply : Bytes → Result Reply Fault
 word_reply word = reply_of (two_parts 58 word)
@@ -121,6 +127,7 @@ body_of forms.Potential ws = Ok bodies.Potential
 body_of forms.Trees ws = and_then (edges_of ws) (λ e. Ok (bodies.Trees e.with_e e.first e.second))
 body_of forms.Cuts ws = and_then (edges_of ws) (λ e. Ok (bodies.Cuts e.with_e e.first e.second))
 body_of forms.Threat ws = and_then (each_of point_of ws) (λ ps. Ok (bodies.Threat ps))
+body_of forms.Weaker ws = weaker_of (only_word ws)
 
 -- some of the points is in the set
 abbrev pub meets : FinSet nat_cmp → List ℕ → Bool
@@ -129,7 +136,7 @@ meets s ps = list_any (contains s) ps
 -- the node of these points
 abbrev pub node_with : Shape → List ℕ → List ℕ → Result Body Fault → Result Node Fault
 node_with shape x y (Err fault) = Err fault
-node_with shape x y (Ok body) = if meets (from_list x) y then Err faults.Number else Ok (record { x = from_list x; y = from_list y; turn = shape.turn; left = 1; body = body })
+node_with shape x y (Ok body) = if meets (from_list x) y then Err faults.Number else Ok (record { x = from_list x; y = from_list y; turn = shape.turn.side; left = shape.turn.left; body = body })
 
 -- the node of a line of the right form
 abbrev pub node_of : Shape → Result Node Fault
@@ -140,6 +147,6 @@ abbrev pub formed : Option Shape → Result Node Fault
 formed None = Err faults.Form
 formed (Some shape) = node_of shape
 
--- the node of a line: without a bar it stands in the wrong place, and its form comes before its numbers
-unfoldable pub node_line : Bytes → Result Node Fault
-node_line line = if not (has_bar line) then Err faults.Place else formed (shape_of line)
+-- the node of a line of the version: without a bar it stands in the wrong place, and its form comes before its numbers
+unfoldable pub node_line : Version → Bytes → Result Node Fault
+node_line version line = if not (has_bar line) then Err faults.Place else formed (shape_of version line)

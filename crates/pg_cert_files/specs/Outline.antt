@@ -3,8 +3,7 @@ use Rattle.std.specs.Borrow.{Bor}
 use Rattle.std.specs.Prelude.{◌≡◌, ℕ, ◌+◌, ◌||◌, nat_lt, if◌then◌else◌, List, [], ◌∷◌, map, Option, Some, None, option_map, Result, Ok, Err}
 use Rattle.std.specs.FinSet.{FinSet, contains, empty, insert}
 use Rattle.std.specs.Ordering.{nat_cmp}
-use Rattle.pg_base.specs.Side.{side_of}
-use Rattle.pg_base.specs.declared.side.Side.{Side}
+use Rattle.pg_cert.specs.declared.cert.Version.{Version}
 use Rattle.pg_cert.specs.declared.node.Body.{Body}
 use Rattle.pg_cert.specs.declared.node.Node.{Node}
 use Rattle.pg_cert.specs.declared.part.Part.{Part}
@@ -13,30 +12,31 @@ use Rattle.pg_cert.specs.declared.reply.Reply.{Reply}
 use Rattle.pg_text.specs.Faults.{Fails, and_then, each_of}
 use Rattle.pg_text.specs.Text.{Bytes, Four, parts, four_parts, words_of}
 use Rattle.pg_text.specs.declared.error.LineError.{LineError}
-use Rattle.pg_cert_files.specs.Form.{form_of, each_has_one, fits, Shape}
+use Rattle.pg_cert_files.specs.Form.{form_of, turn_of, each_has_one, fits, Shape}
 use Rattle.pg_cert_files.specs.NodeLine.{point_of, field_words, if_ascending, word_reply, body_of}
 use Rattle.pg_cert_files.specs.declared.fault.Fault.{Fault}
 use Rattle.pg_cert_files.specs.declared.fault.Fault.TheVariants as faults
 use Rattle.pg_cert_files.specs.declared.form.Form.{Form}
+use Rattle.pg_cert_files.specs.declared.turn.Turn.{Turn}
 
--- the line with these fields, if its body begins with one of the eight words
-abbrev pub outline_form : Bytes → Bytes → Side → Option Form → List Bytes → Option Shape
+-- the line with these fields, if its body begins with a word of the version
+abbrev pub outline_form : Bytes → Bytes → Turn → Option Form → List Bytes → Option Shape
 outline_form x y turn None ws = None
 outline_form x y turn (Some form) ws = Some (record { x = x; y = y; turn = turn; form = form; words = ws })
 
 -- the same by the words of the body
-abbrev pub outline_body : Bytes → Bytes → Option Side → List Bytes → Option Shape
-outline_body x y (Some turn) (name ∷ ws) = outline_form x y turn (form_of name) ws
-outline_body x y _ _ = None
+abbrev pub outline_body : Version → Bytes → Bytes → Option Turn → List Bytes → Option Shape
+outline_body version x y (Some turn) (name ∷ ws) = outline_form x y turn (form_of version name) ws
+outline_body version x y _ _ = None
 
 -- the same by the four fields
-abbrev pub outline_fields : Option Four → Option Shape
-outline_fields (Some f) = outline_body f.first f.second (side_of f.third) (parts 32 f.fourth)
-outline_fields None = None
+abbrev pub outline_fields : Version → Option Four → Option Shape
+outline_fields version (Some f) = outline_body version f.first f.second (turn_of f.third) (parts 32 f.fourth)
+outline_fields version None = None
 
 -- a line whose body may not have its form
-unfoldable pub outline_of : Bytes → Option Shape
-outline_of line = outline_fields (four_parts 124 line)
+unfoldable pub outline_of : Version → Bytes → Option Shape
+outline_of version line = outline_fields version (four_parts 124 line)
 
 -- what each word says, where each has the sign once
 abbrev pub formed_each : {A : Type 0} → ℕ → (Bytes → Result A Fault) → List Bytes → Result (List A) Fault
@@ -64,7 +64,7 @@ gathered_from other s least (w ∷ ws) = and_then (point_of w) (λ p. if nat_lt 
 
 -- the node with this body
 abbrev pub read_fields : Shape → Body → Result Node Fault
-read_fields shape body = and_then (gathered_from empty empty 0 (field_words shape.x)) (λ x. and_then (gathered_from x empty 0 (field_words shape.y)) (λ y. Ok (record { x = x; y = y; turn = shape.turn; left = 1; body = body })))
+read_fields shape body = and_then (gathered_from empty empty 0 (field_words shape.x)) (λ x. and_then (gathered_from x empty 0 (field_words shape.y)) (λ y. Ok (record { x = x; y = y; turn = shape.turn.side; left = shape.turn.left; body = body })))
 
 -- the node of an outline
 abbrev pub read_node : Shape → Result Node Fault

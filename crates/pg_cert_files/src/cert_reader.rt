@@ -1,8 +1,9 @@
 //! A certificate that is read as its bytes come.
 
-ghost use Rattle.std.specs.Prelude.{◌≡◌, ◌+◌, ◌-◌, ◌<◌, ◌≤◌, ◌++◌, [], List, ℕ, take, length, IfOk, IfSome, IfNone};
+ghost use Rattle.std.specs.Prelude.{◌≡◌, ◌+◌, ◌-◌, ◌<◌, ◌≤◌, ◌++◌, [], List, ℕ, take, length, Ok, IfOk, IfSome, IfNone};
 ghost use Rattle.pg_cert.specs.Parts.{BeginCert};
-ghost use Rattle.pg_cert_files.specs.CertFile.{listed};
+ghost use Rattle.pg_cert.specs.declared.cert.Cert.{Cert};
+ghost use Rattle.pg_cert_files.specs.CertFile.{certificate, listed};
 ghost use Rattle.pg_cert_files.specs.Pieces.{IsFed, IsEnd, parts_told};
 ghost use Rattle.pg_cert_files.specs.declared.limits.TheConstants.{MAX_CERT_BYTES};
 
@@ -12,7 +13,7 @@ use crate::fed::Fed;
 use crate::limits::MAX_CERT_BYTES;
 use crate::reader::LineReader;
 use pg_base::Memory;
-use pg_cert::Part;
+use pg_cert::{Part, Version};
 use pg_text::FileError;
 use std::alloc::Global;
 
@@ -75,6 +76,13 @@ impl CertReader {
             used: piece.len(),
             part: None,
         })
+    }
+
+    /// The version of the certificate, once all of it was fed.
+    pub(crate) fn version(&self) -> Version
+        ensures { (text : List ℕ) (cert : Cert) → IsFed self.now text → certificate text ≡ Ok cert → result ≡ cert.version }
+    {
+        self.lines.progress.version
     }
 
     /// Ends the input: the last node, where its line feed was lacking, or the first fault of all that was fed.

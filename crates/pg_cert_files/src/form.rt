@@ -3,14 +3,14 @@
 ghost use Rattle.std.specs.Prelude.{◌≡◌, ◌==◌, option_map, is_some};
 ghost use Rattle.std.specs.List.{list_any};
 ghost use Rattle.pg_text.specs.Text.{two_parts, pair_of, words_of};
-ghost use Rattle.pg_base.specs.Side.{side_of};
-ghost use Rattle.pg_cert_files.specs.Form.{form_of, are_none, are_odd, each_has_one, is_slash, has_one_slash};
+ghost use Rattle.pg_cert_files.specs.Form.{has_form, named_form, form_of, are_none, only_word, are_odd, each_has_one, is_slash, has_one_slash};
 ghost use Rattle.pg_cert_files.specs.Outline.{outline_of};
 
-use pg_base::Side;
+use crate::turn::{Turn, turn_of};
+use pg_cert::Version;
 use pg_text::{Words, first_word, four_parts, two_parts};
 
-/// The eight bodies of a node line.
+/// The nine bodies of a node line.
 #[derive(Clone, Copy, Debug, PartialEq, Eq)]
 pub(crate) enum Form {
     /// `over`.
@@ -29,6 +29,8 @@ pub(crate) enum Form {
     Cuts,
     /// `threat`: an odd number of points.
     Threat,
+    /// `weaker`: a child. It stands in version 2 alone.
+    Weaker,
 }
 
 /// A node line, cut where its signs stand.
@@ -38,8 +40,8 @@ pub(crate) struct Outline<'a> {
     pub(crate) x: &'a [u8],
     /// The field of Y's points.
     pub(crate) y: &'a [u8],
-    /// The side to move.
-    pub(crate) turn: Side,
+    /// The side to move, and how many points it still claims.
+    pub(crate) turn: Turn,
     /// Which body it has.
     pub(crate) form: Form,
     /// The text of the words behind the first of the body, if there are any.
@@ -47,8 +49,8 @@ pub(crate) struct Outline<'a> {
 }
 
 /// The body that a word begins.
-fn form_of(word: &[u8]) -> Option<Form>
-    ensures { result ≡ form_of word.now }
+fn named_form(word: &[u8]) -> Option<Form>
+    ensures { result ≡ named_form word.now }
 {
     if word == b"over".as_slice() {
         Some(Form::Over)
@@ -66,9 +68,32 @@ fn form_of(word: &[u8]) -> Option<Form>
         Some(Form::Cuts)
     } else if word == b"threat".as_slice() {
         Some(Form::Threat)
+    } else if word == b"weaker".as_slice() {
+        Some(Form::Weaker)
     } else {
         None
     }
+}
+
+/// Whether the version has the body.
+fn has_form(version: Version, form: Form) -> bool
+    ensures { result ≡ has_form version form }
+{
+    match (version, form) {
+        (Version::One, Form::Weaker) => false,
+        _ => true,
+    }
+}
+
+/// The body of the version that a word begins.
+fn form_of(version: Version, word: &[u8]) -> Option<Form>
+    ensures { result ≡ form_of version word.now }
+{
+    let form = named_form(word)?;
+    if !has_form(version, form) {
+        return None;
+    }
+    Some(form)
 }
 
 /// Whether the word stands between two sets of edges.
@@ -91,6 +116,18 @@ pub(crate) fn are_none(words: Words) -> bool
 {
     let mut rest = words;
     rest.next().is_none()
+}
+
+/// The word, if there is just one.
+pub(crate) fn only_word<'a>(words: Words<'a>) -> Option<&'a [u8]>
+    ensures { option_map (λ w. w.now) result ≡ only_word words.entry }
+{
+    let mut rest = words;
+    let word = rest.next()?;
+    if rest.next().is_some() {
+        return None;
+    }
+    Some(word)
 }
 
 /// The two words, if there are just two.
@@ -146,15 +183,15 @@ pub(crate) fn has_one_slash(words: Words) -> bool
     false
 }
 
-/// The outline of a line: its fields and its body's words, whose form isn't tested yet.
+/// The outline of a line in the version: its fields and its body's words, whose form isn't tested yet.
 #[tactic(auto, unfolding(crate::specs::Outline::outline_of))]
-pub(crate) fn outline_of(line: &[u8]) -> Option<Outline>
-    ensures { option_map (λ s. record { x = s.x.now; y = s.y.now; turn = s.turn; form = s.form; words = words_of (option_map (λ w. w.now) s.words) }) result ≡ outline_of line.now }
+pub(crate) fn outline_of(version: Version, line: &[u8]) -> Option<Outline>
+    ensures { option_map (λ s. record { x = s.x.now; y = s.y.now; turn = s.turn; form = s.form; words = words_of (option_map (λ w. w.now) s.words) }) result ≡ outline_of version line.now }
 {
     let (x, y, turn, body) = four_parts(b'|', line)?;
-    let turn = Side::from_word(turn)?;
+    let turn = turn_of(turn)?;
     let (name, words) = first_word(body);
-    let form = form_of(name)?;
+    let form = form_of(version, name)?;
     Some(Outline {
         x,
         y,

@@ -14,6 +14,7 @@ mod numerals;
 mod progress;
 mod reader;
 mod reading;
+mod turn;
 mod values;
 
 pub use cert_state::CertReader;

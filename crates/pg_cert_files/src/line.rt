@@ -7,14 +7,14 @@ ghost use Rattle.pg_cert_files.specs.Form.{has_bar, are_none, has_one_slash};
 ghost use Rattle.pg_cert_files.specs.NodeLine.{edges_of, node_line};
 ghost use Rattle.pg_cert_files.specs.Outline.{formed_body, read_node, node_part};
 ghost use Rattle.pg_base.specs.Goal.{goal_of};
-ghost use Rattle.pg_cert_files.specs.Lines.{head_of, count_of};
+ghost use Rattle.pg_cert_files.specs.Lines.{version_of, head_of, count_of};
 
 use crate::fault::Fault;
-use crate::form::{Form, Outline, are_none, are_odd, has_one_slash, outline_of, two};
+use crate::form::{Form, Outline, are_none, are_odd, has_one_slash, only_word, outline_of, two};
 use crate::head::Head;
 use crate::values::{Edges, child, pairs, point, points, replies, set_apart, two_sets, words_in};
 use pg_base::{Goal, Pairs, PointSet, Points, Side};
-use pg_cert::{Body, Node, NodePart, Part, Replies};
+use pg_cert::{Body, Node, NodePart, Part, Replies, Version};
 use pg_text::{LineError, Words, four_parts, has_sign, two_parts};
 use std::alloc::Global;
 
@@ -23,6 +23,19 @@ pub(crate) fn has_bar(line: &[u8]) -> bool
     ensures { result ≡ has_bar line.now }
 {
     has_sign(b'|', line)
+}
+
+/// The version that a first line names.
+pub(crate) fn version_of(line: &[u8]) -> Option<Version>
+    ensures { result ≡ version_of line.now }
+{
+    if line == b"posgame-cert 1".as_slice() {
+        Some(Version::One)
+    } else if line == b"posgame-cert 2".as_slice() {
+        Some(Version::Two)
+    } else {
+        None
+    }
 }
 
 /// What a claim line says.
@@ -96,6 +109,17 @@ fn threat_of(alloc: Global, words: Words) -> Result<Body, LineError<Fault>>
     Ok(Body::Threat(Points::from_vec(points)))
 }
 
+/// The body that names one other node.
+fn weaker_of(words: Words) -> Result<Body, LineError<Fault>>
+    ensures { Gives (λ b. b) result (formed_body Form.Weaker words.entry) }
+{
+    let Some(word) = only_word(words) else {
+        return Err(LineError::Fault(Fault::Form));
+    };
+    let child = child(word)?;
+    Ok(Body::Weaker { child })
+}
+
 /// The body that the words of the text say: their form comes before their numbers.
 fn body_of(alloc: Global, form: Form, text: Option<&[u8]>) -> Result<Body, LineError<Fault>>
     ensures { Gives (λ b. b) result (formed_body form (words_of (option_map (λ w. w.now) text.entry))) }
@@ -129,6 +153,7 @@ fn body_of(alloc: Global, form: Form, text: Option<&[u8]>) -> Result<Body, LineE
             })
         }
         Form::Threat => threat_of(alloc, words_in(text)),
+        Form::Weaker => weaker_of(words_in(text)),
     }
 }
 
@@ -142,18 +167,22 @@ fn read_node(alloc: Global, outline: Outline) -> Result<Option<Part>, LineError<
     let node = Node {
         x,
         y,
-        turn: outline.turn,
-        left: 1,
+        turn: outline.turn.side,
+        left: outline.turn.left,
         body,
     };
     Ok(Some(Part::Node(NodePart::new(alloc, node)?)))
 }
 
-/// The node of a line, as a part.
-pub(crate) fn node_line(alloc: Global, line: &[u8]) -> Result<Option<Part>, LineError<Fault>>
-    ensures { Gives (λ p. p) result (node_part (node_line line.now)) }
+/// The node of a line in the version, as a part.
+pub(crate) fn node_line(
+    alloc: Global,
+    version: Version,
+    line: &[u8],
+) -> Result<Option<Part>, LineError<Fault>>
+    ensures { Gives (λ p. p) result (node_part (node_line version line.now)) }
 {
-    match outline_of(line) {
+    match outline_of(version, line) {
         Some(outline) => read_node(alloc, outline),
         None => Err(LineError::Fault(no_node(line))),
     }

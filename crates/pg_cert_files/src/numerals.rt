@@ -1,6 +1,6 @@
 //! Numbers at the front of a text, each read in one walk over its digits.
 
-ghost use Rattle.std.specs.Prelude.{◌≡◌, ◌≢◌, ◌<◌, ◌-◌, true, false, IfSome, length, get_or, option_map};
+ghost use Rattle.std.specs.Prelude.{◌≡◌, ◌≢◌, ◌<◌, ◌-◌, true, false, Some, IfSome, length, get_or, option_map};
 ghost use Rattle.std.specs.Char.{is_ascii_digit};
 ghost use Rattle.pg_cert_files.specs.Numerals.{BeginsWith, IsLeading, IsFirstNumber, IsNumberBefore, AreTwoNumbers};
 
@@ -59,11 +59,25 @@ fn leading(text: &[u8]) -> Option<Digits>
     Some(found)
 }
 
+/// The number of the first word, where it is one digit with a space behind it, and the text of the other words.
+fn first_digit(text: &[u8]) -> Option<(u32, &[u8])>
+    ensures { IfSome result (λ p. IsFirstNumber text.now p.0 (Some p.1.now)) }
+{
+    let digit = digit_at(text, 0)?;
+    if text.len() < 2 || text[1] != b' ' {
+        return None;
+    }
+    Some((digit, &text[2..]))
+}
+
 /// The number of the first word, and the text of the other words if there are any.
 #[tactic(auto, using(crate::proofs::DigitRuns::number_whole, crate::proofs::DigitRuns::number_space))]
 pub(crate) fn first_number(text: &[u8]) -> Option<(u32, Option<&[u8]>)>
     ensures { IfSome result (λ p. IsFirstNumber text.now p.0 (option_map (λ w. w.now) p.1)) }
 {
+    if let Some((digit, others)) = first_digit(text) {
+        return Some((digit, Some(others)));
+    }
     let found = leading(text)?;
     if found.count == text.len() {
         return Some((found.value, None));

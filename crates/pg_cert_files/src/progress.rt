@@ -6,8 +6,8 @@ ghost use Rattle.pg_cert_files.specs.CertFile.{step, start, header_step, claim_s
 
 use crate::fault::Fault;
 use crate::head::Head;
-use crate::line::{count_of, has_bar, head_of, node_line};
-use pg_cert::{MAX_CLAIM_NODES, MAX_CLAIMS, MAX_NODES, Part};
+use crate::line::{count_of, has_bar, head_of, node_line, version_of};
+use pg_cert::{MAX_CLAIM_NODES, MAX_CLAIMS, MAX_NODES, Part, Version};
 use pg_text::{LineError, number};
 use std::alloc::Global;
 
@@ -24,11 +24,13 @@ pub(crate) enum Due {
     Node(u32),
 }
 
-/// Which line is due, and how many claims and nodes have been told.
+/// Which line is due, the version, and how many claims and nodes have been told.
 #[derive(Clone, Copy, Debug)]
 pub(crate) struct Progress {
     /// The line that is due.
     pub(crate) due: Due,
+    /// The version that the first line named; version 1 before it.
+    pub(crate) version: Version,
     /// How many claims have begun.
     pub(crate) claims: u32,
     /// How many nodes their `nodes` lines promise together.
@@ -42,6 +44,7 @@ impl Progress {
     {
         Progress {
             due: Due::Header,
+            version: Version::One,
             claims: 0,
             nodes: 0,
         }
@@ -51,9 +54,10 @@ impl Progress {
     fn header(&mut self, line: &[u8]) -> Result<Option<Part>, LineError<Fault>>
         ensures { Steps result self.new (header_step self.old line.now) }
     {
-        if line != b"posgame-cert 1".as_slice() {
+        let Some(version) = version_of(line) else {
             return Err(LineError::Fault(Fault::Header));
-        }
+        };
+        self.version = version;
         self.due = Due::Claim;
         Ok(None)
     }
@@ -118,7 +122,7 @@ impl Progress {
         } else {
             Due::Node(others - 1)
         };
-        node_line(alloc, line)
+        node_line(alloc, self.version, line)
     }
 
     /// Reads the next line.

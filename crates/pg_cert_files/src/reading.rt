@@ -91,9 +91,11 @@ pub fn read_cert(alloc: Global, bytes: &[u8]) -> Result<Cert, FileError>
         rest = &rest[fed.used..];
         gatherer = gatherer.with(alloc, fed.part)?;
     }
+    let version = reader.version();
     let last = reader.end(alloc)?;
     let claims = gatherer.with(alloc, last)?.close()?;
     Ok(Cert {
+        version,
         claims: Claims::from_vec(claims),
     })
 }

@@ -26,5 +26,5 @@ pub returns : goal.returns
 returns c =
     let none : length c.loop-rest.rest.now ≡ 0 = grind (arith, nat_tests) in
     let all = read_all c.loop-rest.reader c.loop-rest.gatherer c.args.bytes.now c.loop-rest.rest.now c.loop-rest.invariant none in
-    let read = read_good c.args.bytes.now c.loop-rest.gatherer c.in_ok-with.field-0 c.in_ok-last.last c.from_vec.result (c.in_ok-last.ensures.end c.args.bytes.now all.0) all.1 c.in_ok-with.ensures (c.from_vec.ensures ∙ c.in_ok-claims.ensures) in
+    let read = read_good c.args.bytes.now c.version-version.result c.loop-rest.gatherer c.in_ok-with.field-0 c.in_ok-last.last c.from_vec.result (λ cert e. c.version-version.ensures c.args.bytes.now cert all.0 e) (c.in_ok-last.ensures.end c.args.bytes.now all.0) all.1 c.in_ok-with.ensures (c.from_vec.ensures ∙ c.in_ok-claims.ensures) in
     record { read = read.0; limits = read.1 }
