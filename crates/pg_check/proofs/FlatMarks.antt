@@ -28,7 +28,7 @@ length-words : (s : FinSet nat_cmp) → length (words_of s) ≡ 16
 unfolding words_of
 length-words s = length-map-range_with_len (word_of s) 0 16
 
-word-at : (s : FinSet nat_cmp) (i : ℕ) → i < 16 → get_or (words_of s) i 0 ≡ word_of s i
+pub word-at : (s : FinSet nat_cmp) (i : ℕ) → i < 16 → get_or (words_of s) i 0 ≡ word_of s i
 unfolding words_of
 word-at s i lt = get_or-map-range_with_len (word_of s) 0 16 i i 0 lt (omega arith)
 
@@ -196,10 +196,12 @@ pub record IsAt (m : Marks) (k : ℕ) (p : Position) : Type 0 where
   pub side : (get_or m.turns.items k no_turn).side ≡ p.turn
   pub left : (get_or m.turns.items k no_turn).left ≡ p.left
 
+pub kept-is : (m : Marks) (k : ℕ) (p : Position) → k < length m.turns.items → slice_get (kept m) k ≡ Some p → position_at m.words.items m.width m.turns.items k ≡ p
+kept-is m k p lt e = let some : Some (position_at m.words.items m.width m.turns.items k) ≡ Some p = sym (kept-get m k lt) ∙ e in cc
+
 pub at-parts : (m : Marks) (k : ℕ) (p : Position) → k < length m.turns.items → slice_get (kept m) k ≡ Some p → IsAt m k p
 at-parts m k p lt e =
-    let some : Some (position_at m.words.items m.width m.turns.items k) ≡ Some p = sym (kept-get m k lt) ∙ e in
-    let same : position_at m.words.items m.width m.turns.items k ≡ p = cc in
+    let same = kept-is m k p lt e in
     record { x = ap (λ (q : Position). q.x) same; y = ap (λ (q : Position). q.y) same; side = ap (λ (q : Position). q.turn) same; left = ap (λ (q : Position). q.left) same }
 
 pub at-from : (m : Marks) (k : ℕ) (p : Position) → k < length m.turns.items → IsAt m k p → slice_get (kept m) k ≡ Some p
@@ -252,9 +254,12 @@ unfolding word_of
 word-fits s i = word_below-lt _ 64
 
 -- the words of a set
-pub fit-words : (width : ℕ) (s : FinSet nat_cmp) → Fit (take width (words_of s))
+pub fit-set : (s : FinSet nat_cmp) → Fit (words_of s)
 unfolding words_of
-fit-words width s = fit-take width (words_of s) (fit-map (word_of s) (range_with_len 0 16) (word-fits s))
+fit-set s = fit-map (word_of s) (range_with_len 0 16) (word-fits s)
+
+pub fit-words : (width : ℕ) (s : FinSet nat_cmp) → Fit (take width (words_of s))
+fit-words width s = fit-take width (words_of s) (fit-set s)
 
 -- two rows that came one after the other
 pub rows-of : (ws one two : List ℕ) (width : ℕ) (x y : FinSet nat_cmp) (wx wy : List ℕ) → wx ≡ words_of x → wy ≡ words_of y → one ≡ ws ++ take width wx → two ≡ one ++ take width wy

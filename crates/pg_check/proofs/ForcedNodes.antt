@@ -28,16 +28,17 @@ use Rattle.pg_pairing.proofs.PairLaws.{Forces-pairs_breaker, Forces-pairs_draw, 
 use Rattle.pg_potential.proofs.PotentialLaws.{Forces-potential_breaker, Forces-potential_draw}
 use Rattle.pg_avoider.proofs.AvoiderLaws.{Forces-avoider}
 use Rattle.pg_switch.proofs.SwitchLaws.{Forces-trees, Forces-cuts}
+use Rattle.pg_weaker.proofs.NoWorse.{Forces-no_worse}
 use Rattle.pg_cert.specs.declared.cert.Claim.{Claim}
 use Rattle.pg_cert.specs.declared.cert.Cert.{Cert}
 use Rattle.pg_cert.specs.declared.node.Node.{Node}
 use Rattle.pg_cert.specs.declared.node.Body.{Body}
-use Rattle.pg_cert.specs.declared.node.Body.TheVariants.{Over, Move, All, Pairs, Potential, Trees, Cuts, Threat}
+use Rattle.pg_cert.specs.declared.node.Body.TheVariants.{Over, Move, All, Pairs, Potential, Trees, Cuts, Threat, Weaker}
 use Rattle.pg_cert.specs.declared.reply.Reply.{Reply}
 use Rattle.pg_cert.specs.declared.node_fault.NodeFault.TheVariants as faults
 use Rattle.pg_cert.specs.Node.{position_of}
-use Rattle.pg_cert.specs.Limits.{IsNode, IsClaim, IsWithinLimits}
-use Rattle.pg_cert.specs.Valid.{is_allowed, shows_defence, shows_trees, shows_cuts, pairs_fit, IsInGame, NamesEarlier, IsNodeOf, FollowsMove, FollowMoves, HasTurn, TakesFree, EndsRight, PotentialFits, with_e_named, HasPairs, HasPotential, HasTrees, HasCuts, HasThreat, IsOwed, IsSound, IsValidClaim, IsValid}
+use Rattle.pg_cert.specs.Limits.{IsTurn, IsNode, IsClaim, IsWithinLimits}
+use Rattle.pg_cert.specs.Valid.{is_allowed, shows_defence, shows_trees, shows_cuts, pairs_fit, allows_weaker, IsInGame, NamesEarlier, IsNodeOf, FollowsMove, FollowMoves, HasTurn, TakesFree, EndsRight, PotentialFits, with_e_named, HasPairs, HasPotential, HasTrees, HasCuts, HasThreat, HasWeaker, IsOwed, IsSound, IsValidClaim, IsValid}
 
 -- ---- pairs
 
@@ -94,6 +95,15 @@ threat_at kind bias side goal g p points same ok position h =
     let may = (and_parts (may_attack kind side) _ ok).0 in
     Forces-any g p side goal (Forces-threat g p side points (subst (λ (k : Kind). may_attack k side ≡ true) (sym same) may) position h)
 
+-- ---- weaker positions
+
+-- a weaker position is allowed in Maker-Breaker alone
+pub breaker_at : (kind : Kind) → allows_weaker kind ≡ true → kind ≡ MakerBreaker
+breaker_at MakerBreaker ok = refl
+breaker_at MakerMaker ok = absurd (false≢true ok)
+breaker_at AvoiderEnforcer ok = absurd (false≢true ok)
+breaker_at Switching ok = absurd (false≢true ok)
+
 -- ---- limits of the members
 
 -- a member that is read with itself as the default
@@ -135,13 +145,18 @@ reply_of (r ∷ replies) v h = elim (cases_Bool (eqb r.point v)) [
 
 -- ---- nodes
 
+-- the side to move of a turn claims a point
+pub some-left : (turn : Side) (left : ℕ) → IsTurn turn left → 0 < left
+some-left X left one = omega (arith, one)
+some-left Y left several = several.0
+
 -- a sound node's position is a position of the game
 position-of : (g : Game) (n : Node) → IsNode n → IsInGame g n → IsPosition g (position_of n)
 position-of g n limits in_game = record {
   x_range = in_game.x;
   y_range = in_game.y;
   disjoint = limits.apart;
-  some_left = omega (arith, limits.left);
+  some_left = some-left n.turn n.left limits.turn;
   few_left = in_game.left;
 }
 
@@ -173,22 +188,25 @@ module _ (g : Game) (c : Claim) where
 
   body : (k : ℕ) (p : Position) (b : Body) → ForcedBefore k → is_allowed g.kind g.bias c.side c.goal b ≡ true → IsPosition g p
       → NamesEarlier k b → FollowMoves g c.nodes p b → HasTurn c.side p b → TakesFree g p b → EndsRight g c.side c.goal p b
-      → HasPairs g c.side p b → HasPotential g c.side p b → HasTrees g p b → HasCuts g p b → HasThreat g c.side p b → Forces g p c.side c.goal
-  body k p Over before allowed position earlier follow turn takes ends pairs potential trees cuts threat = Forces-over g p c.side c.goal ends.0 ends.1
-  body k p (Move point j) before allowed position earlier follow turn takes ends pairs potential trees cuts threat =
+      → HasPairs g c.side p b → HasPotential g c.side p b → HasTrees g p b → HasCuts g p b → HasThreat g c.side p b → HasWeaker c.nodes c.side p b → Forces g p c.side c.goal
+  body k p Over before allowed position earlier follow turn takes ends pairs potential trees cuts threat weaker = Forces-over g p c.side c.goal ends.0 ends.1
+  body k p (Move point j) before allowed position earlier follow turn takes ends pairs potential trees cuts threat weaker =
       Forces-move g p c.side c.goal ends turn point takes.0 takes.1 (child k j (after g p point) before earlier (follow.leads takes.0 takes.1))
-  body k p (All replies) before allowed position earlier follow turn takes ends pairs potential trees cuts threat =
+  body k p (All replies) before allowed position earlier follow turn takes ends pairs potential trees cuts threat weaker =
       Forces-all g p c.side c.goal ends turn (reply_forced k p replies before earlier follow takes)
-  body k p (Pairs pairs_of) before allowed position earlier follow turn takes ends pairs potential trees cuts threat =
+  body k p (Pairs pairs_of) before allowed position earlier follow turn takes ends pairs potential trees cuts threat weaker =
       pairs_at g.kind g.bias c.side c.goal g p pairs_of refl allowed position pairs
-  body k p Potential before allowed position earlier follow turn takes ends pairs potential trees cuts threat =
+  body k p Potential before allowed position earlier follow turn takes ends pairs potential trees cuts threat weaker =
       potential_at g.kind c.side c.goal g p refl allowed position potential
-  body k p (Trees with_e first second) before allowed position earlier follow turn takes ends pairs potential trees cuts threat =
+  body k p (Trees with_e first second) before allowed position earlier follow turn takes ends pairs potential trees cuts threat weaker =
       trees_at g.kind c.side c.goal g p (with_e_named g with_e first) second allowed position trees.1
-  body k p (Cuts with_e first second) before allowed position earlier follow turn takes ends pairs potential trees cuts threat =
+  body k p (Cuts with_e first second) before allowed position earlier follow turn takes ends pairs potential trees cuts threat weaker =
       cuts_at g.kind c.side c.goal g p (with_e_named g with_e first) second allowed position cuts.1
-  body k p (Threat points) before allowed position earlier follow turn takes ends pairs potential trees cuts threat =
+  body k p (Threat points) before allowed position earlier follow turn takes ends pairs potential trees cuts threat weaker =
       threat_at g.kind g.bias c.side c.goal g p points refl allowed position threat
+  body k p (Weaker j) before allowed position earlier follow turn takes ends pairs potential trees cuts threat weaker =
+      Forces-no_worse g (position_of weaker.node) p c.side c.goal (breaker_at g.kind allowed) weaker.no_worse
+      (child k j (position_of weaker.node) before earlier (record { node = weaker.node; at = weaker.at; position = refl }))
 
   sound : (k : ℕ) (n : Node) → ForcedBefore k → IsPosition g (position_of n) → IsSound g c k n → Forces g (position_of n) c.side c.goal
   sound k n before position h =
@@ -196,8 +214,8 @@ module _ (g : Game) (c : Claim) where
       let marks = h faults.Marks in
       let owed : IsOwed g c n = record { allowed = allowed; in_game = marks.0 } in
       body k (position_of n) n.body before allowed position
-      (h faults.Child) marks.1 (h faults.Turn owed) (h faults.Moves owed) (h faults.End owed)
-      (h faults.Pairs owed) (h faults.Potential owed) (h faults.Trees owed) (h faults.Cuts owed) (h faults.Threat owed)
+      (h faults.Child allowed) marks.1 (h faults.Turn owed) (h faults.Moves owed) (h faults.End owed)
+      (h faults.Pairs owed) (h faults.Potential owed) (h faults.Trees owed) (h faults.Cuts owed) (h faults.Threat owed) (h faults.Weaker owed (h faults.Child allowed))
 
   forced-before : ((k : ℕ) (n : Node) → slice_get c.nodes k ≡ Some n → IsPosition g (position_of n)) → IsValidClaim g c → (k : ℕ) → ForcedBefore k
   unfolding ForcedBefore

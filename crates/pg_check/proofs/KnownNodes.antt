@@ -1,19 +1,21 @@
 -- What is known of a claim by its nodes so far decides as the claim does.
-use Rattle.std.proofs.Common.{◌≡◌, ◌∙◌, ◌↔◌, ℕ, ◌+◌, ◌<◌, zero, suc, List, [], ◌∷◌, ◌++◌, map, take, get_or, Option, Some, None, slice_get, refl, sym, ap, subst, arith}
+use Rattle.std.proofs.Common.{◌≡◌, ◌∙◌, ◌↔◌, ℕ, ◌+◌, ◌<◌, zero, suc, true, List, [], ◌∷◌, ◌++◌, map, take, get_or, Option, Some, None, slice_get, refl, sym, ap, subst, arith}
 use Rattle.std.specs.Prelude.{option_map}
 use Rattle.std.proofs.lemmas.Option.{slice_get-map, slice_get_within, slice_get-get_or}
 use Rattle.std.proofs.lemmas.List.{take_more, map_push}
+use Rattle.pg_base.specs.declared.side.Side.{Side}
 use Rattle.pg_game.specs.declared.game.Game.{Game}
 use Rattle.pg_game.specs.declared.position.Position.{Position}
+use Rattle.pg_weaker.specs.Weaker.{IsNoWorse}
 use Rattle.pg_cert.specs.declared.cert.Claim.{Claim}
 use Rattle.pg_cert.specs.declared.node.Node.{Node}
 use Rattle.pg_cert.specs.declared.node.Body.{Body}
-use Rattle.pg_cert.specs.declared.node.Body.TheVariants.{Over, Move, All, Pairs, Potential, Trees, Cuts, Threat}
+use Rattle.pg_cert.specs.declared.node.Body.TheVariants.{Over, Move, All, Pairs, Potential, Trees, Cuts, Threat, Weaker}
 use Rattle.pg_cert.specs.declared.node_fault.NodeFault.{NodeFault}
 use Rattle.pg_cert.specs.declared.node_fault.NodeFault.TheVariants as faults
 use Rattle.pg_cert.specs.Node.{position_of}
 use Rattle.pg_cert.specs.NodeFault.{fault_number}
-use Rattle.pg_cert.specs.Valid.{IsNodeOf, NamesEarlier, Owes, HasTurn, TakesFree, EndsRight, HasPairs, HasPotential, HasTrees, HasCuts, HasThreat, FollowsMove, FollowMoves, Passes, IsSound, IsLeastFault}
+use Rattle.pg_cert.specs.Valid.{is_allowed, IsNodeOf, NamesEarlier, Owes, HasTurn, TakesFree, EndsRight, HasPairs, HasPotential, HasTrees, HasCuts, HasThreat, FollowsMove, FollowMoves, HasWeaker, Passes, IsSound, IsLeastFault}
 use Rattle.pg_check.specs.Marks.{kept}
 use Rattle.pg_check.specs.declared.present.Present.{Present}
 use Rattle.pg_check.specs.Present.{bare, known, PassesSoFar, IsSoundSoFar, IsLeastSoFar, IsKnownOf}
@@ -67,11 +69,15 @@ module _ (g : Game) (c : Present) (claim : Claim) (k : ℕ) (is : IsKnownOf c cl
     λ h. record { leads = λ range free. from-claim child _ lt (h.leads range free) },
   )
 
-  same-moves : (p : Position) (body : Body) → NamesEarlier k body → FollowMoves g (map bare (kept c.marks)) p body ↔ FollowMoves g claim.nodes p body
-  same-moves p (Move v child) earlier = same-move p v child earlier
+  -- where the body is allowed the children are earlier
+  abbrev EarlierWhereAllowed : Body → Type 0
+  EarlierWhereAllowed body = is_allowed g.kind g.bias c.side c.goal body ≡ true → NamesEarlier k body
+
+  same-moves : (p : Position) (body : Body) → EarlierWhereAllowed body → FollowMoves g (map bare (kept c.marks)) p body ↔ FollowMoves g claim.nodes p body
+  same-moves p (Move v child) earlier = same-move p v child (earlier refl)
   same-moves p (All rs) earlier = (
-    λ h i d lt. (same-move p (get_or rs i d).point (get_or rs i d).child (earlier i d lt)).0 (h i d lt),
-    λ h i d lt. (same-move p (get_or rs i d).point (get_or rs i d).child (earlier i d lt)).1 (h i d lt),
+    λ h i d lt. (same-move p (get_or rs i d).point (get_or rs i d).child (earlier refl i d lt)).0 (h i d lt),
+    λ h i d lt. (same-move p (get_or rs i d).point (get_or rs i d).child (earlier refl i d lt)).1 (h i d lt),
   )
   same-moves p Over earlier = (λ h. h, λ h. h)
   same-moves p (Pairs ps) earlier = (λ h. h, λ h. h)
@@ -79,6 +85,24 @@ module _ (g : Game) (c : Present) (claim : Claim) (k : ℕ) (is : IsKnownOf c cl
   same-moves p (Trees e a b) earlier = (λ h. h, λ h. h)
   same-moves p (Cuts e a b) earlier = (λ h. h, λ h. h)
   same-moves p (Threat ps) earlier = (λ h. h, λ h. h)
+  same-moves p (Weaker child) earlier = (λ h. h, λ h. h)
+
+  -- a weaker position is that of the same node
+  same-weaker : (side : Side) (p : Position) (body : Body) → NamesEarlier k body → HasWeaker (map bare (kept c.marks)) side p body ↔ HasWeaker claim.nodes side p body
+  same-weaker side p (Weaker child) earlier = (
+    λ h. let at = to-claim child (position_of h.node) (slice_get claim.nodes child) refl (there child earlier) (record { node = h.node; at = h.at; position = refl }) in
+        record { node = at.node; at = at.at; no_worse = subst (λ (q : Position). IsNoWorse side q p) (sym at.position) h.no_worse },
+    λ h. let at = from-claim child (position_of h.node) earlier (record { node = h.node; at = h.at; position = refl }) in
+        record { node = at.node; at = at.at; no_worse = subst (λ (q : Position). IsNoWorse side q p) (sym at.position) h.no_worse },
+  )
+  same-weaker side p (Move v child) earlier = (λ h. h, λ h. h)
+  same-weaker side p (All rs) earlier = (λ h. h, λ h. h)
+  same-weaker side p Over earlier = (λ h. h, λ h. h)
+  same-weaker side p (Pairs ps) earlier = (λ h. h, λ h. h)
+  same-weaker side p Potential earlier = (λ h. h, λ h. h)
+  same-weaker side p (Trees e a b) earlier = (λ h. h, λ h. h)
+  same-weaker side p (Cuts e a b) earlier = (λ h. h, λ h. h)
+  same-weaker side p (Threat ps) earlier = (λ h. h, λ h. h)
 
   -- the claim by the words of what is known
   abbrev told : Claim
@@ -92,7 +116,7 @@ module _ (g : Game) (c : Present) (claim : Claim) (k : ℕ) (is : IsKnownOf c cl
 
   -- the children are earlier where that has been tried before
   abbrev TriedBefore : Node → NodeFault → Type 0
-  TriedBefore n fault = 1 < fault_number fault → NamesEarlier k n.body
+  TriedBefore n fault = 1 < fault_number fault → EarlierWhereAllowed n.body
 
   same-passes : (n : Node) (fault : NodeFault) → TriedBefore n fault → PassesSoFar g c k n fault ↔ Passes g told k n fault
   same-passes n faults.Child tried = (λ h. h, λ h. h)
@@ -107,6 +131,10 @@ module _ (g : Game) (c : Present) (claim : Claim) (k : ℕ) (is : IsKnownOf c cl
   same-passes n faults.Threat tried = same-owed n (HasThreat g c.side (position_of n) n.body)
   same-passes n faults.Root tried = (λ h last. h (last ∙ sym is.count), λ h last. h (last ∙ is.count))
   same-passes n faults.Body tried = (λ h. h, λ h. h)
+  same-passes n faults.Weaker tried = (
+    λ h o earlier. (same-weaker c.side (position_of n) n.body earlier).0 (h (record { allowed = o.allowed; in_game = o.in_game }) earlier),
+    λ h o earlier. (same-weaker c.side (position_of n) n.body earlier).1 (h (record { allowed = o.allowed; in_game = o.in_game }) earlier),
+  )
 
   -- so a node is sound by what is known just where it is in the claim, and its least fault is the same
   pub sound-in : (n : Node) → IsSoundSoFar g c k n → IsSound g claim k n

@@ -9,3 +9,4 @@ mod PartSteps
 mod CheckingSteps
 mod TakenParts
 mod FlatMarks
+mod RowsWithin

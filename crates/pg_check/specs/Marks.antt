@@ -1,13 +1,18 @@
 -- Positions in few words.
-use Rattle.std.specs.Prelude.{◌≡◌, ℕ, ◌+◌, ◌*◌, ◌^◌, ◌<◌, ◌≤◌, List, length, map, drop, get_or}
+use Rattle.std.specs.Prelude.{◌≡◌, ℕ, ◌+◌, ◌*◌, ◌^◌, ◌<◌, ◌≤◌, List, length, map, drop, get_or, slice_get, Some}
 use Rattle.std.specs.FinSet.{FinSet}
 use Rattle.std.specs.List.{range_with_len}
 use Rattle.std.specs.Ordering.{nat_cmp}
+use Rattle.pg_base.specs.Points.{AreWithin}
+use Rattle.pg_base.specs.Side.{other}
 use Rattle.pg_base.specs.Words.{members_below}
+use Rattle.pg_base.specs.declared.side.Side.{Side}
 use Rattle.pg_base.specs.declared.side.Side.TheVariants.{X}
 use Rattle.pg_game.specs.declared.game.Game.{Game}
 use Rattle.pg_game.specs.declared.position.Position.{Position}
 use Rattle.pg_game.specs.Game.{point_count}
+use Rattle.pg_game.specs.Position.{points_of}
+use Rattle.pg_weaker.specs.Weaker.{IsNoWorse}
 use Rattle.pg_check.specs.declared.marks.Marks.{Marks}
 use Rattle.pg_check.specs.declared.marks.Turn.{Turn}
 
@@ -42,3 +47,19 @@ pub record AreFlat (m : Marks) : Type 0 where
 pub record AreMarksOf (g : Game) (m : Marks) : Type 0 where
   pub flat : AreFlat m
   pub room : point_count g ≤ 64 * m.width
+
+-- the turn is that of p
+pub record HasTurnOf (p : Position) (t : Turn) : Type 0 where
+  pub side : t.side ≡ p.turn
+  pub left : t.left ≡ p.left
+
+-- the side has all its points of q, and the other side no others than there
+pub record KeepsPoints (side : Side) (q p : Position) : Type 0 where
+  pub own : AreWithin (points_of q side) (points_of p side)
+  pub theirs : AreWithin (points_of p (other side)) (points_of q (other side))
+
+-- there is a position of that number, and p is no worse for the side
+pub record IsNoWorseThanKept (m : Marks) (side : Side) (k : ℕ) (p : Position) : Type 0 where
+  pub position : Position
+  pub at : slice_get (kept m) k ≡ Some position
+  pub no_worse : IsNoWorse side position p

@@ -3,7 +3,7 @@ ghost use Rattle.std.specs.Prelude.{◌≡◌, ◌↔◌, IsTrue};
 ghost use Rattle.pg_base.specs.Points.{AreBelow};
 ghost use Rattle.pg_game.specs.Game.{point_count};
 ghost use Rattle.pg_game.specs.declared.game.Game.{Game};
-ghost use Rattle.pg_cert.specs.Valid.{is_allowed, shows_defence, shows_trees, shows_cuts, pairs_fit, IsInGame};
+ghost use Rattle.pg_cert.specs.Valid.{is_allowed, shows_defence, shows_trees, shows_cuts, pairs_fit, allows_weaker, IsInGame};
 ghost use Rattle.pg_check.specs.Tester.{ArePointsOf};
 
 use pg_base::{Goal, Kind, PointSet, Side};
@@ -46,6 +46,13 @@ fn pairs_fit(kind: Kind, bias: u8) -> bool
     }
 }
 
+/// Whether a weaker position serves as well in games of the kind.
+fn allows_weaker(kind: Kind) -> bool
+    ensures { result ≡ allows_weaker kind }
+{
+    matches!(kind, Kind::MakerBreaker)
+}
+
 /// Whether the body is allowed for the side and its goal.
 pub(crate) fn is_allowed(kind: Kind, bias: u8, side: Side, goal: Goal, body: &Body) -> bool
     ensures { result ≡ is_allowed kind bias side goal body.now }
@@ -57,6 +64,7 @@ pub(crate) fn is_allowed(kind: Kind, bias: u8, side: Side, goal: Goal, body: &Bo
         Body::Trees { .. } => shows_trees(kind, side),
         Body::Cuts { .. } => shows_cuts(kind, side),
         Body::Threat(_) => may_attack(kind, side) && bias == 1,
+        Body::Weaker { .. } => allows_weaker(kind),
     }
 }
 

@@ -37,7 +37,7 @@ pub enum CheckFault {
         claim: u32,
         /// The first faulty node of that claim, counted from 0.
         node: u32,
-        /// The least number of the node's faults: 1 to 12.
+        /// The least number of the node's faults: 1 to 13.
         why: u8,
     },
     /// No memory is left.

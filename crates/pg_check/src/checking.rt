@@ -22,7 +22,7 @@ pub struct Rejected {
     pub claim: u32,
     /// The first faulty node of that claim, counted from 0.
     pub node: u32,
-    /// The least number of the node's faults: 1 to 12.
+    /// The least number of the node's faults: 1 to 13.
     pub why: u8,
 }
 

@@ -1,7 +1,8 @@
 //! The positions of nodes that have been checked, in few words.
-ghost use Rattle.std.specs.Prelude.{◌≡◌, ◌++◌, ◌∷◌, ◌*◌, ◌<◌, [], ◌↔◌, IsTrue, IfOk, Some, length, slice_get};
-ghost use Rattle.pg_base.specs.Points.{AreBelow};
-ghost use Rattle.pg_check.specs.Marks.{set_at, kept, AreFlat, AreMarksOf};
+ghost use Rattle.std.specs.Prelude.{◌≡◌, ◌++◌, ◌∷◌, ◌*◌, ◌^◌, ◌<◌, ◌≤◌, ℕ, [], ◌↔◌, IsTrue, IfOk, Some, get_or, length, slice_get};
+ghost use Rattle.pg_base.specs.Points.{AreBelow, AreWithin};
+ghost use Rattle.pg_base.specs.Words.{members_below};
+ghost use Rattle.pg_check.specs.Marks.{set_at, no_turn, position_at, kept, HasTurnOf, AreFlat, AreMarksOf, KeepsPoints, IsNoWorseThanKept};
 
 use pg_base::{Memory, PointSet, Side};
 use pg_game::{Game, Position};
@@ -25,6 +26,21 @@ pub(crate) struct Marks {
     pub(crate) words: Vec<u64>,
     /// For each position its turn.
     pub(crate) turns: Vec<Turn>,
+}
+
+/// Whether each bit of so many words is in the other words.
+fn are_within(mine: &[u64], theirs: &[u64], count: usize) -> bool
+    requires mine { count ≤ length mine.now }
+    requires theirs { count ≤ length theirs.now }
+    requires fit { (i : ℕ) → (get_or mine.now i 0 < 2 ^ 64) × (get_or theirs.now i 0 < 2 ^ 64) }
+    ensures { IsTrue result ↔ AreWithin (members_below mine.now (64 * count)) (members_below theirs.now (64 * count)) }
+{
+    for i in 0..count {
+        if mine[i] & !theirs[i] != 0 {
+            return false;
+        }
+    }
+    true
 }
 
 impl Marks {
@@ -59,6 +75,66 @@ impl Marks {
         words == &set.words()[..self.width]
     }
 
+    /// Whether each point of this row's set is in that one.
+    fn is_within(&self, row: usize, set: &PointSet) -> bool
+        requires flat { AreFlat self.now }
+        requires row { row < 2 * length self.now.turns.items }
+        requires below { AreBelow set.now (64 * self.now.width) }
+        ensures { IsTrue result ↔ AreWithin (set_at self.now.words.items self.now.width row) set.now }
+    {
+        are_within(&self.words[self.width * row..], set.words(), self.width)
+    }
+
+    /// Whether each point of that set is in this row's.
+    fn has_within(&self, row: usize, set: &PointSet) -> bool
+        requires flat { AreFlat self.now }
+        requires row { row < 2 * length self.now.turns.items }
+        requires below { AreBelow set.now (64 * self.now.width) }
+        ensures { IsTrue result ↔ AreWithin set.now (set_at self.now.words.items self.now.width row) }
+    {
+        are_within(set.words(), &self.words[self.width * row..], self.width)
+    }
+
+    /// Whether the side has all its points of the position of this number, and the other side no others than there.
+    fn keeps_points(&self, side: Side, k: usize, p: &Position) -> bool
+        requires flat { AreFlat self.now }
+        requires place { k < length self.now.turns.items }
+        requires x { AreBelow p.now.x (64 * self.now.width) }
+        requires y { AreBelow p.now.y (64 * self.now.width) }
+        ensures { IsTrue result ↔ KeepsPoints side (position_at self.now.words.items self.now.width self.now.turns.items k) p.now }
+    {
+        match side {
+            Side::X => self.is_within(2 * k, &p.x) && self.has_within(2 * k + 1, &p.y),
+            Side::Y => self.is_within(2 * k + 1, &p.y) && self.has_within(2 * k, &p.x),
+        }
+    }
+
+    /// Whether in the position of this number the same side is to move as in p, and still claims as many points.
+    fn has_turn(&self, k: usize, p: &Position) -> bool
+        requires { k < length self.now.turns.items }
+        ensures { IsTrue result ↔ HasTurnOf p.now (get_or self.now.turns.items k no_turn) }
+    {
+        let turn = self.turns[k];
+        turn.side.is_same(p.turn) && turn.left == p.left
+    }
+
+    /// Whether there is a position of this number, and p is no worse for the side.
+    pub(crate) fn is_no_worse(&self, side: Side, k: u32, p: &Position) -> bool
+        requires flat { AreFlat self.now }
+        requires x { AreBelow p.now.x (64 * self.now.width) }
+        requires y { AreBelow p.now.y (64 * self.now.width) }
+        ensures { IsTrue result ↔ IsNoWorseThanKept self.now side k p.now }
+    {
+        let k = k as usize;
+        if k >= self.turns.len() {
+            return false;
+        }
+        if !self.has_turn(k, p) {
+            return false;
+        }
+        self.keeps_points(side, k, p)
+    }
+
     /// Whether there is a position of this number, and it is that one.
     pub(crate) fn is_at(&self, k: u32, p: &Position) -> bool
         requires flat { AreFlat self.now }
@@ -70,11 +146,7 @@ impl Marks {
         if k >= self.turns.len() {
             return false;
         }
-        let turn = self.turns[k];
-        if !turn.side.is_same(p.turn) {
-            return false;
-        }
-        if turn.left != p.left {
+        if !self.has_turn(k, p) {
             return false;
         }
         self.has_set(2 * k, &p.x) && self.has_set(2 * k + 1, &p.y)

@@ -1,7 +1,7 @@
 //! Nodes that move on to other nodes.
 ghost use Rattle.std.specs.Prelude.{◌≡◌, ◌*◌, ◌<◌, ℕ, List, map, true, ◌↔◌, IsTrue};
 ghost use Rattle.std.specs.List.{All};
-ghost use Rattle.pg_cert.specs.Valid.{NamesEarlier, IsNodeOf, FollowsMove, FollowMoves, HasTurn, TakesFree};
+ghost use Rattle.pg_cert.specs.Valid.{NamesEarlier, IsNodeOf, FollowsMove, FollowMoves, HasTurn, TakesFree, HasWeaker};
 ghost use Rattle.pg_base.specs.Points.{AreBelow};
 ghost use Rattle.pg_check.specs.Marks.{kept, AreFlat, AreMarksOf};
 ghost use Rattle.pg_check.specs.Present.{bare};
@@ -27,8 +27,22 @@ pub(crate) fn names_earlier(k: usize, body: &Body) -> bool
     match body {
         Body::Move { child, .. } => (*child as usize) < k,
         Body::All(replies) => are_earlier(k, replies.as_slice()),
+        Body::Weaker { child } => (*child as usize) < k,
         _ => true,
     }
+}
+
+/// Whether the position is no worse for the side than that of the child that `weaker` names, which has been checked.
+pub(crate) fn has_weaker(marks: &Marks, side: Side, p: &Position, body: &Body) -> bool
+    requires flat { AreFlat marks.now }
+    requires x { AreBelow p.now.x (64 * marks.now.width) }
+    requires y { AreBelow p.now.y (64 * marks.now.width) }
+    ensures { IsTrue result ↔ HasWeaker (map bare (kept marks.now)) side p.now body.now }
+{
+    let Body::Weaker { child } = body else {
+        return true;
+    };
+    marks.is_no_worse(side, *child, p)
 }
 
 /// Whether a node of that number has been checked and has the position.
@@ -53,7 +67,7 @@ fn follows_move(g: &Game, marks: &Marks, p: &Position, point: u16, child: u32) -
     if !p.is_free(point) {
         return true;
     }
-    is_node_of(marks, child, &p.after(g.bias, point))
+    is_node_of(marks, child, &g.after(p, point))
 }
 
 /// Whether the children of all free points have the positions after them.

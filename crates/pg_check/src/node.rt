@@ -12,7 +12,7 @@ ghost use Rattle.pg_check.specs.Present.{PassesSoFar, IsSoundSoFar, IsLeastSoFar
 
 use crate::allowed::{is_allowed, is_in_game};
 use crate::leaves::{has_cuts, has_pairs, has_potential, has_threat, has_trees};
-use crate::moves::{follow_moves, has_turn, names_earlier, takes_free};
+use crate::moves::{follow_moves, has_turn, has_weaker, names_earlier, takes_free};
 use crate::present::Present;
 use crate::tester::Tester;
 use pg_base::{Goal, PointSet, Side};
@@ -108,7 +108,10 @@ fn passes(
     ensures kept { tester.new ≡ tester.old }
 {
     match fault {
-        NodeFault::Child => names_earlier(k, &node.body),
+        NodeFault::Child => {
+            !is_allowed(g.kind, g.bias, claim.side, claim.goal, &node.body)
+                || names_earlier(k, &node.body)
+        }
         NodeFault::Marks => {
             is_seen_in_game(&tester.points, g, claim, node, owed)
                 && follow_moves(g, &claim.marks, p, &node.body)
@@ -125,6 +128,11 @@ fn passes(
         NodeFault::Threat => !owed || has_threat(&mut tester.judge, g, claim.side, p, &node.body),
         NodeFault::Root => is_root(g, claim, k, p),
         NodeFault::Body => is_allowed(g.kind, g.bias, claim.side, claim.goal, &node.body),
+        NodeFault::Weaker => {
+            !owed
+                || !names_earlier(k, &node.body)
+                || has_weaker(&claim.marks, claim.side, p, &node.body)
+        }
     }
 }
 
@@ -161,6 +169,7 @@ pub(crate) fn first_fault(
         NodeFault::Threat,
         NodeFault::Root,
         NodeFault::Body,
+        NodeFault::Weaker,
     ] {
         if !passes(tester, g, claim, k, node, p, owed, fault) {
             return Some(fault);

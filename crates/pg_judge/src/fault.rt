@@ -20,7 +20,7 @@ pub enum JudgeFault {
         claim: u32,
         /// Its first faulty node, from 0.
         node: u32,
-        /// The least fault of the node: 1 to 12.
+        /// The least fault of the node: 1 to 13.
         why: u8,
     },
     /// No memory is left.

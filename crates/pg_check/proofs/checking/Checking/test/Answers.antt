@@ -11,6 +11,7 @@ use Rattle.pg_cert.specs.declared.part.Part.TheVariants as parts
 use Rattle.pg_check.specs.declared.present.Present.{Present}
 use Rattle.pg_check.specs.declared.tester.Tester.{Tester}
 use Rattle.pg_check.proofs.CheckingSteps.{stands-next, at-next, in-hand, some-hand, due-next, hand-more, hand-faulty, longer}
+use Rattle.pg_check.proofs.ForcedNodes.{some-left}
 use Rattle.pg_check.proofs.checking.Checking.test.Goals as goal
 
 pub unreachable-requires : goal.unreachable-requires
@@ -48,7 +49,7 @@ first_fault-requires-clause-marks c =
 pub first_fault-requires-clause-left : goal.first_fault-requires-clause-left
 first_fault-requires-clause-left c =
     let due = due-next c.args.self.now c.in-Some.present c.args.node.now c.requires.sound (sym c.take.ensures.value ∙ c.in-Some.is) c.requires.next in
-    omega (arith, due.node.left)
+    some-left c.args.node.now.turn c.args.node.now.left due.node.turn
 
 pub overflow_sub-self : goal.overflow_sub-self
 overflow_sub-self c =
