@@ -22,10 +22,10 @@ use Rattle.pg_cert.specs.declared.node_fault.NodeFault.TheVariants as faults
 use Rattle.pg_cert.specs.Limits.{IsClaim, IsWithinLimits}
 use Rattle.pg_cert.specs.OwnMove.{Standing, arrives}
 use Rattle.pg_cert.specs.Valid.{IsNodeOf, IsValid}
-use Rattle.pg_player.specs.InPlay.{InPlay, IsSoundClaim}
+use Rattle.pg_player.specs.InPlay.{GoesOn, IsSoundClaim}
+use Rattle.pg_player.specs.Stand.{Settles}
 use Rattle.pg_player.specs.Player.{is_claim_of, is_win_of, is_win, chosen_claim}
-use Rattle.pg_player.proofs.Plays.{reached-start}
-use Rattle.pg_player.proofs.Arriving.{arrived}
+use Rattle.pg_player.proofs.Arriving.{arrived, Settles-node}
 use Rattle.pg_player.proofs.Stable.{valid_claim}
 
 -- ---- the claim that is chosen
@@ -94,11 +94,12 @@ root g claim h turn = at_last claim.nodes refl (some_node g claim h)
         let at = slice_get-get_or claim.nodes last n (omega (arith, some)) in
         record { node = node; at = at; position = h.valid last node at faults.Root (omega (arith, some)) ∙ ap (with_turn g) turn }
 
--- so the player is in play at the game's marks
-pub InPlay-root : (g : Game) (claim : Claim) (s : Standing) → IsSoundClaim g claim → claim.turn ≡ g.turn → arrives claim.nodes (length claim.nodes - 1) ≡ Some s → InPlay g claim (start g) s
-InPlay-root g claim s h turn comes =
-    let there = arrived g claim (length claim.nodes - 1) (start g) s h (root g claim h turn) comes in
-    record { sound = h; reached = reached-start g; forced = there.forced; stands = there.stands }
+-- so the player goes on at the game's marks, and finds a node to stand at
+pub on-root : (g : Game) (claim : Claim) (s : Standing) → IsSoundClaim g claim → claim.turn ≡ g.turn → arrives claim.nodes (length claim.nodes - 1) ≡ Some s → GoesOn g claim (start g) s
+on-root g claim s h turn comes = arrived g claim (length claim.nodes - 1) (start g) s h (root g claim h turn) comes
+
+pub Settles-root : (g : Game) (claim : Claim) → IsSoundClaim g claim → claim.turn ≡ g.turn → Settles claim.nodes (length claim.nodes - 1)
+Settles-root g claim h turn = let node = root g claim h turn in Settles-node g claim h (length claim.nodes - 1) node.node node.at
 
 -- ---- the outcome reaches the goal
 

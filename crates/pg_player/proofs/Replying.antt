@@ -1,7 +1,6 @@
 -- What a reply of the other side keeps, body by body.
 use Rattle.std.proofs.Common.{◌≡◌, ◌∙◌, ℕ, ◌<◌, ◌≤◌, Bool, true, false, ◌&&◌, ◌==◌, List, [], ◌∷◌, Option, Some, None, map, find, refl, sym, ap, subst, inl, inr, ◌⊎◌, arith, eqb, eqb-true, eq-eqb, ltb-true, nat_lt, if◌then◌else◌, Ok, Err}
 use Rattle.std.proofs.lemmas.Bool.{cases_Bool, false≢true, both_ways}
-use Rattle.std.proofs.lemmas.Option.{slice_get_within}
 use Rattle.std.specs.List.{list_any}
 use Rattle.pg_base.specs.Side.{other}
 use Rattle.pg_base.specs.declared.goal.Goal.{Goal}
@@ -18,7 +17,7 @@ use Rattle.pg_game.specs.Game.{point_count, bias_of, free_points, is_over, after
 use Rattle.pg_game.specs.Value.{Forces}
 use Rattle.pg_game.specs.Avoider.{AvoiderHolds}
 use Rattle.pg_game.proofs.FreePoints.{any-free_points}
-use Rattle.pg_game.proofs.Moves.{side≢other, other_other, turn-passes}
+use Rattle.pg_game.proofs.Moves.{side≢other, other_other, turn-passes, IsPosition-after}
 use Rattle.pg_game.specs.Threat.{LeadsToLine}
 use Rattle.pg_game.proofs.ThreatLaws.{near-from, near-stays, near-filling}
 use Rattle.pg_game.proofs.ValueLaws.{Forces-all-from}
@@ -28,14 +27,14 @@ use Rattle.pg_avoider.proofs.AvoiderLaws.{kept-y}
 use Rattle.pg_cert.specs.declared.cert.Claim.{Claim}
 use Rattle.pg_cert.specs.declared.node.Node.{Node}
 use Rattle.pg_cert.specs.declared.node.Body.{Body}
-use Rattle.pg_cert.specs.declared.node.Body.TheVariants.{Over, Move, All, Pairs, Potential, Trees, Cuts, Threat}
+use Rattle.pg_cert.specs.declared.node.Body.TheVariants.{Over, Move, All, Pairs, Potential, Trees, Cuts, Threat, Weaker}
 use Rattle.pg_cert.specs.declared.reply.Reply.{Reply}
 use Rattle.pg_cert.specs.OwnMove.{Standing, arrives, replied_by}
 use Rattle.pg_cert.specs.Valid.{shows_defence, pairs_fit, PotentialFits, FollowsMove, IsNodeOf}
 use Rattle.pg_player.specs.Stand.{LeadsOn}
-use Rattle.pg_player.specs.InPlay.{Stands, PotentialWaiting, InPlay}
-use Rattle.pg_player.proofs.Plays.{IsPosition-reached, reached-after, single}
-use Rattle.pg_player.proofs.Arriving.{arrived}
+use Rattle.pg_player.specs.InPlay.{Stands, PotentialWaiting, InPlay, GoesOn}
+use Rattle.pg_player.proofs.Plays.{single}
+use Rattle.pg_player.proofs.Arriving.{goes_on, arrived, Settles-node}
 use Rattle.pg_player.proofs.Keeping.{trees_kind, cuts_kind, threat_kind}
 
 -- the side that replied isn't to move where it claims one point a turn
@@ -79,8 +78,8 @@ potential_kept g AvoiderEnforcer p Y goal v e ok position theirs within free h =
 potential_kept g Switching p side goal v e ok position theirs within free h = absurd (false≢true ok)
 
 -- a goal that is forced stays so after a reply
-forced_after : (g : Game) (c : Claim) (p : Position) (s : Standing) (v : ℕ) → InPlay g c p s → is_over g p ≡ false → p.turn ≡ other c.side → v < point_count g → is_free p v ≡ true → Forces g (after g p v) c.side c.goal
-forced_after g c p s v h going theirs within free = Forces-all-from g p c.side c.goal going theirs h.forced v within free
+forced_after : (g : Game) (c : Claim) (s : Standing) (v : ℕ) → InPlay g c s → is_over g s.imagined ≡ false → s.imagined.turn ≡ other c.side → v < point_count g → is_free s.imagined v ≡ true → Forces g (after g s.imagined v) c.side c.goal
+forced_after g c s v h going theirs within free = Forces-all-from g s.imagined c.side c.goal going theirs h.forced v within free
 
 some_or_none : {A : Type 0} (o : Option A) → ((x : A) × (o ≡ Some x)) ⊎ (o ≡ None)
 some_or_none (Some x) = inl (x, refl)
@@ -98,25 +97,22 @@ find_reply-some g p replies v exact within free none =
     through [] = refl
     through (r ∷ rs) = elim (cases_Bool (eqb r.point v)) [ inl on ↦ rw on refl | inr off ↦ rw off (through rs) ]
 
-pub replied_by-child : (nodes : List Node) (replies : List Reply) (v : ℕ) (r : Reply) → find (λ q. q.point == v) replies ≡ Some r → replied_by (All replies) nodes v ≡ arrives nodes r.child
-replied_by-child nodes replies v r found = rw found refl
+pub replied_by-child : (g : Game) (nodes : List Node) (replies : List Reply) (q : Position) (v : ℕ) (r : Reply) → find (λ q. q.point == v) replies ≡ Some r → replied_by (All replies) g nodes q v ≡ arrives nodes r.child
+replied_by-child g nodes replies q v r found = rw found refl
 
 module _ (g : Game) (c : Claim) (p : Position) (v : ℕ) (going : is_over g p ≡ false) (theirs : p.turn ≡ other c.side) (within : v < point_count g) (free : is_free p v ≡ true) where
   -- at `all`: on to the child that is named
-  InPlay-child : (replies : List Reply) (last : Option ℕ) (r : Reply) (next : Standing) → InPlay g c p (record { body = All replies; last = last }) → find (λ q. q.point == v) replies ≡ Some r → arrives c.nodes r.child ≡ Some next
-      → InPlay g c (after g p v) next
-  InPlay-child replies last r next h found comes =
+  follows-reply : (replies : List Reply) (last : Option ℕ) (r : Reply) → InPlay g c (record { body = All replies; last = last; imagined = p }) → find (λ q. q.point == v) replies ≡ Some r → IsNodeOf c.nodes r.child (after g p v)
+  follows-reply replies last r h found =
       let all = h.stands.waiting going theirs in
       let member = find_member (λ q. q.point == v) replies r found in
       let point : r.point ≡ v = eqb-true r.point v member.1 in
       let follow : FollowsMove g c.nodes p r.point r.child = subst (λ (q : Reply). FollowsMove g c.nodes p q.point q.child) member.0.2 (all.next member.0.0 r member.0.1) in
-      let here : IsNodeOf c.nodes r.child (after g p v) = subst (λ (q : ℕ). IsNodeOf c.nodes r.child (after g p q)) point
-      (follow.leads (subst (λ (q : ℕ). q < point_count g) (sym point) within) (subst (λ (q : ℕ). is_free p q ≡ true) (sym point) free)) in
-      let there = arrived g c r.child (after g p v) next h.sound here comes in
-      record { sound = h.sound; reached = reached-after g p v h.reached going within free; forced = there.forced; stands = there.stands }
+      subst (λ (q : ℕ). IsNodeOf c.nodes r.child (after g p q)) point
+      (follow.leads (subst (λ (q : ℕ). q < point_count g) (sym point) within) (subst (λ (q : ℕ). is_free p q ≡ true) (sym point) free))
 
   -- everywhere else it stays
-  stands_on : (b : Body) (last : Option ℕ) → ((rs : List Reply) → b ≡ All rs → ⊥) → ((ps : List ℕ) → b ≡ Threat ps → ⊥) → InPlay g c p (record { body = b; last = last }) → Stands g c (after g p v) (record { body = b; last = Some v })
+  stands_on : (b : Body) (last : Option ℕ) → ((rs : List Reply) → b ≡ All rs → ⊥) → ((ps : List ℕ) → b ≡ Threat ps → ⊥) → InPlay g c (record { body = b; last = last; imagined = p }) → Stands g c (record { body = b; last = Some v; imagined = after g p v })
   stands_on Over last other_than no_line h = absurd (h.stands.waiting going theirs)
   stands_on (Move point child) last other_than no_line h = absurd (h.stands.waiting going theirs)
   stands_on (All replies) last other_than no_line h = absurd (other_than replies refl)
@@ -125,33 +121,32 @@ module _ (g : Game) (c : Claim) (p : Position) (v : ℕ) (going : is_over g p �
       record {
         allowed = h.stands.allowed;
         ready = λ on mine. record { are = all.are; state = inl (record { before = p; reply = v; last_is = refl; theirs = theirs; within = within; free = free; leads = refl; held = all.holds }) };
-        waiting = λ on again. absurd (passed g p c.side v (pairs_single g g.kind c.side c.goal refl h.stands.allowed) (IsPosition-reached g p h.reached) theirs again);
+        waiting = λ on again. absurd (passed g p c.side v (pairs_single g g.kind c.side c.goal refl h.stands.allowed) h.position theirs again);
       }
   stands_on Potential last other_than no_line h =
-      let kept = potential_kept g g.kind p c.side c.goal v refl h.stands.allowed (IsPosition-reached g p h.reached) theirs within free (h.stands.waiting going theirs) in
+      let kept = potential_kept g g.kind p c.side c.goal v refl h.stands.allowed h.position theirs within free (h.stands.waiting going theirs) in
       record { allowed = h.stands.allowed; ready = λ on mine. kept.fits; waiting = λ on again. kept.waits }
   stands_on (Trees with_e first second) last other_than no_line h = record {
     allowed = h.stands.allowed;
     ready = λ on mine. record { before = p; theirs = theirs ∙ ap other (sym mine); within = within; free = free; leads = refl; held = h.stands.waiting going theirs };
-    waiting = λ on again. absurd (passed g p c.side v (claims_one g (other c.side) (single g Switching (trees_kind g.kind c.side h.stands.allowed).0 refl)) (IsPosition-reached g p h.reached) theirs again);
+    waiting = λ on again. absurd (passed g p c.side v (claims_one g (other c.side) (single g Switching (trees_kind g.kind c.side h.stands.allowed).0 refl)) h.position theirs again);
   }
   stands_on (Cuts with_e first second) last other_than no_line h = record {
     allowed = h.stands.allowed;
     ready = λ on mine. record { before = p; theirs = theirs ∙ ap other (sym mine); within = within; free = free; leads = refl; held = h.stands.waiting going theirs };
-    waiting = λ on again. absurd (passed g p c.side v (claims_one g (other c.side) (single g Switching (cuts_kind g.kind c.side h.stands.allowed).0 refl)) (IsPosition-reached g p h.reached) theirs again);
+    waiting = λ on again. absurd (passed g p c.side v (claims_one g (other c.side) (single g Switching (cuts_kind g.kind c.side h.stands.allowed).0 refl)) h.position theirs again);
   }
   stands_on (Threat points) last other_than no_line h = absurd (no_line points refl)
+  stands_on (Weaker child) last other_than no_line h = absurd (h.stands.waiting going theirs)
 
-  InPlay-stays : (b : Body) (last : Option ℕ) → ((rs : List Reply) → b ≡ All rs → ⊥) → ((ps : List ℕ) → b ≡ Threat ps → ⊥) → InPlay g c p (record { body = b; last = last }) → InPlay g c (after g p v) (record { body = b; last = Some v })
-  InPlay-stays b last other_than no_line h = record {
-    sound = h.sound;
-    reached = reached-after g p v h.reached going within free;
-    forced = forced_after g c p (record { body = b; last = last }) v h going theirs within free;
-    stands = stands_on b last other_than no_line h;
-  }
+  on-stays : (b : Body) (last : Option ℕ) → ((rs : List Reply) → b ≡ All rs → ⊥) → ((ps : List ℕ) → b ≡ Threat ps → ⊥) → InPlay g c (record { body = b; last = last; imagined = p })
+      → GoesOn g c (after g p v) (record { body = b; last = Some v; imagined = after g p v })
+  on-stays b last other_than no_line h =
+      goes_on g c (after g p v) b (Some v) h.sound (IsPosition-after g p v h.position within free)
+      (forced_after g c (record { body = b; last = last; imagined = p }) v h going theirs within free) (stands_on b last other_than no_line h)
 
   -- on a threat line: the next attack where the forced point was taken, and else that point
-  line_on : (u : ℕ) (points : List ℕ) (last : Option ℕ) → InPlay g c p (record { body = Threat (u ∷ points); last = last }) → (after g p v).turn ≡ c.side → LeadsToLine g (after g p v) c.side (if u == v then points else u ∷ [])
+  line_on : (u : ℕ) (points : List ℕ) (last : Option ℕ) → InPlay g c (record { body = Threat (u ∷ points); last = last; imagined = p }) → (after g p v).turn ≡ c.side → LeadsToLine g (after g p v) c.side (if u == v then points else u ∷ [])
   line_on u points last h mine =
       let must = h.stands.waiting going theirs in
       elim (cases_Bool (u == v)) [
@@ -159,61 +154,56 @@ module _ (g : Game) (c : Claim) (p : Position) (v : ℕ) (going : is_over g p �
         | inr left ↦ rw left (near-filling g (after g p v) c.side u mine (near-stays g p c.side u v (λ e. absurd (false≢true (sym left ∙ eq-eqb u v (sym e)))) (near-from g p c.side u must.0)))
       ]
 
-  InPlay-line : (u : ℕ) (points : List ℕ) (last : Option ℕ) → InPlay g c p (record { body = Threat (u ∷ points); last = last })
-      → InPlay g c (after g p v) (record { body = Threat (if u == v then points else u ∷ []); last = Some v })
-  InPlay-line u points last h = record {
-    sound = h.sound;
-    reached = reached-after g p v h.reached going within free;
-    forced = forced_after g c p (record { body = Threat (u ∷ points); last = last }) v h going theirs within free;
-    stands = record {
-      allowed = h.stands.allowed;
-      ready = λ on mine. line_on u points last h mine;
-      waiting = λ on again. absurd (passed g p c.side v (claims_one g (other c.side) (threat_kind g.kind c.side g.bias h.stands.allowed).1) (IsPosition-reached g p h.reached) theirs again);
-    };
-  }
+  on-line : (u : ℕ) (points : List ℕ) (last : Option ℕ) → InPlay g c (record { body = Threat (u ∷ points); last = last; imagined = p })
+      → GoesOn g c (after g p v) (record { body = Threat (if u == v then points else u ∷ []); last = Some v; imagined = after g p v })
+  on-line u points last h =
+      goes_on g c (after g p v) (Threat (if u == v then points else u ∷ [])) (Some v) h.sound (IsPosition-after g p v h.position within free)
+      (forced_after g c (record { body = Threat (u ∷ points); last = last; imagined = p }) v h going theirs within free) (record {
+        allowed = h.stands.allowed;
+        ready = λ on mine. line_on u points last h mine;
+        waiting = λ on again. absurd (passed g p c.side v (claims_one g (other c.side) (threat_kind g.kind c.side g.bias h.stands.allowed).1) h.position theirs again);
+      })
 
   -- the reply leads on
-  pub leads_on : (b : Body) (last : Option ℕ) → InPlay g c p (record { body = b; last = last }) → LeadsOn c.nodes b v
+  pub leads_on : (b : Body) (last : Option ℕ) → InPlay g c (record { body = b; last = last; imagined = p }) → LeadsOn c.nodes b v
   leads_on Over last h = h.stands.waiting going theirs
   leads_on (Move point child) last h = h.stands.waiting going theirs
   leads_on (All replies) last h =
       let all = h.stands.waiting going theirs in
       elim (some_or_none (find (λ q. q.point == v) replies)) [
-        | inl some ↦
-            let member = find_member (λ q. q.point == v) replies some.0 some.1 in
-            let point : some.0.point ≡ v = eqb-true some.0.point v member.1 in
-            let follow : FollowsMove g c.nodes p some.0.point some.0.child = subst (λ (q : Reply). FollowsMove g c.nodes p q.point q.child) member.0.2 (all.next member.0.0 some.0 member.0.1) in
-            let here = follow.leads (subst (λ (q : ℕ). q < point_count g) (sym point) within) (subst (λ (q : ℕ). is_free p q ≡ true) (sym point) free) in
-            (some.0, some.1, slice_get_within c.nodes some.0.child here.node here.at)
+        | inl some ↦ let node = follows-reply replies last some.0 h some.1 in (some.0, some.1, Settles-node g c h.sound some.0.child node.node node.at)
         | inr none ↦ absurd (find_reply-some g p replies v all.exact within free none)
       ]
   leads_on (Pairs pairs) last h = tt
   leads_on Potential last h = tt
   leads_on (Trees with_e first second) last h = tt
   leads_on (Cuts with_e first second) last h = tt
+  leads_on (Weaker child) last h = h.stands.waiting going theirs
   leads_on (Threat []) last h = h.stands.waiting going theirs
   leads_on (Threat (u ∷ points)) last h = tt
 
-  at_same : (b : Body) (last : Option ℕ) (next : Standing) → ((rs : List Reply) → b ≡ All rs → ⊥) → ((ps : List ℕ) → b ≡ Threat ps → ⊥) → InPlay g c p (record { body = b; last = last }) → ◌≡◌ {A = Option Standing} (Some (record { body = b; last = Some v })) (Some next) → InPlay g c (after g p v) next
+  at_same : (b : Body) (last : Option ℕ) (next : Standing) → ((rs : List Reply) → b ≡ All rs → ⊥) → ((ps : List ℕ) → b ≡ Threat ps → ⊥) → InPlay g c (record { body = b; last = last; imagined = p })
+      → ◌≡◌ {A = Option Standing} (Some (record { body = b; last = Some v; imagined = after g p v })) (Some next) → GoesOn g c (after g p v) next
   at_same b last next other_than no_line h rule =
-      let same : ◌≡◌ {A = Standing} (record { body = b; last = Some v }) next = cc in
-      subst (λ (s : Standing). InPlay g c (after g p v) s) same (InPlay-stays b last other_than no_line h)
+      let same : ◌≡◌ {A = Standing} (record { body = b; last = Some v; imagined = after g p v }) next = cc in
+      subst (λ (s : Standing). GoesOn g c (after g p v) s) same (on-stays b last other_than no_line h)
 
-  -- a reply keeps the player in play
-  pub InPlay-replied : (b : Body) (last : Option ℕ) (next : Standing) → InPlay g c p (record { body = b; last = last }) → replied_by b c.nodes v ≡ Some next → InPlay g c (after g p v) next
-  InPlay-replied Over last next h rule = absurd (h.stands.waiting going theirs)
-  InPlay-replied (Move point child) last next h rule = absurd (h.stands.waiting going theirs)
-  InPlay-replied (All replies) last next h rule =
+  -- a reply keeps the player going
+  pub on-replied : (b : Body) (last : Option ℕ) (next : Standing) → InPlay g c (record { body = b; last = last; imagined = p }) → replied_by b g c.nodes p v ≡ Some next → GoesOn g c (after g p v) next
+  on-replied Over last next h rule = absurd (h.stands.waiting going theirs)
+  on-replied (Move point child) last next h rule = absurd (h.stands.waiting going theirs)
+  on-replied (All replies) last next h rule =
       let r = leads_on (All replies) last h in
-      InPlay-child replies last r.0 next h r.1 (sym (replied_by-child c.nodes replies v r.0 r.1) ∙ rule)
-  InPlay-replied (Pairs pairs) last next h rule = at_same (Pairs pairs) last next (λ rs e. cc) (λ ps e. cc) h rule
-  InPlay-replied Potential last next h rule = at_same Potential last next (λ rs e. cc) (λ ps e. cc) h rule
-  InPlay-replied (Trees with_e first second) last next h rule = at_same (Trees with_e first second) last next (λ rs e. cc) (λ ps e. cc) h rule
-  InPlay-replied (Cuts with_e first second) last next h rule = at_same (Cuts with_e first second) last next (λ rs e. cc) (λ ps e. cc) h rule
-  InPlay-replied (Threat []) last next h rule = absurd (h.stands.waiting going theirs)
-  InPlay-replied (Threat (u ∷ points)) last next h rule =
-      let same : ◌≡◌ {A = Standing} (record { body = Threat (if u == v then points else u ∷ []); last = Some v }) next = cc in
-      subst (λ (s : Standing). InPlay g c (after g p v) s) same (InPlay-line u points last h)
+      arrived g c r.0.child (after g p v) next h.sound (follows-reply replies last r.0 h r.1) (sym (replied_by-child g c.nodes replies p v r.0 r.1) ∙ rule)
+  on-replied (Pairs pairs) last next h rule = at_same (Pairs pairs) last next (λ rs e. cc) (λ ps e. cc) h rule
+  on-replied Potential last next h rule = at_same Potential last next (λ rs e. cc) (λ ps e. cc) h rule
+  on-replied (Trees with_e first second) last next h rule = at_same (Trees with_e first second) last next (λ rs e. cc) (λ ps e. cc) h rule
+  on-replied (Cuts with_e first second) last next h rule = at_same (Cuts with_e first second) last next (λ rs e. cc) (λ ps e. cc) h rule
+  on-replied (Threat []) last next h rule = absurd (h.stands.waiting going theirs)
+  on-replied (Threat (u ∷ points)) last next h rule =
+      let same : ◌≡◌ {A = Standing} (record { body = Threat (if u == v then points else u ∷ []); last = Some v; imagined = after g p v }) next = cc in
+      subst (λ (s : Standing). GoesOn g c (after g p v) s) same (on-line u points last h)
+  on-replied (Weaker child) last next h rule = absurd (h.stands.waiting going theirs)
 
 -- ---- what a judge has found legal
 

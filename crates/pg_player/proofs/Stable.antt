@@ -1,8 +1,8 @@
 -- The soundness of a node is decided by tests, so that it holds wherever it is known to hold without a proof at hand.
-use Rattle.std.proofs.Common.{◌≡◌, ◌∙◌, ℕ, suc, ◌<◌, ◌≤◌, Bool, true, false, ◌&&◌, List, Option, Some, None, slice_get, refl, sym, ap, inl, inr, ◌⊎◌, arith, eqb, Any}
+use Rattle.std.proofs.Common.{◌≡◌, ◌∙◌, ℕ, suc, ◌<◌, ◌≤◌, Bool, true, false, ◌&&◌, List, Option, Some, None, slice_get, refl, sym, ap, subst, inl, inr, ◌⊎◌, arith, eqb, Any}
 use Rattle.std.proofs.Math.Logic.{∥∥₁_elim, ∥∥₁_map}
 use Rattle.std.proofs.Math.Bridge.{le_prop}
-use Rattle.std.proofs.lemmas.Bool.{cases_lt, false≢true, and_parts}
+use Rattle.std.proofs.lemmas.Bool.{cases_lt, and_parts}
 use Rattle.std.specs.Coded.{Coded-set, coded_ℕ, coded_bool, coded_list}
 use Rattle.std.specs.FinSet.{FinSet, contains}
 use Rattle.std.specs.List.{list_any}
@@ -34,14 +34,15 @@ use Rattle.pg_game.specs.Trees.{IsFreeEdge, AreFreeWithE, AreTrees, AreCuts, Tre
 use Rattle.pg_game.proofs.Members.{list_any-one, member-from_any}
 use Rattle.pg_switch.proofs.EdgeSets.{with_e-edges, free-edges, with_set-edges}
 use Rattle.pg_pairing.proofs.PairLoops.{Contains-any, any-Contains}
+use Rattle.pg_weaker.specs.Weaker.{IsNoWorse}
 use Rattle.pg_cert.specs.declared.cert.Claim.{Claim}
 use Rattle.pg_cert.specs.declared.node.Node.{Node}
 use Rattle.pg_cert.specs.declared.node.Body.{Body}
-use Rattle.pg_cert.specs.declared.node.Body.TheVariants.{Over, Move, All as Every, Pairs, Potential, Trees, Cuts, Threat}
+use Rattle.pg_cert.specs.declared.node.Body.TheVariants.{Over, Move, All as Every, Pairs, Potential, Trees, Cuts, Threat, Weaker}
 use Rattle.pg_cert.specs.declared.node_fault.NodeFault.{NodeFault}
 use Rattle.pg_cert.specs.declared.node_fault.NodeFault.TheVariants as faults
 use Rattle.pg_cert.specs.Node.{position_of}
-use Rattle.pg_cert.specs.Valid.{is_allowed, IsInGame, NamesEarlier, IsNodeOf, FollowsMove, FollowMoves, HasTurn, TakesFree, EndsRight, PotentialFits, with_e_named, HasPairs, HasPotential, HasTrees, HasCuts, HasThreat, Passes, IsSound, IsValidClaim}
+use Rattle.pg_cert.specs.Valid.{IsInGame, NamesEarlier, IsNodeOf, FollowsMove, FollowMoves, HasTurn, TakesFree, EndsRight, PotentialFits, with_e_named, HasPairs, HasPotential, HasTrees, HasCuts, HasThreat, IsNoWorseThanNode, HasWeaker, Passes, IsSound, IsValidClaim}
 
 -- ---- facts that have one proof at most
 
@@ -180,6 +181,7 @@ names_earlier k Potential t = tt
 names_earlier k (Trees with_e first second) t = tt
 names_earlier k (Cuts with_e first second) t = tt
 names_earlier k (Threat points) t = tt
+names_earlier k (Weaker child) t = less _ _ t
 
 follow-moves : (g : Game) (nodes : List Node) (p : Position) (b : Body) → ∥ FollowMoves g nodes p b ∥₁ → FollowMoves g nodes p b
 follow-moves g nodes p Over t = tt
@@ -190,6 +192,7 @@ follow-moves g nodes p Potential t = tt
 follow-moves g nodes p (Trees with_e first second) t = tt
 follow-moves g nodes p (Cuts with_e first second) t = tt
 follow-moves g nodes p (Threat points) t = tt
+follow-moves g nodes p (Weaker child) t = tt
 
 has_turn : (side : Side) (p : Position) (b : Body) → ∥ HasTurn side p b ∥₁ → HasTurn side p b
 has_turn side p Over t = tt
@@ -200,6 +203,7 @@ has_turn side p Potential t = tt
 has_turn side p (Trees with_e first second) t = tt
 has_turn side p (Cuts with_e first second) t = tt
 has_turn side p (Threat points) t = same_side _ _ t
+has_turn side p (Weaker child) t = tt
 
 takes_free : (g : Game) (p : Position) (b : Body) → ∥ TakesFree g p b ∥₁ → TakesFree g p b
 takes_free g p Over t = tt
@@ -210,6 +214,7 @@ takes_free g p Potential t = tt
 takes_free g p (Trees with_e first second) t = tt
 takes_free g p (Cuts with_e first second) t = tt
 takes_free g p (Threat points) t = tt
+takes_free g p (Weaker child) t = tt
 
 ends_right : (g : Game) (side : Side) (goal : Goal) (p : Position) (b : Body) → ∥ EndsRight g side goal p b ∥₁ → EndsRight g side goal p b
 ends_right g side goal p Over t = (same_bool _ _ (∥∥₁_map t (λ h. h.0)), same_bool _ _ (∥∥₁_map t (λ h. h.1)))
@@ -220,6 +225,7 @@ ends_right g side goal p Potential t = tt
 ends_right g side goal p (Trees with_e first second) t = tt
 ends_right g side goal p (Cuts with_e first second) t = tt
 ends_right g side goal p (Threat points) t = tt
+ends_right g side goal p (Weaker child) t = tt
 
 has_pairs : (g : Game) (side : Side) (p : Position) (b : Body) → ∥ HasPairs g side p b ∥₁ → HasPairs g side p b
 has_pairs g side p Over t = tt
@@ -230,6 +236,7 @@ has_pairs g side p Potential t = tt
 has_pairs g side p (Trees with_e first second) t = tt
 has_pairs g side p (Cuts with_e first second) t = tt
 has_pairs g side p (Threat points) t = tt
+has_pairs g side p (Weaker child) t = tt
 
 fits : (kind : Kind) (g : Game) (p : Position) (side : Side) → ∥ PotentialFits kind g p side ∥₁ → PotentialFits kind g p side
 fits MakerBreaker g p side t = less _ _ t
@@ -246,6 +253,7 @@ has_potential g side p Potential t = fits g.kind g p side t
 has_potential g side p (Trees with_e first second) t = tt
 has_potential g side p (Cuts with_e first second) t = tt
 has_potential g side p (Threat points) t = tt
+has_potential g side p (Weaker child) t = tt
 
 below : (s : FinSet nat_cmp) (n : ℕ) → ∥ AreBelow s n ∥₁ → AreBelow s n
 below s n t v on = less _ _ (∥∥₁_map t (λ h. h v on))
@@ -260,6 +268,7 @@ has_trees g p (Trees with_e first second) small t =
     ((below first (point_count g) (∥∥₁_map t (λ h. h.0.0)), below second (point_count g) (∥∥₁_map t (λ h. h.0.1))), trees-hold g.field p (with_e_named g with_e first) second small (∥∥₁_map t (λ h. h.1)))
 has_trees g p (Cuts with_e first second) small t = tt
 has_trees g p (Threat points) small t = tt
+has_trees g p (Weaker child) small t = tt
 
 has_cuts : (g : Game) (p : Position) (b : Body) → ∥ HasCuts g p b ∥₁ → HasCuts g p b
 has_cuts g p Over t = tt
@@ -271,6 +280,7 @@ has_cuts g p (Trees with_e first second) t = tt
 has_cuts g p (Cuts with_e first second) t =
     ((below first (point_count g) (∥∥₁_map t (λ h. h.0.0)), below second (point_count g) (∥∥₁_map t (λ h. h.0.1))), cuts-hold g.field p (with_e_named g with_e first) second (∥∥₁_map t (λ h. h.1)))
 has_cuts g p (Threat points) t = tt
+has_cuts g p (Weaker child) t = tt
 
 -- a threat line is one by tests
 threat-line : (g : Game) (p : Position) (side : Side) (points : List ℕ) → ∥ IsThreatLine g p side points ∥₁ → IsThreatLine g p side points
@@ -290,6 +300,36 @@ has_threat g side p Potential t = tt
 has_threat g side p (Trees with_e first second) t = tt
 has_threat g side p (Cuts with_e first second) t = tt
 has_threat g side p (Threat points) t = threat-line g p side points t
+has_threat g side p (Weaker child) t = tt
+
+-- ---- weaker positions
+
+no_worse : (side : Side) (q p : Position) → ∥ IsNoWorse side q p ∥₁ → IsNoWorse side q p
+no_worse side q p t = record {
+  own = λ v on. same_bool _ _ (∥∥₁_map t (λ h. h.own v on));
+  theirs = λ v on. same_bool _ _ (∥∥₁_map t (λ h. h.theirs v on));
+  turn = same_side _ _ (∥∥₁_map t (λ h. h.turn));
+  left = same_number _ _ (∥∥₁_map t (λ h. h.left));
+}
+
+no_worse-than : (nodes : List Node) (side : Side) (p : Position) (child : ℕ) (o : Option Node) → slice_get nodes child ≡ o → ∥ IsNoWorseThanNode nodes side p child ∥₁ → IsNoWorseThanNode nodes side p child
+no_worse-than nodes side p child None e t = absurd (never (∥∥₁_map t (λ h. let f : None ≡ Some h.node = sym e ∙ h.at in cc)))
+no_worse-than nodes side p child (Some n) e t = record {
+  node = n;
+  at = e;
+  no_worse = no_worse side (position_of n) p (∥∥₁_map t (λ h. let f : Some n ≡ Some h.node = sym e ∙ h.at in let s : h.node ≡ n = cc in subst (λ (m : Node). IsNoWorse side (position_of m) p) s h.no_worse));
+}
+
+has_weaker : (nodes : List Node) (side : Side) (p : Position) (b : Body) → ∥ HasWeaker nodes side p b ∥₁ → HasWeaker nodes side p b
+has_weaker nodes side p (Weaker child) t = no_worse-than nodes side p child (slice_get nodes child) refl t
+has_weaker nodes side p Over t = tt
+has_weaker nodes side p (Move point child) t = tt
+has_weaker nodes side p (Every replies) t = tt
+has_weaker nodes side p (Pairs pairs) t = tt
+has_weaker nodes side p Potential t = tt
+has_weaker nodes side p (Trees with_e first second) t = tt
+has_weaker nodes side p (Cuts with_e first second) t = tt
+has_weaker nodes side p (Threat points) t = tt
 
 -- ---- nodes and claims
 
@@ -301,7 +341,7 @@ in_game g n t = record {
 }
 
 passes : (g : Game) (c : Claim) (k : ℕ) (n : Node) (fault : NodeFault) → ∥ IsSound g c k n ∥₁ → Passes g c k n fault
-passes g c k n faults.Child t = names_earlier k n.body (∥∥₁_map t (λ h. h faults.Child))
+passes g c k n faults.Child t = λ allowed. names_earlier k n.body (∥∥₁_map t (λ h. h faults.Child allowed))
 passes g c k n faults.Marks t = (in_game g n (∥∥₁_map t (λ h. (h faults.Marks).0)), follow-moves g c.nodes (position_of n) n.body (∥∥₁_map t (λ h. (h faults.Marks).1)))
 passes g c k n faults.Turn t = λ owed. has_turn c.side (position_of n) n.body (∥∥₁_map t (λ h. h faults.Turn owed))
 passes g c k n faults.Moves t = λ owed. takes_free g (position_of n) n.body (∥∥₁_map t (λ h. h faults.Moves owed))
@@ -313,6 +353,7 @@ passes g c k n faults.Cuts t = λ owed. has_cuts g (position_of n) n.body (∥�
 passes g c k n faults.Threat t = λ owed. has_threat g c.side (position_of n) n.body (∥∥₁_map t (λ h. h faults.Threat owed))
 passes g c k n faults.Root t = λ end. same_position _ _ (∥∥₁_map t (λ h. h faults.Root end))
 passes g c k n faults.Body t = same_bool _ _ (∥∥₁_map t (λ h. h faults.Body))
+passes g c k n faults.Weaker t = λ owed earlier. has_weaker c.nodes c.side (position_of n) n.body (∥∥₁_map t (λ h. h faults.Weaker owed earlier))
 
 -- a claim that is valid has its proof
 pub valid_claim : (g : Game) (c : Claim) → ∥ IsValidClaim g c ∥₁ → IsValidClaim g c

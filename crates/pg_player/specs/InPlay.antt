@@ -11,7 +11,7 @@ use Rattle.pg_graph.specs.Joiner.{Room}
 use Rattle.pg_game.specs.declared.game.Game.{Game}
 use Rattle.pg_game.specs.declared.position.Position.{Position}
 use Rattle.pg_game.specs.Position.{is_free}
-use Rattle.pg_game.specs.Game.{point_count, free_points, is_over, outcome, after, start}
+use Rattle.pg_game.specs.Game.{point_count, free_points, is_over, outcome, after, start, IsPosition}
 use Rattle.pg_game.specs.Judge.{IsMadeForGame, HasJoiner}
 use Rattle.pg_game.specs.Play.{IsLegalPlay, played}
 use Rattle.pg_game.specs.Value.{Forces}
@@ -22,12 +22,13 @@ use Rattle.pg_game.specs.Trees.{TreesHold, CutsHold}
 use Rattle.pg_cert.specs.declared.cert.Claim.{Claim}
 use Rattle.pg_cert.specs.declared.node.Node.{Node}
 use Rattle.pg_cert.specs.declared.node.Body.{Body}
-use Rattle.pg_cert.specs.declared.node.Body.TheVariants.{Over, Move, All, Pairs, Potential, Trees, Cuts, Threat}
+use Rattle.pg_cert.specs.declared.node.Body.TheVariants.{Over, Move, All, Pairs, Potential, Trees, Cuts, Threat, Weaker}
 use Rattle.pg_cert.specs.declared.reply.Reply.{Reply}
 use Rattle.pg_cert.specs.Limits.{IsClaim}
 use Rattle.pg_cert.specs.Valid.{is_allowed, IsNodeOf, FollowsMove, PotentialFits, with_e_named, IsValidClaim}
 use Rattle.pg_cert.specs.OwnMove.{Standing, own_move}
 use Rattle.pg_pairing.specs.Rest.{ArePairsOf, RestHolds, HeldBefore}
+use Rattle.pg_player.specs.Beside.{IsBeside}
 use Rattle.pg_switch.specs.Replies.{HeldUntil}
 
 -- ---- what keeps a player going at its body while the game goes on
@@ -76,6 +77,7 @@ Ready g c p Potential last = PotentialFits g.kind g p c.side
 Ready g c p (Trees with_e first second) last = HeldUntil g p (λ q. TreesHold g q (with_e_named g with_e first) second) last
 Ready g c p (Cuts with_e first second) last = HeldUntil g p (λ q. CutsHold g q (with_e_named g with_e first) second) last
 Ready g c p (Threat points) last = LeadsToLine g p c.side points
+Ready g c p (Weaker child) last = ⊥
 
 -- the other side is to move at the body
 abbrev pub Waiting : Game → Claim → Position → Body → Type 0
@@ -87,12 +89,13 @@ Waiting g c p Potential = PotentialWaiting g.kind g p c.side
 Waiting g c p (Trees with_e first second) = TreesHold g p (with_e_named g with_e first) second
 Waiting g c p (Cuts with_e first second) = CutsHold g p (with_e_named g with_e first) second
 Waiting g c p (Threat points) = MustReply g p c.side points
+Waiting g c p (Weaker child) = ⊥
 
--- the body is allowed, and while the game goes on it keeps what it needs, whoever is to move
-pub record Stands (g : Game) (c : Claim) (p : Position) (s : Standing) : Type 0 where
+-- the body is allowed, and while the imagined game goes on it keeps what it needs, whoever is to move
+pub record Stands (g : Game) (c : Claim) (s : Standing) : Type 0 where
   pub allowed : is_allowed g.kind g.bias c.side c.goal s.body ≡ true
-  pub ready : is_over g p ≡ false → p.turn ≡ c.side → Ready g c p s.body s.last
-  pub waiting : is_over g p ≡ false → p.turn ≡ other c.side → Waiting g c p s.body
+  pub ready : is_over g s.imagined ≡ false → s.imagined.turn ≡ c.side → Ready g c s.imagined s.body s.last
+  pub waiting : is_over g s.imagined ≡ false → s.imagined.turn ≡ other c.side → Waiting g c s.imagined s.body
 
 -- ---- the whole
 
@@ -107,24 +110,29 @@ pub record IsSoundClaim (g : Game) (c : Claim) : Type 0 where
   pub limits : ∥ IsClaim c ∥₁
   pub valid : IsValidClaim g c
 
--- the claim is sound, the position is reached by a legal play, the claimer forces its goal from it, and the standing fits it
-pub record InPlay (g : Game) (c : Claim) (p : Position) (s : Standing) : Type 0 where
+-- the claim is sound, the imagined position is one of the game, the claimer forces its goal from it, and the standing fits it
+pub record InPlay (g : Game) (c : Claim) (s : Standing) : Type 0 where
   pub sound : IsSoundClaim g c
-  pub reached : IsReached g p
-  pub forced : Forces g p c.side c.goal
-  pub stands : Stands g c p s
+  pub position : IsPosition g s.imagined
+  pub forced : Forces g s.imagined c.side c.goal
+  pub stands : Stands g c s
 
--- what a player keeps: it is in play, it knows the outcome, and its judge and its joiner are made for the game
+-- where the player stands it is in play, and what it imagines is beside p
+pub record GoesOn (g : Game) (c : Claim) (p : Position) (s : Standing) : Type 0 where
+  pub playing : InPlay g c s
+  pub beside : IsBeside g c.side s.imagined p
+
+-- what a player keeps: it goes on at the true position, which is reached by a legal play; it knows the outcome, and its judge and its joiner are made for the game
 pub record IsPlaying (g : Game) (c : Claim) (p : Position) (s : Standing) (ending : Option Score) (judge : Room) (joiner : Option Room) : Type 0 where
-  pub playing : InPlay g c p s
+  pub on : GoesOn g c p s
+  pub reached : IsReached g p
   pub known : ending ≡ (if is_over g p then Some (outcome g p) else None)
   pub judged : IsMadeForGame judge g
   pub joined : HasJoiner joiner g
 
--- a move that keeps the player going: it is the own move, legal, and the goal stays forced
-pub record KeepsUp (g : Game) (c : Claim) (p : Position) (s : Standing) (v : ℕ) (next : Standing) : Type 0 where
-  pub own : own_move g c.nodes c.side p s ≡ Some (record { point = v; next = Some next })
+-- an imagined move that keeps the player going: it is the own move, legal in the imagined position, and the player goes on after it
+pub record KeepsUp (g : Game) (c : Claim) (s : Standing) (v : ℕ) (next : Standing) : Type 0 where
+  pub own : own_move g c.nodes c.side s ≡ Some (record { point = v; next = Some next })
   pub within : v < point_count g
-  pub free : is_free p v ≡ true
-  pub forced : Forces g (after g p v) c.side c.goal
-  pub stands : Stands g c (after g p v) next
+  pub free : is_free s.imagined v ≡ true
+  pub on : GoesOn g c (after g s.imagined v) next

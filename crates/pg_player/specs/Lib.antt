@@ -1,3 +1,4 @@
 pub mod Player
 pub mod Stand
+pub mod Beside
 pub mod InPlay

@@ -1,4 +1,4 @@
--- What is seen of a player: the game, the claim that it plays, the position, and where it stands.
+-- What is seen of a player: the game, the claim that it plays, the position, and where it stands, with the position that it imagines.
 use Rattle.std.specs.Prelude.{◌≡◌, ◌⊎◌, ℕ, ◌<◌, Bool, true, false, ◌&&◌, Option, Some, None, Ok, find}
 use Rattle.std.specs.Option.{option_or}
 use Rattle.pg_base.specs.Side.{other, is_same_side}
@@ -12,9 +12,9 @@ use Rattle.pg_game.specs.Game.{point_count, is_over, after}
 use Rattle.pg_game.specs.Judge.{judged_move}
 use Rattle.pg_cert.specs.declared.cert.Cert.{Cert}
 use Rattle.pg_cert.specs.declared.cert.Claim.{Claim}
-use Rattle.pg_cert.specs.OwnMove.{Standing, own_move, replied}
+use Rattle.pg_cert.specs.OwnMove.{Standing, OwnMove, own_move, played_point, replied}
 
--- the game, the claim that is played, the position, and where the player stands
+-- the game, the claim that is played, the true position, and where the player stands
 pub record Play : Type 0 where
   pub game : Game
   pub claim : Claim
@@ -42,13 +42,16 @@ chosen_claim g cert side = option_or (find (is_win_of side g.turn) cert.claims) 
 
 -- ---- moves and replies
 
--- the player makes its own move v by the rule of its standing, and the move is legal
+-- the player imagines its own move by the rule of its standing, and plays in the true position the point v that stands for it, which is legal
 pub record MakesMove (before now : Play) (v : ℕ) : Type 0 where
   pub going : is_over before.game before.position ≡ false
   pub turn : before.position.turn ≡ before.claim.side
   pub within : v < point_count before.game
   pub free : is_free before.position v ≡ true
-  pub own : own_move before.game before.claim.nodes before.claim.side before.position before.standing ≡ Some (record { point = v; next = Some now.standing })
+  pub imagined : OwnMove
+  pub own : own_move before.game before.claim.nodes before.claim.side before.standing ≡ Some imagined
+  pub next : imagined.next ≡ Some now.standing
+  pub chosen : v ≡ played_point before.game before.position imagined
   pub position : now.position ≡ after before.game before.position v
   pub same_game : now.game ≡ before.game
   pub same_claim : now.claim ≡ before.claim
@@ -60,7 +63,7 @@ Waits play = (is_over play.game play.position ≡ true) ⊎ (play.position.turn 
 -- the other side takes v, which is legal
 pub record TakesReply (before now : Play) (v : ℕ) : Type 0 where
   pub legal : judged_move before.game before.position v ≡ Ok now.position
-  pub replied : replied before.claim.nodes before.standing v ≡ Some now.standing
+  pub replied : replied before.game before.claim.nodes before.standing v ≡ Some now.standing
   pub same_game : now.game ≡ before.game
   pub same_claim : now.claim ≡ before.claim
 

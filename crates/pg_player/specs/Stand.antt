@@ -1,10 +1,10 @@
 -- What the code keeps of a standing.
-use Rattle.std.specs.Prelude.{◌≡◌, ◌==◌, ◌<◌, ℕ, false, List, [], ◌∷◌, drop, length, Option, Some, None, find, slice_get}
+use Rattle.std.specs.Prelude.{◌≡◌, ◌==◌, ℕ, false, List, [], ◌∷◌, drop, Option, Some, None, find, slice_get}
 use Rattle.pg_cert.specs.declared.node.Body.{Body}
-use Rattle.pg_cert.specs.declared.node.Body.TheVariants.{Over, Move, All, Trees, Cuts, Threat}
+use Rattle.pg_cert.specs.declared.node.Body.TheVariants.{Over, Move, All, Trees, Cuts, Threat, Weaker}
 use Rattle.pg_cert.specs.declared.node.Node.{Node}
 use Rattle.pg_cert.specs.declared.reply.Reply.{Reply}
-use Rattle.pg_cert.specs.OwnMove.{Standing}
+use Rattle.pg_cert.specs.OwnMove.{Standing, settled}
 use Rattle.pg_player.specs.declared.standing.Rest.{Rest}
 use Rattle.pg_player.specs.declared.standing.Rest.TheVariants as rest
 use Rattle.pg_player.specs.declared.standing.Stand.{Stand}
@@ -30,13 +30,18 @@ body_of nodes rest.Won = Threat []
 
 -- where the player stands
 abbrev pub standing_of : List Node → Stand → Standing
-standing_of nodes s = record { body = body_of nodes s.rest; last = s.last }
+standing_of nodes s = record { body = body_of nodes s.rest; last = s.last; imagined = s.imagined }
 
--- the player can go on after the reply: where all replies are named it is one of them, with a node; and neither the game is over nor is the player to move
+-- a player that comes to the node of that number finds one to stand at
+abbrev pub Settles : List Node → ℕ → Type 0
+Settles nodes number = (n : Node) × (settled nodes number ≡ Some n)
+
+-- the player can go on after the reply: where all replies are named it is one of them, with a node to stand at; and neither is the game over nor the player to move nor does it stand at `weaker`
 abbrev pub LeadsOn : List Node → Body → ℕ → Type 0
 LeadsOn nodes Over v = ⊥
 LeadsOn nodes (Move point child) v = ⊥
-LeadsOn nodes (All replies) v = (r : Reply) × (find (λ q. q.point == v) replies ≡ Some r) × (r.child < length nodes)
+LeadsOn nodes (All replies) v = (r : Reply) × (find (λ q. q.point == v) replies ≡ Some r) × Settles nodes r.child
+LeadsOn nodes (Weaker child) v = ⊥
 LeadsOn nodes (Threat []) v = ⊥
 LeadsOn nodes (Threat (u ∷ points)) v = Unit {0}
 LeadsOn nodes _ v = Unit {0}

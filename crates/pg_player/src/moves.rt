@@ -1,10 +1,11 @@
-//! The own moves of a player.
-ghost use Rattle.std.specs.Prelude.{◌≡◌, ◌≢◌, ℕ, false, Option, drop, slice_get};
+//! The own moves of a player, in the position p that it imagines.
+ghost use Rattle.std.specs.Prelude.{◌≡◌, ◌≢◌, ◌<◌, ℕ, false, Option, drop, slice_get};
 ghost use Rattle.pg_base.specs.declared.kind.Kind.TheVariants.{Switching};
+ghost use Rattle.pg_base.specs.declared.limits.TheConstants.{MAX_MEMBERS};
 ghost use Rattle.pg_base.specs.declared.side.Side.TheVariants.{X, Y};
 ghost use Rattle.pg_cert.specs.declared.cert.Claim.{Claim};
 ghost use Rattle.pg_cert.specs.declared.node.Body.TheVariants.{Potential, Trees, Cuts, Threat};
-ghost use Rattle.pg_game.specs.Game.{is_over, IsPosition};
+ghost use Rattle.pg_game.specs.Game.{is_over, after, IsPosition};
 ghost use Rattle.pg_game.specs.Trees.{TreesHold, CutsHold};
 ghost use Rattle.pg_game.specs.Judge.{HasJoiner};
 ghost use Rattle.pg_player.specs.InPlay.{InPlay, KeepsUp};
@@ -27,13 +28,28 @@ pub(crate) struct Made {
     pub(crate) stand: Stand,
 }
 
+/// A move by which the player stays at its node, with what is left of the body.
+fn stay(g: &Game, p: &Position, point: u16, rest: Rest, last: Option<u16>) -> Made
+    requires { point < MAX_MEMBERS }
+    ensures { result ≡ record { point = point; stand = record { rest = rest; last = last; imagined = after g.now p.now point } } }
+{
+    Made {
+        point,
+        stand: Stand {
+            rest,
+            last,
+            imagined: g.after(p, point),
+        },
+    }
+}
+
 /// The own move by the potential of the game's kind.
 fn potential_point(g: &Game, claim: &Claim, p: &Position) -> u16
     requires lines { g.now.kind ≢ Switching }
     requires position { IsPosition g.now p.now }
     requires going { is_over g.now p.now ≡ false }
     requires turn { p.now.turn ≡ claim.now.side }
-    ensures { (last : Option ℕ) → InPlay g.now claim.now p.now (record { body = Potential; last = last }) → KeepsUp g.now claim.now p.now (record { body = Potential; last = last }) result (record { body = Potential; last = last }) }
+    ensures { (last : Option ℕ) → InPlay g.now claim.now (record { body = Potential; last = last; imagined = p.now }) → KeepsUp g.now claim.now (record { body = Potential; last = last; imagined = p.now }) result (record { body = Potential; last = last; imagined = after g.now p.now result }) }
 {
     match g.kind {
         Kind::AvoiderEnforcer => pg_avoider::answer(g, p),
@@ -56,19 +72,13 @@ fn trees_move(
     requires going { is_over g.now p.now ≡ false }
     requires turn { p.now.turn ≡ X }
     requires held { HeldUntil g.now p.now (λ q. TreesHold g.now q plan.first plan.second) last }
-    ensures keeps { (c : Claim) → InPlay g.now c p.now (record { body = Trees false plan.first plan.second; last = last }) → KeepsUp g.now c p.now (record { body = Trees false plan.first plan.second; last = last }) result.point (standing_of c.nodes result.stand) }
+    ensures keeps { (c : Claim) → InPlay g.now c (record { body = Trees false plan.first plan.second; last = last; imagined = p.now }) → KeepsUp g.now c (record { body = Trees false plan.first plan.second; last = last; imagined = p.now }) result.point (standing_of c.nodes result.stand) }
     ensures joined { joiner.new ≡ joiner.old }
 {
     let Some(joiner) = joiner else { unreachable!() };
     let mut plan = plan;
     let point = plan.answer(g, joiner, p, last);
-    Made {
-        point,
-        stand: Stand {
-            rest: Rest::Short(plan),
-            last,
-        },
-    }
+    stay(g, p, point, Rest::Short(plan), last)
 }
 
 /// Cut's own move by a plan.
@@ -85,19 +95,13 @@ fn cuts_move(
     requires going { is_over g.now p.now ≡ false }
     requires turn { p.now.turn ≡ Y }
     requires held { HeldUntil g.now p.now (λ q. CutsHold g.now q plan.first plan.second) last }
-    ensures keeps { (c : Claim) → InPlay g.now c p.now (record { body = Cuts false plan.first plan.second; last = last }) → KeepsUp g.now c p.now (record { body = Cuts false plan.first plan.second; last = last }) result.point (standing_of c.nodes result.stand) }
+    ensures keeps { (c : Claim) → InPlay g.now c (record { body = Cuts false plan.first plan.second; last = last; imagined = p.now }) → KeepsUp g.now c (record { body = Cuts false plan.first plan.second; last = last; imagined = p.now }) result.point (standing_of c.nodes result.stand) }
     ensures joined { joiner.new ≡ joiner.old }
 {
     let Some(joiner) = joiner else { unreachable!() };
     let mut plan = plan;
     let point = plan.answer(g, joiner, p, last);
-    Made {
-        point,
-        stand: Stand {
-            rest: Rest::Cut(plan),
-            last,
-        },
-    }
+    stay(g, p, point, Rest::Cut(plan), last)
 }
 
 /// The next attack of the threat line of the node of that number, from a place on.
@@ -109,18 +113,13 @@ fn line_move(
     from: usize,
     last: Option<u16>,
 ) -> Made
-    requires playing { InPlay g.now claim.now p.now (record { body = Threat (drop from (threat_of (body_at (slice_get claim.now.nodes number)))); last = last }) }
+    requires playing { InPlay g.now claim.now (record { body = Threat (drop from (threat_of (body_at (slice_get claim.now.nodes number)))); last = last; imagined = p.now }) }
     requires going { is_over g.now p.now ≡ false }
     requires turn { p.now.turn ≡ claim.now.side }
-    ensures { KeepsUp g.now claim.now p.now (record { body = Threat (drop from (threat_of (body_at (slice_get claim.now.nodes number)))); last = last }) result.point (standing_of claim.now.nodes result.stand) }
+    ensures { KeepsUp g.now claim.now (record { body = Threat (drop from (threat_of (body_at (slice_get claim.now.nodes number)))); last = last; imagined = p.now }) result.point (standing_of claim.now.nodes result.stand) }
 {
-    Made {
-        point: threat_at(claim, number)[from],
-        stand: Stand {
-            rest: Rest::Line(number, from + 1),
-            last,
-        },
-    }
+    let point = threat_at(claim, number)[from];
+    stay(g, p, point, Rest::Line(number, from + 1), last)
 }
 
 /// The own move at a node's body.
@@ -134,30 +133,24 @@ fn body_move(
     last: Option<u16>,
 ) -> Made
     requires body { body.now ≡ body_at (slice_get claim.now.nodes number) }
-    requires playing { InPlay g.now claim.now p.now (record { body = body.now; last = last }) }
+    requires playing { InPlay g.now claim.now (record { body = body.now; last = last; imagined = p.now }) }
     requires joined { HasJoiner joiner.old g.now }
     requires going { is_over g.now p.now ≡ false }
     requires turn { p.now.turn ≡ claim.now.side }
-    ensures keeps { KeepsUp g.now claim.now p.now (record { body = body.now; last = last }) result.point (standing_of claim.now.nodes result.stand) }
+    ensures keeps { KeepsUp g.now claim.now (record { body = body.now; last = last; imagined = p.now }) result.point (standing_of claim.now.nodes result.stand) }
     ensures joined { joiner.new ≡ joiner.old }
 {
-    let here = Stand {
-        rest: Rest::Whole(number),
-        last,
-    };
+    let whole = Rest::Whole(number);
     match body {
         Body::Move { point, child } => Made {
             point: *point,
             stand: arrive(claim, *child as usize),
         },
-        Body::Pairs(pairs) => Made {
-            point: pg_pairing::answer(g, p, pairs.as_slice(), last),
-            stand: here,
-        },
-        Body::Potential => Made {
-            point: potential_point(g, claim, p),
-            stand: here,
-        },
+        Body::Pairs(pairs) => {
+            let point = pg_pairing::answer(g, p, pairs.as_slice(), last);
+            stay(g, p, point, whole, last)
+        }
+        Body::Potential => stay(g, p, potential_point(g, claim, p), whole, last),
         Body::Trees {
             with_e,
             first,
@@ -175,27 +168,26 @@ fn body_move(
             cuts_move(g, joiner, p, plan, last)
         }
         Body::Threat(_) => line_move(g, claim, p, number, 0, last),
-        Body::Over | Body::All(_) => unreachable!(),
+        Body::Over | Body::All(_) | Body::Weaker { .. } => unreachable!(),
     }
 }
 
-/// The player's own move where it stands, in a game that goes on, and where it stands after it. It takes no memory, and
-/// leaves the joiner as it was.
-pub(crate) fn own_move(
-    g: &Game,
-    claim: &Claim,
-    joiner: &mut Option<Joiner>,
-    p: &Position,
-    stand: Stand,
-) -> Made
-    requires playing { InPlay g.now claim.now p.now (standing_of claim.now.nodes stand) }
+/// The player's own move where it stands, in an imagined game that goes on, and where it stands after it. It takes no memory,
+/// and leaves the joiner as it was.
+pub(crate) fn own_move(g: &Game, claim: &Claim, joiner: &mut Option<Joiner>, stand: Stand) -> Made
+    requires playing { InPlay g.now claim.now (standing_of claim.now.nodes stand) }
     requires joined { HasJoiner joiner.old g.now }
-    requires going { is_over g.now p.now ≡ false }
-    requires turn { p.now.turn ≡ claim.now.side }
-    ensures keeps { KeepsUp g.now claim.now p.now (standing_of claim.now.nodes stand) result.point (standing_of claim.now.nodes result.stand) }
+    requires going { is_over g.now stand.imagined ≡ false }
+    requires turn { stand.imagined.turn ≡ claim.now.side }
+    ensures keeps { KeepsUp g.now claim.now (standing_of claim.now.nodes stand) result.point (standing_of claim.now.nodes result.stand) }
     ensures joined { joiner.new ≡ joiner.old }
 {
-    let Stand { rest, last } = stand;
+    let Stand {
+        rest,
+        last,
+        imagined,
+    } = stand;
+    let p = &imagined;
     match rest {
         Rest::Whole(number) => {
             let body = body_at(claim, number);
@@ -204,13 +196,7 @@ pub(crate) fn own_move(
         Rest::Short(plan) => trees_move(g, joiner, p, plan, last),
         Rest::Cut(plan) => cuts_move(g, joiner, p, plan, last),
         Rest::Line(number, from) => line_move(g, claim, p, number, from, last),
-        Rest::Last(point) => Made {
-            point,
-            stand: Stand {
-                rest: Rest::Won,
-                last,
-            },
-        },
+        Rest::Last(point) => stay(g, p, point, Rest::Won, last),
         Rest::Won => unreachable!(),
     }
 }

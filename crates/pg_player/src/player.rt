@@ -4,7 +4,7 @@ ghost use Rattle.pg_cert.specs.OwnMove.{arrives};
 ghost use Rattle.pg_game.specs.Game.{start, is_over, outcome};
 ghost use Rattle.pg_game.specs.Judge.{judged_move};
 ghost use Rattle.pg_game.specs.Play.{IsLegalPlay, played};
-ghost use Rattle.pg_game.specs.Value.{reaches};
+ghost use Rattle.pg_game.specs.Value.{reaches, Forces};
 ghost use Rattle.pg_player.specs.Player.{Moves, Answers, MakesMove, TakesReply, Waits, chosen_claim};
 
 use crate::choice::chosen_claim;
@@ -15,14 +15,16 @@ use pg_cert::Claim;
 use pg_check::Checked;
 use pg_game::{Game, Illegal, Judge, Position, joiner_for};
 use pg_graph::Joiner;
+use pg_weaker::free_or_lowest;
 use std::alloc::Global;
 use std::marker::Model;
 
 /// A player: it makes one side's own moves by a claim of a checked certificate, and takes the other side's replies.
 ///
-/// A contract sees the game, the claim, the position and where the player stands. The position is always one after a legal
-/// play from the game's marks, and the side forces the claim's goal from it. No call after `open` takes memory, and each
-/// takes a time linear, or near-linear, in the size of the game.
+/// A contract sees the game, the claim, the position, and where the player stands, with the position that it imagines. The
+/// true position is always one after a legal play from the game's marks, and the side forces the claim's goal from it. No
+/// call after `open` takes memory, and each takes a time linear, or near-linear, in the size of the game, but for nodes that
+/// rest on weaker positions one after the other, which it passes one by one.
 #[derive(Debug, Drop)]
 pub struct Player<'a> {
     game: &'a Game,
@@ -52,7 +54,7 @@ impl<'a> Model for Player<'a> {
 
     ghost Value = { Play };
 
-    ghost coded = { code_by (Game × (Claim × (Position × (Body × Option ℕ)))) (coded× game_code.the_row.coded (coded× claim_code.the_row.coded (coded× position_code.the_row.coded (coded× body_code.the_row.coded (coded_option coded_ℕ))))) (λ s. (s.game, (s.claim, (s.position, (s.standing.body, s.standing.last))))) (λ t. record { game = t.0; claim = t.1.0; position = t.1.1.0; standing = record { body = t.1.1.1.0; last = t.1.1.1.1 } }) (λ _. refl) };
+    ghost coded = { code_by (Game × (Claim × (Position × (Body × (Option ℕ × Position))))) (coded× game_code.the_row.coded (coded× claim_code.the_row.coded (coded× position_code.the_row.coded (coded× body_code.the_row.coded (coded× (coded_option coded_ℕ) position_code.the_row.coded))))) (λ s. (s.game, (s.claim, (s.position, (s.standing.body, (s.standing.last, s.standing.imagined)))))) (λ t. record { game = t.0; claim = t.1.0; position = t.1.1.0; standing = record { body = t.1.1.1.0; last = t.1.1.1.1.0; imagined = t.1.1.1.1.1 } }) (λ _. refl) };
 
     ghost view = { λ a. record { game = a.game.now; claim = a.claim.now; position = a.position; standing = standing_of a.claim.now.nodes a.stand } };
 
@@ -70,7 +72,7 @@ pub enum OpenFault {
 
 impl<'a> Player<'a> {
     /// A player of the side at the game's marks. It plays the certificate's first claim of that side and the game's turn
-    /// whose goal is to win, else the first of that side and turn, and stands at the claim's root.
+    /// whose goal is to win, else the first of that side and turn, and comes to the claim's root.
     ///
     /// # Errors
     ///
@@ -128,10 +130,11 @@ impl<'a> Player<'a> {
         self.game.kind
     }
 
-    /// The position, which is one after a legal play from the game's marks.
+    /// The position, which is one after a legal play from the game's marks, and from which the side forces the claim's goal.
     pub fn position(&self) -> Position
         ensures exact { result ≡ self.now.position }
         ensures reached { (moves : List ℕ) × IsLegalPlay self.now.game (start self.now.game) moves × (played self.now.game (start self.now.game) moves ≡ result) }
+        ensures forced { Forces self.now.game result self.now.claim.side self.now.claim.goal }
     {
         self.position
     }
@@ -150,18 +153,13 @@ impl<'a> Player<'a> {
         requires turn { self.old.position.turn ≡ self.old.claim.side }
         ensures { MakesMove self.old self.new result }
     {
-        let made = own_move(
-            self.game,
-            self.claim,
-            &mut self.joiner,
-            &self.position,
-            self.stand,
-        );
-        let next = self.game.after(&self.position, made.point);
+        let made = own_move(self.game, self.claim, &mut self.joiner, self.stand);
+        let point = free_or_lowest(self.game, &self.position, made.point);
+        let next = self.game.after(&self.position, point);
         self.ending = self.judge.over(self.game, &next);
         self.position = next;
         self.stand = made.stand;
-        made.point
+        point
     }
 
     /// Makes one move of the player where it is to move, and tells it. None comes exactly where the game is over or the
@@ -183,8 +181,9 @@ impl<'a> Player<'a> {
         ensures same { IfErr result (λ _. self.new ≡ self.old) }
     {
         let position = self.judge.play(self.game, &self.position, v)?;
+        let reply = free_or_lowest(self.game, &self.stand.imagined, v);
         self.ending = self.judge.over(self.game, &position);
-        self.stand = replied(self.claim, self.stand.rest, v);
+        self.stand = replied(self.game, self.claim, self.stand, reply);
         self.position = position;
         Ok(())
     }

@@ -1,10 +1,15 @@
 //! Where a player stands, and where it goes.
 ghost use Rattle.std.specs.Prelude.{◌≡◌, ◌==◌, ◌<◌, ◌-◌, Some, drop, length, find, option_map, slice_get};
-ghost use Rattle.pg_cert.specs.OwnMove.{arrives, replied_by};
+ghost use Rattle.pg_base.specs.declared.limits.TheConstants.{MAX_MEMBERS};
+ghost use Rattle.pg_cert.specs.OwnMove.{settled, arrives, replied_by};
 ghost use Rattle.pg_cert.specs.declared.node.Body.TheVariants.{Threat};
-ghost use Rattle.pg_player.specs.Stand.{body_at, body_of, threat_of, standing_of, LeadsOn};
+ghost use Rattle.pg_game.specs.Game.{after};
+ghost use Rattle.pg_game.specs.declared.game.Game.{Game};
+ghost use Rattle.pg_game.specs.declared.position.Position.{Position};
+ghost use Rattle.pg_player.specs.Stand.{body_at, body_of, threat_of, standing_of, Settles, LeadsOn};
 
 use pg_cert::{Body, Claim, Reply};
+use pg_game::{Game, Position};
 use pg_switch::{CutPlan, ShortPlan};
 
 /// What is left of the body of the node where the player stands.
@@ -24,41 +29,66 @@ pub(crate) enum Rest {
     Won,
 }
 
-/// Where the player stands: what is left of the body, and the last reply since it came to its node.
+/// Where the player stands.
 #[derive(Clone, Copy, Debug)]
 pub(crate) struct Stand {
     /// What is left of the body.
     pub(crate) rest: Rest,
-    /// The last reply, and none where none has come.
+    /// The last imagined reply since the player came to the node, and none where none has come.
     pub(crate) last: Option<u16>,
+    /// The position that the player imagines.
+    pub(crate) imagined: Position,
 }
 
-/// Where a player stands that comes to the node of that number.
+/// The number of the first node from that one on, from `weaker` to its child, that has another body. Children are earlier, so
+/// no node is met twice.
+fn settle(claim: &Claim, number: usize) -> usize
+    requires { Settles claim.now.nodes number }
+    ensures { slice_get claim.now.nodes result ≡ settled claim.now.nodes number }
+{
+    let nodes = claim.nodes.as_slice();
+    let mut at = number;
+    for _step in 0..nodes.len() {
+        let Body::Weaker { child } = &nodes[at].body else {
+            return at;
+        };
+        at = *child as usize;
+    }
+    unreachable!()
+}
+
+/// Where a player stands that comes to the node of that number: it goes on to the first node with another body than `weaker`,
+/// and imagines its position.
 pub(crate) fn arrive(claim: &Claim, number: usize) -> Stand
-    requires { number < length claim.now.nodes }
+    requires { Settles claim.now.nodes number }
     ensures { arrives claim.now.nodes number ≡ Some (standing_of claim.now.nodes result) }
 {
+    let settled = settle(claim, number);
     Stand {
-        rest: Rest::Whole(number),
+        rest: Rest::Whole(settled),
         last: None,
+        imagined: claim.nodes.as_slice()[settled].position(),
     }
 }
 
-/// Where a player stands at first: at the last node of its claim.
+/// Where a player stands at first: it comes to the last node of its claim.
 pub(crate) fn root(claim: &Claim) -> Stand
-    requires { 0 < length claim.now.nodes }
+    requires some { 0 < length claim.now.nodes }
+    requires settles { Settles claim.now.nodes (length claim.now.nodes - 1) }
     ensures { arrives claim.now.nodes (length claim.now.nodes - 1) ≡ Some (standing_of claim.now.nodes result) }
 {
     arrive(claim, claim.nodes.as_slice().len() - 1)
 }
 
-/// Where a player stands that stays after a reply.
-fn stay(rest: Rest, v: u16) -> Stand
-    ensures { result ≡ record { rest = rest; last = Some v } }
+/// Where a player stands that stays after the reply w, which it imagines in the position q.
+fn stay(g: &Game, rest: Rest, q: &Position, w: u16) -> Stand
+    requires { w < MAX_MEMBERS }
+    ensures { result ≡ record { rest = rest; last = Some w; imagined = after g.now q.now w } }
 {
     Stand {
         rest,
-        last: Some(v),
+        last: Some(w),
+        imagined: g.after(q, w),
     }
 }
 
@@ -92,43 +122,48 @@ pub(crate) fn threat_at(claim: &Claim, number: usize) -> &[u16]
 
 /// What is left of the threat line from a place on after a reply: the rest where the point there was taken, and else that
 /// point.
-fn line_replied(claim: &Claim, number: usize, from: usize, v: u16) -> Rest
-    requires { LeadsOn claim.now.nodes (Threat (drop from (threat_of (body_at (slice_get claim.now.nodes number))))) v }
-    ensures { replied_by (Threat (drop from (threat_of (body_at (slice_get claim.now.nodes number))))) claim.now.nodes v ≡ Some (record { body = body_of claim.now.nodes result; last = Some v }) }
+fn line_replied(claim: &Claim, number: usize, from: usize, w: u16) -> Rest
+    requires { LeadsOn claim.now.nodes (Threat (drop from (threat_of (body_at (slice_get claim.now.nodes number))))) w }
+    ensures { (g : Game) → (q : Position) → replied_by (Threat (drop from (threat_of (body_at (slice_get claim.now.nodes number))))) g claim.now.nodes q w ≡ Some (record { body = body_of claim.now.nodes result; last = Some w; imagined = after g q w }) }
 {
     let u = threat_at(claim, number)[from];
-    if u == v {
+    if u == w {
         Rest::Line(number, from + 1)
     } else {
         Rest::Last(u)
     }
 }
 
-/// Where the player stands at a node's body after a reply: on at the child where all replies are named, else it stays.
-fn body_replied(claim: &Claim, number: usize, body: &Body, v: u16) -> Stand
+/// Where the player stands at a node's body after the reply w, which it imagines in the position q: on at the child where all
+/// replies are named, else it stays.
+fn body_replied(g: &Game, claim: &Claim, number: usize, body: &Body, q: &Position, w: u16) -> Stand
     requires body { body.now ≡ body_at (slice_get claim.now.nodes number) }
-    requires leads { LeadsOn claim.now.nodes body.now v }
-    ensures { replied_by body.now claim.now.nodes v ≡ Some (standing_of claim.now.nodes result) }
+    requires leads { LeadsOn claim.now.nodes body.now w }
+    requires small { w < MAX_MEMBERS }
+    ensures { replied_by body.now g.now claim.now.nodes q.now w ≡ Some (standing_of claim.now.nodes result) }
 {
     match body {
-        Body::All(replies) => match find_reply(replies.as_slice(), v) {
+        Body::All(replies) => match find_reply(replies.as_slice(), w) {
             Some(reply) => arrive(claim, reply.child as usize),
             None => unreachable!(),
         },
-        Body::Threat(_) => stay(line_replied(claim, number, 0, v), v),
-        _ => stay(Rest::Whole(number), v),
+        Body::Threat(_) => stay(g, line_replied(claim, number, 0, w), q, w),
+        _ => stay(g, Rest::Whole(number), q, w),
     }
 }
 
-/// Where the player stands after a legal reply of the other side, by what was left of its body.
-pub(crate) fn replied(claim: &Claim, rest: Rest, v: u16) -> Stand
-    requires { LeadsOn claim.now.nodes (body_of claim.now.nodes rest) v }
-    ensures { replied_by (body_of claim.now.nodes rest) claim.now.nodes v ≡ Some (standing_of claim.now.nodes result) }
+/// Where the player stands after a reply w that is legal in the position that it imagines, and that it imagines there.
+pub(crate) fn replied(g: &Game, claim: &Claim, stand: Stand, w: u16) -> Stand
+    requires leads { LeadsOn claim.now.nodes (body_of claim.now.nodes stand.rest) w }
+    requires small { w < MAX_MEMBERS }
+    ensures { replied_by (body_of claim.now.nodes stand.rest) g.now claim.now.nodes stand.imagined w ≡ Some (standing_of claim.now.nodes result) }
 {
+    let Stand { rest, imagined, .. } = stand;
+    let q = &imagined;
     match rest {
-        Rest::Whole(number) => body_replied(claim, number, body_at(claim, number), v),
-        Rest::Line(number, from) => stay(line_replied(claim, number, from, v), v),
-        Rest::Last(u) => stay(if u == v { Rest::Won } else { rest }, v),
-        Rest::Short(_) | Rest::Cut(_) | Rest::Won => stay(rest, v),
+        Rest::Whole(number) => body_replied(g, claim, number, body_at(claim, number), q, w),
+        Rest::Line(number, from) => stay(g, line_replied(claim, number, from, w), q, w),
+        Rest::Last(u) => stay(g, if u == w { Rest::Won } else { rest }, q, w),
+        Rest::Short(_) | Rest::Cut(_) | Rest::Won => stay(g, rest, q, w),
     }
 }

@@ -1,23 +1,27 @@
 use Rattle.std.proofs.Common.{◌≡◌, ◌∙◌, subst, sym, ap, ap₂}
+use Rattle.pg_game.specs.Game.{after}
 use Rattle.pg_cert.specs.declared.node.Body.{Body}
 use Rattle.pg_cert.specs.declared.node.Body.TheVariants.{Pairs, Trees, Cuts}
 use Rattle.pg_player.specs.InPlay.{InPlay, KeepsUp}
 use Rattle.pg_player.specs.Stand.{standing_of}
-use Rattle.pg_player.proofs.Plays.{IsPosition-reached, not-full}
+use Rattle.pg_player.specs.declared.moves.Made.{Made}
+use Rattle.pg_player.proofs.Arriving.{Settles-node}
+use Rattle.pg_player.proofs.Going.{small}
+use Rattle.pg_player.proofs.Plays.{not-full}
 use Rattle.pg_player.proofs.Keeping.{keeps-move, keeps-pairs, trees-held, cuts-held, trees-whole, cuts-whole}
 use Rattle.pg_player.proofs.moves.body_move.Goals as goal
 
-pub answer-requires-clause-position : goal.answer-requires-clause-position
-answer-requires-clause-position c = IsPosition-reached c.args.g.now c.args.p.now c.requires.playing.reached
+pub answer-point-requires-clause-position : goal.answer-point-requires-clause-position
+answer-point-requires-clause-position c = c.requires.playing.position
 
-pub answer-requires-clause-some_free : goal.answer-requires-clause-some_free
-answer-requires-clause-some_free c = not-full c.args.g.now c.args.p.now c.requires.going
+pub answer-point-requires-clause-some_free : goal.answer-point-requires-clause-some_free
+answer-point-requires-clause-some_free c = not-full c.args.g.now c.args.p.now c.requires.going
 
 pub potential_point-requires-clause-position : goal.potential_point-requires-clause-position
-potential_point-requires-clause-position c = IsPosition-reached c.args.g.now c.args.p.now c.requires.playing.reached
+potential_point-requires-clause-position c = c.requires.playing.position
 
 pub trees_move-requires-clause-position : goal.trees_move-requires-clause-position
-trees_move-requires-clause-position c = IsPosition-reached c.args.g.now c.args.p.now c.requires.playing.reached
+trees_move-requires-clause-position c = c.requires.playing.position
 
 pub trees_move-requires-clause-held : goal.trees_move-requires-clause-held
 trees_move-requires-clause-held c =
@@ -26,7 +30,7 @@ trees_move-requires-clause-held c =
     (c.start-plan.ensures.first ∙ c.with_e_named.ensures) c.start-plan.ensures.second whole c.requires.playing c.requires.going c.requires.turn
 
 pub cuts_move-requires-clause-position : goal.cuts_move-requires-clause-position
-cuts_move-requires-clause-position c = IsPosition-reached c.args.g.now c.args.p.now c.requires.playing.reached
+cuts_move-requires-clause-position c = c.requires.playing.position
 
 pub cuts_move-requires-clause-held : goal.cuts_move-requires-clause-held
 cuts_move-requires-clause-held c =
@@ -34,28 +38,53 @@ cuts_move-requires-clause-held c =
     cuts-held c.args.g.now c.args.claim.now c.args.p.now c.args.body.now c.in-Cuts.with_e c.as_set-in-Cuts.result.now c.as_set-in-Cuts-2.result.now c.args.last c.start-plan-in-Cuts.result.first c.start-plan-in-Cuts.result.second
     (c.start-plan-in-Cuts.ensures.first ∙ c.with_e_named-in-Cuts.ensures) c.start-plan-in-Cuts.ensures.second whole c.requires.playing c.requires.going c.requires.turn
 
+pub arrive-requires : goal.arrive-requires
+arrive-requires c =
+    let h = subst (λ (b : Body). InPlay c.args.g.now c.args.claim.now (record { body = b; last = c.args.last; imagined = c.args.p.now })) c.in-Move.is c.requires.playing in
+    let next = (h.stands.ready c.requires.going c.requires.turn).next in
+    Settles-node c.args.g.now c.args.claim.now h.sound c.in-Move.child next.node next.at
+
 pub returns-in-Move-clause-keeps : goal.returns-in-Move-clause-keeps
 returns-in-Move-clause-keeps c =
-    let h = subst (λ (b : Body). InPlay c.args.g.now c.args.claim.now c.args.p.now (record { body = b; last = c.args.last })) c.in-Move.is c.requires.playing in
-    subst (λ (b : Body). KeepsUp c.args.g.now c.args.claim.now c.args.p.now (record { body = b; last = c.args.last }) c.in-Move.point (standing_of c.args.claim.now.nodes c.arrive.result)) (sym c.in-Move.is)
+    let h = subst (λ (b : Body). InPlay c.args.g.now c.args.claim.now (record { body = b; last = c.args.last; imagined = c.args.p.now })) c.in-Move.is c.requires.playing in
+    subst (λ (b : Body). KeepsUp c.args.g.now c.args.claim.now (record { body = b; last = c.args.last; imagined = c.args.p.now }) c.in-Move.point (standing_of c.args.claim.now.nodes c.arrive.result)) (sym c.in-Move.is)
     (keeps-move c.args.g.now c.args.claim.now c.args.p.now c.in-Move.point c.in-Move.child c.args.last (standing_of c.args.claim.now.nodes c.arrive.result) h c.requires.going c.requires.turn c.arrive.ensures)
+
+pub stay-requires : goal.stay-requires
+stay-requires c = small c.args.g.now c.answer-point.result c.answer-point.ensures.within
 
 pub returns-in-Pairs-clause-keeps : goal.returns-in-Pairs-clause-keeps
 returns-in-Pairs-clause-keeps c =
+    let g = c.args.g.now in
+    let claim = c.args.claim.now in
+    let p = c.args.p.now in
+    let last = c.args.last in
+    let v = c.answer-point.result in
     let whole = c.in-Pairs.is ∙ ap Pairs (sym c.as_slice.ensures) in
-    let h = subst (λ (b : Body). InPlay c.args.g.now c.args.claim.now c.args.p.now (record { body = b; last = c.args.last })) whole c.requires.playing in
-    let e = c.answer.ensures in
-    subst (λ (b : Body). KeepsUp c.args.g.now c.args.claim.now c.args.p.now (record { body = c.args.body.now; last = c.args.last }) c.answer.result (record { body = b; last = c.args.last })) c.requires.body
-    (subst (λ (b : Body). KeepsUp c.args.g.now c.args.claim.now c.args.p.now (record { body = b; last = c.args.last }) c.answer.result (record { body = b; last = c.args.last })) (sym whole)
-    (keeps-pairs c.args.g.now c.args.claim.now c.args.p.now c.as_slice.result.now c.args.last c.answer.result h c.requires.going c.requires.turn
-    (record { rule = e.rule; within = e.within; free = e.free; replied = e.keeps_replied; unreplied = e.keeps_unreplied; in_turn = e.keeps_in_turn })))
+    let h = subst (λ (b : Body). InPlay g claim (record { body = b; last = last; imagined = p })) whole c.requires.playing in
+    let e = c.answer-point.ensures in
+    let kept = keeps-pairs g claim p c.as_slice.result.now last v h c.requires.going c.requires.turn
+    (record { rule = e.rule; within = e.within; free = e.free; replied = e.keeps_replied; unreplied = e.keeps_unreplied; in_turn = e.keeps_in_turn }) in
+    subst (λ (m : Made). KeepsUp g claim (record { body = c.args.body.now; last = last; imagined = p }) m.point (standing_of claim.nodes m.stand)) (sym c.stay.ensures)
+    (subst (λ (b : Body). KeepsUp g claim (record { body = c.args.body.now; last = last; imagined = p }) v (record { body = b; last = last; imagined = after g p v })) c.requires.body
+    (subst (λ (b : Body). KeepsUp g claim (record { body = b; last = last; imagined = p }) v (record { body = b; last = last; imagined = after g p v })) (sym whole) kept))
+
+pub stay-requires-in-Potential : goal.stay-requires-in-Potential
+stay-requires-in-Potential c =
+    let h = subst (λ (b : Body). InPlay c.args.g.now c.args.claim.now (record { body = b; last = c.args.last; imagined = c.args.p.now })) c.in-Potential.is c.requires.playing in
+    small c.args.g.now c.potential_point.result (c.potential_point.ensures c.args.last h).within
 
 pub returns-in-Potential-clause-keeps : goal.returns-in-Potential-clause-keeps
 returns-in-Potential-clause-keeps c =
-    let h = subst (λ (b : Body). InPlay c.args.g.now c.args.claim.now c.args.p.now (record { body = b; last = c.args.last })) c.in-Potential.is c.requires.playing in
-    subst (λ (b : Body). KeepsUp c.args.g.now c.args.claim.now c.args.p.now (record { body = c.args.body.now; last = c.args.last }) c.potential_point.result (record { body = b; last = c.args.last })) c.requires.body
-    (subst (λ (b : Body). KeepsUp c.args.g.now c.args.claim.now c.args.p.now (record { body = b; last = c.args.last }) c.potential_point.result (record { body = b; last = c.args.last })) (sym c.in-Potential.is)
-    (c.potential_point.ensures c.args.last h))
+    let g = c.args.g.now in
+    let claim = c.args.claim.now in
+    let p = c.args.p.now in
+    let last = c.args.last in
+    let v = c.potential_point.result in
+    let h = subst (λ (b : Body). InPlay g claim (record { body = b; last = last; imagined = p })) c.in-Potential.is c.requires.playing in
+    subst (λ (m : Made). KeepsUp g claim (record { body = c.args.body.now; last = last; imagined = p }) m.point (standing_of claim.nodes m.stand)) (sym c.stay-in-Potential.ensures)
+    (subst (λ (b : Body). KeepsUp g claim (record { body = c.args.body.now; last = last; imagined = p }) v (record { body = b; last = last; imagined = after g p v })) c.requires.body
+    (subst (λ (b : Body). KeepsUp g claim (record { body = b; last = last; imagined = p }) v (record { body = b; last = last; imagined = after g p v })) (sym c.in-Potential.is) (c.potential_point.ensures last h)))
 
 pub returns-in-Trees-clause-keeps : goal.returns-in-Trees-clause-keeps
 returns-in-Trees-clause-keeps c =

@@ -1,9 +1,18 @@
-use Rattle.std.proofs.Common.{sym, ◌∙◌}
+use Rattle.std.proofs.Common.{false, sym, subst, ◌∙◌}
+use Rattle.pg_cert.specs.declared.node.Body.TheVariants.{Cuts}
+use Rattle.pg_player.specs.InPlay.{KeepsUp}
+use Rattle.pg_player.specs.Stand.{standing_of}
+use Rattle.pg_player.specs.declared.moves.Made.{Made}
+use Rattle.pg_player.proofs.Going.{small}
 use Rattle.pg_player.proofs.Keeping.{cuts_kind, keeps-cuts}
 use Rattle.pg_player.proofs.moves.cuts_move.Goals as goal
+
+pub stay-requires : goal.stay-requires
+stay-requires c = small c.args.g.now c.answer-point.result c.answer-point.ensures.within
 
 pub returns-clause-keeps : goal.returns-clause-keeps
 returns-clause-keeps c = λ claim h.
     let e = c.answer-point.ensures in
     let mine = c.requires.turn ∙ sym (cuts_kind c.args.g.now.kind claim.side h.stands.allowed).1 in
-    keeps-cuts c.args.g.now claim c.args.p.now c.args.plan.first c.args.plan.second c.args.last c.answer-point.result c.answer-point.new.self.first c.answer-point.new.self.second h c.requires.going mine e.rule e.within e.free e.holds
+    subst (λ (m : Made). KeepsUp c.args.g.now claim (record { body = Cuts false c.args.plan.first c.args.plan.second; last = c.args.last; imagined = c.args.p.now }) m.point (standing_of claim.nodes m.stand)) (sym c.stay.ensures)
+    (keeps-cuts c.args.g.now claim c.args.p.now c.args.plan.first c.args.plan.second c.args.last c.answer-point.result c.answer-point.new.self.first c.answer-point.new.self.second h c.requires.going mine e.rule e.within e.free e.holds)

@@ -1,25 +1,33 @@
 use Rattle.std.proofs.Common.{[], sym, subst}
+use Rattle.pg_game.specs.Game.{after}
 use Rattle.pg_cert.specs.declared.node.Body.TheVariants.{Threat}
+use Rattle.pg_player.specs.declared.moves.Made.{Made}
 use Rattle.pg_player.specs.declared.standing.Rest.{Rest}
 use Rattle.pg_player.specs.InPlay.{InPlay, KeepsUp}
-use Rattle.pg_player.specs.Stand.{body_of}
+use Rattle.pg_player.specs.Stand.{body_of, standing_of}
+use Rattle.pg_player.proofs.Going.{small}
 use Rattle.pg_player.proofs.Keeping.{keeps-threat}
-use Rattle.pg_player.proofs.Plays.{IsPosition-reached}
 use Rattle.pg_player.proofs.moves.own_move.Goals as goal
 
 pub trees_move-requires-clause-position : goal.trees_move-requires-clause-position
-trees_move-requires-clause-position c = IsPosition-reached c.args.g.now c.args.p.now c.requires.playing.reached
+trees_move-requires-clause-position c = c.requires.playing.position
 
 pub cuts_move-requires-clause-position : goal.cuts_move-requires-clause-position
-cuts_move-requires-clause-position c = IsPosition-reached c.args.g.now c.args.p.now c.requires.playing.reached
+cuts_move-requires-clause-position c = c.requires.playing.position
+
+pub stay-requires : goal.stay-requires
+stay-requires c =
+    let s = c.args.stand in
+    let h = subst (λ (r : Rest). InPlay c.args.g.now c.args.claim.now (record { body = body_of c.args.claim.now.nodes r; last = s.last; imagined = s.imagined })) c.in-Last.is c.requires.playing in
+    small c.args.g.now c.in-Last.point (keeps-threat c.args.g.now c.args.claim.now s.imagined c.in-Last.point [] s.last h c.requires.going c.requires.turn).within
 
 pub returns-in-Last-clause-keeps : goal.returns-in-Last-clause-keeps
 returns-in-Last-clause-keeps c =
     let g = c.args.g.now in
     let claim = c.args.claim.now in
-    let p = c.args.p.now in
+    let s = c.args.stand in
     let u = c.in-Last.point in
-    let last = c.args.stand.last in
-    let h = subst (λ (r : Rest). InPlay g claim p (record { body = body_of claim.nodes r; last = last })) c.in-Last.is c.requires.playing in
-    subst (λ (r : Rest). KeepsUp g claim p (record { body = body_of claim.nodes r; last = last }) u (record { body = Threat []; last = last })) (sym c.in-Last.is)
-    (keeps-threat g claim p u [] last h c.requires.going c.requires.turn)
+    let h = subst (λ (r : Rest). InPlay g claim (record { body = body_of claim.nodes r; last = s.last; imagined = s.imagined })) c.in-Last.is c.requires.playing in
+    let kept = keeps-threat g claim s.imagined u [] s.last h c.requires.going c.requires.turn in
+    subst (λ (m : Made). KeepsUp g claim (standing_of claim.nodes s) m.point (standing_of claim.nodes m.stand)) (sym c.stay.ensures)
+    (subst (λ (r : Rest). KeepsUp g claim (record { body = body_of claim.nodes r; last = s.last; imagined = s.imagined }) u (record { body = Threat []; last = s.last; imagined = after g s.imagined u })) (sym c.in-Last.is) kept)
