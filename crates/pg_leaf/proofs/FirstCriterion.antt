@@ -153,7 +153,7 @@ end-leaf g t p r b is at ask position =
     let reached = subst (λ c. reaches (claimer c) (claimed_goal g.kind t c) (outcome g p) ≡ true) (sym o.1) (claim-reached g.kind t (has_filled g p X) (has_filled g p Y) (short_joins g p) ask) in
     record {
       holds = λ nodes k. record {
-        owes = record { position = position; allowed = refl; turn = tt; free = tt; end = (o.0, reached); pairs = tt; potential = tt; trees = tt; cuts = tt; threat = tt };
+        owes = record { position = position; allowed = refl; turn = tt; free = tt; end = (o.0, reached); pairs = tt; potential = tt; trees = tt; cuts = tt; threat = tt; version = refl };
         range = tt;
         earlier = tt;
         follows = tt;
@@ -196,7 +196,7 @@ potential-fits g p Switching t h = absurd (false≢true h)
 pub potential-leaf : (g : Game) (t : Score) (p : Position) → is_over g p ≡ false → defends g.kind g t p ≡ true → IsQuestion g.kind t → g.kind ≢ Switching → IsPosition g p → IsLeaf g t p (answer_for (defender g.kind t)) Potential
 potential-leaf g t p going h ask line position = record {
   holds = λ nodes k. record {
-    owes = record { position = position; allowed = defence-shown g.kind t ask line; turn = tt; free = tt; end = tt; pairs = tt; potential = potential-fits g p g.kind t h; trees = tt; cuts = tt; threat = tt };
+    owes = record { position = position; allowed = defence-shown g.kind t ask line; turn = tt; free = tt; end = tt; pairs = tt; potential = potential-fits g p g.kind t h; trees = tt; cuts = tt; threat = tt; version = refl };
     range = tt;
     earlier = tt;
     follows = tt;
@@ -252,6 +252,7 @@ threat-leaf g t p points going weak h line position = record {
       trees = tt;
       cuts = tt;
       threat = subst (λ (s : Side). IsThreatLine g p s points) (sym (claimer-answer p.turn)) line.line;
+      version = refl;
     };
     range = (line.range, line.odd);
     earlier = tt;
@@ -286,6 +287,7 @@ pairs-leaf g t p pairs going weak slow h hold ask line position = record {
       trees = tt;
       cuts = tt;
       threat = tt;
+      version = refl;
     };
     range = pairs-within g pairs p (defender g.kind t) hold;
     earlier = tt;

@@ -10,7 +10,7 @@ use Rattle.pg_game.specs.Decided.Criterion.{ByEnd, ByPotential, ByThreat, ByPair
 use Rattle.pg_game.specs.Threat.{IsThreatLine}
 use Rattle.pg_cert.specs.declared.node.Node.{Node}
 use Rattle.pg_cert.specs.declared.node.Body.{Body}
-use Rattle.pg_cert.specs.declared.node.Body.TheVariants.{Over, Move, All as AllReplies, Pairs, Potential, Trees, Cuts, Threat}
+use Rattle.pg_cert.specs.declared.node.Body.TheVariants.{Over, Move, All as AllReplies, Pairs, Potential, Trees, Cuts, Threat, Weaker}
 use Rattle.pg_prune.specs.Sound.{BodyHolds}
 
 -- the criterion by which a body shows the answer, where it is by one
@@ -23,6 +23,7 @@ criterion_of Potential = Some ByPotential
 criterion_of (Trees with_e first second) = None
 criterion_of (Cuts with_e first second) = None
 criterion_of (Threat points) = Some ByThreat
+criterion_of (Weaker child) = None
 
 -- the points are a threat line of the side to move, an odd number of points
 pub record IsAttackLine (g : Game) (p : Position) (points : List ℕ) : Type 0 where

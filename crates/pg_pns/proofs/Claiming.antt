@@ -7,10 +7,10 @@ use Rattle.std.specs.List.{Contains, count_by}
 use Rattle.pg_game.specs.declared.position.Position.{Position}
 use Rattle.pg_base.specs.declared.side.Side.{Side}
 use Rattle.pg_cert.specs.declared.node.Body.{Body}
-use Rattle.pg_cert.specs.declared.node.Body.TheVariants.{Over, Move, All as AllReplies, Pairs, Potential, Trees, Cuts, Threat}
+use Rattle.pg_cert.specs.declared.node.Body.TheVariants.{Over, Move, All as AllReplies, Pairs, Potential, Trees, Cuts, Threat, Weaker}
 use Rattle.pg_cert.specs.declared.node.Node.{Node}
 use Rattle.pg_prune.proofs.Nodes.{nodes-cut}
-use Rattle.pg_pns.proofs.ValidNodes.{valid-claim, within-limits}
+use Rattle.pg_pns.proofs.ValidNodes.{valid-claim, within-limits, of-version}
 use Rattle.pg_game.specs.declared.game.Game.{Game}
 use Rattle.pg_base.specs.declared.goal.Goal.{Goal}
 use Rattle.pg_base.specs.declared.score.Score.{Score}
@@ -105,6 +105,7 @@ renumbers-kind numbers Potential new h = ap criterion_of h
 renumbers-kind numbers (Trees e first second) new h = ap criterion_of h
 renumbers-kind numbers (Cuts e first second) new h = ap criterion_of h
 renumbers-kind numbers (Threat points) new h = ap criterion_of h
+renumbers-kind numbers (Weaker child) new h = ap criterion_of h.2
 
 module _ (g : Game) (t : Score) (list : List Position) (b : Bool) (nodes out : List Node) (marks : List Bool) (numbers : List ℕ) (are : AreNodesOf g t list b nodes) (marked : AreMarked nodes 0 marks) (is : IsPruned nodes marks (length nodes) numbers out) where
   out-hold : NodesHold g (claimer b) (claimed_goal g.kind t b) out
@@ -173,7 +174,8 @@ claim-of g t list b c are used turn side goal = record {
   side = side;
   goal = goal;
   valid = valid-claim g c hold are.root.0 are.root.1 count are.root.3 starts;
-  limits = λ single. within-limits g c hold are.root.0 are.root.1 count are.root.3 starts single are.limit;
+  limits = within-limits g c hold are.root.0 are.root.1 count are.root.3 starts are.limit;
+  version = of-version g c hold are.root.0 are.root.1 count are.root.3 starts;
   leaf = are.leaf;
   root = are.root;
   different = are.different;

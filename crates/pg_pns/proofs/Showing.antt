@@ -15,7 +15,7 @@ use Rattle.pg_base.specs.Side.{other}
 use Rattle.pg_game.specs.Position.{is_free}
 use Rattle.pg_cert.specs.declared.node.Node.{Node}
 use Rattle.pg_cert.specs.declared.node.Body.{Body}
-use Rattle.pg_cert.specs.declared.node.Body.TheVariants.{Over, Move, All, Pairs, Potential, Trees, Cuts, Threat}
+use Rattle.pg_cert.specs.declared.node.Body.TheVariants.{Over, Move, All, Pairs, Potential, Trees, Cuts, Threat, Weaker}
 use Rattle.pg_cert.specs.declared.reply.Reply.{Reply}
 use Rattle.pg_text.specs.Text.{ascend_from}
 use Rattle.pg_cert.specs.Valid.{IsNodeOf}
@@ -65,6 +65,7 @@ body-criterion turn moves answers b Potential h = absurd h
 body-criterion turn moves answers b (Trees e first second) h = absurd h
 body-criterion turn moves answers b (Cuts e first second) h = absurd h
 body-criterion turn moves answers b (Threat points) h = absurd h
+body-criterion turn moves answers b (Weaker child) h = absurd h
 
 free-point_of : (g : Game) (p : Position) (ms : List (ℕ × ℕ)) (m : ℕ × ℕ) → map (λ r. r.0) ms ≡ free_points g p → Contains ms m → (m.0 < point_count g) × (is_free p m.0 ≡ true)
 free-point_of g p ms m points c = in_free_points g p m.0 (subst (λ vs. Contains vs m.0) points (Contains-map (λ (r : ℕ × ℕ). r.0) ms m c))
@@ -121,7 +122,7 @@ module _ (g : Game) (t : Score) (positions : List Position) (moves : List (List 
       let number = child-number b m child h.1.shown in
       let most = point_count-le g in
       record {
-        owes = record { position = shape.fits place p pos_at; allowed = refl; turn = turn-wanted b p.turn h.0; free = inside; end = going; pairs = tt; potential = tt; trees = tt; cuts = tt; threat = tt };
+        owes = record { position = shape.fits place p pos_at; allowed = refl; turn = turn-wanted b p.turn h.0; free = inside; end = going; pairs = tt; potential = tt; trees = tt; cuts = tt; threat = tt; version = refl };
         range = (omega (arith, inside.0, most), omega (arith, number, few));
         earlier = number;
         follows = record { leads = λ range free. child-from_shown b m child h.1.member h.1.shown };
@@ -130,7 +131,7 @@ module _ (g : Game) (t : Score) (positions : List Position) (moves : List (List 
       let points = replied b replies h.1 in
       let most = point_count-le g in
       record {
-        owes = record { position = shape.fits place p pos_at; allowed = refl; turn = turn-other b p.turn h.0; free = points; end = going; pairs = tt; potential = tt; trees = tt; cuts = tt; threat = tt };
+        owes = record { position = shape.fits place p pos_at; allowed = refl; turn = turn-other b p.turn h.0; free = points; end = going; pairs = tt; potential = tt; trees = tt; cuts = tt; threat = tt; version = refl };
         range = (
           λ k d lt.
               let f = reply-at b replies h.1 k d lt in
@@ -147,6 +148,7 @@ module _ (g : Game) (t : Score) (positions : List Position) (moves : List (List 
   body-by b goal (Trees e first second) few h = absurd h
   body-by b goal (Cuts e first second) few h = absurd h
   body-by b goal (Threat points) few h = absurd h
+  body-by b goal (Weaker child) few h = absurd h
 
 -- ---- with one more answer and its node
 

@@ -15,7 +15,7 @@ use Rattle.pg_cert.specs.Node.{position_of}
 use Rattle.pg_text.specs.Text.{ascend_from}
 use Rattle.pg_cert.specs.Valid.{IsNodeOf, NamesEarlier}
 use Rattle.pg_cert.specs.declared.node.Body.{Body}
-use Rattle.pg_cert.specs.declared.node.Body.TheVariants.{Over, Move, All as AllReplies, Pairs, Potential, Trees, Cuts, Threat}
+use Rattle.pg_cert.specs.declared.node.Body.TheVariants.{Over, Move, All as AllReplies, Pairs, Potential, Trees, Cuts, Threat, Weaker}
 use Rattle.pg_cert.specs.declared.node.Node.{Node}
 use Rattle.pg_cert.specs.declared.reply.Reply.{Reply}
 use Rattle.pg_prune.specs.Sound.{BodyHolds}
@@ -81,6 +81,7 @@ names-earlier Potential k i e n = absurd n
 names-earlier (Trees e1 first second) k i e n = absurd n
 names-earlier (Cuts e1 first second) k i e n = absurd n
 names-earlier (Threat points) k i e n = absurd n
+names-earlier (Weaker child) k i e n = omega (arith, e, n)
 
 -- ---- all marks
 
@@ -162,6 +163,7 @@ renumbers-more numbers x Potential new h = h
 renumbers-more numbers x (Trees e first second) new h = h
 renumbers-more numbers x (Cuts e first second) new h = h
 renumbers-more numbers x (Threat points) new h = h
+renumbers-more numbers x (Weaker child) new h = (h.0, at_old numbers x h.0 child h.1, h.2)
 
 -- what the new body names comes from what the old one names
 pub renumbers-names : (numbers : List ℕ) (old new : Body) (i d : ℕ) → Renumbers numbers old new → Names old i → slice_get numbers i ≡ Some d → Names new d
@@ -178,6 +180,8 @@ renumbers-names numbers Potential new i d h n at = absurd n
 renumbers-names numbers (Trees e first second) new i d h n at = absurd n
 renumbers-names numbers (Cuts e first second) new i d h n at = absurd n
 renumbers-names numbers (Threat points) new i d h n at = absurd n
+renumbers-names numbers (Weaker child) new i d h n at =
+    subst (λ (b : Body). Names b d) (sym h.2) (one_at numbers i h.0 d (ap (slice_get numbers) (sym n) ∙ h.1) at)
 
 -- ---- the body of a node that is kept
 
@@ -205,7 +209,7 @@ module _ (g : Game) (side : Side) (goal : Goal) (nodes out : List Node) (k : ℕ
       let points : map (λ (r : Reply). r.point) others ≡ map (λ (r : Reply). r.point) replies =
       map-same_at (λ (r : Reply). r.point) (λ (r : Reply). r.point) others replies are.count (λ n r m r_at m_at. let f = are.each n m m_at in ap (λ (s : Reply). s.point) (one_at others n r (record { point = m.point; child = f.0 }) r_at f.2)) in
       record {
-        owes = record { position = h.owes.position; allowed = refl; turn = h.owes.turn; free = points ∙ h.owes.free; end = h.owes.end; pairs = tt; potential = tt; trees = tt; cuts = tt; threat = tt };
+        owes = record { position = h.owes.position; allowed = refl; turn = h.owes.turn; free = points ∙ h.owes.free; end = h.owes.end; pairs = tt; potential = tt; trees = tt; cuts = tt; threat = tt; version = refl };
         range = (
           λ n d lt.
               let f = reply-from more replies others n d are lt in
@@ -226,7 +230,7 @@ module _ (g : Game) (side : Side) (goal : Goal) (nodes out : List Node) (k : ℕ
   body-moved (Move point c) new e each h =
       let low = below c e.0 (each c refl) h.earlier e.1 in
       subst (λ (b : Body). BodyHolds g side goal out (length out) p b) (sym e.2) (record {
-        owes = record { position = h.owes.position; allowed = refl; turn = h.owes.turn; free = h.owes.free; end = h.owes.end; pairs = tt; potential = tt; trees = tt; cuts = tt; threat = tt };
+        owes = record { position = h.owes.position; allowed = refl; turn = h.owes.turn; free = h.owes.free; end = h.owes.end; pairs = tt; potential = tt; trees = tt; cuts = tt; threat = tt; version = refl };
         range = (h.range.0, omega (arith, low, few));
         earlier = low;
         follows = record { leads = λ range free. child c e.0 (after g p point) (each c refl) h.earlier e.1 (h.follows.leads range free) };
@@ -237,6 +241,7 @@ module _ (g : Game) (side : Side) (goal : Goal) (nodes out : List Node) (k : ℕ
   body-moved (Trees f first second) new e each h = subst (λ (b : Body). BodyHolds g side goal out (length out) p b) (sym e) (record { owes = h.owes; range = h.range; earlier = h.earlier; follows = h.follows })
   body-moved (Cuts f first second) new e each h = subst (λ (b : Body). BodyHolds g side goal out (length out) p b) (sym e) (record { owes = h.owes; range = h.range; earlier = h.earlier; follows = h.follows })
   body-moved (Threat points) new e each h = subst (λ (b : Body). BodyHolds g side goal out (length out) p b) (sym e) (record { owes = h.owes; range = h.range; earlier = h.earlier; follows = h.follows })
+  body-moved (Weaker child) new e each h = absurd (false≢true h.owes.version)
 
 -- ---- one node after the other
 

@@ -6,7 +6,7 @@ use Rattle.pg_base.specs.declared.side.Side.{Side}
 use Rattle.pg_game.specs.declared.game.Game.{Game}
 use Rattle.pg_cert.specs.Node.{position_of}
 use Rattle.pg_cert.specs.declared.node.Body.{Body}
-use Rattle.pg_cert.specs.declared.node.Body.TheVariants.{Move, All}
+use Rattle.pg_cert.specs.declared.node.Body.TheVariants.{Move, All, Weaker}
 use Rattle.pg_cert.specs.declared.node.Node.{Node}
 use Rattle.pg_cert.specs.declared.reply.Reply.{Reply}
 use Rattle.pg_prune.specs.Sound.{NodesHold}
@@ -21,6 +21,7 @@ AreNamed replies i = (r : Reply) × Contains replies r × (r.child ≡ i)
 abbrev pub Names : Body → ℕ → Type 0
 Names (Move point child) i = child ≡ i
 Names (All replies) i = AreNamed replies i
+Names (Weaker child) i = child ≡ i
 Names _ i = ⊥
 
 -- the number is marked
@@ -60,6 +61,7 @@ pub record AreRenumbered (numbers : List ℕ) (old new : List Reply) : Type 0 wh
 abbrev pub Renumbers : List ℕ → Body → Body → Type 0
 Renumbers numbers (Move point child) new = (d : ℕ) × (slice_get numbers child ≡ Some d) × (new ≡ Move point d)
 Renumbers numbers (All replies) new = (others : List Reply) × AreRenumbered numbers replies others × (new ≡ All others)
+Renumbers numbers (Weaker child) new = (d : ℕ) × (slice_get numbers child ≡ Some d) × (new ≡ Weaker d)
 Renumbers numbers body new = new ≡ body
 
 -- the node stands at its new number

@@ -39,6 +39,7 @@ fn mark_children(body: &Body, marks: &mut [bool])
             child,
         } => mark(marks, *child),
         Body::All(replies) => mark_replies(replies.as_slice(), marks),
+        Body::Weaker { child } => mark(marks, *child),
         Body::Over => {}
         Body::Pairs(_pairs) => {}
         Body::Potential => {}

@@ -40,6 +40,9 @@ fn renumbered(alloc: Global, body: &Body, numbers: &[u32]) -> Result<Body, Memor
             replies.as_slice(),
             numbers,
         )?)),
+        Body::Weaker { child } => Body::Weaker {
+            child: numbers[*child as usize],
+        },
         Body::Over => Body::Over,
         Body::Pairs(pairs) => Body::Pairs(Pairs::from_vec(pairs.as_slice().to_vec(alloc)?)),
         Body::Potential => Body::Potential,

@@ -1,5 +1,5 @@
 -- Claims of one node by trees or by cuts are valid and within the limits.
-use Rattle.std.proofs.Common.{◌≡◌, ◌∙◌, ℕ, zero, suc, ◌≤◌, Bool, true, false, if◌then◌else◌, List, [], ◌∷◌, refl, sym, subst, inl, inr, arith}
+use Rattle.std.proofs.Common.{◌≡◌, ◌∙◌, ℕ, zero, suc, Bool, true, false, if◌then◌else◌, List, [], ◌∷◌, refl, sym, subst, inl, inr, arith}
 use Rattle.std.proofs.lemmas.Bool.{both_ways, cases_Bool, cases_eq, false_from_ne_true}
 use Rattle.std.proofs.lemmas.Option.{none-some}
 use Rattle.std.specs.FinSet.{FinSet, contains, insert, remove}
@@ -13,10 +13,11 @@ use Rattle.pg_base.specs.declared.kind.Kind.{Kind}
 use Rattle.pg_base.specs.declared.kind.Kind.TheVariants.{Switching}
 use Rattle.pg_base.specs.declared.side.Side.{Side}
 use Rattle.pg_base.specs.declared.side.Side.TheVariants.{X, Y}
-use Rattle.pg_cert.specs.Limits.{ArePoints, IsBody, IsClaim}
+use Rattle.pg_cert.specs.Limits.{ArePoints, IsBody, IsClaim, IsOfVersion, has_body}
 use Rattle.pg_cert.specs.Node.{position_of}
 use Rattle.pg_cert.specs.Valid.{AreEdgeSets, EndsRight, FollowMoves, HasCuts, HasPairs, HasPotential, HasThreat, HasTrees, HasTurn, IsValidClaim, NamesEarlier, TakesFree, is_allowed, with_e_named}
 use Rattle.pg_cert.specs.declared.cert.Claim.{Claim}
+use Rattle.pg_cert.specs.declared.cert.Version.TheVariants.{One}
 use Rattle.pg_cert.specs.declared.node.Body.{Body}
 use Rattle.pg_cert.specs.declared.node.Body.TheVariants.{Trees, Cuts}
 use Rattle.pg_cert.specs.declared.node.Node.{Node}
@@ -24,7 +25,6 @@ use Rattle.pg_game.proofs.Limits.{point_count-le}
 use Rattle.pg_game.proofs.Moves.{IsPosition-with_turn}
 use Rattle.pg_game.proofs.Sides.{side≢other}
 use Rattle.pg_game.specs.Field.{field_points}
-use Rattle.pg_game.specs.Fit.{greatest_bias}
 use Rattle.pg_game.specs.Game.{point_count, with_turn}
 use Rattle.pg_game.specs.Trees.{AreFreeEdges, AreFreeWithE, TreesHoldOn, CutsHoldOn}
 use Rattle.pg_game.specs.declared.field.Field.{Field}
@@ -34,7 +34,7 @@ use Rattle.pg_game.specs.declared.position.Position.{Position}
 use Rattle.pg_graph.specs.Graph.{edge_count}
 use Rattle.pg_graph.specs.declared.graph.Graph.{Graph}
 use Rattle.pg_base.proofs.Stands.{one_at}
-use Rattle.pg_pns.proofs.ValidNodes.{valid-claim, within-limits}
+use Rattle.pg_pns.proofs.ValidNodes.{valid-claim, within-limits, of-version}
 use Rattle.pg_pns.specs.Sound.{BodyHolds, NodesHold}
 use Rattle.pg_lehman.specs.Sets.{AreShortSets, AreCutSets, AreFirstSets}
 use Rattle.pg_solve.specs.EdgeClaims.{AreClassClaims, EdgeSetsHold, IsEdgeBody, IsEdgeClaim, claim_at, edge_body, node_at}
@@ -130,18 +130,12 @@ body-holds side g turn one second kind holds nodes k =
         trees = has-trees side g (with_turn g turn) e first second sets named;
         cuts = has-cuts side g (with_turn g turn) e first second sets named;
         threat = for-body (HasThreat g side (with_turn g turn)) side e first second tt tt;
+        version = for-body (λ (b : Body). has_body One b ≡ true) side e first second refl refl;
       };
       range = for-body IsBody side e first second small small;
       earlier = for-body (NamesEarlier k) side e first second tt tt;
       follows = for-body (FollowMoves g nodes (with_turn g turn)) side e first second tt tt;
     }
-
--- both sides take one edge a turn
-single-bias : (g : Game) → g.kind ≡ Switching → g.bias ≡ 1
-single-bias g kind =
-    let least = g.fits.some_bias in
-    let most : g.bias ≤ 1 = subst (λ (k : Kind). g.bias ≤ greatest_bias k) kind g.fits.few_bias in
-    omega (arith, least, most)
 
 -- ---- the claim
 
@@ -153,8 +147,11 @@ module _ (g : Game) (turn side : Side) (body : Body) (holds : (nodes : List Node
   claim-valid : IsValidClaim g (claim_at g turn side body)
   claim-valid = valid-claim g (claim_at g turn side body) nodes-hold 0 (node_at (with_turn g turn) body) refl refl refl
 
-  claim-limits : g.bias ≡ 1 → IsClaim (claim_at g turn side body)
-  claim-limits single = within-limits g (claim_at g turn side body) nodes-hold 0 (node_at (with_turn g turn) body) refl refl refl single (omega arith)
+  claim-version : IsOfVersion One (claim_at g turn side body)
+  claim-version = of-version g (claim_at g turn side body) nodes-hold 0 (node_at (with_turn g turn) body) refl refl refl
+
+  claim-limits : IsClaim (claim_at g turn side body)
+  claim-limits = within-limits g (claim_at g turn side body) nodes-hold 0 (node_at (with_turn g turn) body) refl refl refl (omega arith)
 
 -- the body says whether e is in the first set
 says-e : (side : Side) (e : Bool) (first second : FinSet nat_cmp) → IsEdgeBody side e (edge_body side e first second)
@@ -178,7 +175,8 @@ edge-claim side g turn one second e first body c kind holds is_e is_first is_bod
       position = refl;
       body = says-e side (contains one n) (remove one n) second;
       valid = claim-valid g turn side whole hold;
-      limits = claim-limits g turn side whole hold (single-bias g kind);
+      limits = claim-limits g turn side whole hold;
+      version = claim-version g turn side whole hold;
     } in
     subst (λ (d : Claim). IsEdgeClaim g turn side (contains one n) d) (sym (is ∙ at)) this
 

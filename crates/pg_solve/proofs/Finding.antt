@@ -1,5 +1,5 @@
 -- What is found by questions and by classes, as the clauses of solving say it.
-use Rattle.std.proofs.Common.{◌≡◌, ◌∙◌, ℕ, zero, suc, ◌<◌, ◌≤◌, true, false, List, [], ◌∷◌, Some, length, map, refl, sym, ap, subst, arith, slice_get, get_or, IfSome}
+use Rattle.std.proofs.Common.{◌≡◌, ◌∙◌, ℕ, zero, suc, ◌<◌, ◌≤◌, true, false, List, [], ◌∷◌, Some, length, map, refl, sym, ap, subst, subst₂, arith, slice_get, IfSome}
 use Rattle.std.proofs.lemmas.Option.{none-some}
 use Rattle.std.specs.List.{All}
 use Rattle.pg_base.specs.declared.goal.Goal.{Goal}
@@ -10,10 +10,12 @@ use Rattle.pg_base.specs.declared.score.Score.{Score}
 use Rattle.pg_base.specs.declared.score.Score.TheVariants.{XWins, Draw, YWins}
 use Rattle.pg_base.specs.declared.side.Side.{Side}
 use Rattle.pg_base.specs.declared.side.Side.TheVariants.{X, Y}
-use Rattle.pg_cert.specs.Limits.{IsClaim, IsWithinLimits, node_count}
+use Rattle.pg_cert.specs.Limits.{IsClaim, IsOfVersion, IsWithinLimits, node_count}
 use Rattle.pg_cert.specs.Valid.{IsValid, IsValidClaim}
 use Rattle.pg_cert.specs.declared.cert.Cert.{Cert}
 use Rattle.pg_cert.specs.declared.cert.Claim.{Claim}
+use Rattle.pg_cert.specs.declared.cert.Version.{Version}
+use Rattle.pg_cert.specs.declared.cert.Version.TheVariants.{One}
 use Rattle.pg_game.specs.Decided.{claimed_goal}
 use Rattle.pg_game.specs.Fit.{is_switching}
 use Rattle.pg_game.specs.Settled.{IsTable, IsOpenTable}
@@ -64,30 +66,32 @@ valid-two g cert one other two valid too i c at = each i (subst (λ (cs : List C
     each (suc zero) here = let same : other ≡ c = cc in subst (λ (d : Claim). IsValidClaim g d) same too
     each (suc (suc i)) here = absurd (none-some c here)
 
-within-one : (cert : Cert) (claim : Claim) → cert.claims ≡ claim ∷ [] → IsClaim claim → IsWithinLimits cert
-within-one cert claim one limits = record {
+all-one : (P : Claim → Type 0) (claim : Claim) → P claim → All P (claim ∷ [])
+all-one P claim h zero d lt = h
+all-one P claim h (suc k) d lt = absurd (omega arith)
+
+all-two : (P : Claim → Type 0) (one other : Claim) → P one → P other → All P (one ∷ other ∷ [])
+all-two P one other h too zero d lt = h
+all-two P one other h too (suc zero) d lt = too
+all-two P one other h too (suc (suc k)) d lt = absurd (omega arith)
+
+within-one : (cert : Cert) (claim : Claim) → cert.version ≡ One → cert.claims ≡ claim ∷ [] → IsClaim claim → IsOfVersion One claim → IsWithinLimits cert
+within-one cert claim version one limits plain = record {
   some = subst (λ (cs : List Claim). 0 < length cs) (sym one) (omega arith);
   few = subst (λ (cs : List Claim). length cs ≤ 8) (sym one) (omega arith);
-  claims = subst (λ (cs : List Claim). All IsClaim cs) (sym one) each;
+  claims = subst (λ (cs : List Claim). All IsClaim cs) (sym one) (all-one IsClaim claim limits);
   nodes = subst (λ (cs : List Claim). node_count cs ≤ 200000) (sym one) (let few = limits.few in omega (arith, few));
+  bodies = subst₂ (λ (v : Version) (cs : List Claim). All (IsOfVersion v) cs) (sym version) (sym one) (all-one (IsOfVersion One) claim plain);
 }
-  where
-    each : (k : ℕ) (d : Claim) → k < 1 → IsClaim (get_or (claim ∷ []) k d)
-    each zero d lt = limits
-    each (suc k) d lt = absurd (omega arith)
 
-within-two : (cert : Cert) (one other : Claim) → cert.claims ≡ one ∷ other ∷ [] → IsClaim one → IsClaim other → IsWithinLimits cert
-within-two cert one other two limits too = record {
+within-two : (cert : Cert) (one other : Claim) → cert.version ≡ One → cert.claims ≡ one ∷ other ∷ [] → IsClaim one → IsClaim other → IsOfVersion One one → IsOfVersion One other → IsWithinLimits cert
+within-two cert one other version two limits too plain plain_too = record {
   some = subst (λ (cs : List Claim). 0 < length cs) (sym two) (omega arith);
   few = subst (λ (cs : List Claim). length cs ≤ 8) (sym two) (omega arith);
-  claims = subst (λ (cs : List Claim). All IsClaim cs) (sym two) each;
+  claims = subst (λ (cs : List Claim). All IsClaim cs) (sym two) (all-two IsClaim one other limits too);
   nodes = subst (λ (cs : List Claim). node_count cs ≤ 200000) (sym two) (let first = limits.few in let second = too.few in omega (arith, first, second));
+  bodies = subst₂ (λ (v : Version) (cs : List Claim). All (IsOfVersion v) cs) (sym version) (sym two) (all-two (IsOfVersion One) one other plain plain_too);
 }
-  where
-    each : (k : ℕ) (d : Claim) → k < 2 → IsClaim (get_or (one ∷ other ∷ []) k d)
-    each zero d lt = limits
-    each (suc zero) d lt = too
-    each (suc (suc k)) d lt = absurd (omega arith)
 
 -- ---- claims that show a value
 
@@ -104,10 +108,10 @@ value-valid g budget table XWins cert is = valid-one g cert is.claim is.one is.s
 value-valid g budget table YWins cert is = valid-one g cert is.claim is.one is.shows.valid
 value-valid g budget table Draw cert is = valid-two g cert is.denial is.claim is.two is.denies.shows.valid is.shows.valid
 
-value-within : (g : Game) (budget : ℕ) (table : List Position) (score : Score) (cert : Cert) → g.bias ≡ 1 → AreValueClaims g budget table score cert.claims → IsWithinLimits cert
-value-within g budget table XWins cert single is = within-one cert is.claim is.one (is.shows.limits single)
-value-within g budget table YWins cert single is = within-one cert is.claim is.one (is.shows.limits single)
-value-within g budget table Draw cert single is = within-two cert is.denial is.claim is.two (is.denies.shows.limits single) (is.shows.limits single)
+value-within : (g : Game) (budget : ℕ) (table : List Position) (score : Score) (cert : Cert) → cert.version ≡ One → AreValueClaims g budget table score cert.claims → IsWithinLimits cert
+value-within g budget table XWins cert version is = within-one cert is.claim version is.one is.shows.limits is.shows.version
+value-within g budget table YWins cert version is = within-one cert is.claim version is.one is.shows.limits is.shows.version
+value-within g budget table Draw cert version is = within-two cert is.denial is.claim version is.two is.denies.shows.limits is.shows.limits is.denies.shows.version is.shows.version
 
 -- ---- the clauses, for a game on lines
 
@@ -141,10 +145,15 @@ module _ (g : Game) (budget : ℕ) (work : Expanded) where
   found-valid (ForClass class cert) is = absurd is
   found-valid Unknown is = tt
 
-  pub found-within : g.bias ≡ 1 → (s : Solution) → IsFoundBy g budget work s → IfSome (certificate_of s) IsWithinLimits
-  found-within single (Value score cert) is = value-within g budget work.positions score cert single is.1
-  found-within single (ForClass class cert) is = absurd is
-  found-within single Unknown is = tt
+  pub found-within : (s : Solution) → IsFoundBy g budget work s → IfSome (certificate_of s) IsWithinLimits
+  found-within (Value score cert) is = value-within g budget work.positions score cert is.2 is.1
+  found-within (ForClass class cert) is = absurd is
+  found-within Unknown is = tt
+
+  pub found-version : (s : Solution) → IsFoundBy g budget work s → IfSome (certificate_of s) (λ cert. cert.version ≡ One)
+  found-version (Value score cert) is = is.2
+  found-version (ForClass class cert) is = absurd is
+  found-version Unknown is = tt
 
   pub found-shown : (s : Solution) → IsFoundBy g budget work s → IsShown g budget work.positions s
   found-shown (Value score cert) is = is.1

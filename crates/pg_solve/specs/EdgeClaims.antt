@@ -5,10 +5,11 @@ use Rattle.std.specs.Ordering.{nat_cmp}
 use Rattle.pg_base.specs.declared.goal.Goal.TheVariants.{Win}
 use Rattle.pg_base.specs.declared.side.Side.{Side}
 use Rattle.pg_base.specs.declared.side.Side.TheVariants.{X, Y}
-use Rattle.pg_cert.specs.Limits.{IsClaim}
+use Rattle.pg_cert.specs.Limits.{IsClaim, IsOfVersion}
 use Rattle.pg_cert.specs.Node.{position_of}
 use Rattle.pg_cert.specs.Valid.{IsValidClaim}
 use Rattle.pg_cert.specs.declared.cert.Claim.{Claim}
+use Rattle.pg_cert.specs.declared.cert.Version.TheVariants.{One}
 use Rattle.pg_cert.specs.declared.node.Body.{Body}
 use Rattle.pg_cert.specs.declared.node.Body.TheVariants.{Trees, Cuts}
 use Rattle.pg_cert.specs.declared.node.Node.{Node}
@@ -59,6 +60,7 @@ pub record IsEdgeClaim (g : Game) (turn side : Side) (with_e : Bool) (claim : Cl
   pub body : IsEdgeBody side with_e node.body
   pub valid : IsValidClaim g claim
   pub limits : IsClaim claim
+  pub version : IsOfVersion One claim
 
 -- the class by its name in the rules
 abbrev pub named : Class → Named

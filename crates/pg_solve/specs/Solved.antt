@@ -2,6 +2,7 @@
 use Rattle.std.specs.Prelude.{◌≡◌, ℕ, Bool, true, false, List, [], Option, Some, None}
 use Rattle.pg_base.specs.declared.side.Side.{Side}
 use Rattle.pg_cert.specs.declared.cert.Cert.{Cert}
+use Rattle.pg_cert.specs.declared.cert.Version.TheVariants.{One}
 use Rattle.pg_game.specs.Class.{class_of}
 use Rattle.pg_game.specs.Game.{start}
 use Rattle.pg_game.specs.Value.{value}
@@ -45,14 +46,14 @@ IsShown g budget table (Value score certificate) = AreValueClaims g budget table
 IsShown g budget table (ForClass class certificate) = AreClassClaims g class certificate.claims
 IsShown g budget table Unknown = Unit {0}
 
--- the class of a switching game was found, with the claims that show it
+-- the class of a switching game was found, with the claims that show it in version 1
 abbrev pub IsClassified : Game → Solution → Type 0
 IsClassified g (Value score certificate) = ⊥
-IsClassified g (ForClass class certificate) = (class_of g ≡ Some (named class)) × AreClassClaims g class certificate.claims
+IsClassified g (ForClass class certificate) = (class_of g ≡ Some (named class)) × AreClassClaims g class certificate.claims × (certificate.version ≡ One)
 IsClassified g Unknown = ⊥
 
--- the value of a game on lines was found by the question that the work holds, or that question is open
+-- the value of a game on lines was found by the question that the work holds, with a certificate of version 1, or that question is open
 abbrev pub IsFoundBy : Game → ℕ → Expanded → Solution → Type 0
-IsFoundBy g budget work (Value score certificate) = (work.question ≡ Some (last_question g.kind score)) × AreValueClaims g budget work.positions score certificate.claims
+IsFoundBy g budget work (Value score certificate) = (work.question ≡ Some (last_question g.kind score)) × AreValueClaims g budget work.positions score certificate.claims × (certificate.version ≡ One)
 IsFoundBy g budget work (ForClass class certificate) = ⊥
 IsFoundBy g budget work Unknown = IsLeftOpen g budget work

@@ -1,6 +1,7 @@
 //! Solving a switching game: its class, with the claims that show it.
 ghost use Rattle.std.specs.Prelude.{◌≡◌, IfOk};
 ghost use Rattle.pg_base.specs.declared.kind.Kind.TheVariants.{Switching};
+ghost use Rattle.pg_cert.specs.declared.cert.Version.TheVariants.{One};
 ghost use Rattle.pg_lehman.specs.Sets.{SetsHold};
 ghost use Rattle.pg_solve.specs.EdgeClaims.{without_sets, AreClassClaims};
 ghost use Rattle.pg_solve.specs.Solved.{IsClassified};
@@ -29,7 +30,8 @@ fn class_of(sets: &Sets) -> Class
 fn class_certificate(alloc: Global, game: &Game, sets: &Sets) -> Result<Cert, Memory>
     requires switching { game.now.kind ≡ Switching }
     requires sets { SetsHold game.now sets.now }
-    ensures { IfOk result (λ certificate. AreClassClaims game.now (without_sets sets.now) certificate.claims) }
+    ensures version { IfOk result (λ certificate. certificate.version ≡ One) }
+    ensures claims { IfOk result (λ certificate. AreClassClaims game.now (without_sets sets.now) certificate.claims) }
 {
     match sets {
         Sets::Short { a1, a2 } => {

@@ -3,6 +3,7 @@ ghost use Rattle.std.specs.Prelude.{◌≡◌, ◌≢◌, ◌≤◌, map, IfOk, 
 ghost use Rattle.pg_base.specs.declared.kind.Kind.TheVariants.{Switching};
 ghost use Rattle.pg_cert.specs.Limits.{IsWithinLimits};
 ghost use Rattle.pg_cert.specs.Valid.{IsValid};
+ghost use Rattle.pg_cert.specs.declared.cert.Version.TheVariants.{One};
 ghost use Rattle.pg_game.specs.Fit.{is_switching};
 ghost use Rattle.pg_solve.specs.Due.{heading};
 ghost use Rattle.pg_solve.specs.Left.{budget, IsLeft, IsLeftOpen, IsAskedLast};
@@ -22,7 +23,7 @@ pub const LEAST_POSITIONS: u32 = 1;
 /// The greatest number of positions that may be asked for.
 pub const MOST_POSITIONS: u32 = 100_000;
 
-/// Decides the game, with the certificate that shows it.
+/// Decides the game, with the certificate that shows it, which is of version 1.
 ///
 /// Of a switching game it is the class, by two spanning forests; `positions` and `work` play no part. Of a game on lines it
 /// is the value, by one question, or in Maker-Maker by two: whether X wins, and where X doesn't, whether X at least draws.
@@ -45,7 +46,8 @@ pub fn solve(
     ensures answer { IfOk result (IsTrueOf game.now) }
     ensures claims { IfOk result (λ solution. IfSome (certificate_of solution) (λ c. map heading c.claims ≡ due game.now.turn solution)) }
     ensures valid { IfOk result (λ solution. IfSome (certificate_of solution) (IsValid game.now)) }
-    ensures limits { game.now.bias ≡ 1 → IfOk result (λ solution. IfSome (certificate_of solution) IsWithinLimits) }
+    ensures limits { IfOk result (λ solution. IfSome (certificate_of solution) IsWithinLimits) }
+    ensures version { IfOk result (λ solution. IfSome (certificate_of solution) (λ c. c.version ≡ One)) }
     ensures shown { IfOk result (IsShown game.now (budget game.now positions) work.new.positions) }
     ensures last { IfOk result (IsAskedLast game.now.kind work.new.question) }
     ensures unknown { result ≡ Ok Solution.Unknown → IsLeftOpen game.now (budget game.now positions) work.new }

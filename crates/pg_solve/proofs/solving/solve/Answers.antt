@@ -1,6 +1,6 @@
 use Rattle.std.proofs.Common.{ℕ, subst, arith}
 use Rattle.std.proofs.lemmas.Result.{IfOk-weaker, IfOk-at_ok}
-use Rattle.pg_solve.proofs.Finding.{found-kind, found-true, found-claims, found-valid, found-within, found-shown, found-last}
+use Rattle.pg_solve.proofs.Finding.{found-kind, found-true, found-claims, found-valid, found-within, found-version, found-shown, found-last}
 use Rattle.pg_solve.specs.Left.{IsLeft, IsLeftOpen}
 use Rattle.pg_solve.specs.Solved.{IsFoundBy}
 use Rattle.pg_solve.proofs.solving.solve.Goals as goal
@@ -23,7 +23,8 @@ returns-in_default c =
       answer = IfOk-weaker _ _ _ (found-true g c.budget_of.result work c.ask_first.ensures.left) c.ask_first.ensures.found;
       claims = IfOk-weaker _ _ _ (found-claims g c.budget_of.result work) c.ask_first.ensures.found;
       valid = IfOk-weaker _ _ _ (found-valid g c.budget_of.result work) c.ask_first.ensures.found;
-      limits = λ single. IfOk-weaker _ _ _ (found-within g c.budget_of.result work single) c.ask_first.ensures.found;
+      limits = IfOk-weaker _ _ _ (found-within g c.budget_of.result work) c.ask_first.ensures.found;
+      version = IfOk-weaker _ _ _ (found-version g c.budget_of.result work) c.ask_first.ensures.found;
       shown = IfOk-weaker _ _ _ (λ s is. found-shown g _ work s (subst (λ (n : ℕ). IsFoundBy g n work s) exact is)) c.ask_first.ensures.found;
       last = IfOk-weaker _ _ _ (found-last g c.budget_of.result work) c.ask_first.ensures.found;
       unknown = λ e. subst (λ (n : ℕ). IsLeftOpen g n work) exact (IfOk-at_ok (IsFoundBy g c.budget_of.result work) e c.ask_first.ensures.found);
