@@ -19,7 +19,7 @@ use Rattle.pg_cli.specs.declared.halt.Halt.TheVariants.{Refused, Stopped}
 use Rattle.pg_cli.proofs.Runs.{silent, talked_texts}
 use Rattle.pg_cli.proofs.Verdicts.{same_acceptances}
 
-module _ (g : Game) (c : Cert) (heads : List ClaimHead) (single : g.bias ≡ 1) (valid : IsValid g c) (same : heads ≡ heads_of c) where
+module _ (g : Game) (c : Cert) (heads : List ClaimHead) (valid : IsValid g c) (same : heads ≡ heads_of c) where
   texts : map head_acceptance heads ≡ map acceptance c.claims
   texts = ap (map head_acceptance) same ∙ same_acceptances c.claims
 
@@ -28,7 +28,7 @@ module _ (g : Game) (c : Cert) (heads : List ClaimHead) (single : g.bias ≡ 1) 
       → Performs (RefusesCheck (read_of g c)) (AcceptsAll (read_of g c)) before after (Ok DONE)
   judged_all before after says left =
       let says_all = subst (λ (l : List Bytes). Grows before.log after.log (map Said l)) texts says in
-      (map Said (map acceptance c.claims), (g, (refl, single), valid, (refl, refl)), talked_texts (Finished DONE) before after (map acceptance c.claims) says_all left)
+      (map Said (map acceptance c.claims), (g, refl, valid, (refl, refl)), talked_texts (Finished DONE) before after (map acceptance c.claims) says_all left)
 
   -- the first of them were said, and then a write has failed
   pub judged_cut : (before after : ConsoleTold) (stop : Stop) → stop ≡ Write → IsCut (map head_acceptance heads) before.log after.log → after.left ≡ before.left
@@ -36,9 +36,9 @@ module _ (g : Game) (c : Cert) (heads : List ClaimHead) (single : g.bias ≡ 1) 
   judged_cut before after stop write cut left =
       let (front, rest, whole, says) = subst (λ (l : List Bytes). IsCut l before.log after.log) texts cut in
       subst (λ (s : Stop). Performs (RefusesCheck (read_of g c)) (AcceptsAll (read_of g c)) before after (Err (Stopped s))) (sym write)
-      (map Said front, inr (g, (refl, single), valid, (front, rest, whole, refl)), talked_texts Failed before after front says left)
+      (map Said front, inr (g, refl, valid, (front, rest, whole, refl)), talked_texts Failed before after front says left)
 
 -- the certificate is rejected
-pub judged_rejects : (g : Game) (c : Cert) (claim node why : ℕ) (console : ConsoleTold) → g.bias ≡ 1 → IsFirstFault g c claim node why
+pub judged_rejects : (g : Game) (c : Cert) (claim node why : ℕ) (console : ConsoleTold) → IsFirstFault g c claim node why
     → Performs (RefusesCheck (read_of g c)) (AcceptsAll (read_of g c)) console console (Err (Refused (Rejected claim node why)))
-judged_rejects g c claim node why console single fault = ((g, (refl, single), (claim, node, why, fault, refl)), silent Starved console console refl refl)
+judged_rejects g c claim node why console fault = ((g, refl, (claim, node, why, fault, refl)), silent Starved console console refl refl)

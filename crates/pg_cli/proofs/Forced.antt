@@ -1,6 +1,6 @@
 -- Claims that are said are forced.
 use Rattle.std.proofs.Common.{◌≡◌, ◌≢◌, ◌⊎◌, ℕ, zero, suc, nat_eq, Bool, true, false, cond, List, [], ◌∷◌, ◌++◌, length, get_or, map, find, slice_get, Option, Some, None, Result, Ok, Err, refl, sym, ◌∙◌, ap, subst, inl, inr, arith}
-use Rattle.std.specs.Prelude.{codes, IfSome}
+use Rattle.std.specs.Prelude.{◌==◌, if◌then◌else◌, codes, decimal, IfSome}
 use Rattle.std.specs.List.{Contains}
 use Rattle.std.specs.Option.{option_or}
 use Rattle.std.proofs.lemmas.Bool.{and_parts}
@@ -60,9 +60,9 @@ use Rattle.pg_cli.specs.declared.halt.Halt.{Halt}
 
 -- ---- texts that neither accept a claim nor say one
 
--- by its first letter it doesn't accept a claim, and by its fourth it says none
+-- by its first letter it doesn't accept a claim, and by its fifth it says none
 abbrev pub IsOther : Bytes → Type 0
-IsOther text = (get_or text 0 0 ≢ 97) × (get_or text 3 0 ≢ 105)
+IsOther text = (get_or text 0 0 ≢ 97) × (get_or text 4 0 ≢ 109)
 
 -- the same of each text
 abbrev pub AreOther : List Bytes → Type 0
@@ -76,21 +76,21 @@ apart : (a b : ℕ) → nat_eq a b ≡ false → a ≢ b
 apart a b e = grind (arith, nat_tests, e)
 
 refusal_other : (refusal : Refusal) → IsOther (refusal_text refusal)
-refusal_other refusals.NoMeaning = (apart _ 97 refl, apart _ 105 refl)
-refusal_other (refusals.NoClaim side) = (apart _ 97 refl, apart _ 105 refl)
-refusal_other (refusals.Game number line) = (apart _ 97 refl, apart _ 105 refl)
-refusal_other (refusals.Certificate number line) = (apart _ 97 refl, apart _ 105 refl)
-refusal_other (refusals.Rejected claim node why) = (apart _ 97 refl, apart _ 105 refl)
+refusal_other refusals.NoMeaning = (apart _ 97 refl, apart _ 109 refl)
+refusal_other (refusals.NoClaim side) = (apart _ 97 refl, apart _ 109 refl)
+refusal_other (refusals.Game number line) = (apart _ 97 refl, apart _ 109 refl)
+refusal_other (refusals.Certificate number line) = (apart _ 97 refl, apart _ 109 refl)
+refusal_other (refusals.Rejected claim node why) = (apart _ 97 refl, apart _ 109 refl)
 
 reply_other : (fault : ReplyFault) → IsOther (reply_text fault)
-reply_other NoNumber = (apart _ 97 refl, apart _ 105 refl)
-reply_other NoPoint = (apart _ 97 refl, apart _ 105 refl)
-reply_other Taken = (apart _ 97 refl, apart _ 105 refl)
+reply_other NoNumber = (apart _ 97 refl, apart _ 109 refl)
+reply_other NoPoint = (apart _ 97 refl, apart _ 109 refl)
+reply_other Taken = (apart _ 97 refl, apart _ 109 refl)
 
 -- what is said next in a dialogue is another text
 step_other : (g : Game) (side : Side) (s m : Stage) (text : Bytes) → Steps g side s (Said text) m → IsOther text
-step_other g side (At p refusals) m text (inl result) = subst (λ (t : Bytes). IsOther t) (sym result.1) (apart _ 97 refl, apart _ 105 refl)
-step_other g side (At p refusals) m text (inr move) = subst (λ (t : Bytes). IsOther t) (sym move.5) (apart _ 97 refl, apart _ 105 refl)
+step_other g side (At p refusals) m text (inl result) = subst (λ (t : Bytes). IsOther t) (sym result.1) (apart _ 97 refl, apart _ 109 refl)
+step_other g side (At p refusals) m text (inr move) = subst (λ (t : Bytes). IsOther t) (sym move.5) (apart _ 97 refl, apart _ 109 refl)
 step_other g side (Owes p refusals fault) m text step = subst (λ (t : Bytes). IsOther t) (sym step.0) (reply_other fault)
 step_other g side (Over p status) m text step = absurd step
 
@@ -199,7 +199,7 @@ said_game limits g c pair played e said =
     let parts = both_ok (game_held g) (certificate_held c) pair e in
     let first = game_there g pair.0 parts.0 in
     let second = certificate_there c pair.1 parts.1 in
-    (record { text = first.0; held = first.1; said = first.2 ∙ ap (λ (x : GameEntry). Ok x) (sym said.0); single = said.1 }, limits second.0 pair.1 second.2)
+    (record { text = first.0; held = first.1; said = first.2 ∙ ap (λ (x : GameEntry). Ok x) (sym said) }, limits second.0 pair.1 second.2)
 
 -- ---- the claim that is chosen
 
@@ -331,10 +331,10 @@ module _ (limits : ReadsWithinLimits) (valid_forced : ValidClaimsAreForced) wher
   silent_forced bytes entries none = others_forced bytes entries (λ text among. absurd (none_of (Said text) (subst (λ (l : List Entry). Contains l (Said text)) none among)))
 
   solution_other : (g : Game) (solution : Solution) (c : Cert) → certificate_of solution ≡ Some c → IsOther (solution_text g solution)
-  solution_other g (Value score certificate) c own = (apart _ 97 refl, apart _ 105 refl)
-  solution_other g (ForClass Short certificate) c own = (apart _ 97 refl, apart _ 105 refl)
-  solution_other g (ForClass Cut certificate) c own = (apart _ 97 refl, apart _ 105 refl)
-  solution_other g (ForClass First certificate) c own = (apart _ 97 refl, apart _ 105 refl)
+  solution_other g (Value score certificate) c own = (apart _ 97 refl, apart _ 109 refl)
+  solution_other g (ForClass Short certificate) c own = (apart _ 97 refl, apart _ 109 refl)
+  solution_other g (ForClass Cut certificate) c own = (apart _ 97 refl, apart _ 109 refl)
+  solution_other g (ForClass First certificate) c own = (apart _ 97 refl, apart _ 109 refl)
   solution_other g Unknown c own = absurd (cc own)
 
   -- one other text was said
@@ -369,7 +369,7 @@ module _ (limits : ReadsWithinLimits) (valid_forced : ValidClaimsAreForced) wher
   solves_other : (told : Told) (g : Game) (name : Bytes) (positions : ℕ) (work : Expanded) (done : Done) (end : End) → ((solution : Solution) (c : Cert) → certificate_of solution ≡ Some c → AreOther (told solution c))
       → SolvesGame told g name positions work done end → AllOther done.entries
   solves_other told g name positions work done (Finished status) others (inl stays) =
-      stays_other done.entries (unknown_text (budget g positions) ∷ []) stays.said (one_other (unknown_text (budget g positions)) (apart _ 97 refl, apart _ 105 refl))
+      stays_other done.entries (unknown_text (budget g positions) ∷ []) stays.said (one_other (unknown_text (budget g positions)) (apart _ 97 refl, apart _ 109 refl))
   solves_other told g name positions work done (Finished status) others (inr (solution, c, shows, left, delivers)) =
       delivers_other (name, printed_certificate c) (told solution c) done (Finished status) (others solution c shows.own) delivers
   solves_other told g name positions work done Failed others (solution, c, shows, left, delivers) = delivers_other (name, printed_certificate c) (told solution c) done Failed (others solution c shows.own) delivers
@@ -379,7 +379,7 @@ module _ (limits : ReadsWithinLimits) (valid_forced : ValidClaimsAreForced) wher
   result_other g solution c own = one_other (solution_text g solution) (solution_other g solution c own)
 
   counts_other : (g : Game) (work : Expanded) (solution : Solution) (c : Cert) → certificate_of solution ≡ Some c → AreOther (result_and_counts g work solution c)
-  counts_other g work solution c own = two_other (solution_text g solution) (expanded_text (length work.positions) (node_count c.claims)) (solution_other g solution c own) (apart _ 97 refl, apart _ 105 refl)
+  counts_other g work solution c own = two_other (solution_text g solution) (expanded_text (length work.positions) (node_count c.claims)) (solution_other g solution c own) (apart _ 97 refl, apart _ 109 refl)
 
   solves_forced : (bytes : Option Bytes) (read : Result GameEntry Halt) (name : Bytes) (positions : ℕ) (work : Expanded) (done : Done) (end : End) → Solves read name positions work done end → AreForced bytes done.entries
   solves_forced bytes (Err halt) name positions work done end solves = absurd solves
@@ -388,8 +388,8 @@ module _ (limits : ReadsWithinLimits) (valid_forced : ValidClaimsAreForced) wher
   -- ---- a game that is made
 
   size_other : (field : Field) → AreOther (size_text field ∷ [])
-  size_other (Lines f) = one_other (size_text (Lines f)) (apart _ 97 refl, apart _ 105 refl)
-  size_other (Graph h) = one_other (size_text (Graph h)) (apart _ 97 refl, apart _ 105 refl)
+  size_other (Lines f) = one_other (size_text (Lines f)) (apart _ 97 refl, apart _ 109 refl)
+  size_other (Graph h) = one_other (size_text (Graph h)) (apart _ 97 refl, apart _ 109 refl)
 
   made_other : (g : Game) (name certificate : Bytes) (work : Expanded) (part : Done) (end : End) → SolvesGame (result_and_counts g work) g certificate DEFAULT_POSITIONS work part end → AllOther part.entries
   made_other g name certificate work part end solves = solves_other (result_and_counts g work) g certificate DEFAULT_POSITIONS work part end (counts_other g work) solves
@@ -406,9 +406,14 @@ module _ (limits : ReadsWithinLimits) (valid_forced : ValidClaimsAreForced) wher
 
   -- ---- a report
 
+  -- the bias may stand before the claims
+  report_other : (one : Bool) (bias : ℕ) (claims : Bytes) → IsOther (codes "{" ++ ((if one then [] else codes "\"bias\":" ++ (decimal bias ++ codes ",")) ++ (codes "\"claims\":[" ++ claims)))
+  report_other true bias claims = (apart _ 97 refl, apart _ 109 refl)
+  report_other false bias claims = (apart _ 97 refl, apart _ 109 refl)
+
   account_other : (g : Game) (c : Cert) (text : Bytes) (status : ℕ) → Accounts g c text status → IsOther text
-  account_other g c text status (inl tells) = subst (λ (t : Bytes). IsOther t) (sym tells.text_is) (apart _ 97 refl, apart _ 105 refl)
-  account_other g c text status (inr tells) = subst (λ (t : Bytes). IsOther t) (sym tells.text_is) (apart _ 97 refl, apart _ 105 refl)
+  account_other g c text status (inl tells) = subst (λ (t : Bytes). IsOther t) (sym tells.text_is) (report_other (g.bias == 1) g.bias _)
+  account_other g c text status (inr tells) = subst (λ (t : Bytes). IsOther t) (sym tells.text_is) (apart _ 97 refl, apart _ 109 refl)
 
   reports_forced : (bytes : Option Bytes) (read : Result (GameEntry × Cert) Halt) (entries : List Entry) (end : End) → Reports read entries end → AreForced bytes entries
   reports_forced bytes (Err halt) entries end none = absurd none

@@ -85,25 +85,25 @@ module _ (side : Side) (g : Game) (c : Cert) (before mid after : ConsoleTold) wh
         (off stop (λ same. fed (ap (λ (s : Stop). Err s) same)) b)
 
   -- a player was opened, its claim is said, and then it plays
-  pub plays_opened : (play : Play) (claimed : Goal) (last : Position) (r : Result ℕ Stop) → g.bias ≡ 1 → IsValid g c → chosen_claim g c side ≡ Some play.claim → play.game ≡ g → play.position ≡ start g
+  pub plays_opened : (play : Play) (claimed : Goal) (last : Position) (r : Result ℕ Stop) → IsValid g c → chosen_claim g c side ≡ Some play.claim → play.game ≡ g → play.position ≡ start g
       → play.claim.side ≡ side → claimed ≡ play.claim.goal → Grows before.log mid.log (Said (claim_text side claimed) ∷ []) → mid.left ≡ before.left → r ≢ Err Memory
       → IfOk r (λ status. status ≡ DONE → IsTrue (reaches play.claim.side play.claim.goal (outcome play.game last)))
       → Talks play.game play.claim.side mid after (At play.position 0) r (λ status. Over last status)
       → (r' : Result ℕ Halt) → IfOk r (λ status. r' ≡ Ok status) → IfErr r (λ stop. r' ≡ Err (Stopped stop))
       → Performs (RefusesPlay side (read_of g c)) (PlaysOn side (read_of g c)) before after r'
-  plays_opened play claimed last r single valid chosen same at_start own aim says quiet fed reached talks r' ok err =
+  plays_opened play claimed last r valid chosen same at_start own aim says quiet fed reached talks r' ok err =
       let says_own = subst (λ (s : Side). Grows before.log mid.log (Said (claim_text s claimed) ∷ [])) (sym own) says in
       let says_claim = subst (λ (k : Goal). Grows before.log mid.log (Said (claim_text play.claim.side k) ∷ [])) aim says_own in
       let reached_too = subst (λ (h : Game). IfOk r (λ status. status ≡ DONE → IsTrue (reaches play.claim.side play.claim.goal (outcome h last)))) same reached in
       let here = subst (λ (p : Position). Talks play.game play.claim.side mid after (At p 0) r (λ status. Over last status)) at_start talks in
       let talks_too = subst (λ (h : Game). Talks h play.claim.side mid after (At (start g) 0) r (λ status. Over last status)) same here in
-      plays_on play.claim last r ((refl, single), valid, chosen) says_claim quiet fed reached_too talks_too r' ok err
+      plays_on play.claim last r (refl, valid, chosen) says_claim quiet fed reached_too talks_too r' ok err
 
 -- what stands against a play
-pub play_rejected : (side : Side) (g : Game) (c : Cert) (claim node why : ℕ) (console : ConsoleTold) → g.bias ≡ 1 → IsFirstFault g c claim node why
+pub play_rejected : (side : Side) (g : Game) (c : Cert) (claim node why : ℕ) (console : ConsoleTold) → IsFirstFault g c claim node why
     → Performs (RefusesPlay side (read_of g c)) (PlaysOn side (read_of g c)) console console (Err (Refused (Rejected claim node why)))
-play_rejected side g c claim node why console single fault = ((g, (refl, single), inl (claim, node, why, fault, refl)), silent Starved console console refl refl)
+play_rejected side g c claim node why console fault = ((g, refl, inl (claim, node, why, fault, refl)), silent Starved console console refl refl)
 
-pub play_unclaimed : (side : Side) (g : Game) (c : Cert) (console : ConsoleTold) → g.bias ≡ 1 → IsValid g c → chosen_claim g c side ≡ None
+pub play_unclaimed : (side : Side) (g : Game) (c : Cert) (console : ConsoleTold) → IsValid g c → chosen_claim g c side ≡ None
     → Performs (RefusesPlay side (read_of g c)) (PlaysOn side (read_of g c)) console console (Err (Refused (NoClaim side)))
-play_unclaimed side g c console single valid none = ((g, (refl, single), inr (valid, none, refl)), silent Starved console console refl refl)
+play_unclaimed side g c console valid none = ((g, refl, inr (valid, none, refl)), silent Starved console console refl refl)

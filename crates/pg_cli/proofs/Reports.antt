@@ -22,9 +22,9 @@ use Rattle.pg_cli.proofs.Runs.{carries_halt, carries_on, read_refusal, silent, t
 
 module _ (g : Game) (c : Cert) (before after : ConsoleTold) where
   -- what there is to say was said
-  pub reported : (text : Bytes) (status : ℕ) → g.bias ≡ 1 → Accounts g c text status → Grows before.log after.log (Said text ∷ []) → after.left ≡ before.left
+  pub reported : (text : Bytes) (status : ℕ) → Accounts g c text status → Grows before.log after.log (Said text ∷ []) → after.left ≡ before.left
       → Performs (RefusesReport (read_of g c)) (Reports (read_of g c)) before after (Ok status)
-  reported text status single told says left = (Said text ∷ [], (g, (refl, single), text, told, refl), talked_texts (Finished status) before after (text ∷ []) says left)
+  reported text status told says left = (Said text ∷ [], (g, refl, text, told, refl), talked_texts (Finished status) before after (text ∷ []) says left)
 
   -- nothing was said
   pub unreported : (stop : Stop) → after.log ≡ before.log → after.left ≡ before.left → Performs (RefusesReport (read_of g c)) (Reports (read_of g c)) before after (Err (Stopped stop))

@@ -94,13 +94,13 @@ stays_open told g name positions work said files files' before after lines left_
 
 -- ---- after the game was read
 
-pub carries_solve : (g c : Bytes) (positions : ℕ) (played : Game) (work : Expanded) (files mid files' : FilesTold) (before after : ConsoleTold) (r : Result ℕ Halt) → mid.held ≡ files.held → OpensGame files.held g (Ok played) → played.bias ≡ 1
+pub carries_solve : (g c : Bytes) (positions : ℕ) (played : Game) (work : Expanded) (files mid files' : FilesTold) (before after : ConsoleTold) (r : Result ℕ Halt) → mid.held ≡ files.held → OpensGame files.held g (Ok played)
     → Does (SolvesGame (result_alone played) played c positions work) mid files' before after r → Carries (Some (Solve g c (Some positions))) work files files' before after r
-carries_solve g c positions played work files mid files' before after r same opens single h =
+carries_solve g c positions played work files mid files' before after r same opens h =
     go files.held opens r (subst (λ (b : Option Holding). IfSome b (λ held. Follows (λ _. ⊥) (SolvesGame (result_alone played) played c positions work) held files' before after r)) same h)
   where
     act : (held : Holding) → OpensGame (Some held) g (Ok played) → (done : Done) (end : End) → SolvesGame (result_alone played) played c positions work done end → Solves (game_held (held g)) c positions work done end
-    act held opens done end solves = subst (λ (read : Result GameEntry Halt). Solves read c positions work done end) (sym opens) (played, (refl, single), solves)
+    act held opens done end solves = subst (λ (read : Result GameEntry Halt). Solves read c positions work done end) (sym opens) (played, refl, solves)
 
     go : (b : Option Holding) → OpensGame b g (Ok played) → (r : Result ℕ Halt) → IfSome b (λ held. Follows (λ _. ⊥) (SolvesGame (result_alone played) played c positions work) held files' before after r)
         → IfSome b (λ held. CarriesOn held (Some (Solve g c (Some positions))) work files' before after r)

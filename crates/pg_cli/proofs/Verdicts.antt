@@ -51,16 +51,16 @@ opens_err (Some held) g c (Stopped stop) judges = tt
 
 -- ---- commands
 
-module _ (files files' : FilesTold) (g c : Bytes) (judged : Game × Verdict) (before after : ConsoleTold) (same : files'.held ≡ files.held) (single : judged.0.bias ≡ 1)
+module _ (files files' : FilesTold) (g c : Bytes) (judged : Game × Verdict) (before after : ConsoleTold) (same : files'.held ≡ files.held)
     (judges : JudgesBoth files.held g c (Ok judged)) where
   pub check_carries : (work : Expanded) (r : Result ℕ Halt)
-      → ((played : Game) (cert : Cert) → played.bias ≡ 1 → IsFound played cert judged.1 → Performs (RefusesCheck (read_of played cert)) (AcceptsAll (read_of played cert)) before after r)
+      → ((played : Game) (cert : Cert) → IsFound played cert judged.1 → Performs (RefusesCheck (read_of played cert)) (AcceptsAll (read_of played cert)) before after r)
       → Carries (Some (Check g c)) work files files' before after r
   check_carries work r performs = go files.held refl judges where
     go : (h : Option Holding) → files.held ≡ h → JudgesBoth h g c (Ok judged) → Carries (Some (Check g c)) work files files' before after r
     go None is judges = subst (λ (h : Option Holding). IfSome h (λ held. CarriesOn held (Some (Check g c)) work files' before after r)) (sym is) tt
     go (Some held) is (cert, read, found) =
-        carries_check files files' g c (judged.0, cert) before after same (subst (λ (h : Option Holding). OpensBoth h g c (Ok (judged.0, cert))) (sym is) read) work r (performs judged.0 cert single found)
+        carries_check files files' g c (judged.0, cert) before after same (subst (λ (h : Option Holding). OpensBoth h g c (Ok (judged.0, cert))) (sym is) read) work r (performs judged.0 cert found)
 
   pub report_carries : (work : Expanded) (r : Result ℕ Halt)
       → ((cert : Cert) → IsFound judged.0 cert judged.1 → Performs (RefusesReport (read_of judged.0 cert)) (Reports (read_of judged.0 cert)) before after r)

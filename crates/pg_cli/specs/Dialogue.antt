@@ -56,7 +56,7 @@ SaysResult g p text next = (is_over g p ≡ true) × (text ≡ result_text g.kin
 abbrev pub SaysMove : Game → Side → Position → ℕ → Bytes → Stage → Type 0
 SaysMove g side p refusals text next = (v : ℕ) × (is_over g p ≡ false) × (p.turn ≡ side) × (v < point_count g) × (is_free p v ≡ true) × (text ≡ move_text v) × (next ≡ At (after g p v) refusals)
 
--- THE RULES: the entry that may come next, and where it leads. The end of the input ends the dialogue
+-- THE RULES: the entry that may come next, and where it leads; in a turn of several points each is an entry of its own. The end of the input ends the dialogue
 abbrev pub Steps : Game → Side → Stage → Entry → Stage → Type 0
 Steps g side (At p refusals) (Said text) next = SaysResult g p text next ⊎ SaysMove g side p refusals text next
 Steps g side (At p refusals) (Heard line) next = IsTheirs g side p × (next ≡ after_reply g p refusals (replied_point g p line))

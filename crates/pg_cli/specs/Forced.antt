@@ -15,12 +15,11 @@ use Rattle.pg_texts.specs.Texts.{accepted_text, claim_text}
 use Rattle.pg_words.specs.Words.{Command}
 use Rattle.pg_cli.specs.Commands.{game_read}
 
--- these bytes say this game: Y claims one point a turn
+-- these bytes say this game
 pub record SaysGame (bytes : Option Bytes) (g : Game) : Type 0 where
   pub text : Bytes
   pub held : bytes ≡ Some text
   pub said : game text ≡ Ok (entry g)
-  pub single : g.bias ≡ 1
 
 -- these bytes say a game, and the side forces the goal from its marks with this turn
 abbrev pub IsForcedFrom : Option Bytes → Side → Side → Goal → Type 0

@@ -48,9 +48,9 @@ both (Ok e) (Ok c) = Ok (e, c)
 abbrev pub both_held : Option Bytes → Option Bytes → Result (GameEntry × Cert) Halt
 both_held game_bytes certificate_bytes = both (game_held game_bytes) (certificate_held certificate_bytes)
 
--- the game is the one that a file says: Y claims one point a turn
+-- the game is the one that a file says
 abbrev pub IsSaidBy : GameEntry → Game → Type 0
-IsSaidBy e g = (entry g ≡ e) × (g.bias ≡ 1)
+IsSaidBy e g = entry g ≡ e
 
 -- ---- what the code has read
 

@@ -45,7 +45,7 @@ fn accept_all<C: Console>(console: &mut C, claims: &[ClaimHead]) -> Result<(), S
 
 /// Says that each claim of a certificate is accepted, where it is valid.
 fn accept<C: Console>(console: &mut C, verdict: &Verdict) -> Result<u8, Halt>
-    ensures judged { (g : Game) (c : Cert) → g.bias ≡ 1 → IsFound g c verdict.now
+    ensures judged { (g : Game) (c : Cert) → IsFound g c verdict.now
         → Performs (RefusesCheck (read_of g c)) (AcceptsAll (read_of g c))
         (C.told console.old) (C.told console.new) result }
     ensures quiet { Quiets (Some (Check [] [])) (C.told console.old) (C.told console.new) result }

@@ -26,7 +26,7 @@ pub const MAX_REPLY: usize = 64;
 /// How many refused replies end a dialogue.
 pub const MAX_REFUSALS: u8 = 100;
 
-/// What came of a turn.
+/// What came of a turn, or of one of its points where it has several.
 #[derive(Clone, Copy, Debug, PartialEq, Eq)]
 pub enum Turn {
     /// A point was taken.
@@ -115,7 +115,8 @@ fn hear_reply<C: Console>(player: &mut Player<'_>, console: &mut C) -> Result<Tu
     }
 }
 
-/// Makes the player's move where it is to move, and else hears a reply and answers it.
+/// Makes the player's move where it is to move, and else hears a reply and answers it: one point, also in a turn
+/// of several.
 fn take_turn<C: Console>(player: &mut Player<'_>, console: &mut C) -> Result<Turn, Stop>
     requires { is_over player.old.game player.old.position ≡ false }
     ensures talk { (refused : ℕ) → TalksFrom player.old (C.told console.old) (C.told console.new)
@@ -135,7 +136,7 @@ fn take_turn<C: Console>(player: &mut Player<'_>, console: &mut C) -> Result<Tur
 }
 
 /// Plays the player's side over a console until the game is over, the input ends, or as many replies are
-/// refused as may be.
+/// refused as may be. In a turn of several points each is a move, or a reply, of its own.
 pub fn play_to_the_end<C: Console>(player: &mut Player<'_>, console: &mut C) -> Result<u8, Stop>
     ensures talk { TalksFrom player.old (C.told console.old) (C.told console.new)
         (At player.old.position 0) result (λ status. Over player.new.position status) }

@@ -116,8 +116,7 @@ fn solve_made<F: Files, C: Console>(
     console: &mut C,
     work: &mut Work,
 ) -> Result<u8, Halt>
-    requires empty { work.old.positions ≡ [] }
-    requires single { game.now.bias ≡ 1 }
+    requires { work.old.positions ≡ [] }
     ensures solved { Does (SolvesGame (result_and_counts game.now work.new) game.now certificate.now
         DEFAULT_POSITIONS work.new)
         (F.told files.old) (F.told files.new) (C.told console.old) (C.told console.new) result }

@@ -1,5 +1,5 @@
 //! Judging a certificate for a game as it comes.
-ghost use Rattle.std.specs.Prelude.{◌≡◌, IfErr, IfOk};
+ghost use Rattle.std.specs.Prelude.{IfErr};
 ghost use Rattle.pg_io.specs.Files.{IsAbsent, ReadsOnly};
 ghost use Rattle.pg_cli.specs.Halts.{HaltCauses, IsReadHalt};
 ghost use Rattle.pg_cli.specs.Reading.{AreLacking};
@@ -50,7 +50,6 @@ pub(crate) fn judge_both<F: Files>(
     certificate: &str,
 ) -> Result<(Game, Verdict), Halt>
     ensures judged { JudgesBoth (F.told files.old).held game.now certificate.now result }
-    ensures single { IfOk result (λ judged. judged.0.bias ≡ 1) }
     ensures halts { IfErr result IsReadHalt }
     ensures causes { HaltCauses (AreLacking (F.told files.old).held game.now certificate.now)
         (F.told files.old).faults (F.told files.new).faults result }

@@ -1,5 +1,5 @@
 //! Playing a side of a game by a certificate.
-ghost use Rattle.std.specs.Prelude.{◌≡◌, IfErr, IfOk, Some};
+ghost use Rattle.std.specs.Prelude.{IfErr, IfOk, Some};
 ghost use Rattle.pg_io.specs.Files.{ReadsOnly};
 ghost use Rattle.pg_cert.specs.Limits.{IsWithinLimits};
 ghost use Rattle.pg_cert.specs.Valid.{IsValid};
@@ -32,8 +32,7 @@ fn play_checked<C: Console>(
     checked: Checked<'_>,
     side: Side,
 ) -> Result<u8, Halt>
-    requires valid { IsValid checked.game.now checked.cert.now }
-    requires single { checked.game.now.bias ≡ 1 }
+    requires { IsValid checked.game.now checked.cert.now }
     ensures played { Performs (RefusesPlay side (read_of checked.entry.game.now checked.entry.cert.now))
         (PlaysOn side (read_of checked.entry.game.now checked.entry.cert.now))
         (C.told console.old) (C.told console.new) result }
@@ -59,8 +58,7 @@ fn play_by<C: Console>(
     certificate: &Cert,
     side: Side,
 ) -> Result<u8, Halt>
-    requires limits { IsWithinLimits certificate.now }
-    requires single { game.now.bias ≡ 1 }
+    requires { IsWithinLimits certificate.now }
     ensures played { Performs (RefusesPlay side (read_of game.now certificate.now))
         (PlaysOn side (read_of game.now certificate.now))
         (C.told console.old) (C.told console.new) result }

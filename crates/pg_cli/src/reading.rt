@@ -1,5 +1,5 @@
 //! Reading a game and a certificate.
-ghost use Rattle.std.specs.Prelude.{◌≡◌, IfErr, IfOk};
+ghost use Rattle.std.specs.Prelude.{IfErr, IfOk};
 ghost use Rattle.pg_io.specs.Files.{IsAbsent, ReadsOnly};
 ghost use Rattle.pg_cert.specs.Limits.{IsWithinLimits};
 ghost use Rattle.pg_cli.specs.Halts.{HaltCauses, IsGameHalt, IsReadHalt};
@@ -17,7 +17,6 @@ use std::alloc::Global;
 /// The game under this name.
 pub fn open_game<F: Files>(alloc: Global, files: &mut F, name: &str) -> Result<Game, Halt>
     ensures opened { OpensGame (F.told files.old).held name.now result }
-    ensures single { IfOk result (λ game. game.bias ≡ 1) }
     ensures halts { IfErr result IsGameHalt }
     ensures causes { HaltCauses (IsAbsent (F.told files.old).held name.now)
         (F.told files.old).faults (F.told files.new).faults result }
@@ -58,7 +57,6 @@ pub fn open_both<F: Files>(
     certificate: &str,
 ) -> Result<(Game, Cert), Halt>
     ensures opened { OpensBoth (F.told files.old).held game.now certificate.now result }
-    ensures single { IfOk result (λ both. both.0.bias ≡ 1) }
     ensures limits { IfOk result (λ both. IsWithinLimits both.1) }
     ensures halts { IfErr result IsReadHalt }
     ensures causes { HaltCauses (AreLacking (F.told files.old).held game.now certificate.now)

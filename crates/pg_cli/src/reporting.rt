@@ -1,5 +1,5 @@
 //! Reporting on a certificate for a game.
-ghost use Rattle.std.specs.Prelude.{◌≡◌, ◌≢◌, [], string_bytes, Err, IfErr, IfOk, Some};
+ghost use Rattle.std.specs.Prelude.{◌≢◌, [], string_bytes, Err, IfErr, IfOk, Some};
 ghost use Rattle.pg_io.specs.Files.{ReadsOnly};
 ghost use Rattle.pg_cert.specs.declared.cert.Cert.{Cert};
 ghost use Rattle.pg_pns.specs.Expanded.{Expanded};
@@ -44,7 +44,6 @@ fn report_on<C: Console>(
     game: &Game,
     verdict: &Verdict,
 ) -> Result<u8, Halt>
-    requires { game.now.bias ≡ 1 }
     ensures reported { (c : Cert) → IsFound game.now c verdict.now
         → Performs (RefusesReport (read_of game.now c)) (Reports (read_of game.now c))
         (C.told console.old) (C.told console.new) result }

@@ -118,7 +118,6 @@ pub fn find(
 ) -> Result<Option<(Message, Cert)>, Memory>
     requires some { LEAST_POSITIONS ≤ positions }
     requires most { positions ≤ MOST_POSITIONS }
-    requires single { game.now.bias ≡ 1 }
     ensures found { IfOk result (IsFound game.now positions work.new) }
     ensures few { work.old.positions ≡ [] → length work.new.positions ≤ MOST_POSITIONS }
     ensures work { game.now.kind ≢ Switching → IsLeft game.now (budget game.now positions) work.new }
@@ -146,7 +145,6 @@ fn solve_game<F: Files, C: Console>(
 ) -> Result<u8, Halt>
     requires some { LEAST_POSITIONS ≤ positions }
     requires most { positions ≤ MOST_POSITIONS }
-    requires single { game.now.bias ≡ 1 }
     ensures solved { Does (SolvesGame (result_alone game.now) game.now certificate.now positions work.new)
         (F.told files.old) (F.told files.new) (C.told console.old) (C.told console.new) result }
     ensures files { StoresAt (certificate.now ∷ []) (F.told files.old) (F.told files.new) }

@@ -40,7 +40,11 @@ fn report_value(alloc: Global, game: &Game, claims: &[ClaimHead]) -> Result<Valu
     match &game.field {
         Field::Lines(field) => {
             let lines = field.lines.as_slice().len();
-            json!(in alloc; {"claims": claims, "kind": kind, "lines": lines, "points": field.points})
+            if game.bias == 1 {
+                json!(in alloc; {"claims": claims, "kind": kind, "lines": lines, "points": field.points})
+            } else {
+                json!(in alloc; {"bias": game.bias, "claims": claims, "kind": kind, "lines": lines, "points": field.points})
+            }
         }
         Field::Graph(graph) => {
             let points = graph.ends.as_slice().len();
@@ -51,8 +55,8 @@ fn report_value(alloc: Global, game: &Game, claims: &[ClaimHead]) -> Result<Valu
 
 /// What a report says of a valid certificate for a game, with these claims: one line of compact JSON (RFC 8259) with its line feed.
 ///
-/// It is an object whose keys ascend: `claims`, `kind`, and `lines` and `points` of a line game, or `points` (its edges) and `vertices` of a switching
-/// game. Each claim is an object with the keys `goal`, `nodes` (their number), `side` and `turn`.
+/// It is an object whose keys ascend: `bias`, where Y claims more than one point in a turn, `claims`, `kind`, and `lines` and `points` of a line game, or
+/// `points` (its edges) and `vertices` of a switching game. Each claim is an object with the keys `goal`, `nodes` (their number), `side` and `turn`.
 ///
 /// # Errors
 ///

@@ -7,14 +7,14 @@ use Rattle.pg_cli.proofs.checking.accept.Goals as goal
 pub returns-in_err-accept_all-in-Valid-clause-judged : goal.returns-in_err-accept_all-in-Valid-clause-judged
 returns-in_err-accept_all-in-Valid-clause-judged g c =
     let p = err_from_is_err_and c.from_residual.result c.from_residual.ensures.1 in
-    λ played cert single found. let f = subst (IsFound played cert) c.in-Valid.is found in
-    rw (p.1, p.2) (judged_cut played cert c.deref.result.now single f.0 (c.deref.ensures.value ∙ f.1) _ _ _ c.in_err-accept_all-in-Valid.ensures.write c.in_err-accept_all-in-Valid.ensures.said c.in_err-accept_all-in-Valid.ensures.left)
+    λ played cert found. let f = subst (IsFound played cert) c.in-Valid.is found in
+    rw (p.1, p.2) (judged_cut played cert c.deref.result.now f.0 (c.deref.ensures.value ∙ f.1) _ _ _ c.in_err-accept_all-in-Valid.ensures.write c.in_err-accept_all-in-Valid.ensures.said c.in_err-accept_all-in-Valid.ensures.left)
 
 pub returns-in_ok-accept_all-in-Valid-clause-judged : goal.returns-in_ok-accept_all-in-Valid-clause-judged
 returns-in_ok-accept_all-in-Valid-clause-judged g c =
-    λ played cert single found. let f = subst (IsFound played cert) c.in-Valid.is found in
-    judged_all played cert c.deref.result.now single f.0 (c.deref.ensures.value ∙ f.1) _ _ c.in_ok-accept_all-in-Valid.ensures.said c.in_ok-accept_all-in-Valid.ensures.left
+    λ played cert found. let f = subst (IsFound played cert) c.in-Valid.is found in
+    judged_all played cert c.deref.result.now f.0 (c.deref.ensures.value ∙ f.1) _ _ c.in_ok-accept_all-in-Valid.ensures.said c.in_ok-accept_all-in-Valid.ensures.left
 
 pub returns-in-Faulty-clause-judged : goal.returns-in-Faulty-clause-judged
 returns-in-Faulty-clause-judged g c =
-    λ played cert single found. judged_rejects played cert c.in-Faulty.claim c.in-Faulty.node c.in-Faulty.why _ single (subst (IsFound played cert) c.in-Faulty.is found)
+    λ played cert found. judged_rejects played cert c.in-Faulty.claim c.in-Faulty.node c.in-Faulty.why _ (subst (IsFound played cert) c.in-Faulty.is found)

@@ -9,4 +9,4 @@ returns-in-Ok-clause-played g c = let out = c.play_checked.ensures.played in rw 
 pub returns-in-Err-Reject-clause-played : goal.returns-in-Err-Reject-clause-played
 returns-in-Err-Reject-clause-played g c =
     let fault = c.in-Err-Reject.ensures.reject c.in-Err-Reject.claim c.in-Err-Reject.node c.in-Err-Reject.why (ap (λ (f : CheckFault). Err f) c.in-Err-Reject.field-0-is) in
-    rw (c.in-Err-Reject.why-is, c.in-Err-Reject.claim-is, c.in-Err-Reject.node-is) (play_rejected c.args.side c.args.game.now c.args.certificate.now c.in-Err-Reject.claim c.in-Err-Reject.node c.in-Err-Reject.why (g.C.Console.told c.args.console.now) c.requires.single fault)
+    rw (c.in-Err-Reject.why-is, c.in-Err-Reject.claim-is, c.in-Err-Reject.node-is) (play_rejected c.args.side c.args.game.now c.args.certificate.now c.in-Err-Reject.claim c.in-Err-Reject.node c.in-Err-Reject.why (g.C.Console.told c.args.console.now) fault)

@@ -7,7 +7,7 @@ use Rattle.pg_cli.proofs.playing.play_checked.Goals as goal
 
 pub returns-in-Err-NoClaim-clause-played : goal.returns-in-Err-NoClaim-clause-played
 returns-in-Err-NoClaim-clause-played g c =
-    play_unclaimed c.args.side c.args.checked.game.now c.args.checked.cert.now (g.C.Console.told c.args.console.now) c.requires.single c.requires.valid
+    play_unclaimed c.args.side c.args.checked.game.now c.args.checked.cert.now (g.C.Console.told c.args.console.now) c.requires
     (c.in-Err-NoClaim.ensures.none (ap (λ (f : OpenFault). Err f) c.in-Err-NoClaim.field-0-is))
 
 pub returns-in_err-say-clause-played : goal.returns-in_err-say-clause-played
@@ -21,7 +21,7 @@ returns-in_err-play_to_the_end-clause-played g c =
     let opened = c.in-Ok.ensures in
     let stop = c.in_err-play_to_the_end.field-0.0 in
     rw (p.1, p.2) (plays_opened c.args.side c.args.checked.game.now c.args.checked.cert.now (g.C.Console.told c.args.console.now) (g.C.Console.told c.say.new.console) (g.C.Console.told c.play_to_the_end.new.console) c.in-Ok.player c.goal-goal.result c.play_to_the_end.new.player.position (Err stop)
-    c.requires.single c.requires.valid opened.chosen opened.game opened.position opened.side c.goal-goal.ensures
+    c.requires opened.chosen opened.game opened.position opened.side c.goal-goal.ensures
     c.in_ok-say.ensures.said c.in_ok-say.ensures.left c.in_err-play_to_the_end.ensures.memory tt c.in_err-play_to_the_end.ensures.talk (Err (Stopped stop)) tt refl)
 
 pub returns-clause-played : goal.returns-clause-played
@@ -29,5 +29,5 @@ returns-clause-played g c =
     let opened = c.in-Ok.ensures in
     let status = c.in_ok-play_to_the_end.field-0 in
     plays_opened c.args.side c.args.checked.game.now c.args.checked.cert.now (g.C.Console.told c.args.console.now) (g.C.Console.told c.say.new.console) (g.C.Console.told c.play_to_the_end.new.console) c.in-Ok.player c.goal-goal.result c.play_to_the_end.new.player.position (Ok status)
-    c.requires.single c.requires.valid opened.chosen opened.game opened.position opened.side c.goal-goal.ensures
+    c.requires opened.chosen opened.game opened.position opened.side c.goal-goal.ensures
     c.in_ok-say.ensures.said c.in_ok-say.ensures.left c.in_ok-play_to_the_end.ensures.memory c.in_ok-play_to_the_end.ensures.reached c.in_ok-play_to_the_end.ensures.talk (Ok status) refl tt

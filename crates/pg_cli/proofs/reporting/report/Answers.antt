@@ -11,4 +11,4 @@ returns-in_err-judged-clause-ran g c =
 
 pub returns-clause-ran : goal.returns-clause-ran
 returns-clause-ran g c =
-    λ work. report_carries (g.F.Files.told c.args.files.now) (g.F.Files.told c.judge_both.new.files) c.args.game.now c.args.certificate.now c.in_ok-judged.judged (g.C.Console.told c.args.console.now) (g.C.Console.told c.report_on.new.console) c.judge_both.ensures.kept.held c.in_ok-judged.ensures.single c.in_ok-judged.ensures.judged work c.report_on.result c.report_on.ensures.reported
+    λ work. report_carries (g.F.Files.told c.args.files.now) (g.F.Files.told c.judge_both.new.files) c.args.game.now c.args.certificate.now c.in_ok-judged.judged (g.C.Console.told c.args.console.now) (g.C.Console.told c.report_on.new.console) c.judge_both.ensures.kept.held c.in_ok-judged.ensures.judged work c.report_on.result c.report_on.ensures.reported

@@ -14,4 +14,4 @@ pub returns-clause-reported : goal.returns-clause-reported
 returns-clause-reported g c =
     let status = c.in_ok-told.told.1 in
     λ cert found. let told = subst (λ (t : Bytes). Accounts c.args.game.now cert t status) (sym c.as_str.ensures.value) (c.in_ok-told.ensures.told cert found) in
-    reported c.args.game.now cert (g.C.Console.told c.args.console.now) (g.C.Console.told c.say_text.new.console) c.as_str.result.now status c.requires told c.in_ok-say_text.ensures.said c.in_ok-say_text.ensures.left
+    reported c.args.game.now cert (g.C.Console.told c.args.console.now) (g.C.Console.told c.say_text.new.console) c.as_str.result.now status told c.in_ok-say_text.ensures.said c.in_ok-say_text.ensures.left

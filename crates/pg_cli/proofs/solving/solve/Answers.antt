@@ -12,7 +12,7 @@ returns-in_err-game-clause-ran g c =
 pub returns-clause-ran : goal.returns-clause-ran
 returns-clause-ran g c =
     carries_solve c.args.game.now c.args.certificate.now c.args.positions c.in_ok-game.game c.solve_game.new.work (g.F.Files.told c.args.files.now) (g.F.Files.told c.open_game.new.files) (g.F.Files.told c.solve_game.new.files)
-    (g.C.Console.told c.args.console.now) (g.C.Console.told c.solve_game.new.console) c.solve_game.result c.open_game.ensures.kept.held c.in_ok-game.ensures.opened c.in_ok-game.ensures.single c.solve_game.ensures.solved
+    (g.C.Console.told c.args.console.now) (g.C.Console.told c.solve_game.new.console) c.solve_game.result c.open_game.ensures.kept.held c.in_ok-game.ensures.opened c.solve_game.ensures.solved
 
 pub returns-in_err-game-clause-work : goal.returns-in_err-game-clause-work
 returns-in_err-game-clause-work g c = inl refl
