@@ -25,6 +25,7 @@ fn valid_certificates(rt: HostRuntime) -> Result<(), Fail> {
         "kind maker-maker;points 1;turn x#claim x y draw;nodes 1;||x|potential;claim x x draw;nodes 1;||x|potential#0#{\"claims\":[{\"goal\":\"draw\",\"nodes\":1,\"side\":\"y\",\"turn\":\"x\"},{\"goal\":\"draw\",\"nodes\":1,\"side\":\"x\",\"turn\":\"x\"}],\"kind\":\"maker-maker\",\"lines\":0,\"points\":1};",
         "kind maker-breaker;points 3;line 0 1;line 0 2;turn x#claim x x win;nodes 4;0|1|x|threat 2;0|2|x|threat 1;0||y|all 1:0 2:1;||x|move 0 2#0#{\"claims\":[{\"goal\":\"win\",\"nodes\":4,\"side\":\"x\",\"turn\":\"x\"}],\"kind\":\"maker-breaker\",\"lines\":2,\"points\":3};",
         "kind avoider-enforcer;points 3;line 0 1;line 0 2;line 1 2;turn y#claim y x win;nodes 1;||y|potential#0#{\"claims\":[{\"goal\":\"win\",\"nodes\":1,\"side\":\"x\",\"turn\":\"y\"}],\"kind\":\"avoider-enforcer\",\"lines\":3,\"points\":3};",
+        "kind maker-breaker;points 6;bias 2;line 0 1 2;line 3 4 5;turn x#claim x y win;nodes 1;||x|potential#0#{\"bias\":2,\"claims\":[{\"goal\":\"win\",\"nodes\":1,\"side\":\"y\",\"turn\":\"x\"}],\"kind\":\"maker-breaker\",\"lines\":2,\"points\":6};",
     ] {
         assert!(rt; reports(rt.alloc(), row)?, "{row}");
     }

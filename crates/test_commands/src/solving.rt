@@ -102,6 +102,9 @@ fn what_is_written_is_accepted(rt: HostRuntime) -> Result<(), Fail> {
         "kind switching;vertices 4;terminals 0 1;edge 0 2;edge 0 3;edge 2 3;edge 2 1;edge 3 1;turn x#0#class first-mover;#0#accepted x x win;accepted y y win;",
         "kind maker-breaker;grid 3 3;shape 110/011;turn x#0#result maker;#0#accepted x x win;",
         "kind maker-breaker;grid 3 3;shape 111/100;turn x#0#result breaker;#0#accepted x y win;",
+        "kind maker-breaker;points 3;bias 2;line 0;line 1;line 2;turn y#0#result maker;#0#accepted y x win;",
+        "kind avoider-enforcer;points 3;bias 2;line 0 1;turn x#0#result avoider;#0#accepted x x win;",
+        "kind avoider-enforcer;points 4;bias 2;line 0;turn x#0#result enforcer;#0#accepted x y win;",
     ] {
         assert!(rt; is_accepted(rt.alloc(), row)?, "{row}");
     }

@@ -9,15 +9,19 @@ use std::test::Fail;
 const FIRST_LINES: &str = "\
 C2 1=;\
 C2 1=\n;\
-C2 1=posgame-cert 2;\
+C2 1=posgame-cert 9;\
+C2 1=posgame-cert 02;\
+C2 1=posgame-cert 2 ;\
 C2 1=posgame-cert 1 ;\
 C2 1=posgame-cert  1\nclaim x y;\
+C3 2=posgame-cert 2;\
 C3 2=posgame-cert 1;\
 C3 2=posgame-cert 1\n";
 
 /// The same, without the first line.
 const CLAIM_LINES: &str = "\
 C3 2=claim x z win;\
+C3 2=claim y2 y win;\
 C3 2=claim x y won;\
 C3 2=claim x y win ;\
 C3 2=claim  x y win;\
@@ -58,6 +62,14 @@ C3 4=||x| over;\
 C3 4=||x|;\
 C3 4=||z|over;\
 C3 4=||y1|over;\
+a certificate=0|1|y3|over;\
+a certificate=||y2|over;\
+a certificate=||y7|over;\
+C3 4=||y8|over;\
+C3 4=||y02|over;\
+C3 4=||y22|over;\
+C3 4=||x2|over;\
+C3 4=||2|over;\
 C3 4=|x|over;\
 C3 4=|||x|over;\
 a certificate=1023|0|y|over;\
@@ -115,7 +127,24 @@ C4 4=||x|threat ;\
 C3 4=||x|threat 0 ;\
 C4 4=||x|threat 0  1;\
 C4 4=||x|threat e;\
+C3 4=||x|weaker 0;\
+C3 4=||x|weaker;\
 C3 4=||x|Over";
+
+/// The same of the body that stands in version 2 alone.
+const WEAKER_LINES: &str = "\
+a certificate=||x|weaker 0;\
+a certificate=0|1|y3|weaker 99999;\
+C4 4=||x|weaker 100000;\
+C4 4=||x|weaker 00;\
+C4 4=||x|weaker e;\
+C4 4=||x|weaker ;\
+C4 4=0|0|x|weaker 0;\
+C3 4=||x|weaker;\
+C3 4=||x|weaker 0 1;\
+C3 4=||x|weaker 0 ;\
+C3 4=0|0|x|weaker;\
+C3 4=||x|Weaker 0";
 
 /// The fault of the text with its line, as in `C3 2`, or `a certificate`.
 fn answer(alloc: Global, text: &[u8]) -> Result<String, AllocError> {
@@ -238,6 +267,15 @@ fn node_lines(rt: HostRuntime) -> Result<(), Fail> {
     Ok(())
 }
 
+#[test]
+fn lines_of_weaker(rt: HostRuntime) -> Result<(), Fail> {
+    let head = "posgame-cert 2\nclaim x y win\nnodes 1\n";
+    for row in WEAKER_LINES.split(';') {
+        assert!(rt; row_holds(rt.alloc(), head, row)?, "{row}");
+    }
+    Ok(())
+}
+
 /// A certificate of eight claims.
 fn eight_claims(alloc: Global) -> Result<String, AllocError> {
     let mut text = String::from_str(alloc, "posgame-cert 1\n")?;
@@ -261,9 +299,13 @@ fn the_ninth_claim(rt: HostRuntime) -> Result<(), Fail> {
     Ok(())
 }
 
-/// A certificate with each of the eight bodies.
+/// A certificate with each of the eight bodies of version 1.
 const CERTIFICATE: &str =
-    "posgame-cert 1\nclaim x x win\nnodes 3\n0 5|1 1023|y|over\n|3|x|move 4 0\n||y|all 0:1 7:0\nclaim y x draw\nnodes 6\n||x|pairs 1-0 2-3\n||x|potential\n||x|trees e 0 2 / 1\n||x|cuts / 0 9\n||x|threat 4 2 0\n||y|all\n";
+    "posgame-cert 1\nclaim x x win\nnodes 3\n0 5|1 1023|y|over\n|3|x|move 4 0\n||y|all 0:1 7:0\nclaim y x draw\nnodes 7\n0|1|y3|over\n||x|pairs 1-0 2-3\n||x|potential\n||x|trees e 0 2 / 1\n||x|cuts / 0 9\n||x|threat 4 2 0\n||y|all\n";
+
+/// A certificate of version 2, with the body that it has more.
+const VERSION_2: &str =
+    "posgame-cert 2\nclaim x x win\nnodes 2\n0|1|x|threat 2\n0||x|weaker 0\nclaim y x win\nnodes 1\n||y|over\n";
 
 /// Whether the text is read, and printed as it was.
 fn prints_back(alloc: Global, text: &[u8]) -> Result<bool, Memory> {
@@ -292,6 +334,12 @@ fn every_body_reads_and_prints_back(rt: HostRuntime) -> Result<(), Fail> {
     let text = CERTIFICATE.as_bytes();
     assert!(rt; prints_back(rt.alloc(), text)?);
     assert!(rt; has_first_node(rt.alloc(), text, b"0 5|1 1023|y|over\n")?);
+    Ok(())
+}
+
+#[test]
+fn version_2_reads_and_prints_back(rt: HostRuntime) -> Result<(), Fail> {
+    assert!(rt; prints_back(rt.alloc(), VERSION_2.as_bytes())?);
     Ok(())
 }
 

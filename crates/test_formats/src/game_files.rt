@@ -15,6 +15,9 @@ const SWITCHING: &str = "posgame 1\nkind switching\n";
 /// The lines of the greatest game with lines before its own lines.
 const BOARD: &str = "posgame 1\nkind maker-breaker\npoints 256\n";
 
+/// The same where Breaker claims two points a turn.
+const BIASED: &str = "posgame 1\nkind maker-breaker\npoints 256\nbias 2\n";
+
 /// The lines of a switching game before its edges.
 const GRAPH: &str = "posgame 1\nkind switching\nvertices 2\nterminals 0 1\n";
 
@@ -37,7 +40,7 @@ G3 1=kind maker-breaker;\
 G4 2=posgame 1\n # a;\
 G4 2=posgame 1\nkind hex;\
 G4 2=posgame 1\nkind hex maker-breaker;\
-G4 2=posgame 1\nbias 2;\
+G5 2=posgame 1\nbias 2;\
 G4 2=posgame 1\nturn z;\
 G4 2=posgame 1\nhex\nkind hex;\
 G4 2=posgame 1\nposgame 1;\
@@ -50,6 +53,9 @@ G6 2=posgame 1\nkind maker-maker maker-maker;\
 G5 3=posgame 1\nkind maker-breaker\nkind maker-breaker;\
 G5 3=posgame 1\nkind maker-breaker\nline 0;\
 G5 3=posgame 1\nkind maker-breaker\nturn x;\
+G5 4=posgame 1\nkind maker-maker\npoints 3\nbias 2;\
+G5 4=posgame 1\nkind switching\nvertices 2\nbias 2;\
+G12 0=posgame 1\nkind avoider-enforcer\npoints 3\nbias 7;\
 G12 0=posgame 1\nkind maker-breaker;\
 G12 0=posgame 1\nkind maker-breaker\npoints 3\nline 0 1;\
 G10 5=  posgame   1  \n\n# a\n kind  maker-breaker \npoints 257;\
@@ -62,12 +68,15 @@ G5 3=terminals 0 1;\
 G5 3=edge 0 1;\
 G5 3=x 0;\
 G5 3=shape 1;\
+G5 3=bias 2;\
 G5 4=points 3\npoints 3;\
 G5 4=points 3\ngrid 3 1;\
 G5 4=grid 3 1\npoints 3;\
 G5 4=points 3\nkind maker-maker;\
 G5 4=points 3\nshape 11;\
 G5 4=points 3\nedge 0 1;\
+G5 5=points 3\nbias 2\nbias 2;\
+G5 5=points 3\nline 0\nbias 2;\
 G5 5=points 3\nx 0\nline 1;\
 G5 5=points 3\nx 0\nx 1;\
 G5 5=points 3\ny 0\nx 1;\
@@ -80,6 +89,9 @@ G6 3=points 00;\
 G6 3=points -1;\
 G6 3=points 1234567890;\
 G10 3=points 999999999;\
+G6 4=points 3\nbias;\
+G6 4=points 3\nbias 2 2;\
+G6 4=points 3\nbias x;\
 G6 3=grid 3;\
 G6 3=grid 3 x;\
 G6 3=grid 3 3 3;\
@@ -94,6 +106,11 @@ G6 4=grid 3 3\nshape 1 1;\
 G13 4=grid 3 3\nshape 101;\
 G9 4=grid 3 3\nshape 11111111111111111111111111111111111111111111111111111111111111111111111111111111111111111111111111111;\
 G9 4=grid 3 3\nshape 11111111111111111111111111111111111111111111111111111111111111111111111111111111111111111111111111111/1;\
+G12 0=grid 34 1\nbias 1\nshape 1111111111111111111111111111111111;\
+G12 0=grid 34 1\nbias 2\nshape 111111111111111111111111111111111;\
+G9 5=grid 34 1\nbias 2\nshape 1111111111111111111111111111111111;\
+G9 5=grid 34 1\nbias 2\nshape 111111111111111111111111111111111/1;\
+G13 5=grid 34 1\nbias 2\nshape 11111111111111111111111111111111/1;\
 G13 4=grid 3 3\nshape 000;\
 G13 4=grid 3 3\nshape 11/1;\
 G13 4=grid 3 3\nshape 10/01;\
@@ -110,6 +127,8 @@ G8 4=points 3\ny 2 2;\
 G8 5=points 3\nx 1\ny 1;\
 G9 4=points 3\nline;\
 G9 5=points 3\nline 0\nline\nline 9;\
+G10 4=points 3\nbias 0;\
+G10 4=points 3\nbias 8;\
 G10 3=points 0;\
 G10 3=points 257;\
 G10 3=grid 0 1;\
@@ -237,6 +256,15 @@ fn lines_at_the_greatest_length_and_one_above(rt: HostRuntime) -> Result<(), Fai
 }
 
 #[test]
+fn lines_at_the_greatest_length_with_a_bias_and_one_above(rt: HostRuntime) -> Result<(), Fail> {
+    let line = line_of(rt.alloc(), 33)?;
+    assert!(rt; repeats_give(rt.alloc(), BIASED, line.as_str(), 1, "G12 0")?);
+    let line = line_of(rt.alloc(), 34)?;
+    assert!(rt; repeats_give(rt.alloc(), BIASED, line.as_str(), 1, "G9 5")?);
+    Ok(())
+}
+
+#[test]
 fn lines_at_the_greatest_number_and_one_above(rt: HostRuntime) -> Result<(), Fail> {
     assert!(rt; repeats_give(rt.alloc(), BOARD, "line 0\n", 20_000, "G12 0")?);
     assert!(rt; repeats_give(rt.alloc(), BOARD, "line 0\n", 20_001, "G10 20004")?);
@@ -325,5 +353,15 @@ fn games_read_and_printed(rt: HostRuntime) -> Result<(), Fail> {
     let bridges =
         "posgame 1\nkind switching\nvertices 3\nterminals 2 0\nedge 1 0\nedge 2 2\nedge 1 0\nx 0 2\nturn x\n";
     assert!(rt; prints_as(rt.alloc(), BRIDGES, bridges)?);
+    Ok(())
+}
+
+#[test]
+fn games_with_a_bias_read_and_printed(rt: HostRuntime) -> Result<(), Fail> {
+    let three = "posgame 1\nkind avoider-enforcer\npoints 4\nbias 3\nline 0 1\nturn y\n";
+    assert!(rt; prints_as(rt.alloc(), three, three)?);
+    let said = "posgame 1\nkind maker-breaker\ngrid 2 2\nbias 1\nshape 11/11\nturn x";
+    let unsaid = "posgame 1\nkind maker-breaker\ngrid 2 2\nline 0 1 2 3\nturn x\n";
+    assert!(rt; prints_as(rt.alloc(), said, unsaid)?);
     Ok(())
 }

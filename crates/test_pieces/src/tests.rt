@@ -140,9 +140,9 @@ fn sizes_say(alloc: Global, text: &[u8], said: &str) -> Result<bool, Memory> {
     Ok(true)
 }
 
-/// A certificate with each of the eight bodies, the last line without a line feed.
+/// A certificate with each of the nine bodies and a turn of several points, the last line without a line feed.
 const CERTIFICATE: &str =
-    "posgame-cert 1\nclaim x x win\nnodes 3\n0 5|1 1023|y|over\n|3|x|move 4 0\n||y|all 0:1 7:0\nclaim y x draw\nnodes 6\n||x|pairs 1-0 2-3\n||x|potential\n||x|trees e 0 2 / 1\n||x|cuts / 0 9\n||x|threat 4 2 0\n||y|all";
+    "posgame-cert 2\nclaim x x win\nnodes 3\n0 5|1 1023|y3|over\n|3|x|move 4 0\n||y|all 0:1 7:0\nclaim y x draw\nnodes 7\n||x|pairs 1-0 2-3\n||x|potential\n||x|trees e 0 2 / 1\n||x|cuts / 0 9\n||x|threat 4 2 0\n||x|weaker 99999\n||y|all";
 
 #[test]
 fn every_cut_of_each_body(rt: HostRuntime) -> Result<(), Fail> {
@@ -157,8 +157,8 @@ fn every_cut_of_each_body(rt: HostRuntime) -> Result<(), Fail> {
 /// Rows of files with a fault in the first line, in the middle, in the last line and at the end, with `;` between them,
 /// each behind its fault and `=`.
 const FAULTS: &str = "\
-C2 1=posgame-cert 2\nclaim x y win\nnodes 1\n||x|over\n;\
-C2 1=posgame-cert 2;\
+C2 1=posgame-cert 9\nclaim x y win\nnodes 1\n||x|over\n;\
+C2 1=posgame-cert 9;\
 C3 2=posgame-cert 1\nclaim x z win\nnodes 1\n||x|over\n;\
 C4 5=posgame-cert 1\nclaim x y win\nnodes 3\n||x|over\n||x|pairs 0-1 2-01\n||x|over\n;\
 C3 5=posgame-cert 1\nclaim x y win\nnodes 3\n||x|over\n||x|pairs 0-01 2\n||x|over\n;\

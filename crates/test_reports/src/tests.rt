@@ -106,6 +106,20 @@ fn without_lines(rt: HostRuntime) -> Result<(), Fail> {
 }
 
 #[test]
+fn biased(rt: HostRuntime) -> Result<(), Fail> {
+    assert_eq!(rt;
+        told(
+            rt.alloc(),
+            "posgame 1\nkind maker-breaker\npoints 3\nbias 2\nline 0 1 2\nturn x\n",
+            "posgame-cert 1\nclaim x y win\nnodes 1\n||x|potential\n"
+        )?
+        .as_str(),
+        "{\"bias\":2,\"claims\":[{\"goal\":\"win\",\"nodes\":1,\"side\":\"y\",\"turn\":\"x\"}],\"kind\":\"maker-breaker\",\"lines\":1,\"points\":3}\n"
+    );
+    Ok(())
+}
+
+#[test]
 fn switching(rt: HostRuntime) -> Result<(), Fail> {
     assert_eq!(rt;
         told(

@@ -19,13 +19,10 @@ use std::test::Fail;
 const NINE: &str =
     "points 9;line 0 1 2;line 3 4 5;line 6 7 8;line 0 3 6;line 1 4 7;line 2 5 8;line 0 4 8;line 2 4 6;turn x";
 
-/// The certificate of a game with one point a turn.
+/// The certificate of a game.
 pub(crate) fn certificate(alloc: Global, g: &Game) -> Result<Cert, Fail>
     ensures { IfOk result IsWithinLimits }
 {
-    if g.bias != 1 {
-        return Err("several points a turn")?;
-    }
     let mut work = Work::new(alloc);
     match solve(alloc, g, 100_000, &mut work)? {
         Solution::Value { certificate, .. } | Solution::Class { certificate, .. } => Ok(

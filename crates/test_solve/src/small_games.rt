@@ -83,8 +83,7 @@ fn small_game(alloc: Global, number: u32, bias: u8) -> Result<Game, Fail> {
     Ok(Game::new(kind, field, x, y, turn, bias)?)
 }
 
-/// Whether the solution is the plain value, with a certificate that the checker accepts where both sides take one point a
-/// turn.
+/// Whether the solution is the plain value, with a certificate that the checker accepts.
 fn is_right(alloc: Global, g: &Game, score: Score, work: &mut Work) -> Result<bool, Fail> {
     let solution = solve(alloc, g, 100_000, work)?;
     let Solution::Value {
@@ -94,9 +93,6 @@ fn is_right(alloc: Global, g: &Game, score: Score, work: &mut Work) -> Result<bo
     else {
         return Ok(false);
     };
-    if g.bias != 1 {
-        return Ok(found == score);
-    }
     Ok(found == score && check(alloc, g, &certificate).is_ok())
 }
 

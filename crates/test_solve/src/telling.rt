@@ -75,15 +75,12 @@ fn accepted_text(alloc: Global, g: &Game, cert: &Cert) -> Result<String, Fail>
     Ok(String::from_utf8(bytes)?)
 }
 
-/// What solving says of a game with one point a turn: the word of the result, how many positions were expanded and how
+/// What solving says of a game: the word of the result, how many positions were expanded and how
 /// many nodes the claims have, and the certificate's lines, all ended by semicolons. The checker accepts the certificate.
 pub(crate) fn told(alloc: Global, g: &Game, positions: u32, work: &mut Work) -> Result<String, Fail>
     requires some { 1 ≤ positions }
     requires most { positions ≤ 100000 }
 {
-    if g.bias != 1 {
-        return Err("several points a turn")?;
-    }
     let solution = solve(alloc, g, positions, work)?;
     let (word, cert) = match solution {
         Solution::Value { score, certificate } => (score_word(g.kind, score), certificate),

@@ -162,6 +162,8 @@ fn games_to_their_end(rt: HostRuntime) -> Result<(), Fail> {
         "kind maker-maker;points 1;line 0;turn x=claim x x win;nodes 2;0||y|over;||x|move 0 0=play G C --side x==claim x win;move 0;result x",
         "kind maker-maker;points 1;line 0;turn y=claim y y win;nodes 2;|0|x|over;||y|move 0 0=play G C --side y==claim y win;move 0;result y",
         "kind maker-breaker;points 12;line 10 11;turn y=claim y y win;nodes 1;||y|potential=play G C --side y==claim y win;move 10;result breaker",
+        "kind maker-breaker;points 6;bias 2;line 0 1 2;line 3 4 5;turn x=claim x y win;nodes 1;||x|potential=play G C --side y=0=claim y win;<0;move 1;move 3;result breaker",
+        "kind maker-breaker;points 3;bias 2;line 0;line 1;line 2;turn y=claim y x win;nodes 10;2|0 1|y2|over;1|0 2|y2|over;0|1 2|y2|over;|0 1|x|move 2 0;|0 2|x|move 1 1;|1 2|x|move 0 2;|0|y|all 1:3 2:4;|1|y|all 0:3 2:5;|2|y|all 0:4 1:5;||y2|all 0:6 1:7 2:8=play G C --side x=1;1;0=claim x win;<1;<1;refused: taken;<0;move 2;result maker",
     ] {
         assert!(rt; row_plays(rt.alloc(), row)?, "{row}");
     }
