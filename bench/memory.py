@@ -1,7 +1,8 @@
 #!/usr/bin/env python3
-"""Refuses each allocation of three short runs in turn, and counts how the runs end.
+"""Refuses each allocation of eight runs in turn, and counts how the runs end.
 
-Usage: memory.py
+Usage: memory.py [ROW]..
+The runs check, play, solve, make a game and report; the numbers of rows, from 1, choose some of them.
 It is run in a clone, with the kit's `rt` on the PATH. `rt try` builds the program bench_memory once, without proofs, and
 refuses the allocation with one number; the program makes so many allocations before the run that it is each one of the
 run in turn. The first that matters is where the run isn't as due for want of what it is run on, the last where it fails
@@ -14,13 +15,13 @@ import subprocess
 import sys
 import tempfile
 
-REFUSED = 100
-ROWS = 3
+REFUSED = 350
+ROWS = range(1, 9)
 
 
-def endings(folder):
+def endings(folder, rows):
     """How each row ended, by the number of allocations before it."""
-    for row in range(1, ROWS + 1):
+    for row in rows:
         for count in range(REFUSED):
             case = pathlib.Path(folder, f"{row}-{count}")
             case.touch()
@@ -35,13 +36,16 @@ def endings(folder):
 
 
 def main():
+    rows = [int(word) for word in sys.argv[1:]] or ROWS
     with tempfile.TemporaryDirectory() as folder:
-        found = endings(folder)
-    if len(found) < ROWS * REFUSED:
-        sys.exit(f"only {len(found)} runs of {ROWS * REFUSED} ended")
-    for row in range(1, ROWS + 1):
+        found = endings(folder, rows)
+    if len(found) < len(rows) * REFUSED:
+        sys.exit(f"only {len(found)} runs of {len(rows) * REFUSED} ended")
+    for row in rows:
         said = [found[row, count] for count in range(REFUSED)]
         reached = [count for count in range(REFUSED) if said[count] != "as due"]
+        if said[0] != "as due":
+            sys.exit(f"row {row} makes too many allocations for {REFUSED} runs")
         counts = collections.Counter(said[min(reached) : max(reached) + 1])
         print(f"row {row}:", ", ".join(f"{counts[it]} {it}" for it in sorted(counts)))
     sys.exit("broken" in found.values())

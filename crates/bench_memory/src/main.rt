@@ -13,10 +13,15 @@ use std::{env, io};
 
 /// Each row: the words, the lines of the game, of the certificate, of the input and of the log, which are separated by `;`.
 /// In the log what was heard stands behind `<`.
-const ROWS: [&str; 3] = [
+const ROWS: [&str; 8] = [
     "check G C=posgame 1;kind maker-breaker;points 9;line 0 1 2;line 3 4 5;line 6 7 8;line 0 3 6;line 1 4 7;line 2 5 8;line 0 4 8;line 2 4 6;y 4;turn x=posgame-cert 1;claim x y win;nodes 1;|4|x|pairs 0-1 2-5 8-7 6-3==accepted x y win",
     "check G C=posgame 1;kind switching;vertices 4;terminals 0 1;edge 0 2;edge 0 3;edge 2 3;edge 2 1;edge 3 1;turn x=posgame-cert 1;claim x x win;nodes 1;||x|trees e 0 4 / 1 2 3;claim y y win;nodes 1;||y|cuts e 0 4 / 1 2 3==accepted x x win;accepted y y win",
     "play G C --side x=posgame 1;kind switching;vertices 4;terminals 0 1;edge 0 2;edge 0 3;edge 2 3;edge 2 1;edge 3 1;turn x=posgame-cert 1;claim x x win;nodes 1;||x|trees e 0 4 / 1 2 3;claim y y win;nodes 1;||y|cuts e 0 4 / 1 2 3=4;0=claim x win;move 1;<4;move 3;<0;move 2;result short",
+    "solve G C=posgame 1;kind switching;vertices 4;terminals 0 1;edge 0 2;edge 0 3;edge 2 3;edge 2 1;edge 3 1;turn x=old==class first-mover",
+    "solve G C=posgame 1;kind maker-breaker;points 9;line 0 1 2;line 3 4 5;line 6 7 8;line 0 3 6;line 1 4 7;line 2 5 8;line 0 4 8;line 2 4 6;turn x=old==result maker",
+    "solve G C=posgame 1;kind avoider-enforcer;points 3;line 0 1;line 0 2;line 1 2;turn x=old==result enforcer",
+    "gen bridge 4 G C=old=old==game 14 vertices 25 edges;class first-mover;expanded 0 nodes 2",
+    "report G C=posgame 1;kind maker-breaker;points 9;line 0 1 2;line 3 4 5;line 6 7 8;line 0 3 6;line 1 4 7;line 2 5 8;line 0 4 8;line 2 4 6;y 4;turn x=posgame-cert 1;claim x y win;nodes 1;|4|x|pairs 0-1 2-5 8-7 6-3=={\"claims\":[{\"goal\":\"win\",\"nodes\":1,\"side\":\"y\",\"turn\":\"x\"}],\"kind\":\"maker-breaker\",\"lines\":8,\"points\":9}",
 ];
 
 /// How a row ended.
@@ -26,7 +31,7 @@ enum Ending {
     AsDue,
     /// There was no memory for what the row is run on.
     Unbuilt,
-    /// With status 7, before anything was said.
+    /// With status 7, before its log was whole and before a claim was said.
     Starved,
     /// With status 5 or 6, within its log.
     CutShort,
@@ -90,7 +95,7 @@ fn judged(status: u8, entries: &[Entry], log: &str) -> Ending {
     let is_whole = due.next().is_none();
     match status {
         0 if is_whole => Ending::AsDue,
-        7 if entries.is_empty() => Ending::Starved,
+        7 if !is_whole && (entries.is_empty() || !log.starts_with("claim")) => Ending::Starved,
         5 | 6 if !is_whole => Ending::CutShort,
         _ => Ending::Broken,
     }
