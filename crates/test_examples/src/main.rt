@@ -8,7 +8,7 @@ use std::alloc::{AllocError, Global};
 use std::io;
 
 /// Each game with a certificate for it.
-const EXAMPLES: [(&str, &str); 28] = [
+const EXAMPLES: [(&str, &str); 37] = [
     ("noughts-and-crosses.game", "breaker-in-the-centre.cert"),
     ("noughts-and-crosses.game", "a-pair-missing.cert"),
     ("two-lines.game", "maker-takes-the-middle.cert"),
@@ -37,6 +37,15 @@ const EXAMPLES: [(&str, &str); 28] = [
     ("elly-4-by-4.game", "elly-4-by-4.cert"),
     ("knobby-4-by-4.game", "knobby-4-by-4.cert"),
     ("fatty-5-by-5.game", "fatty-5-by-5.cert"),
+    ("star.game", "star-moves.cert"),
+    ("star.game", "star-three-points.cert"),
+    ("eight-paths.game", "eight-paths-potential.cert"),
+    ("two-boxes-avoider.game", "two-boxes-moves.cert"),
+    ("two-boxes-avoider.game", "two-boxes-potential.cert"),
+    ("seven-boxes-avoider.game", "seven-boxes-potential.cert"),
+    ("tippy-5-by-5.game", "tippy-5-by-5.cert"),
+    ("tippy-5-by-5.game", "tippy-by-its-corner.cert"),
+    ("two-lines.game", "maker-rests-on-a-better-position.cert"),
 ];
 
 /// The words that check a certificate for a game.
