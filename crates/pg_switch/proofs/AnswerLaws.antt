@@ -23,14 +23,15 @@ use Rattle.pg_game.specs.declared.field.Field.{Field}
 use Rattle.pg_game.specs.declared.field.Field.TheVariants.{Graph as OnGraph}
 use Rattle.pg_game.specs.declared.game.Game.{Game}
 use Rattle.pg_game.specs.declared.position.Position.{Position}
-use Rattle.pg_game.specs.Field.{field_points}
+use Rattle.pg_game.specs.Field.{field_points, terminals_joined}
 use Rattle.pg_game.specs.Fit.{AreBelow}
 use Rattle.pg_game.specs.Game.{point_count, is_over, after, IsPosition}
 use Rattle.pg_game.specs.Trees.{IsFreeEdge, AreFreeEdges, AreFreeWithE, AreTrees, AreCuts, TreesHold, TreesHoldOn, CutsHold, CutsHoldOn, with_set, without_set, lowest_free_edge, answered_edge, short_edge, cut_edge}
 use Rattle.pg_game.proofs.Moves.{side≢other, free-stays}
 use Rattle.pg_game.proofs.Strategy.{free_point}
 use Rattle.pg_switch.specs.Replies.{short_reply, cut_reply, HeldUntil}
-use Rattle.pg_switch.proofs.EdgeSets.{left_edges, left_edges-below, with_set-edges, x-after_x, x-after_y, y-after_x, left-after_x, left-after_y, IsTrees-from, AreTrees-from, IsCuts-from, AreCuts-from, without-agree, minus-agree}
+use Rattle.pg_claims.proofs.ClaimLaws.{y-next_x, x-plus, x-same, kept-same, kept-minus}
+use Rattle.pg_switch.proofs.EdgeSets.{left_edges, left_edges-below, with_set-edges, IsTrees-from, AreTrees-from, IsCuts-from, AreCuts-from, without-agree, minus-agree}
 use Rattle.pg_switch.proofs.Finding.{crossing-cases, parting-cases, parting-apart, joins-agree, lowest_free-free}
 
 -- a number that isn't a member takes nothing away
@@ -159,13 +160,13 @@ short-kept h p a1 a2 x z small d fz = elim (cases_Bool (contains a1 x)) [
 pub short-holds : (g : Game) (h : Graph) (p : Position) (a1 a2 : FinSet nat_cmp) (x y : ℕ) → p.turn ≡ X → TreesDue h p a1 a2 x → IsShortEdge h p a1 a2 x y → AreTrees h (after g p y) (remove (remove a1 x) y) (remove (remove a2 x) y)
 short-holds g h p a1 a2 x y mine d s =
     AreTrees-from h (after g p y) (remove (remove a1 x) y) (remove (remove a2 x) y) (λ f k. inl (left_free g h p a1 x y d.left.first f k)) (left_free g h p a2 x y d.left.second)
-    (subst (λ (q : ℕ → Bool). IsTrees (spans_in h) (edge_count h) q (contains (remove (remove a1 x) y)) (contains (remove (remove a2 x) y))) (sym (x-after_x g p y mine))
+    (subst (λ (q : ℕ → Bool). IsTrees (spans_in h) (edge_count h) q (contains (remove (remove a1 x) y)) (contains (remove (remove a2 x) y))) (sym (x-plus (edge_count h) (terminals_joined h) p y mine))
     (subst₂ (λ (a b : ℕ → Bool). IsTrees (spans_in h) (edge_count h) (plus (contains p.x) y) a b) (sym (remove-both a1 x y)) (sym (remove-both a2 x y)) s.trees))
 
 -- Y has just taken x
 due-after : (g : Game) (h : Graph) (q : Position) (a1 a2 : FinSet nat_cmp) (x : ℕ) → q.turn ≡ Y → x < edge_count h → AreBelow (after g q x).x (edge_count h) → AreTrees h q a1 a2 → TreesDue h (after g q x) a1 a2 x
 due-after g h q a1 a2 x yours low small t =
-    let same = x-after_y g q x yours in
+    let same = x-same (edge_count h) (terminals_joined h) q x yours in
     let before : AreBelow q.x (edge_count h) = λ v k. small v (ap (λ (s : ℕ → Bool). s v) same ∙ k) in
     record {
       trees = subst (λ (s : ℕ → Bool). IsTrees (spans_in h) (edge_count h) s (contains a1) (contains a2)) (sym same) (IsTrees-from h q a1 a2 before t);
@@ -279,13 +280,13 @@ cut-kept h p d1 d2 x z d fz = elim (cases_Bool (contains d1 x)) [
 pub cut-holds : (g : Game) (h : Graph) (p : Position) (d1 d2 : FinSet nat_cmp) (x y : ℕ) → p.turn ≡ Y → CutsDue h p d1 d2 x → IsCutEdge h p d1 d2 x y → AreCuts h (after g p y) (remove (remove d1 x) y) (remove (remove d2 x) y)
 cut-holds g h p d1 d2 x y mine d s =
     AreCuts-from h (after g p y) (remove (remove d1 x) y) (remove (remove d2 x) y) (λ f k. inl (left_free g h p d1 x y d.left.first f k)) (left_free g h p d2 x y d.left.second)
-    (subst (λ (q : ℕ → Bool). IsCuts (spans_in h) (edge_count h) q (contains (remove (remove d1 x) y)) (contains (remove (remove d2 x) y))) (sym (left-after_y g h p y mine))
+    (subst (λ (q : ℕ → Bool). IsCuts (spans_in h) (edge_count h) q (contains (remove (remove d1 x) y)) (contains (remove (remove d2 x) y))) (sym (kept-minus (edge_count h) (terminals_joined h) (suc (edge_count h)) p y mine))
     (subst₂ (λ (a b : ℕ → Bool). IsCuts (spans_in h) (edge_count h) (minus (left_edges h p) y) a b) (sym (remove-both d1 x y)) (sym (remove-both d2 x y)) s.cuts))
 
 -- X has just taken x, which stays in what is left
 cuts_due-after : (g : Game) (h : Graph) (q : Position) (d1 d2 : FinSet nat_cmp) (x : ℕ) → q.turn ≡ X → x < edge_count h → AreBelow q.y (edge_count h) → AreCuts h q d1 d2 → CutsDue h (after g q x) d1 d2 x
 cuts_due-after g h q d1 d2 x yours low small t = record {
-  cuts = subst (λ (r : ℕ → Bool). IsCuts (spans_in h) (edge_count h) r (contains d1) (contains d2)) (sym (left-after_x g h q x yours)) (IsCuts-from h q d1 d2 small t);
+  cuts = subst (λ (r : ℕ → Bool). IsCuts (spans_in h) (edge_count h) r (contains d1) (contains d2)) (sym (kept-same (edge_count h) (terminals_joined h) (suc (edge_count h)) q x yours)) (IsCuts-from h q d1 d2 small t);
   left = left-after g h q Y d1 d2 x yours low t.first_free t.second_free;
 }
 
@@ -302,7 +303,7 @@ cuts-due g h p d1 d2 (Some x) on position mine held =
     let points : point_count g ≡ edge_count h = ap field_points on in
     let low : x < edge_count h = subst (λ (n : ℕ). x < n) points held.within in
     let yours : b.turn ≡ X = held.theirs ∙ ap other mine in
-    let same : p.y ≡ b.y = ap (λ (r : Position). r.y) held.leads ∙ y-after_x g b x yours in
+    let same : p.y ≡ b.y = ap (λ (r : Position). r.y) held.leads ∙ y-next_x (edge_count h) (terminals_joined h) b x yours in
     let small : AreBelow b.y (edge_count h) = λ v k. subst (λ (n : ℕ). v < n) points (position.y_range v (ap (λ (s : FinSet nat_cmp). contains s v) same ∙ k)) in
     subst (λ (r : Position). CutsDue h r d1 d2 x) (sym held.leads) (cuts_due-after g h b d1 d2 x yours low small t)
 

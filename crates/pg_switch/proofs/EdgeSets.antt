@@ -1,51 +1,31 @@
--- Edges that are free or left at a position, and sets of them that are trees or cuts.
+-- Edges that are left at a position, and sets of edges that are trees or cuts.
 use Rattle.std.proofs.Common.{◌≡◌, ℕ, ◌<◌, ◌≤◌, suc, Bool, true, false, not, ◌&&◌, inl, inr, refl, sym, ap, ◌∙◌, subst, arith}
 use Rattle.std.proofs.lemmas.Bool.{both_ways, false_from_ne_true, not-true, not_from_false}
-use Rattle.std.specs.FinSet.{FinSet, contains, insert}
+use Rattle.std.specs.FinSet.{FinSet, contains}
 use Rattle.std.specs.Ordering.{nat_cmp}
-use Rattle.pg_base.specs.Sets.{plus, minus, outside, below, IsWithin, IsBelow}
+use Rattle.pg_base.specs.Sets.{minus, outside, IsWithin, IsBelow}
 use Rattle.pg_base.specs.declared.side.Side.{Side}
 use Rattle.pg_base.specs.declared.side.Side.TheVariants.{X, Y}
-use Rattle.pg_base.proofs.BelowLemmas.{below_parts, below_from, same_sets}
-use Rattle.pg_base.proofs.PointSetLaws.{contains-insert_plus, insert-cases, insert-old, insert-self}
-use Rattle.pg_base.proofs.SetLemmas.{minus_parts, minus_from, either_cases}
+use Rattle.pg_base.proofs.BelowLemmas.{below_parts, below_from}
+use Rattle.pg_base.proofs.SetLemmas.{either_cases}
 use Rattle.pg_graph.specs.declared.graph.Graph.{Graph}
 use Rattle.pg_graph.specs.Graph.{edge_count, first_end_of, second_end_of, spans_in, IsBridge}
 use Rattle.pg_graph.specs.Joiner.{AreEdges}
 use Rattle.pg_graph.specs.Span.{IsTrees, IsCuts}
 use Rattle.pg_graph.specs.Walks.{edge_spans}
 use Rattle.pg_graph.proofs.GraphLemmas.{joins_same, spans_in-sound, spans_in-complete, unspanned-from, unspanned-apart}
-use Rattle.pg_game.specs.declared.game.Game.{Game}
 use Rattle.pg_game.specs.declared.position.Position.{Position}
 use Rattle.pg_game.specs.Fit.{AreBelow}
-use Rattle.pg_game.specs.Game.{after}
-use Rattle.pg_game.specs.Position.{is_free}
-use Rattle.pg_game.specs.Trees.{IsFreeEdge, AreFreeEdges, AreFreeWithE, with_set, without_set, AreTrees, AreCuts}
-use Rattle.pg_game.proofs.Moves.{free-stays, free-was, free-of, points_of-mover, points_of-waiter}
-
--- the free edges
-abbrev pub free_edges : Graph → Position → ℕ → Bool
-free_edges h p = below (is_free p) (edge_count h)
+use Rattle.pg_game.specs.Trees.{AreFreeEdges, AreFreeWithE, with_set, without_set, AreTrees, AreCuts}
+use Rattle.pg_game.proofs.Moves.{free-of}
+use Rattle.pg_claims.specs.Claims.{kept}
 
 -- the edges that aren't Y's, with e
 abbrev pub left_edges : Graph → Position → ℕ → Bool
-left_edges h p = below (λ f. not (contains p.y f)) (suc (edge_count h))
-
-pub free_edges-below : (h : Graph) (p : Position) → IsBelow (free_edges h p) (edge_count h)
-free_edges-below h p z f = (below_parts (is_free p) (edge_count h) z f).1
+left_edges h p = kept (suc (edge_count h)) p
 
 pub left_edges-below : (h : Graph) (p : Position) → IsBelow (left_edges h p) (suc (edge_count h))
 left_edges-below h p z l = (below_parts (λ f. not (contains p.y f)) (suc (edge_count h)) z l).1
-
--- e is no free edge
-pub free_edges-e : (h : Graph) (p : Position) → free_edges h p (edge_count h) ≡ false
-free_edges-e h p = false_from_ne_true _ (λ f. let low = free_edges-below h p (edge_count h) f in absurd (omega arith))
-
-pub free_edges-from : (h : Graph) (p : Position) (f : ℕ) → IsFreeEdge h p f → free_edges h p f ≡ true
-free_edges-from h p f i = below_from (is_free p) (edge_count h) f i.1 i.0
-
-pub free_edges-parts : (h : Graph) (p : Position) (f : ℕ) → free_edges h p f ≡ true → IsFreeEdge h p f
-free_edges-parts h p f i = let q = below_parts (is_free p) (edge_count h) f i in (q.1, q.0)
 
 -- an edge that isn't Y's, or e, is left
 pub left_edges-from : (h : Graph) (p : Position) (f : ℕ) → f ≤ edge_count h → contains p.y f ≡ false → left_edges h p f ≡ true
@@ -54,51 +34,6 @@ left_edges-from h p f low out = below_from (λ k. not (contains p.y k)) (suc (ed
 -- e is no edge of a side
 pub no_e : (h : Graph) (s : FinSet nat_cmp) → AreBelow s (edge_count h) → contains s (edge_count h) ≡ false
 no_e h s small = false_from_ne_true _ (λ k. let low = small (edge_count h) k in absurd (omega arith))
-
--- ---- after a move
-
--- a move takes its edge from the free ones
-pub free_edges-after : (g : Game) (h : Graph) (p : Position) (v : ℕ) → free_edges h (after g p v) ≡ minus (free_edges h p) v
-free_edges-after g h p v = same_sets _ _
-    (λ z k.
-    let q = below_parts (is_free (after g p v)) (edge_count h) z k in
-    let was = free-was g p v z q.0 in
-    minus_from (free_edges h p) v z (below_from (is_free p) (edge_count h) z was.0 q.1) (λ e. was.1 (sym e)))
-    (λ z k.
-    let q = minus_parts (free_edges h p) v z k in
-    let r = below_parts (is_free p) (edge_count h) z q.0 in
-    below_from (is_free (after g p v)) (edge_count h) z (free-stays g p v z q.1 r.0) r.1)
-
--- X's edges with one more
-pub x-after_x : (g : Game) (p : Position) (v : ℕ) → p.turn ≡ X → contains (after g p v).x ≡ plus (contains p.x) v
-x-after_x g p v mine = ap (λ (s : FinSet nat_cmp). contains s) (points_of-mover g p X v mine) ∙ contains-insert_plus p.x v
-
-pub x-after_y : (g : Game) (p : Position) (v : ℕ) → p.turn ≡ Y → contains (after g p v).x ≡ contains p.x
-x-after_y g p v yours = ap (λ (s : FinSet nat_cmp). contains s) (points_of-waiter g p X v yours)
-
-pub y-after_x : (g : Game) (p : Position) (v : ℕ) → p.turn ≡ X → (after g p v).y ≡ p.y
-y-after_x g p v yours = points_of-waiter g p Y v yours
-
--- what is left with one edge less
-pub left-after_y : (g : Game) (h : Graph) (p : Position) (v : ℕ) → p.turn ≡ Y → left_edges h (after g p v) ≡ minus (left_edges h p) v
-left-after_y g h p v mine =
-    let m = suc (edge_count h) in
-    let now : (after g p v).y ≡ insert p.y v = points_of-mover g p Y v mine in
-    ap (λ (s : FinSet nat_cmp). below (λ f. not (contains s f)) m) now ∙ same_sets _ _
-    (λ z k.
-    let q = below_parts (λ f. not (contains (insert p.y v) f)) m z k in
-    let out = not-true _ q.0 in
-    minus_from (left_edges h p) v z
-    (below_from (λ f. not (contains p.y f)) m z (not_from_false _ (false_from_ne_true _ (λ i. both_ways _ out (insert-old p.y v z i)))) q.1)
-    (λ e. both_ways _ out (subst (λ (w : ℕ). contains (insert p.y v) w ≡ true) e (insert-self p.y v))))
-    (λ z k.
-    let q = minus_parts (left_edges h p) v z k in
-    let r = below_parts (λ f. not (contains p.y f)) m z q.0 in
-    below_from (λ f. not (contains (insert p.y v) f)) m z
-    (not_from_false _ (false_from_ne_true _ (λ i. elim (insert-cases p.y v z i) [ inl e ↦ absurd (q.1 (sym e)) | inr old ↦ both_ways _ (not-true _ r.0) old ]))) r.1)
-
-pub left-after_x : (g : Game) (h : Graph) (p : Position) (v : ℕ) → p.turn ≡ X → left_edges h (after g p v) ≡ left_edges h p
-left-after_x g h p v yours = ap (λ (s : FinSet nat_cmp). below (λ f. not (contains s f)) (suc (edge_count h))) (y-after_x g p v yours)
 
 -- ---- sets that agree on the edges
 

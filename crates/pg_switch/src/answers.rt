@@ -12,8 +12,8 @@ use pg_base::{MAX_MEMBERS, PointSet};
 use pg_game::Position;
 use pg_graph::{Graph, Joiner};
 
-/// The lowest free edge, else 0.
-fn lowest_free(graph: &Graph, p: &Position) -> u16
+/// The lowest free edge, and 0 where none is free.
+pub fn lowest_free(graph: &Graph, p: &Position) -> u16
     requires { IsGraph graph.now }
     ensures { result ≡ lowest_free_edge graph.now p.now }
 {
@@ -89,8 +89,10 @@ fn cut_reply(
     }
 }
 
-/// Short's edge where x is lost.
-pub(crate) fn short_edge(
+/// Short's edge by two sets where the edge x is lost: the lowest one of the other set with exactly one end joined to the
+/// first end of x by X's edges and the rest of the set that x was in, and the lowest free edge where x is in neither set, or
+/// no edge of the other crosses. It takes no memory, and leaves the joiner as it was (Lehman 1964).
+pub fn short_edge(
     graph: &Graph,
     j: &mut Joiner,
     p: &Position,

@@ -9,5 +9,6 @@ mod condition;
 pub mod laws;
 mod plan;
 
+pub use answers::{lowest_free, short_edge};
 pub use condition::{cuts_hold, trees_hold};
 pub use plan::{CutPlan, ShortPlan};

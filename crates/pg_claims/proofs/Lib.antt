@@ -1,0 +1,10 @@
+pub mod ClaimLaws
+pub mod TargetAnswers
+pub mod TreeForces
+pub mod SpanLaws
+pub mod PartLemmas
+pub mod AllJoined
+pub mod PartLaws
+pub mod JoinLaws
+pub mod Components
+pub mod Settled
