@@ -5,7 +5,7 @@
 ghost use Rattle.std.specs.Prelude.{◌≡◌, ◌≢◌, ◌<◌, ◌↔◌, ◌⊎◌, ◌+◌, ◌==◌, ℕ, Bool, true, false, IfSome, IfNone, length};
 ghost use Rattle.std.specs.FinSet.{contains};
 ghost use Rattle.pg_base.specs.Sets.{IsWithin, both, outside};
-ghost use Rattle.pg_graph.specs.Span.{IsBase, circuit, swapped};
+ghost use Rattle.pg_graph.specs.Span.{IsBase, IsReached, circuit, swapped};
 ghost use Rattle.pg_exchange.specs.Chain.{base_of, LeadsFrom, SomeTree, IsClosed, IsLeast, IsSettled, IsMoved, IsShift, IsNearest, IsShortest, reads_up, reads_test};
 
 use crate::ground::Ground;
@@ -204,6 +204,21 @@ impl<G: Ground> Exchange<G> {
         ensures { contains result ≡ both (G.base self.now.first) (G.base self.now.second) }
     {
         shared(&members(&self.first), &members(&self.second))
+    }
+
+    /// The elements to which a chain of links leads from an element in neither base. Where no chain leads from there to an
+    /// element in both, as `settle` leaves the bases, the members of either base among them span every one of them (Lehman
+    /// 1964; Bruno and Weinberg, A constructive graph-theoretic solution of the Shannon switching game, 1970).
+    pub fn reached(&mut self) -> PointSet
+        ensures value { (y : ℕ) → (contains result y ≡ true) ↔ LeadsFrom (G.matroid self.old.first) (G.base self.old.first) (G.base self.old.second) (outside (outside (G.matroid self.old.first).elements (G.base self.old.first)) (G.base self.old.second)) y }
+        ensures reached { IsSettled (G.matroid self.old.first) (G.base self.old.first) (G.base self.old.second) → IsReached (G.matroid self.old.first).spans (G.matroid self.old.first).elements (G.base self.old.first) (G.base self.old.second) (contains result) }
+        ensures kept { G.matroid self.new.first ≡ G.matroid self.old.first }
+        ensures kept_second { G.matroid self.new.second ≡ G.matroid self.old.second }
+        ensures kept_base { G.base self.new.first ≡ G.base self.old.first }
+        ensures kept_second_base { G.base self.new.second ≡ G.base self.old.second }
+    {
+        let neither = self.neither();
+        self.reach(&neither)
     }
 
     /// Makes the common elements as few as those of any two bases: no chain leads from an element in neither base to

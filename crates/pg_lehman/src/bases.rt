@@ -1,5 +1,5 @@
 //! The class of an element of a ground, by two bases that share few elements.
-ghost use Rattle.std.specs.Prelude.{◌≡◌, ◌<◌, ◌↔◌, ℕ, Bool, true, false};
+ghost use Rattle.std.specs.Prelude.{◌≡◌, ◌<◌, true, false};
 ghost use Rattle.std.specs.FinSet.{contains};
 ghost use Rattle.pg_base.specs.Sets.{both, either};
 ghost use Rattle.pg_graph.specs.Span.{IsReached};
@@ -27,19 +27,6 @@ fn single(v: u16) -> PointSet
     set
 }
 
-/// What is reached from the elements in neither base.
-fn reached<G: Ground>(bases: &mut Exchange<G>) -> PointSet
-    requires { IsSettled (G.matroid bases.old.first) (G.base bases.old.first) (G.base bases.old.second) }
-    ensures value { (y : ℕ) → (contains result y ≡ true) ↔ LeadsFrom (G.matroid bases.old.first) (G.base bases.old.first) (G.base bases.old.second) (in_neither (G.matroid bases.old.first) (G.base bases.old.first) (G.base bases.old.second)) y }
-    ensures reached { IsReached (G.matroid bases.old.first).spans (G.matroid bases.old.first).elements (G.base bases.old.first) (G.base bases.old.second) (contains result) }
-    ensures kept { G.matroid bases.new.first ≡ G.matroid bases.old.first }
-    ensures kept_base { G.base bases.new.first ≡ G.base bases.old.first }
-    ensures kept_second_base { G.base bases.new.second ≡ G.base bases.old.second }
-{
-    let neither = bases.neither();
-    bases.reach(&neither)
-}
-
 /// The class of e: Short's where e is reached from the elements in neither base, Cut's where e reaches one in both, and
 /// else that of the side to move. The bases are settled then (Lehman 1964; Bruno and Weinberg 1970 for matroids).
 pub fn decide<G: Ground>(bases: &mut Exchange<G>, e: u16) -> Class
@@ -49,7 +36,7 @@ pub fn decide<G: Ground>(bases: &mut Exchange<G>, e: u16) -> Class
     ensures kept { G.matroid bases.new.first ≡ G.matroid bases.old.first }
 {
     bases.settle();
-    let near = reached(bases);
+    let near = bases.reached();
     if near.has(e) {
         return short(bases, e);
     }
@@ -72,7 +59,7 @@ fn short<G: Ground>(bases: &mut Exchange<G>, e: u16) -> Class
     ensures kept { G.matroid bases.new.first ≡ G.matroid bases.old.first }
 {
     free(bases, e);
-    let near = reached(bases);
+    let near = bases.reached();
     Class::Short {
         a1: common_points(&bases.base(1), &near),
         a2: common_points(&bases.base(2), &near),
@@ -109,7 +96,7 @@ fn cut<G: Ground>(bases: &mut Exchange<G>, e: u16) -> Class
     ensures kept { G.matroid bases.new.first ≡ G.matroid bases.old.first }
 {
     double(bases, e);
-    let near = reached(bases);
+    let near = bases.reached();
     let far = bases.elements().without(&near);
     Class::Cut {
         d1: far.without(&bases.base(2)),

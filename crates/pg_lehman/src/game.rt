@@ -25,7 +25,7 @@ pub fn classify(alloc: Global, g: &Game) -> Result<Class, Memory>
     match &g.field {
         Field::Lines(_) => unreachable!(),
         Field::Graph(graph) => {
-            let mut trees = Trees::new(alloc, graph, &g.x, &g.y)?;
+            let mut trees = Trees::new(alloc, graph, &g.x, &g.y, true)?;
             Ok(decide(&mut trees, graph.edge_count()))
         }
     }

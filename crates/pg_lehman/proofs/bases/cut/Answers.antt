@@ -1,11 +1,11 @@
-use Rattle.std.proofs.Common.{◌≡◌, ℕ, Bool, true, false, ap, subst, sym, ◌∙◌}
+use Rattle.std.proofs.Common.{◌≡◌, ℕ, Bool, ap, subst, sym, ◌∙◌}
 use Rattle.std.proofs.lemmas.Bool.{both_ways, false_from_ne_true}
 use Rattle.std.specs.FinSet.{contains}
-use Rattle.pg_base.specs.Sets.{both, outside}
+use Rattle.pg_base.specs.Sets.{outside}
 use Rattle.pg_base.proofs.SetLemmas.{both_parts}
 use Rattle.pg_graph.specs.Span.{IsBase, IsReached}
 use Rattle.pg_exchange.specs.Matroid.{Matroid}
-use Rattle.pg_exchange.specs.Chain.{base_of}
+use Rattle.pg_exchange.specs.Chain.{IsSettled}
 use Rattle.pg_exchange.proofs.Tests.{of_outside}
 use Rattle.pg_lehman.proofs.bases.cut.Goals as goal
 
@@ -18,7 +18,7 @@ returns-clause-taken g c =
     let r = contains c.reached-near.result in
     let kept = c.double.ensures.kept in
     let on = both_parts b d c.args.e c.double.ensures.common in
-    let reached : IsReached m.spans m.elements b d r = subst (λ (q : Matroid). IsReached q.spans q.elements b d r) kept c.reached-near.ensures.reached in
+    let reached : IsReached m.spans m.elements b d r = subst (λ (q : Matroid). IsReached q.spans q.elements b d r) kept (c.reached-near.ensures.reached (subst (λ (q : Matroid). IsSettled q b d) (sym kept) c.double.ensures.settled)) in
     let far : contains c.without-far.result ≡ outside m.elements r =
     of_outside c.elements.result c.reached-near.result c.without-far.result c.without-far.ensures.difference
     ∙ ap (λ (k : ℕ → Bool). outside k r) (c.elements.ensures ∙ ap (λ (q : Matroid). q.elements) (c.reached-near.ensures.kept ∙ kept)) in

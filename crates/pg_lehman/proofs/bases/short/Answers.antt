@@ -1,9 +1,9 @@
-use Rattle.std.proofs.Common.{◌≡◌, ℕ, Bool, true, false, ap, subst, sym, ◌∙◌}
+use Rattle.std.proofs.Common.{ℕ, Bool, ap, subst, sym, ◌∙◌}
 use Rattle.std.specs.FinSet.{contains}
 use Rattle.pg_base.specs.Sets.{both}
 use Rattle.pg_graph.specs.Span.{IsBase, IsReached}
 use Rattle.pg_exchange.specs.Matroid.{Matroid}
-use Rattle.pg_exchange.specs.Chain.{base_of}
+use Rattle.pg_exchange.specs.Chain.{IsSettled}
 use Rattle.pg_lehman.proofs.bases.short.Goals as goal
 
 pub returns-clause-taken : goal.returns-clause-taken
@@ -14,7 +14,7 @@ returns-clause-taken g c =
     let d = g.G.Ground.base s.second in
     let r = contains c.reached-near.result in
     let kept = c.free.ensures.kept in
-    let reached : IsReached m.spans m.elements b d r = subst (λ (q : Matroid). IsReached q.spans q.elements b d r) kept c.reached-near.ensures.reached in
+    let reached : IsReached m.spans m.elements b d r = subst (λ (q : Matroid). IsReached q.spans q.elements b d r) kept (c.reached-near.ensures.reached (subst (λ (q : Matroid). IsSettled q b d) (sym kept) c.free.ensures.settled)) in
     record {
       b = b;
       c = d;

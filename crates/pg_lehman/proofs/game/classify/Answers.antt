@@ -1,10 +1,8 @@
-use Rattle.std.proofs.Common.{arith, ◌≡◌, ℕ, Bool, true, ap, subst, sym, ◌∙◌, Some}
+use Rattle.std.proofs.Common.{arith, ℕ, Bool, true, ap, ◌∙◌}
 use Rattle.std.specs.FinSet.{contains}
-use Rattle.pg_graph.specs.Graph.{edge_count}
 use Rattle.pg_exchange.specs.Matroid.{Matroid}
 use Rattle.pg_exchange.specs.Forest.{elements_of}
 use Rattle.pg_game.proofs.Outcomes.{IsGraph-board}
-use Rattle.pg_lehman.specs.Taken.{IsTaken}
 use Rattle.pg_lehman.proofs.ClassLemmas.{elements-e, SetsHold-decided, class-sets}
 use Rattle.pg_lehman.proofs.game.classify.Goals as goal
 
