@@ -1,5 +1,5 @@
 -- Claims of one node by trees or by cuts are valid and within the limits.
-use Rattle.std.proofs.Common.{◌≡◌, ◌∙◌, ℕ, zero, suc, Bool, true, false, if◌then◌else◌, List, [], ◌∷◌, refl, sym, subst, inl, inr, arith}
+use Rattle.std.proofs.Common.{◌≡◌, ◌∙◌, ℕ, zero, suc, Bool, true, false, if◌then◌else◌, List, refl, sym, subst, inl, inr, arith}
 use Rattle.std.proofs.lemmas.Bool.{both_ways, cases_Bool, cases_eq, false_from_ne_true}
 use Rattle.std.proofs.lemmas.Option.{none-some}
 use Rattle.std.specs.FinSet.{FinSet, contains, insert, remove}
@@ -36,9 +36,11 @@ use Rattle.pg_graph.specs.declared.graph.Graph.{Graph}
 use Rattle.pg_base.proofs.Stands.{one_at}
 use Rattle.pg_pns.proofs.ValidNodes.{valid-claim, within-limits, of-version}
 use Rattle.pg_pns.specs.Sound.{BodyHolds, NodesHold}
-use Rattle.pg_lehman.specs.Sets.{AreShortSets, AreCutSets, AreFirstSets}
-use Rattle.pg_solve.specs.EdgeClaims.{AreClassClaims, EdgeSetsHold, IsEdgeBody, IsEdgeClaim, claim_at, edge_body, node_at}
-use Rattle.pg_solve.specs.declared.solution.Class.TheVariants.{Short, Cut, First}
+use Rattle.pg_class_claims.specs.ClassClaims.{class_claims, node_at, one_node, set_claim, sets_body}
+use Rattle.pg_lehman.specs.Sets.{SetsHold}
+use Rattle.pg_lehman.specs.declared.class.Class.{Class as Sets}
+use Rattle.pg_lehman.specs.declared.class.Class.TheVariants as sets
+use Rattle.pg_solve.specs.EdgeClaims.{AreClassClaims, EdgeSetsHold, IsEdgeBody, IsEdgeClaim, without_sets}
 
 -- ---- e, and the members of the sets
 
@@ -91,24 +93,24 @@ no-e side g one second holds = false_from_ne_true _ (λ here. side≢other side 
 -- ---- the one node
 
 -- what both bodies have, the side's has
-for-body : (P : Body → Type 0) (side : Side) (e : Bool) (first second : FinSet nat_cmp) → P (Trees e first second) → P (Cuts e first second) → P (edge_body side e first second)
+for-body : (P : Body → Type 0) (side : Side) (e : Bool) (first second : FinSet nat_cmp) → P (Trees e first second) → P (Cuts e first second) → P (sets_body side e first second)
 for-body P X e first second trees cuts = trees
 for-body P Y e first second trees cuts = cuts
 
-has-trees : (side : Side) (g : Game) (p : Position) (e : Bool) (first second : FinSet nat_cmp) → AreEdgeSets g first second → EdgeSetsHold side g p (with_e_named g e first) second → HasTrees g p (edge_body side e first second)
+has-trees : (side : Side) (g : Game) (p : Position) (e : Bool) (first second : FinSet nat_cmp) → AreEdgeSets g first second → EdgeSetsHold side g p (with_e_named g e first) second → HasTrees g p (sets_body side e first second)
 has-trees X g p e first second edges holds = (edges, holds)
 has-trees Y g p e first second edges holds = tt
 
-has-cuts : (side : Side) (g : Game) (p : Position) (e : Bool) (first second : FinSet nat_cmp) → AreEdgeSets g first second → EdgeSetsHold side g p (with_e_named g e first) second → HasCuts g p (edge_body side e first second)
+has-cuts : (side : Side) (g : Game) (p : Position) (e : Bool) (first second : FinSet nat_cmp) → AreEdgeSets g first second → EdgeSetsHold side g p (with_e_named g e first) second → HasCuts g p (sets_body side e first second)
 has-cuts X g p e first second edges holds = tt
 has-cuts Y g p e first second edges holds = (edges, holds)
 
-body-allowed : (side : Side) (bias : ℕ) (e : Bool) (first second : FinSet nat_cmp) → is_allowed Switching bias side Win (edge_body side e first second) ≡ true
+body-allowed : (side : Side) (bias : ℕ) (e : Bool) (first second : FinSet nat_cmp) → is_allowed Switching bias side Win (sets_body side e first second) ≡ true
 body-allowed X bias e first second = refl
 body-allowed Y bias e first second = refl
 
 body-holds : (side : Side) (g : Game) (turn : Side) (one second : FinSet nat_cmp) → g.kind ≡ Switching → EdgeSetsHold side g (with_turn g turn) one second
-    → (nodes : List Node) (k : ℕ) → BodyHolds g side Win nodes k (with_turn g turn) (edge_body side (contains one (point_count g)) (remove one (point_count g)) second)
+    → (nodes : List Node) (k : ℕ) → BodyHolds g side Win nodes k (with_turn g turn) (sets_body side (contains one (point_count g)) (remove one (point_count g)) second)
 body-holds side g turn one second kind holds nodes k =
     let e = contains one (point_count g) in
     let first = remove one (point_count g) in
@@ -121,7 +123,7 @@ body-holds side g turn one second kind holds nodes k =
     record {
       owes = record {
         position = IsPosition-with_turn g turn;
-        allowed = subst (λ (k : Kind). is_allowed k g.bias side Win (edge_body side e first second) ≡ true) (sym kind) (body-allowed side g.bias e first second);
+        allowed = subst (λ (k : Kind). is_allowed k g.bias side Win (sets_body side e first second) ≡ true) (sym kind) (body-allowed side g.bias e first second);
         turn = for-body (HasTurn side (with_turn g turn)) side e first second tt tt;
         free = for-body (TakesFree g (with_turn g turn)) side e first second tt tt;
         end = for-body (EndsRight g side Win (with_turn g turn)) side e first second tt tt;
@@ -140,33 +142,36 @@ body-holds side g turn one second kind holds nodes k =
 -- ---- the claim
 
 module _ (g : Game) (turn side : Side) (body : Body) (holds : (nodes : List Node) (k : ℕ) → BodyHolds g side Win nodes k (with_turn g turn) body) where
-  nodes-hold : NodesHold g side Win (claim_at g turn side body).nodes
-  nodes-hold zero n at = subst (λ (m : Node). BodyHolds g side Win (claim_at g turn side body).nodes 0 (position_of m) m.body) (one_at (claim_at g turn side body).nodes 0 (node_at (with_turn g turn) body) n refl at) (holds (claim_at g turn side body).nodes 0)
+  -- the claim of that one node
+  abbrev claim : Claim
+  claim = one_node (with_turn g turn) side body
+
+  nodes-hold : NodesHold g side Win claim.nodes
+  nodes-hold zero n at = subst (λ (m : Node). BodyHolds g side Win claim.nodes 0 (position_of m) m.body) (one_at claim.nodes 0 (node_at (with_turn g turn) body) n refl at) (holds claim.nodes 0)
   nodes-hold (suc k) n at = absurd (none-some n at)
 
-  claim-valid : IsValidClaim g (claim_at g turn side body)
-  claim-valid = valid-claim g (claim_at g turn side body) nodes-hold 0 (node_at (with_turn g turn) body) refl refl refl
+  claim-valid : IsValidClaim g claim
+  claim-valid = valid-claim g claim nodes-hold 0 (node_at (with_turn g turn) body) refl refl refl
 
-  claim-version : IsOfVersion One (claim_at g turn side body)
-  claim-version = of-version g (claim_at g turn side body) nodes-hold 0 (node_at (with_turn g turn) body) refl refl refl
+  claim-version : IsOfVersion One claim
+  claim-version = of-version g claim nodes-hold 0 (node_at (with_turn g turn) body) refl refl refl
 
-  claim-limits : IsClaim (claim_at g turn side body)
-  claim-limits = within-limits g (claim_at g turn side body) nodes-hold 0 (node_at (with_turn g turn) body) refl refl refl (omega arith)
+  claim-limits : IsClaim claim
+  claim-limits = within-limits g claim nodes-hold 0 (node_at (with_turn g turn) body) refl refl refl (omega arith)
 
 -- the body says whether e is in the first set
-says-e : (side : Side) (e : Bool) (first second : FinSet nat_cmp) → IsEdgeBody side e (edge_body side e first second)
+says-e : (side : Side) (e : Bool) (first second : FinSet nat_cmp) → IsEdgeBody side e (sets_body side e first second)
 says-e X e first second = refl
 says-e Y e first second = refl
 
 -- the side's claim by its sets
-pub edge-claim : (side : Side) (g : Game) (turn : Side) (one second : FinSet nat_cmp) (e : Bool) (first : FinSet nat_cmp) (body : Body) (c : Claim) → g.kind ≡ Switching → EdgeSetsHold side g (with_turn g turn) one second
-    → e ≡ contains one (point_count g) → first ≡ remove one (point_count g) → body ≡ edge_body side e first second → c ≡ claim_at g turn side body → IsEdgeClaim g turn side (contains one (point_count g)) c
-edge-claim side g turn one second e first body c kind holds is_e is_first is_body is =
+edge-claim : (side : Side) (g : Game) (turn : Side) (one second : FinSet nat_cmp) → g.kind ≡ Switching → EdgeSetsHold side g (with_turn g turn) one second
+    → (e : Bool) → contains one (point_count g) ≡ e → IsEdgeClaim g turn side e (set_claim (with_turn g turn) side (point_count g) one second)
+edge-claim side g turn one second kind holds e is =
     let n = point_count g in
-    let whole : Body = edge_body side (contains one n) (remove one n) second in
+    let whole : Body = sets_body side (contains one n) (remove one n) second in
     let hold = body-holds side g turn one second kind holds in
-    let at : claim_at g turn side body ≡ claim_at g turn side whole = rw (is_body, is_e, is_first) refl in
-    let this : IsEdgeClaim g turn side (contains one n) (claim_at g turn side whole) = record {
+    subst (λ (b : Bool). IsEdgeClaim g turn side b (set_claim (with_turn g turn) side n one second)) is (record {
       same_turn = refl;
       same_side = refl;
       goal = refl;
@@ -177,41 +182,20 @@ edge-claim side g turn one second e first body c kind holds is_e is_first is_bod
       valid = claim-valid g turn side whole hold;
       limits = claim-limits g turn side whole hold;
       version = claim-version g turn side whole hold;
-    } in
-    subst (λ (d : Claim). IsEdgeClaim g turn side (contains one n) d) (sym (is ∙ at)) this
+    })
 
--- ---- the two claims of a class
+-- the two claims of a class whose sets hold
+class-claims : (g : Game) (s : Sets) → g.kind ≡ Switching → SetsHold g s → AreClassClaims g (without_sets s) (class_claims (with_turn g X) (with_turn g Y) (point_count g) s)
+class-claims g (sets.Short a1 a2) kind hold =
+    let no_e = no-e X g a1 a2 hold.y_to_move in
+    record { first = _; second = _; two = refl; with_x = edge-claim X g X a1 a2 kind hold.x_to_move false no_e; with_y = edge-claim X g Y a1 a2 kind hold.y_to_move false no_e }
+class-claims g (sets.Cut d1 d2) kind hold =
+    let no_e = no-e Y g d1 d2 hold.x_to_move in
+    record { first = _; second = _; two = refl; with_x = edge-claim Y g X d1 d2 kind hold.x_to_move false no_e; with_y = edge-claim Y g Y d1 d2 kind hold.y_to_move false no_e }
+class-claims g (sets.First a1 a2 d1 d2) kind hold =
+    record { first = _; second = _; two = refl; with_x = edge-claim X g X a1 a2 kind hold.trees true hold.e_in_trees; with_y = edge-claim Y g Y d1 d2 kind hold.cuts true hold.e_in_cuts }
 
-pub short-claims : (g : Game) (a1 a2 : FinSet nat_cmp) (claims : List Claim) (with_x with_y : Claim) → AreShortSets g a1 a2 → claims ≡ with_x ∷ with_y ∷ []
-    → IsEdgeClaim g X X (contains a1 (point_count g)) with_x → IsEdgeClaim g Y X (contains a1 (point_count g)) with_y → AreClassClaims g Short claims
-short-claims g a1 a2 claims with_x with_y sets two first second =
-    let no_e = no-e X g a1 a2 sets.y_to_move in
-    record {
-      first = with_x;
-      second = with_y;
-      two = two;
-      with_x = subst (λ (e : Bool). IsEdgeClaim g X X e with_x) no_e first;
-      with_y = subst (λ (e : Bool). IsEdgeClaim g Y X e with_y) no_e second;
-    }
-
-pub cut-claims : (g : Game) (d1 d2 : FinSet nat_cmp) (claims : List Claim) (with_x with_y : Claim) → AreCutSets g d1 d2 → claims ≡ with_x ∷ with_y ∷ []
-    → IsEdgeClaim g X Y (contains d1 (point_count g)) with_x → IsEdgeClaim g Y Y (contains d1 (point_count g)) with_y → AreClassClaims g Cut claims
-cut-claims g d1 d2 claims with_x with_y sets two first second =
-    let no_e = no-e Y g d1 d2 sets.x_to_move in
-    record {
-      first = with_x;
-      second = with_y;
-      two = two;
-      with_x = subst (λ (e : Bool). IsEdgeClaim g X Y e with_x) no_e first;
-      with_y = subst (λ (e : Bool). IsEdgeClaim g Y Y e with_y) no_e second;
-    }
-
-pub first-claims : (g : Game) (a1 a2 d1 d2 : FinSet nat_cmp) (claims : List Claim) (with_x with_y : Claim) → AreFirstSets g a1 a2 d1 d2 → claims ≡ with_x ∷ with_y ∷ []
-    → IsEdgeClaim g X X (contains a1 (point_count g)) with_x → IsEdgeClaim g Y Y (contains d1 (point_count g)) with_y → AreClassClaims g First claims
-first-claims g a1 a2 d1 d2 claims with_x with_y sets two first second = record {
-  first = with_x;
-  second = with_y;
-  two = two;
-  with_x = subst (λ (e : Bool). IsEdgeClaim g X X e with_x) sets.e_in_trees first;
-  with_y = subst (λ (e : Bool). IsEdgeClaim g Y Y e with_y) sets.e_in_cuts second;
-}
+-- the same where the positions and e are told by equations
+pub class-claims-told : (g : Game) (s : Sets) (with_x with_y : Position) (e : ℕ) (claims : List Claim) → g.kind ≡ Switching → SetsHold g s
+    → with_x ≡ with_turn g X → with_y ≡ with_turn g Y → e ≡ point_count g → claims ≡ class_claims with_x with_y e s → AreClassClaims g (without_sets s) claims
+class-claims-told g s with_x with_y e claims kind hold is_x is_y is_e is = rw (is, is_x, is_y, is_e) (class-claims g s kind hold)

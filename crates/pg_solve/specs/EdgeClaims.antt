@@ -30,24 +30,11 @@ abbrev pub EdgeSetsHold : Side → Game → Position → FinSet nat_cmp → FinS
 EdgeSetsHold X g p one second = TreesHold g p one second
 EdgeSetsHold Y g p one second = CutsHold g p one second
 
--- the body of a side that holds the sets
-abbrev pub edge_body : Side → Bool → FinSet nat_cmp → FinSet nat_cmp → Body
-edge_body X e first second = Trees e first second
-edge_body Y e first second = Cuts e first second
-
 -- X's trees, or Y's cuts, and whether e is in the first set
 abbrev pub IsEdgeBody : Side → Bool → Body → Type 0
 IsEdgeBody X with_e (Trees e first second) = e ≡ with_e
 IsEdgeBody Y with_e (Cuts e first second) = e ≡ with_e
 IsEdgeBody _ _ _ = ⊥
-
--- the node with this body at the position
-abbrev pub node_at : Position → Body → Node
-node_at p body = record { x = p.x; y = p.y; turn = p.turn; left = p.left; body = body }
-
--- the claim that the side wins with this turn, of one node at the game's marks
-abbrev pub claim_at : Game → Side → Side → Body → Claim
-claim_at g turn side body = record { turn = turn; side = side; goal = Win; nodes = node_at (with_turn g turn) body ∷ [] }
 
 -- With this turn the side wins, as one node at the game's marks shows by its sets of edges.
 pub record IsEdgeClaim (g : Game) (turn side : Side) (with_e : Bool) (claim : Claim) : Type 0 where

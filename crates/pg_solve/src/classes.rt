@@ -6,11 +6,10 @@ ghost use Rattle.pg_lehman.specs.Sets.{SetsHold};
 ghost use Rattle.pg_solve.specs.EdgeClaims.{without_sets, AreClassClaims};
 ghost use Rattle.pg_solve.specs.Solved.{IsClassified};
 
-use crate::certificates::two_claims;
-use crate::edge_claims::edge_claim;
 use crate::solution::{Class, Solution};
 use pg_base::{Memory, Side};
 use pg_cert::Cert;
+use pg_class_claims::class_certificate;
 use pg_game::Game;
 use pg_lehman::{Class as Sets, classify};
 use std::alloc::Global;
@@ -26,30 +25,15 @@ fn class_of(sets: &Sets) -> Class
     }
 }
 
-/// The claims of the sets, with X and then with Y to move first.
-fn class_certificate(alloc: Global, game: &Game, sets: &Sets) -> Result<Cert, Memory>
+/// The claims of the sets at the game's marks, with X and then with Y to move first.
+fn certificate_of(alloc: Global, game: &Game, sets: &Sets) -> Result<Cert, Memory>
     requires switching { game.now.kind ≡ Switching }
     requires sets { SetsHold game.now sets.now }
     ensures version { IfOk result (λ certificate. certificate.version ≡ One) }
     ensures claims { IfOk result (λ certificate. AreClassClaims game.now (without_sets sets.now) certificate.claims) }
 {
-    match sets {
-        Sets::Short { a1, a2 } => {
-            let with_x = edge_claim(alloc, game, Side::X, Side::X, a1, a2)?;
-            let with_y = edge_claim(alloc, game, Side::Y, Side::X, a1, a2)?;
-            two_claims(alloc, with_x, with_y)
-        }
-        Sets::Cut { d1, d2 } => {
-            let with_x = edge_claim(alloc, game, Side::X, Side::Y, d1, d2)?;
-            let with_y = edge_claim(alloc, game, Side::Y, Side::Y, d1, d2)?;
-            two_claims(alloc, with_x, with_y)
-        }
-        Sets::First { a1, a2, d1, d2 } => {
-            let with_x = edge_claim(alloc, game, Side::X, Side::X, a1, a2)?;
-            let with_y = edge_claim(alloc, game, Side::Y, Side::Y, d1, d2)?;
-            two_claims(alloc, with_x, with_y)
-        }
-    }
+    let (with_x, with_y) = (game.with_turn(Side::X), game.with_turn(Side::Y));
+    class_certificate(alloc, &with_x, &with_y, game.points(), sets)
 }
 
 /// The class of the switching game, with its certificate.
@@ -58,7 +42,7 @@ pub(crate) fn classified(alloc: Global, game: &Game) -> Result<Solution, Memory>
     ensures { IfOk result (IsClassified game.now) }
 {
     let sets = classify(alloc, game)?;
-    let certificate = class_certificate(alloc, game, &sets)?;
+    let certificate = certificate_of(alloc, game, &sets)?;
     Ok(Solution::Class {
         class: class_of(&sets),
         certificate,

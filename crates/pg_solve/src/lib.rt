@@ -2,9 +2,7 @@
 //! 1964), a game on lines its value by a best-first search that asks at most two questions.
 #![tactic(auto)]
 
-mod certificates;
 mod classes;
-mod edge_claims;
 pub mod laws;
 mod questions;
 mod solution;

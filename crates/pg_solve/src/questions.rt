@@ -7,10 +7,10 @@ ghost use Rattle.pg_solve.specs.Left.{IsLeft};
 ghost use Rattle.pg_solve.specs.Searched.{IsSearched};
 ghost use Rattle.pg_solve.specs.Solved.{IsFoundBy};
 
-use crate::certificates::{one_claim, two_claims};
 use crate::solution::Solution;
 use pg_base::{Kind, Memory, Score};
 use pg_cert::Claim;
+use pg_class_claims::{one_claim, two_claims};
 use pg_game::Game;
 use pg_pns::{Found, Work, search};
 use std::alloc::Global;

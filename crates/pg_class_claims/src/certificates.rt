@@ -7,7 +7,7 @@ use pg_cert::{Cert, Claim, Claims, Version};
 use std::alloc::Global;
 
 /// The certificate of one claim, of version 1.
-pub(crate) fn one_claim(alloc: Global, claim: Claim) -> Result<Cert, Memory>
+pub fn one_claim(alloc: Global, claim: Claim) -> Result<Cert, Memory>
     ensures version { IfOk result (λ certificate. certificate.version ≡ One) }
     ensures claims { IfOk result (λ certificate. certificate.claims ≡ claim ∷ []) }
 {
@@ -20,7 +20,7 @@ pub(crate) fn one_claim(alloc: Global, claim: Claim) -> Result<Cert, Memory>
 }
 
 /// The certificate of two claims in this order, of version 1.
-pub(crate) fn two_claims(alloc: Global, first: Claim, second: Claim) -> Result<Cert, Memory>
+pub fn two_claims(alloc: Global, first: Claim, second: Claim) -> Result<Cert, Memory>
     ensures version { IfOk result (λ certificate. certificate.version ≡ One) }
     ensures claims { IfOk result (λ certificate. certificate.claims ≡ first ∷ second ∷ []) }
 {
