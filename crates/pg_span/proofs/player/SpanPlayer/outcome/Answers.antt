@@ -1,0 +1,13 @@
+use Rattle.std.proofs.Common.{◌≡◌, IfSome, true, subst}
+use Rattle.pg_base.specs.declared.goal.Goal.TheVariants.{Win}
+use Rattle.pg_game.specs.Rules.{reaches}
+use Rattle.pg_span.specs.Player.{SpanPlay}
+use Rattle.pg_span.specs.Game.{span_rules_of}
+use Rattle.pg_span.proofs.Keeping.{outcome-reached}
+use Rattle.pg_span.proofs.player.SpanPlayer.outcome.Goals as goal
+
+pub returns-clause-reached : goal.returns-clause-reached
+returns-clause-reached c =
+    let a = c.self.inside in
+    subst (λ (play : SpanPlay). IfSome a.ending (λ score. reaches play.side Win score ≡ true)) c.self.view_is
+    (outcome-reached (span_rules_of a.game.now) a.position a.claim.now.side a.ending c.self.invariant.on.forced c.self.invariant.known)

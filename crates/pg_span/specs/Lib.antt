@@ -1,0 +1,12 @@
+pub mod Fits
+pub mod Flaw
+pub mod Game
+pub mod Valid
+pub mod Judge
+pub mod Conditions
+pub mod Settled
+pub mod Solved
+pub mod Answers
+pub mod Plan
+pub mod Player
+pub mod Playing
