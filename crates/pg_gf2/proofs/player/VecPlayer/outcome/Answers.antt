@@ -1,0 +1,13 @@
+use Rattle.std.proofs.Common.{◌≡◌, IfSome, true, subst}
+use Rattle.pg_base.specs.declared.goal.Goal.TheVariants.{Win}
+use Rattle.pg_game.specs.Rules.{reaches}
+use Rattle.pg_gf2.specs.Player.{VecPlay}
+use Rattle.pg_gf2.specs.Classes.{vector_rules}
+use Rattle.pg_gf2.proofs.Keeping.{outcome-reached}
+use Rattle.pg_gf2.proofs.player.VecPlayer.outcome.Goals as goal
+
+pub returns-clause-reached : goal.returns-clause-reached
+returns-clause-reached c =
+    let a = c.self.inside in
+    subst (λ (play : VecPlay). IfSome a.ending (λ score. reaches play.side Win score ≡ true)) c.self.view_is
+    (outcome-reached (vector_rules a.game.now) a.position a.side a.ending c.self.invariant.on.forced c.self.invariant.known)

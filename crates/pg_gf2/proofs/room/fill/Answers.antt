@@ -1,0 +1,80 @@
+use Rattle.std.proofs.Common.{◌≡◌, ◌<◌, ◌≤◌, ◌+◌, ℕ, Bool, true, false, length, List, sym, ap, ◌∙◌, subst, subst₂, arith, inl, inr}
+use Rattle.std.specs.FinSet.{contains, contains-empty, empty}
+use Rattle.std.specs.Ordering.{nat_cmp}
+use Rattle.std.specs.Vec.{vec_len, vec_capacity}
+use Rattle.std.proofs.lemmas.Bool.{cases_eq, false_from_ne_true}
+use Rattle.pg_base.specs.Sets.{below, plus, IsWithin}
+use Rattle.pg_base.proofs.SetLemmas.{plus_old, plus_new}
+use Rattle.pg_base.proofs.BelowLemmas.{below_parts, below_from, below_in, below_out}
+use Rattle.pg_gf2.specs.declared.row.Row.{Row}
+use Rattle.pg_gf2.specs.Vectors.{vector_at}
+use Rattle.pg_gf2.specs.Rows.{AreRows, IsEliminated, reduced}
+use Rattle.pg_gf2.proofs.EliminationLemmas.{eliminated_all, eliminated_begin, eliminated_own, eliminated_skip}
+use Rattle.pg_gf2.proofs.room.fill.Goals as goal
+use Rattle.pg_gf2.proofs.room.fill.Goals.{then-has+then-left-ne0, then-has+else-left-ne0, else-has}
+
+nothing_below : (x : ℕ → Bool) (z : ℕ) → below x 0 z ≡ false
+nothing_below x z = false_from_ne_true _ (λ h. let p : z < 0 = (below_parts x 0 z h).1 in omega arith)
+
+one_more : (x : ℕ → Bool) (k : ℕ) → IsWithin (below x (k + 1)) (plus (below x k) k)
+one_more x k z h = let p : (x z ≡ true) × (z < k + 1) = below_parts x (k + 1) z h in elim (cases_eq k z) [
+  | inl e ↦ plus_new (below x k) k z e
+  | inr d ↦ plus_old (below x k) k z (below_from x k z p.0 (omega arith))
+]
+
+pub loop-k-init : goal.loop-k-init
+loop-k-init c =
+    let v = vector_at c.args.vectors.now in
+    let x = contains c.args.set.now in
+    record {
+      eliminated = subst (λ (rows : List Row). IsEliminated v (length c.args.vectors.now) x (λ _. false) (below x 0) rows) (sym c.clear.ensures.items)
+          (eliminated_begin v (length c.args.vectors.now) x (below x 0) (nothing_below x));
+      few = omega (arith, c.clear.ensures.len);
+      room = omega (arith, c.clear.ensures.capacity, c.requires.room);
+    }
+
+pub loop-k-preserved : goal.loop-k-preserved
+unfolding vector_at
+loop-k-preserved c =
+    let v = vector_at c.args.vectors.now in
+    let n = length c.args.vectors.now in
+    let x = contains c.args.set.now in
+    let k = c.loop-k.k in
+    let low : k < n = omega arith in
+    let i = c.loop-k.invariant in
+    elim c.if-has.branch [
+      | then-has+then-left-ne0 w ↦
+          let xk : x k ≡ true = sym w.if-has.ensures in
+          let told = w.reduced-left.ensures.members v n x (λ _. false) (subst (λ (rows : List Row). AreRows v n x (λ _. false) rows) (sym w.deref.ensures.value) i.eliminated.told) in
+          let left = w.reduced-left.ensures.value ∙ ap (λ (rows : List Row). reduced rows (v k)) w.deref.ensures.value in
+          let count : vec_len c.if-has.rows ≡ vec_len c.loop-k.rows + 1 = ap vec_len w.rows-is ∙ w.put_row.ensures.len in
+          let more : vec_capacity c.loop-k.rows ≤ vec_capacity c.if-has.rows = subst (λ (q : ℕ). vec_capacity c.loop-k.rows ≤ q) (sym (ap vec_capacity w.rows-is)) w.put_row.ensures.capacity in
+          record {
+            eliminated = subst₂ (λ (set : ℕ → Bool) (rows : List Row). IsEliminated v n x (λ _. false) set rows) (below_in x k xk) (sym (ap (λ r. r.items) w.rows-is))
+                (eliminated_own v n x (below x k) (contains w.reduced-left.result.1) empty c.loop-k.rows.items w.put_row.new.rows.items w.reduced-left.result.0 k low xk i.eliminated left told
+                (contains-empty nat_cmp) w.put_row.ensures.row);
+            few = omega (arith, count, i.few);
+            room = omega (arith, more, i.room);
+          }
+      | then-has+else-left-ne0 w ↦
+          let left : reduced c.loop-k.rows.items (v k) ≡ 0 = sym (w.reduced-left.ensures.value ∙ ap (λ (rows : List Row). reduced rows (v k)) w.deref.ensures.value) ∙ w.if-left-ne0.false in
+          let count : vec_len c.if-has.rows ≡ vec_len c.loop-k.rows = ap vec_len w.rows-is in
+          let more : vec_capacity c.if-has.rows ≡ vec_capacity c.loop-k.rows = ap vec_capacity w.rows-is in
+          record {
+            eliminated = subst (λ (rows : List Row). IsEliminated v n x (λ _. false) (below x (k + 1)) rows) (sym (ap (λ r. r.items) w.rows-is))
+                (eliminated_skip v n x (λ _. false) (below x k) (below x (k + 1)) c.loop-k.rows.items k i.eliminated (one_more x k) (λ _. left));
+            few = omega (arith, count, i.few);
+            room = omega (arith, more, i.room);
+          }
+      | else-has w ↦
+          let count : vec_len c.if-has.rows ≡ vec_len c.loop-k.rows = ap vec_len w.rows-is in
+          let more : vec_capacity c.if-has.rows ≡ vec_capacity c.loop-k.rows = ap vec_capacity w.rows-is in
+          record {
+            eliminated = subst₂ (λ (set : ℕ → Bool) (rows : List Row). IsEliminated v n x (λ _. false) set rows) (below_out x k (sym w.if-has.ensures)) (sym (ap (λ r. r.items) w.rows-is)) i.eliminated;
+            few = omega (arith, count, i.few);
+            room = omega (arith, more, i.room);
+          }
+    ]
+
+pub returns-clause-eliminated : goal.returns-clause-eliminated
+returns-clause-eliminated c = eliminated_all c.args.vectors.now (contains c.args.set.now) (λ _. false) (contains c.args.set.now) c.loop-k.rows.items c.loop-k.k (omega arith) c.loop-k.invariant.eliminated
