@@ -1,0 +1,10 @@
+pub mod Family
+pub mod FamilyFile
+pub mod Views
+pub mod Print
+pub mod Laws
+pub mod SpanCertLine
+pub mod SpanCertFile
+pub mod SpanCertViews
+pub mod SpanCertPrint
+pub mod SpanCertFaults

@@ -1,0 +1,114 @@
+//! The text of a connectivity game's certificate.
+ghost use Rattle.std.specs.Prelude.{◌≡◌, ◌<◌, true, ◌++◌, map, OnOk, IfOk, string_bytes};
+ghost use Rattle.std.specs.FinSet.{contains};
+ghost use Rattle.std.specs.Fmt.{decimal};
+ghost use Rattle.std.specs.List.{flat_map};
+ghost use Rattle.pg_base.specs.Points.{one_where};
+ghost use Rattle.pg_base.specs.declared.limits.TheConstants.{MAX_MEMBERS};
+ghost use Rattle.pg_cert.specs.Print.{separated, set_words};
+ghost use Rattle.pg_family_files.specs.SpanCertPrint.{IsWithinRanges, body_words, claim_lines, first_words, printed_span};
+ghost use Rattle.pg_files.specs.Print.{spelled};
+ghost use Rattle.pg_text.specs.Text.{behind_spaces};
+
+use pg_base::{MAX_MEMBERS, Memory, PointSet};
+use pg_span::{SpanBody, SpanCert, SpanClaim};
+use std::alloc::{AllocError, Global};
+use std::fmt::Write;
+
+/// Puts an edge behind a space where it is in the set.
+fn put_member(out: &mut String, set: &PointSet, p: u16) -> Result<(), AllocError>
+    requires { p < MAX_MEMBERS }
+    ensures { OnOk result (string_bytes out.new ≡ string_bytes out.old ++ separated true (one_where (contains set.now p) p)) }
+{
+    if set.has(p) {
+        write!(out, " {p}")?;
+    }
+    Ok(())
+}
+
+/// Puts the edges of a set, each behind a space.
+fn put_set(out: &mut String, set: &PointSet) -> Result<(), AllocError>
+    ensures { OnOk result (string_bytes out.new ≡ string_bytes out.old ++ behind_spaces (set_words set.now)) }
+{
+    for p in 0..MAX_MEMBERS {
+        put_member(out, set, p)?;
+    }
+    Ok(())
+}
+
+/// Puts numbers, each behind a space.
+fn put_numbers(out: &mut String, numbers: &[u16]) -> Result<(), AllocError>
+    ensures { OnOk result (string_bytes out.new ≡ string_bytes out.old ++ behind_spaces (map decimal numbers.now)) }
+{
+    for n in numbers {
+        write!(out, " {n}")?;
+    }
+    Ok(())
+}
+
+/// Puts the edge that is claimed first, where there is one.
+fn put_first(out: &mut String, first: Option<u16>) -> Result<(), AllocError>
+    ensures { OnOk result (string_bytes out.new ≡ string_bytes out.old ++ behind_spaces (first_words first)) }
+{
+    if let Some(v) = first {
+        write!(out, " first {v}")?;
+    }
+    Ok(())
+}
+
+/// Puts the line of a body.
+fn put_body(out: &mut String, body: &SpanBody) -> Result<(), AllocError>
+    ensures { OnOk result (string_bytes out.new ≡ string_bytes out.old ++ spelled (body_words body.now)) }
+{
+    match body {
+        SpanBody::Trees { first, a1, a2 } => {
+            out.push_str("trees")?;
+            put_first(out, *first)?;
+            put_set(out, a1)?;
+            out.push_str(" /")?;
+            put_set(out, a2)?;
+        }
+        SpanBody::Parts(parts) => {
+            out.push_str("parts")?;
+            put_numbers(out, parts.as_slice())?;
+        }
+    }
+    out.push_str("\n")?;
+    Ok(())
+}
+
+/// Puts the two lines of a claim.
+fn put_claim(out: &mut String, claim: &SpanClaim) -> Result<(), AllocError>
+    ensures { OnOk result (string_bytes out.new ≡ string_bytes out.old ++ flat_map spelled (claim_lines claim.now)) }
+{
+    let turn = claim.turn.word();
+    let side = claim.side.word();
+    write!(out, "claim {turn} {side}\n")?;
+    put_body(out, &claim.body)
+}
+
+/// Puts the lines of claims.
+fn put_claims(out: &mut String, claims: &[SpanClaim]) -> Result<(), AllocError>
+    ensures { OnOk result (string_bytes out.new ≡ string_bytes out.old ++ flat_map (λ c. flat_map spelled (claim_lines c)) claims.now) }
+{
+    for claim in claims {
+        put_claim(out, claim)?;
+    }
+    Ok(())
+}
+
+/// The text of a certificate of one to eight claims without a number above `MAX_SPAN_NUMBER`, with a line feed after every line.
+///
+/// # Errors
+///
+/// `Memory` where no memory is left.
+#[tactic(auto, unfolding(crate::specs::SpanCertPrint::printed_span))]
+pub fn print_span_cert(alloc: Global, c: &SpanCert) -> Result<Vec<u8>, Memory>
+    requires { IsWithinRanges c.now }
+    ensures { IfOk result (λ text. text.items ≡ printed_span c.now) }
+{
+    let mut out = String::new(alloc);
+    out.push_str("posgame-span-cert 1\n")?;
+    put_claims(&mut out, c.claims.as_slice())?;
+    Ok(out.into_bytes())
+}

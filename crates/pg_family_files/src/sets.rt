@@ -1,0 +1,62 @@
+//! Lists of numbers that points are made of.
+ghost use Rattle.std.specs.Prelude.{◌≡◌, ◌≤◌, IfOk, IsTrue, nat_lt};
+ghost use Rattle.std.specs.List.{list_all};
+ghost use Rattle.pg_base.specs.Points.{members};
+ghost use Rattle.pg_base.specs.declared.limits.TheConstants.{MAX_MEMBERS};
+ghost use Rattle.pg_files.specs.Sets.{set_of, repeats};
+
+use pg_base::{MAX_MEMBERS, PointSet};
+use std::alloc::{AllocError, Global};
+
+/// Whether each number is below the limit.
+pub fn are_below(numbers: &[u32], limit: u32) -> bool
+    requires { limit ≤ MAX_MEMBERS }
+    ensures below { result ≡ list_all (λ n. nat_lt n limit) numbers.now }
+    ensures small { IsTrue (list_all (λ n. nat_lt n limit) numbers.now) → IsTrue (list_all (λ n. nat_lt n MAX_MEMBERS) numbers.now) }
+{
+    numbers.iter().all(|n| *n < limit)
+}
+
+/// Whether a number is in the set, or stands twice in the list.
+#[tactic(auto, using(pg_files::proofs::SetLaws::repeats_step, pg_files::proofs::SetLaws::repeats_stop))]
+pub fn repeats(numbers: &[u32], apart: PointSet) -> bool
+    requires { IsTrue (list_all (λ n. nat_lt n MAX_MEMBERS) numbers.now) }
+    ensures { result ≡ repeats apart numbers.now }
+{
+    let mut seen = apart;
+    for n in numbers {
+        let point = *n as u16;
+        if seen.has(point) {
+            return true;
+        }
+        seen.put(point);
+    }
+    false
+}
+
+/// The set of the numbers.
+#[tactic(auto, using(pg_files::proofs::SetLaws::set_of_step))]
+pub fn set_of(numbers: &[u32]) -> PointSet
+    requires { IsTrue (list_all (λ n. nat_lt n MAX_MEMBERS) numbers.now) }
+    ensures { result ≡ set_of numbers.now }
+{
+    let mut set = PointSet::empty();
+    for n in numbers {
+        set.put(*n as u16);
+    }
+    set
+}
+
+/// The points of the set in ascending order.
+#[tactic(auto, using(pg_base::proofs::MemberLemmas::points_with, pg_base::proofs::MemberLemmas::points_without, pg_base::proofs::MemberLemmas::points_start))]
+pub fn members(alloc: Global, set: &PointSet) -> Result<Vec<u16>, AllocError>
+    ensures { IfOk result (λ points. points.items ≡ members set.now) }
+{
+    let mut points = Vec::new(alloc);
+    for p in 0..MAX_MEMBERS {
+        if set.has(p) {
+            points.push(p)?;
+        }
+    }
+    Ok(points)
+}
