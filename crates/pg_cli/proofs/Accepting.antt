@@ -12,11 +12,12 @@ use Rattle.pg_judge.specs.Heads.{heads_of}
 use Rattle.pg_judge.specs.declared.claim_head.ClaimHead.{ClaimHead}
 use Rattle.pg_texts.specs.declared.refusal.Refusal.TheVariants.{Rejected}
 use Rattle.pg_texts.specs.declared.statuses.TheConstants.{DONE}
-use Rattle.pg_cli.specs.Checking.{acceptance, head_acceptance, RefusesCheck, AcceptsAll, IsCut}
-use Rattle.pg_cli.specs.Done.{Finished, Failed, Starved, Performs}
+use Rattle.pg_cli.specs.Checking.{acceptance, head_acceptance, RefusesCheck, AcceptsAll}
+use Rattle.pg_talk.specs.Saying.{IsCut}
+use Rattle.pg_talk.specs.Done.{Finished, Failed, Starved, Performs}
 use Rattle.pg_cli.specs.Reading.{read_of}
-use Rattle.pg_cli.specs.declared.halt.Halt.TheVariants.{Refused, Stopped}
-use Rattle.pg_cli.proofs.Runs.{silent, talked_texts}
+use Rattle.pg_talk.specs.declared.halt.Halt.TheVariants.{Refused, Stopped}
+use Rattle.pg_talk.proofs.Runs.{silent, talked_texts}
 use Rattle.pg_cli.proofs.Verdicts.{same_acceptances}
 
 module _ (g : Game) (c : Cert) (heads : List ClaimHead) (valid : IsValid g c) (same : heads ≡ heads_of c) where

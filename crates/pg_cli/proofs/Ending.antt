@@ -12,21 +12,21 @@ use Rattle.pg_io.specs.declared.stop.Stop.TheVariants.{Read, Write, Memory}
 use Rattle.pg_texts.specs.Statuses.{refusal_status}
 use Rattle.pg_texts.specs.Texts.{refusal_text}
 use Rattle.pg_texts.specs.declared.refusal.Refusal.{Refusal}
-use Rattle.pg_texts.specs.declared.refusal.Refusal.TheVariants.{NoMeaning, NoClaim, Game, Certificate, Rejected}
+use Rattle.pg_texts.specs.declared.refusal.Refusal.TheVariants.{NoMeaning, NoClaim, Game, Certificate, Rejected, RejectedSpan, RejectedVectors}
 use Rattle.pg_texts.specs.declared.statuses.TheConstants.{DONE, UNKNOWN, REFUSED, INPUT_ENDED, OUT_OF_REPLIES, NO_MEANING, READ_FAILED, WRITE_FAILED, NO_MEMORY}
 use Rattle.pg_words.specs.Words.{Command, Solve, Check, Play, Gen, Report}
 use Rattle.pg_words.specs.declared.source.Source.{Source}
 use Rattle.pg_cli.specs.Generating.{searches}
 use Rattle.pg_cli.specs.Commands.{Gives, Quiets, Silences, SaysNoMeaning, statuses_of}
-use Rattle.pg_cli.specs.Done.{Done, End, Finished, Failed, Starved, Changes, IsNothing, ending, nothing, talk, stop_end}
-use Rattle.pg_cli.specs.Halts.{BothCauses, Calm, stop_status}
-use Rattle.pg_cli.specs.Hearing.{Hearing}
+use Rattle.pg_talk.specs.Done.{Done, End, Finished, Failed, Starved, Changes, IsNothing, ending, nothing, talk, stop_end}
+use Rattle.pg_talk.specs.Halts.{BothCauses, Calm, stop_status}
+use Rattle.pg_talk.specs.Hearing.{Hearing}
 use Rattle.pg_cli.specs.Run.{Allows, Declines, RanOn, Ran, CarriesOn, Carries, Ends, HasCause}
 use Rattle.pg_pns.specs.Expanded.{Expanded}
-use Rattle.pg_cli.specs.declared.halt.Halt.{Halt}
-use Rattle.pg_cli.specs.declared.halt.Halt.TheVariants.{Refused, Stopped}
-use Rattle.pg_cli.proofs.Speaking.{Grows-then}
-use Rattle.pg_cli.proofs.Talking.{Hearing-then, Hearing-said}
+use Rattle.pg_talk.specs.declared.halt.Halt.{Halt}
+use Rattle.pg_talk.specs.declared.halt.Halt.TheVariants.{Refused, Stopped}
+use Rattle.pg_talk.proofs.Speaking.{Grows-then}
+use Rattle.pg_talk.proofs.Talking.{Hearing-then, Hearing-said}
 
 -- ---- statuses
 
@@ -50,6 +50,8 @@ refusal_finishes (NoClaim side) = refl
 refusal_finishes (Game number line) = refl
 refusal_finishes (Certificate number line) = refl
 refusal_finishes (Rejected claim node why) = refl
+refusal_finishes (RejectedSpan claim why) = refl
+refusal_finishes (RejectedVectors claim node why) = refl
 
 stop_ends : (stop : Stop) → ending (stop_status stop) ≡ stop_end stop
 stop_ends Read = refl
@@ -176,11 +178,15 @@ refuses (Some (Check g c)) (NoClaim side) gives = absurd gives
 refuses (Some (Check g c)) (Game number line) gives = (1, omega arith, refl)
 refuses (Some (Check g c)) (Certificate number line) gives = (2, omega arith, refl)
 refuses (Some (Check g c)) (Rejected claim node why) gives = (2, omega arith, refl)
+refuses (Some (Check g c)) (RejectedSpan claim why) gives = (2, omega arith, refl)
+refuses (Some (Check g c)) (RejectedVectors claim node why) gives = (2, omega arith, refl)
 refuses (Some (Play g c side)) NoMeaning gives = absurd gives
 refuses (Some (Play g c side)) (NoClaim other) gives = (1, omega arith, refl)
 refuses (Some (Play g c side)) (Game number line) gives = (2, omega arith, refl)
 refuses (Some (Play g c side)) (Certificate number line) gives = (3, omega arith, refl)
 refuses (Some (Play g c side)) (Rejected claim node why) gives = (3, omega arith, refl)
+refuses (Some (Play g c side)) (RejectedSpan claim why) gives = (3, omega arith, refl)
+refuses (Some (Play g c side)) (RejectedVectors claim node why) gives = (3, omega arith, refl)
 refuses None refusal (inl is) = let e : refusal ≡ NoMeaning = cc is in subst (λ (r : Refusal). Contains (statuses_of None) (refusal_status r)) (sym e) (0, omega arith, refl)
 refuses None refusal (inr is) = absurd (cc is)
 refuses (Some (Solve g c positions)) NoMeaning gives = absurd gives
@@ -188,12 +194,16 @@ refuses (Some (Solve g c positions)) (NoClaim side) gives = absurd gives
 refuses (Some (Solve g c positions)) (Game number line) gives = (2, omega arith, refl)
 refuses (Some (Solve g c positions)) (Certificate number line) gives = absurd gives
 refuses (Some (Solve g c positions)) (Rejected claim node why) gives = absurd gives
+refuses (Some (Solve g c positions)) (RejectedSpan claim why) gives = absurd gives
+refuses (Some (Solve g c positions)) (RejectedVectors claim node why) gives = absurd gives
 refuses (Some (Gen which g c)) refusal gives = absurd gives
 refuses (Some (Report g c)) NoMeaning gives = absurd gives
 refuses (Some (Report g c)) (NoClaim side) gives = absurd gives
 refuses (Some (Report g c)) (Game number line) gives = (1, omega arith, refl)
 refuses (Some (Report g c)) (Certificate number line) gives = (2, omega arith, refl)
 refuses (Some (Report g c)) (Rejected claim node why) gives = (2, omega arith, refl)
+refuses (Some (Report g c)) (RejectedSpan claim why) gives = (2, omega arith, refl)
+refuses (Some (Report g c)) (RejectedVectors claim node why) gives = (2, omega arith, refl)
 
 stops : (command : Option Command) (stop : Stop) → Gives command (Err (Stopped stop)) → Contains (statuses_of command) (stop_status stop)
 stops (Some (Check g c)) Read gives = (3, omega arith, refl)

@@ -37,17 +37,20 @@ use Rattle.pg_texts.specs.declared.message.ReplyFault.TheVariants.{NoNumber, NoP
 use Rattle.pg_texts.specs.declared.refusal.Refusal.{Refusal}
 use Rattle.pg_texts.specs.declared.refusal.Refusal.TheVariants as refusals
 use Rattle.pg_words.specs.Words.{Command, Solve, Check, Play, Gen, Report}
-use Rattle.pg_cli.specs.Checking.{acceptance, AcceptsAll, SaysAll}
+use Rattle.pg_talk.specs.Contest.{Contest, contest_of}
+use Rattle.pg_cli.specs.Checking.{acceptance, AcceptsAll}
+use Rattle.pg_talk.specs.Saying.{SaysAll}
 use Rattle.pg_cli.specs.Commands.{game_read}
-use Rattle.pg_cli.specs.Dialogue.{Stage, At, Owes, Over, Steps, Leads}
-use Rattle.pg_cli.specs.Done.{Done, End, Finished, Failed, Starved, Stops, behind, ending}
+use Rattle.pg_talk.specs.Dialogue.{Stage, At, Owes, Over, Steps, Leads}
+use Rattle.pg_talk.specs.Done.{Done, End, Finished, Failed, Starved, Stops, behind, ending}
 use Rattle.pg_cli.specs.Forced.{SaysGame, IsForcedFrom, IsForced, AreForced, AnnouncesForced}
 use Rattle.pg_cli.specs.Playing.{IsPlayedBy, PlaysOn}
-use Rattle.pg_cli.specs.Reading.{or_halt, game_held, certificate_held, both, both_held, IsSaidBy}
+use Rattle.pg_cli.specs.Reading.{game_held, both_held, IsSaidBy}
+use Rattle.pg_talk.specs.Reading.{or_halt, certificate_held, both}
 use Rattle.pg_cli.specs.Reporting.{Accounts, Reports}
 use Rattle.pg_cli.specs.Generating.{StoresGame, game_file, size_text, size_texts}
 use Rattle.pg_cli.specs.Solving.{Solves, SolvesGame, Told, result_alone, result_and_counts, solution_text}
-use Rattle.pg_cli.specs.Storing.{Delivers, delivered}
+use Rattle.pg_talk.specs.Storing.{Delivers, delivered}
 use Rattle.pg_cli.specs.declared.solving.TheConstants.{DEFAULT_POSITIONS}
 use Rattle.pg_solve.specs.Left.{budget}
 use Rattle.pg_solve.specs.Solved.{certificate_of}
@@ -56,7 +59,7 @@ use Rattle.pg_solve.specs.declared.solution.Solution.{Solution}
 use Rattle.pg_solve.specs.declared.solution.Solution.TheVariants.{Value, Class as ForClass, Unknown}
 use Rattle.pg_cli.specs.Run.{Allows, Acts, Declines, RanOn, Ran}
 use Rattle.pg_pns.specs.Expanded.{Expanded}
-use Rattle.pg_cli.specs.declared.halt.Halt.{Halt}
+use Rattle.pg_talk.specs.declared.halt.Halt.{Halt}
 
 -- ---- texts that neither accept a claim nor say one
 
@@ -81,6 +84,8 @@ refusal_other (refusals.NoClaim side) = (apart _ 97 refl, apart _ 109 refl)
 refusal_other (refusals.Game number line) = (apart _ 97 refl, apart _ 109 refl)
 refusal_other (refusals.Certificate number line) = (apart _ 97 refl, apart _ 109 refl)
 refusal_other (refusals.Rejected claim node why) = (apart _ 97 refl, apart _ 109 refl)
+refusal_other (refusals.RejectedSpan claim why) = (apart _ 97 refl, apart _ 109 refl)
+refusal_other (refusals.RejectedVectors claim node why) = (apart _ 97 refl, apart _ 109 refl)
 
 reply_other : (fault : ReplyFault) → IsOther (reply_text fault)
 reply_other NoNumber = (apart _ 97 refl, apart _ 109 refl)
@@ -88,7 +93,7 @@ reply_other NoPoint = (apart _ 97 refl, apart _ 109 refl)
 reply_other Taken = (apart _ 97 refl, apart _ 109 refl)
 
 -- what is said next in a dialogue is another text
-step_other : (g : Game) (side : Side) (s m : Stage) (text : Bytes) → Steps g side s (Said text) m → IsOther text
+step_other : (g : Contest) (side : Side) (s m : Stage) (text : Bytes) → Steps g side s (Said text) m → IsOther text
 step_other g side (At p refusals) m text (inl result) = subst (λ (t : Bytes). IsOther t) (sym result.1) (apart _ 97 refl, apart _ 109 refl)
 step_other g side (At p refusals) m text (inr move) = subst (λ (t : Bytes). IsOther t) (sym move.5) (apart _ 97 refl, apart _ 109 refl)
 step_other g side (Owes p refusals fault) m text step = subst (λ (t : Bytes). IsOther t) (sym step.0) (reply_other fault)
@@ -134,7 +139,7 @@ others_forced bytes entries others = record {
   claimed = λ side claimed among. absurd ((others (claim_text side claimed) among).1 refl);
 }
 
-leads_other : (g : Game) (side : Side) (s t : Stage) (entries : List Entry) → Leads g side s entries t → AllOther entries
+leads_other : (g : Contest) (side : Side) (s t : Stage) (entries : List Entry) → Leads g side s entries t → AllOther entries
 leads_other g side s t [] leads text among = absurd (none_of (Said text) among)
 leads_other g side s t (entry ∷ entries) (m, step, rest) text among = elim (first_or_later entry entries (Said text) among) as (λ _. IsOther text) [
   | inl here ↦ step_other g side s m text (subst (λ (e : Entry). Steps g side s e m) here step)
@@ -319,9 +324,9 @@ module _ (limits : ReadsWithinLimits) (valid_forced : ValidClaimsAreForced) wher
 
   play_forced : (g c : Option Bytes) (side : Side) (entries : List Entry) (end : End) → PlaysOn side (both_held g c) entries end → AreForced g entries
   play_forced g c side entries (Finished status) (played, claim, by, whole) =
-      claim_forced g claim entries whole.others (play_claim_forced g c side played claim by) whole.said (leads_other played claim.side (At (start played) 0) _ whole.others whole.dialogue)
+      claim_forced g claim entries whole.others (play_claim_forced g c side played claim by) whole.said (leads_other (contest_of played) claim.side (At (start played) 0) _ whole.others whole.dialogue)
   play_forced g c side entries Failed (played, claim, by, unended) =
-      claim_forced g claim entries unended.others (play_claim_forced g c side played claim by) unended.said (leads_other played claim.side (At (start played) 0) unended.dialogue.0 unended.others unended.dialogue.2)
+      claim_forced g claim entries unended.others (play_claim_forced g c side played claim by) unended.said (leads_other (contest_of played) claim.side (At (start played) 0) unended.dialogue.0 unended.others unended.dialogue.2)
   play_forced g c side entries Starved (played, claim, by, none) = absurd none
 
   -- ---- solving

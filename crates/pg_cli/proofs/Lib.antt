@@ -1,7 +1,3 @@
-pub mod Speaking
-pub mod Talking
-pub mod Turns
-pub mod Dialogues
 pub mod Openings
 pub mod Runs
 pub mod Plays
@@ -9,8 +5,6 @@ pub mod Forced
 pub mod Ending
 pub mod Accepting
 pub mod Reports
-pub mod Delivering
 pub mod Solves
-pub mod Parts
 pub mod Making
 pub mod Verdicts

@@ -18,18 +18,18 @@ use Rattle.pg_words.specs.Words.{Command, Gen}
 use Rattle.pg_words.specs.declared.source.Source.{Source}
 use Rattle.pg_words.specs.declared.source.Source.TheVariants.{Rows, Bridge, Scatter}
 use Rattle.pg_cli.specs.Commands.{LeavesWork, Quiets, built}
-use Rattle.pg_cli.specs.Done.{Does, Follows}
+use Rattle.pg_talk.specs.Done.{Does, Follows}
 use Rattle.pg_cli.specs.Generating.{IsMade, IsMadeOf, StoresGame, game_file, has_source, searches, size_text, size_texts}
-use Rattle.pg_cli.specs.Halts.{IsWriteHalt, MuteAtMemory}
+use Rattle.pg_talk.specs.Halts.{IsWriteHalt, MuteAtMemory}
 use Rattle.pg_cli.specs.Run.{CarriesOn, Carries}
 use Rattle.pg_cli.specs.Solving.{SolvesGame, result_and_counts}
-use Rattle.pg_cli.specs.Storing.{Delivers}
+use Rattle.pg_talk.specs.Storing.{Delivers}
 use Rattle.pg_cli.specs.declared.solving.TheConstants.{DEFAULT_POSITIONS}
-use Rattle.pg_cli.specs.declared.halt.Halt.{Halt}
-use Rattle.pg_cli.specs.declared.halt.Halt.TheVariants.{Refused, Stopped}
-use Rattle.pg_cli.proofs.Parts.{delivers_first}
+use Rattle.pg_talk.specs.declared.halt.Halt.{Halt}
+use Rattle.pg_talk.specs.declared.halt.Halt.TheVariants.{Refused, Stopped}
+use Rattle.pg_talk.proofs.Parts.{delivers_first}
 use Rattle.pg_cli.proofs.Solves.{leaves_search}
-use Rattle.pg_cli.proofs.Speaking.{Grows-then}
+use Rattle.pg_talk.proofs.Speaking.{Grows-then}
 
 -- ---- files
 

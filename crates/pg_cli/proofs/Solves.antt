@@ -26,15 +26,16 @@ use Rattle.pg_texts.specs.declared.message.Message.{Message}
 use Rattle.pg_texts.specs.declared.refusal.Refusal.{Refusal}
 use Rattle.pg_texts.specs.declared.statuses.TheConstants.{UNKNOWN}
 use Rattle.pg_words.specs.Words.{Solve}
-use Rattle.pg_cli.specs.Done.{Done, End, Finished, Failed, Starved, Does, Follows, talk, stop_end}
+use Rattle.pg_talk.specs.Done.{Done, End, Finished, Failed, Starved, Does, Follows, talk, stop_end}
 use Rattle.pg_cli.specs.Reading.{OpensGame, game_held}
 use Rattle.pg_cli.specs.Run.{Refuses, CarriesOn, Carries}
 use Rattle.pg_cli.specs.Solving.{IsFound, IsLeftBehind, LeavesSearch, Shows, SolvesGame, Solves, Told, result_alone, solution_text}
-use Rattle.pg_cli.specs.Storing.{Delivers}
-use Rattle.pg_cli.specs.declared.halt.Halt.{Halt}
-use Rattle.pg_cli.specs.declared.halt.Halt.TheVariants.{Refused, Stopped}
-use Rattle.pg_cli.proofs.Delivering.{follows_more}
-use Rattle.pg_cli.proofs.Runs.{carries_halt, kept, talked_texts}
+use Rattle.pg_talk.specs.Storing.{Delivers}
+use Rattle.pg_talk.specs.declared.halt.Halt.{Halt}
+use Rattle.pg_talk.specs.declared.halt.Halt.TheVariants.{Refused, Stopped}
+use Rattle.pg_talk.proofs.Delivering.{follows_more}
+use Rattle.pg_cli.proofs.Runs.{carries_halt}
+use Rattle.pg_talk.proofs.Runs.{kept, talked_texts}
 
 shows_it : (g : Game) (solution : Solution) (c : Cert) → certificate_of solution ≡ Some c → is_class solution ≡ is_switching g.kind → IsTrueOf g solution
     → IfSome (certificate_of solution) (IsValid g) → IfSome (certificate_of solution) IsWithinLimits → IfSome (certificate_of solution) (λ c. map heading c.claims ≡ due g.turn solution) → Shows g solution c

@@ -15,17 +15,17 @@ use Rattle.pg_judge.specs.declared.judging.Judging.{Judging}
 use Rattle.pg_words.specs.Words.{Check, Report}
 use Rattle.pg_pns.specs.Expanded.{Expanded}
 use Rattle.pg_cli.specs.Checking.{AcceptsAll, RefusesCheck, acceptance, head_acceptance}
-use Rattle.pg_cli.specs.Done.{Performs}
-use Rattle.pg_cli.specs.Reading.{OpensBoth, certificate_held, read_of}
+use Rattle.pg_talk.specs.Done.{Performs}
+use Rattle.pg_cli.specs.Reading.{OpensBoth, read_of}
+use Rattle.pg_talk.specs.Reading.{certificate_held}
 use Rattle.pg_cli.specs.Reporting.{RefusesReport, Reports}
 use Rattle.pg_cli.specs.Run.{Carries, CarriesOn}
 use Rattle.pg_cli.specs.Verdicts.{IsFound, IsJudgedAs, JudgesBoth, JudgesCertificate}
-use Rattle.pg_cli.specs.declared.halt.Halt.{Halt}
-use Rattle.pg_cli.specs.declared.halt.Halt.TheVariants.{Refused, Stopped}
+use Rattle.pg_talk.specs.declared.halt.Halt.{Halt}
+use Rattle.pg_talk.specs.declared.halt.Halt.TheVariants.{Refused, Stopped}
 use Rattle.pg_cli.specs.declared.verdict.Verdict.{Verdict}
-use Rattle.pg_cli.proofs.Openings.{whole_certificate}
-use Rattle.pg_cli.proofs.Reports.{carries_report}
-use Rattle.pg_cli.proofs.Runs.{carries_check}
+use Rattle.pg_talk.proofs.Openings.{whole_certificate}
+use Rattle.pg_cli.proofs.Runs.{carries_check, carries_report}
 
 -- ---- a certificate
 

@@ -8,16 +8,18 @@ use Rattle.pg_texts.specs.declared.refusal.Refusal.TheVariants.{NoMeaning}
 use Rattle.pg_texts.specs.declared.statuses.TheConstants.{DONE, UNKNOWN, NO_MEANING, FAULTY_GAME, REFUSED, READ_FAILED, WRITE_FAILED, NO_MEMORY, INPUT_ENDED, OUT_OF_REPLIES}
 use Rattle.pg_words.specs.Words.{Command, Solve, Check, Play, Gen, Report, meaning_of}
 use Rattle.pg_cli.specs.Generating.{TellsSize, has_source, names_of, searches}
-use Rattle.pg_cli.specs.Halts.{IsGameHalt, IsReadHalt, IsPlayHalt, IsPlayEnd, IsWriteHalt}
-use Rattle.pg_cli.specs.Reading.{both_held, game_held, lacking}
+use Rattle.pg_talk.specs.Halts.{IsGameHalt, IsReadHalt, IsPlayHalt, IsPlayEnd, IsWriteHalt}
+use Rattle.pg_cli.specs.Reading.{both_held, game_held}
 use Rattle.pg_cli.specs.Reporting.{IsReportEnd}
 use Rattle.pg_cli.specs.Solving.{LeavesSearch, positions_for}
 use Rattle.pg_cli.specs.declared.solving.TheConstants.{DEFAULT_POSITIONS}
-use Rattle.pg_cli.specs.Storing.{StoresAt}
+use Rattle.pg_talk.specs.Reading.{lacking}
+use Rattle.pg_talk.specs.Runs.{QuietsBy}
+use Rattle.pg_talk.specs.Storing.{StoresAt}
 use Rattle.pg_pns.specs.Expanded.{Expanded}
-use Rattle.pg_io.specs.declared.stop.Stop.TheVariants.{Read, Write, Memory}
-use Rattle.pg_cli.specs.declared.halt.Halt.{Halt}
-use Rattle.pg_cli.specs.declared.halt.Halt.TheVariants.{Refused, Stopped}
+use Rattle.pg_io.specs.declared.stop.Stop.TheVariants.{Memory}
+use Rattle.pg_talk.specs.declared.halt.Halt.{Halt}
+use Rattle.pg_talk.specs.declared.halt.Halt.TheVariants.{Refused, Stopped}
 
 -- a command whose numbers are within their ranges; any other has no meaning
 abbrev pub built : Command → Option Command
@@ -52,11 +54,7 @@ QuietAtMemory _ before after = Grows before.log after.log []
 
 -- what is said by a command before what stands against it is said, and where it was stopped
 abbrev pub Quiets : Option Command → ConsoleTold → ConsoleTold → Result ℕ Halt → Type 0
-Quiets command before after (Ok status) = ⊤
-Quiets command before after (Err (Refused refusal)) = Grows before.log after.log []
-Quiets command before after (Err (Stopped Read)) = QuietAtRead command before after
-Quiets command before after (Err (Stopped Write)) = ⊤
-Quiets command before after (Err (Stopped Memory)) = QuietAtMemory command before after
+Quiets command before after result = QuietsBy (QuietAtRead command before after) (QuietAtMemory command before after) before after result
 
 -- where a command is done or ends early, so it may end
 abbrev pub Gives : Option Command → Result ℕ Halt → Type 0

@@ -15,9 +15,9 @@ use Rattle.pg_pns.specs.Expanded.{Expanded}
 use Rattle.pg_texts.specs.Texts.{line_game_text, switching_game_text}
 use Rattle.pg_words.specs.declared.source.Source.{Source}
 use Rattle.pg_words.specs.declared.source.Source.TheVariants.{Rows, Bridge, Scatter}
-use Rattle.pg_cli.specs.Done.{Done, End}
+use Rattle.pg_talk.specs.Done.{Done, End}
 use Rattle.pg_cli.specs.Solving.{SolvesGame, result_and_counts}
-use Rattle.pg_cli.specs.Storing.{Delivers, DeliversThen}
+use Rattle.pg_talk.specs.Storing.{Delivers, DeliversThen}
 use Rattle.pg_cli.specs.declared.solving.TheConstants.{DEFAULT_POSITIONS}
 
 -- whether the numbers are within their ranges

@@ -1,15 +1,8 @@
-pub mod Halts
 pub mod Reading
 pub mod Verdicts
-pub mod Hearing
-pub mod Reply
-pub mod Dialogue
-pub mod Talk
-pub mod Done
 pub mod Checking
 pub mod Reporting
 pub mod Playing
-pub mod Storing
 pub mod Solving
 pub mod Generating
 pub mod Commands

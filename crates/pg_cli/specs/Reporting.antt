@@ -11,10 +11,10 @@ use Rattle.pg_judge.specs.Heads.{heads_of}
 use Rattle.pg_report.specs.Report.{report_text, rejection_text}
 use Rattle.pg_texts.specs.declared.refusal.Refusal.{Refusal}
 use Rattle.pg_texts.specs.declared.statuses.TheConstants.{DONE, REFUSED}
-use Rattle.pg_cli.specs.Done.{End, Finished, Failed, Starved}
+use Rattle.pg_talk.specs.Done.{End, Finished, Failed, Starved}
 use Rattle.pg_cli.specs.Reading.{IsSaidBy}
-use Rattle.pg_cli.specs.declared.halt.Halt.{Halt}
-use Rattle.pg_cli.specs.declared.halt.Halt.TheVariants.{Refused}
+use Rattle.pg_talk.specs.declared.halt.Halt.{Halt}
+use Rattle.pg_talk.specs.declared.halt.Halt.TheVariants.{Refused}
 
 -- the certificate is valid, and the text tells its claims
 pub record TellsClaims (g : Game) (c : Cert) (text : Bytes) (status : ℕ) : Type 0 where

@@ -11,16 +11,17 @@ use Rattle.pg_texts.specs.declared.refusal.Refusal.TheVariants.{NoMeaning}
 use Rattle.pg_texts.specs.declared.statuses.TheConstants.{READ_FAILED, WRITE_FAILED}
 use Rattle.pg_words.specs.Words.{Command, Solve, Check, Play, Gen, Report}
 use Rattle.pg_cli.specs.Checking.{RefusesCheck, AcceptsAll}
-use Rattle.pg_cli.specs.Done.{Done, End, Finished, Failed, Starved, Changes, Follows, IsNothing, ending}
+use Rattle.pg_talk.specs.Done.{Done, End, Finished, Failed, Starved, Changes, Follows, IsNothing, ending}
 use Rattle.pg_cli.specs.Generating.{Generates}
-use Rattle.pg_cli.specs.Halts.{Calm, ReadCause, WriteCause, stop_status}
+use Rattle.pg_talk.specs.Halts.{Calm, ReadCause, WriteCause, stop_status}
 use Rattle.pg_cli.specs.Playing.{RefusesPlay, PlaysOn}
 use Rattle.pg_cli.specs.Reading.{both_held, game_held}
 use Rattle.pg_cli.specs.Reporting.{RefusesReport, Reports}
 use Rattle.pg_cli.specs.Solving.{Solves}
+use Rattle.pg_talk.specs.Runs.{Runs}
 use Rattle.pg_pns.specs.Expanded.{Expanded}
-use Rattle.pg_cli.specs.declared.halt.Halt.{Halt}
-use Rattle.pg_cli.specs.declared.halt.Halt.TheVariants.{Refused, Stopped}
+use Rattle.pg_talk.specs.declared.halt.Halt.{Halt}
+use Rattle.pg_talk.specs.declared.halt.Halt.TheVariants.{Refused, Stopped}
 
 -- this stands against the command, where the names hold these bytes
 abbrev pub Refuses : Holding → Option Command → Refusal → Type 0
@@ -66,7 +67,7 @@ CarriesOn held command work files before after result = Follows (Refuses held co
 
 -- the same where it is told what the names hold
 abbrev pub Carries : Option Command → Expanded → FilesTold → FilesTold → ConsoleTold → ConsoleTold → Result ℕ Halt → Type 0
-Carries command work files files' before after result = IfSome files.held (λ held. CarriesOn held command work files' before after result)
+Carries command work files files' before after result = Runs (λ held. Refuses held command) (λ held. Acts held command work) files files' before after result
 
 -- what ended a command is said, where it stands against the command, with its status; where that fails, nothing is said. Where the run was stopped, its status comes at once
 abbrev pub Ends : Halt → ConsoleTold → ConsoleTold → ℕ → Type 0

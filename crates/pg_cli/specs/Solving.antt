@@ -23,11 +23,11 @@ use Rattle.pg_solve.specs.declared.solving.TheConstants.{LEAST_POSITIONS, MOST_P
 use Rattle.pg_texts.specs.Texts.{class_short_text, class_cut_text, class_first_mover_text, expanded_text, message_text, result_text, unknown_text}
 use Rattle.pg_texts.specs.declared.message.Message.{Message}
 use Rattle.pg_texts.specs.declared.statuses.TheConstants.{DONE, UNKNOWN}
-use Rattle.pg_cli.specs.Done.{Done, End, Finished, Failed, Starved}
+use Rattle.pg_talk.specs.Done.{Done, End, Finished, Failed, Starved}
 use Rattle.pg_cli.specs.Reading.{IsSaidBy}
-use Rattle.pg_cli.specs.Storing.{Delivers}
+use Rattle.pg_talk.specs.Storing.{Delivers}
 use Rattle.pg_cli.specs.declared.solving.TheConstants.{DEFAULT_POSITIONS}
-use Rattle.pg_cli.specs.declared.halt.Halt.{Halt}
+use Rattle.pg_talk.specs.declared.halt.Halt.{Halt}
 
 -- how many positions may be expanded: as many as are asked for, where they may be, and as usual where none are said
 abbrev pub positions_for : Option ℕ → Option ℕ

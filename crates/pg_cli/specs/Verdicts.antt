@@ -6,9 +6,10 @@ use Rattle.pg_files.specs.GameFile.{Entry as GameEntry}
 use Rattle.pg_cert.specs.Valid.{IsValid, IsFirstFault}
 use Rattle.pg_cert.specs.declared.cert.Cert.{Cert}
 use Rattle.pg_judge.specs.Heads.{heads_of}
-use Rattle.pg_cli.specs.Reading.{both_held, certificate_held, read_of}
-use Rattle.pg_cli.specs.declared.halt.Halt.{Halt}
-use Rattle.pg_cli.specs.declared.halt.Halt.TheVariants.{Refused, Stopped}
+use Rattle.pg_cli.specs.Reading.{both_held, read_of}
+use Rattle.pg_talk.specs.Reading.{certificate_held}
+use Rattle.pg_talk.specs.declared.halt.Halt.{Halt}
+use Rattle.pg_talk.specs.declared.halt.Halt.TheVariants.{Refused, Stopped}
 use Rattle.pg_cli.specs.declared.verdict.Verdict.{Verdict}
 use Rattle.pg_cli.specs.declared.verdict.Verdict.TheVariants.{Valid, Faulty}
 

@@ -7,20 +7,20 @@ ghost use Rattle.pg_cert.specs.declared.cert.Cert.{Cert};
 ghost use Rattle.pg_texts.specs.declared.statuses.TheConstants.{DONE};
 ghost use Rattle.pg_pns.specs.Expanded.{Expanded};
 ghost use Rattle.pg_words.specs.Words.{Check};
-ghost use Rattle.pg_cli.specs.Checking.{AcceptsAll, RefusesCheck, Speaks, head_acceptance};
+ghost use Rattle.pg_cli.specs.Checking.{AcceptsAll, RefusesCheck, head_acceptance};
+ghost use Rattle.pg_talk.specs.Saying.{Speaks};
 ghost use Rattle.pg_cli.specs.Commands.{Quiets};
-ghost use Rattle.pg_cli.specs.Done.{Performs};
-ghost use Rattle.pg_cli.specs.Halts.{BothCauses, HaltCauses, IsReadHalt};
+ghost use Rattle.pg_talk.specs.Done.{Performs};
+ghost use Rattle.pg_talk.specs.Halts.{BothCauses, HaltCauses, IsReadHalt};
 ghost use Rattle.pg_cli.specs.Reading.{AreLacking, read_of};
 ghost use Rattle.pg_cli.specs.Run.{Carries};
 ghost use Rattle.pg_cli.specs.Verdicts.{IsFound};
 
-use crate::halt::Halt;
 use crate::judging::judge_both;
-use crate::saying::say;
 use crate::verdict::Verdict;
 use pg_io::{Console, Files, Stop};
 use pg_judge::ClaimHead;
+use pg_talk::{Halt, say};
 use pg_texts::{DONE, Message, Refusal};
 use std::alloc::Global;
 

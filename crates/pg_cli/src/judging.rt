@@ -1,17 +1,17 @@
 //! Judging a certificate for a game as it comes.
 ghost use Rattle.std.specs.Prelude.{IfErr};
 ghost use Rattle.pg_io.specs.Files.{IsAbsent, ReadsOnly};
-ghost use Rattle.pg_cli.specs.Halts.{HaltCauses, IsReadHalt};
+ghost use Rattle.pg_talk.specs.Halts.{HaltCauses, IsReadHalt};
 ghost use Rattle.pg_cli.specs.Reading.{AreLacking};
 ghost use Rattle.pg_cli.specs.Verdicts.{JudgesBoth, JudgesCertificate};
 
-use crate::halt::Halt;
 use crate::reading::open_game;
 use crate::verdict::Verdict;
 use pg_cert_files::MAX_CERT_BYTES;
 use pg_game::Game;
 use pg_io::{Files, Stop, pour};
 use pg_judge::{JudgeFault, Judging};
+use pg_talk::Halt;
 use pg_texts::Refusal;
 use std::alloc::Global;
 

@@ -6,23 +6,21 @@ ghost use Rattle.pg_cert.specs.Valid.{IsValid};
 ghost use Rattle.pg_pns.specs.Expanded.{Expanded};
 ghost use Rattle.pg_words.specs.Words.{Play};
 ghost use Rattle.pg_cli.specs.Commands.{Quiets};
-ghost use Rattle.pg_cli.specs.Done.{Performs};
-ghost use Rattle.pg_cli.specs.Halts.{BothCauses, HaltCauses, IsPlayEnd, IsPlayHalt};
+ghost use Rattle.pg_talk.specs.Done.{Performs};
+ghost use Rattle.pg_talk.specs.Halts.{BothCauses, HaltCauses, IsPlayEnd, IsPlayHalt};
 ghost use Rattle.pg_cli.specs.Playing.{PlaysOn, RefusesPlay};
 ghost use Rattle.pg_cli.specs.Reading.{AreLacking, read_of};
 ghost use Rattle.pg_cli.specs.Run.{Carries};
 
-use crate::dialogue::play_to_the_end;
-use crate::halt::Halt;
 use crate::reading::open_both;
-use crate::saying::say;
 use pg_base::Side;
 use pg_cert::Cert;
 use pg_check::{CheckFault, Checked};
 use pg_game::Game;
 use pg_io::{Console, Files, Stop};
 use pg_player::{OpenFault, Player};
-use pg_texts::{Message, Refusal};
+use pg_talk::{Halt, play_claim};
+use pg_texts::Refusal;
 use std::alloc::Global;
 
 /// Plays a side of the game over a console by the claim for it.
@@ -40,14 +38,11 @@ fn play_checked<C: Console>(
     ensures done { IfOk result IsPlayEnd }
     ensures halts { IfErr result IsPlayHalt }
 {
-    let mut player = match Player::open(alloc, checked, side) {
-        Ok(player) => player,
-        Err(OpenFault::NoClaim) => return Err(Halt::Refused(Refusal::NoClaim { side })),
-        Err(OpenFault::Memory) => return Err(Halt::Stopped(Stop::Memory)),
-    };
-    let goal = player.goal();
-    say(console, Message::Claim { side, goal })?;
-    Ok(play_to_the_end(&mut player, console)?)
+    match Player::open(alloc, checked, side) {
+        Ok(mut player) => play_claim(&mut player, console),
+        Err(OpenFault::NoClaim) => Err(Halt::Refused(Refusal::NoClaim { side })),
+        Err(OpenFault::Memory) => Err(Halt::Stopped(Stop::Memory)),
+    }
 }
 
 /// Plays a side of the game over a console by the certificate.

@@ -5,20 +5,19 @@ ghost use Rattle.pg_cert.specs.declared.cert.Cert.{Cert};
 ghost use Rattle.pg_pns.specs.Expanded.{Expanded};
 ghost use Rattle.pg_words.specs.Words.{Report};
 ghost use Rattle.pg_cli.specs.Commands.{Quiets};
-ghost use Rattle.pg_cli.specs.Done.{Performs};
-ghost use Rattle.pg_cli.specs.Halts.{BothCauses, HaltCauses, IsReadHalt};
+ghost use Rattle.pg_talk.specs.Done.{Performs};
+ghost use Rattle.pg_talk.specs.Halts.{BothCauses, HaltCauses, IsReadHalt};
 ghost use Rattle.pg_cli.specs.Reading.{AreLacking, read_of};
 ghost use Rattle.pg_cli.specs.Reporting.{Accounts, IsReportEnd, RefusesReport, Reports};
 ghost use Rattle.pg_cli.specs.Run.{Carries};
 ghost use Rattle.pg_cli.specs.Verdicts.{IsFound};
 
-use crate::halt::Halt;
 use crate::judging::judge_both;
-use crate::saying::say_text;
 use crate::verdict::Verdict;
 use pg_base::Memory;
 use pg_game::Game;
 use pg_io::{Console, Files, Stop};
+use pg_talk::{Halt, say_text};
 use pg_texts::{DONE, REFUSED};
 use std::alloc::Global;
 

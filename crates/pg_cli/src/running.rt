@@ -2,21 +2,20 @@
 ghost use Rattle.std.specs.Prelude.{◌≡◌, [], map, string_bytes, IfOk, None};
 ghost use Rattle.std.specs.List.{Contains};
 ghost use Rattle.pg_cli.specs.Commands.{Gives, IsLacking, LeavesFiles, LeavesWork, Quiets, SaysNoMeaning, Silences, asked, statuses_of};
-ghost use Rattle.pg_cli.specs.Done.{Finished, ending};
+ghost use Rattle.pg_talk.specs.Done.{Finished, ending};
 ghost use Rattle.pg_cli.specs.Forced.{AnnouncesForced};
-ghost use Rattle.pg_cli.specs.Halts.{BothCauses};
+ghost use Rattle.pg_talk.specs.Halts.{BothCauses};
 ghost use Rattle.pg_cli.specs.Run.{Carries, Ends, HasCause, Ran};
 
 use crate::checking::check;
 use crate::generating::generate;
-use crate::halt::Halt;
 use crate::laws::announced_claims_are_forced;
 use crate::playing::play;
 use crate::reporting::report;
-use crate::saying::say;
 use crate::solving::{positions_for, solve};
 use pg_io::{Console, Files, Stop};
 use pg_pns::Work;
+use pg_talk::{Halt, say};
 use pg_texts::{Message, NO_MEMORY, READ_FAILED, Refusal, WRITE_FAILED};
 use pg_words::{Command, meaning};
 use std::alloc::Global;

@@ -11,23 +11,22 @@ ghost use Rattle.pg_texts.specs.Texts.{message_text};
 ghost use Rattle.pg_texts.specs.declared.statuses.TheConstants.{DONE, UNKNOWN};
 ghost use Rattle.pg_words.specs.Words.{Solve};
 ghost use Rattle.pg_cli.specs.Commands.{Gives, LeavesWork, Quiets};
-ghost use Rattle.pg_cli.specs.Done.{Does};
-ghost use Rattle.pg_cli.specs.Halts.{BothCauses, IsWriteHalt, MuteAtMemory};
+ghost use Rattle.pg_talk.specs.Done.{Does};
+ghost use Rattle.pg_talk.specs.Halts.{BothCauses, IsWriteHalt, MuteAtMemory};
 ghost use Rattle.pg_cli.specs.Reading.{IsGameLacking};
 ghost use Rattle.pg_cli.specs.Run.{Carries};
 ghost use Rattle.pg_cli.specs.Solving.{IsFound, IsSolveEnd, SolvesGame, class_text, positions_for, result_alone};
-ghost use Rattle.pg_cli.specs.Storing.{Delivers, StoresAt, texts_of};
+ghost use Rattle.pg_talk.specs.Storing.{Delivers, StoresAt, texts_of};
 
-use crate::halt::Halt;
 use crate::reading::open_game;
-use crate::saying::{say, say_both};
 use pg_base::Memory;
 use pg_cert::{Cert, print_cert};
 use pg_game::Game;
-use pg_io::{Console, Files, store};
+use pg_io::{Console, Files};
 use pg_pns::{Work, budget_of};
 use pg_solve::{Class, LEAST_POSITIONS, MOST_POSITIONS, Solution};
-use pg_texts::{DONE, Message, UNKNOWN};
+use pg_talk::{Halt, deliver, say};
+use pg_texts::{Message, UNKNOWN};
 use std::alloc::Global;
 
 /// How many positions may be expanded where the words say none.
@@ -55,31 +54,6 @@ fn class_message(class: Class) -> Message
         Class::Cut => Message::ClassCut,
         Class::First => Message::ClassFirstMover,
     }
-}
-
-/// Stores a file, and then says a message, and a further one where it is given.
-pub fn deliver<F: Files, C: Console>(
-    name: &str,
-    text: &[u8],
-    message: Message,
-    further: Option<Message>,
-    files: &mut F,
-    console: &mut C,
-) -> Result<u8, Halt>
-    ensures delivered { Does (Delivers (name.now, text.now) (texts_of message further))
-        (F.told files.old) (F.told files.new) (C.told console.old) (C.told console.new) result }
-    ensures said { IfOk result (λ _. Grows (C.told console.old).log (C.told console.new).log
-        (map Said (texts_of message further))) }
-    ensures files { StoresAt (name.now ∷ []) (F.told files.old) (F.told files.new) }
-    ensures causes { BothCauses ⊥ (F.told files.old) (F.told files.new)
-        (C.told console.old) (C.told console.new) result }
-    ensures quiet { MuteAtMemory (C.told console.old) (C.told console.new) result }
-    ensures done { IfOk result (λ status. status ≡ DONE) }
-    ensures halts { IfErr result IsWriteHalt }
-{
-    store(files, name, text)?;
-    say_both(console, message, further)?;
-    Ok(DONE)
 }
 
 /// Stores a certificate that shows what was found, and says what was found, and a further message where it is

@@ -11,7 +11,7 @@ use Rattle.pg_cli.specs.Run.{Carries}
 use Rattle.pg_cli.specs.Solving.{SolvesGame, result_and_counts}
 use Rattle.pg_cli.specs.declared.solving.TheConstants.{DEFAULT_POSITIONS}
 use Rattle.pg_cli.proofs.Making.{carries_made, of_built, quiet_then, stores_halted, work_left}
-use Rattle.pg_cli.proofs.Parts.{delivers_then}
+use Rattle.pg_talk.proofs.Parts.{delivers_then}
 use Rattle.pg_cli.proofs.Runs.{carries_memory}
 use Rattle.pg_cli.proofs.generating.generate.Goals as goal
 

@@ -7,7 +7,7 @@ use Rattle.pg_texts.specs.Texts.{expanded_text, message_text, unknown_text}
 use Rattle.pg_texts.specs.declared.message.Message.{Message}
 use Rattle.pg_cli.specs.Solving.{IsFound, SolvesGame, result_and_counts, solution_text}
 use Rattle.pg_cli.specs.declared.solving.TheConstants.{DEFAULT_POSITIONS}
-use Rattle.pg_cli.proofs.Delivering.{stopped_first}
+use Rattle.pg_talk.proofs.Delivering.{stopped_first}
 use Rattle.pg_cli.proofs.Solves.{delivers_solution, stays_open}
 use Rattle.pg_cli.proofs.generating.solve_made.Goals as goal
 

@@ -3,9 +3,9 @@ use Rattle.pg_cert_files.specs.CertFile.{certificate}
 use Rattle.pg_cert_files.specs.Views.{number_of}
 use Rattle.pg_judge.specs.Judged.{StandsAgainst}
 use Rattle.pg_judge.specs.declared.fault.JudgeFault.{JudgeFault}
-use Rattle.pg_cli.specs.Reading.{certificate_fault}
+use Rattle.pg_talk.specs.Reading.{certificate_fault}
 use Rattle.pg_cli.specs.declared.verdict.Verdict.TheVariants.{Valid, Faulty}
-use Rattle.pg_cli.proofs.Openings.{read_ok, read_bad}
+use Rattle.pg_talk.proofs.Openings.{read_ok, read_bad}
 use Rattle.pg_cli.proofs.Verdicts.{judged_certificate}
 use Rattle.pg_cli.proofs.judging.judge_certificate.Goals as goal
 

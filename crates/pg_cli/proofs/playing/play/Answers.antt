@@ -5,7 +5,7 @@ use Rattle.pg_cli.proofs.playing.play.Goals as goal
 pub returns-in_err-both-clause-ran : goal.returns-in_err-both-clause-ran
 returns-in_err-both-clause-ran g c =
     let p = err_from_is_err_and c.from_residual.result c.from_residual.ensures.1 in
-    λ work. rw (p.1, p.2) (halted_play (g.F.Files.told c.args.files.now) (g.F.Files.told c.open_both.new.files) (g.C.Console.told c.args.console.now) c.open_both.ensures.kept.held c.args.game.now c.args.certificate.now c.args.side work _ c.in_err-both.ensures.opened)
+    λ work. rw (p.1, p.2) (halted_play (g.F.Files.told c.args.files.now) (g.F.Files.told c.open_both.new.files) (g.C.Console.told c.args.console.now) c.open_both.ensures.kept.held c.args.game.now c.args.certificate.now work _ c.in_err-both.ensures.opened c.args.side)
 
 pub returns-clause-ran : goal.returns-clause-ran
 returns-clause-ran g c =

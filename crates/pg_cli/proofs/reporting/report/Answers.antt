@@ -1,5 +1,5 @@
 use Rattle.std.proofs.lemmas.Result.{err_from_is_err_and}
-use Rattle.pg_cli.proofs.Reports.{halted_report}
+use Rattle.pg_cli.proofs.Runs.{halted_report}
 use Rattle.pg_cli.proofs.Verdicts.{report_carries, opens_err}
 use Rattle.pg_cli.proofs.reporting.report.Goals as goal
 

@@ -2,7 +2,7 @@ use Rattle.std.proofs.Common.{map, string_bytes}
 use Rattle.std.proofs.lemmas.Result.{err_from_is_err_and}
 use Rattle.pg_io.specs.declared.stop.Stop.TheVariants.{Memory}
 use Rattle.pg_cli.specs.Commands.{asked}
-use Rattle.pg_cli.specs.declared.halt.Halt.TheVariants.{Stopped}
+use Rattle.pg_talk.specs.declared.halt.Halt.TheVariants.{Stopped}
 use Rattle.pg_cli.proofs.Runs.{carries_memory, gives_memory, leaves_all, leaves_work, quiet_halt}
 use Rattle.pg_cli.proofs.running.carry_out.Goals as goal
 

@@ -6,7 +6,7 @@ use Rattle.pg_cert.specs.declared.cert.Cert.{Cert}
 use Rattle.pg_texts.specs.Texts.{message_text, unknown_text}
 use Rattle.pg_texts.specs.declared.message.Message.{Message}
 use Rattle.pg_cli.specs.Solving.{IsFound, SolvesGame, result_alone}
-use Rattle.pg_cli.proofs.Delivering.{stopped_first}
+use Rattle.pg_talk.proofs.Delivering.{stopped_first}
 use Rattle.pg_cli.proofs.Solves.{delivers_solution, stays_open}
 use Rattle.pg_cli.proofs.solving.solve_game.Goals as goal
 

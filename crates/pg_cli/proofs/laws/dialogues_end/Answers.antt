@@ -1,6 +1,0 @@
-use Rattle.pg_cli.specs.Dialogue.{At, Over}
-use Rattle.pg_cli.proofs.Dialogues.{stays_fair}
-use Rattle.pg_cli.proofs.laws.dialogues_end.Goals as goal
-
-pub returns : goal.returns
-returns c = λ g side p entries last status leads. stays_fair g side (At p 0) (Over last status) entries tt leads

@@ -1,5 +1,0 @@
-use Rattle.pg_cli.proofs.Dialogues.{own_first}
-use Rattle.pg_cli.proofs.laws.own_moves_come_first.Goals as goal
-
-pub returns : goal.returns
-returns c = own_first

@@ -1,0 +1,13 @@
+pub mod Contest
+pub mod Contender
+pub mod Halts
+pub mod Reading
+pub mod Hearing
+pub mod Reply
+pub mod Dialogue
+pub mod Talk
+pub mod Done
+pub mod Runs
+pub mod Saying
+pub mod Playing
+pub mod Storing
