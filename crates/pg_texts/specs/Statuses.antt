@@ -1,7 +1,7 @@
 -- The status of each refusal.
 use Rattle.std.specs.Prelude.{ℕ}
 use Rattle.pg_texts.specs.declared.refusal.Refusal.{Refusal}
-use Rattle.pg_texts.specs.declared.refusal.Refusal.TheVariants.{NoMeaning, NoClaim, Game, Certificate, Rejected}
+use Rattle.pg_texts.specs.declared.refusal.Refusal.TheVariants.{NoMeaning, NoClaim, Game, Certificate, Rejected, RejectedSpan, RejectedVectors}
 use Rattle.pg_texts.specs.declared.statuses.TheConstants.{NO_MEANING, FAULTY_GAME, REFUSED}
 
 abbrev pub refusal_status : Refusal → ℕ
@@ -10,3 +10,5 @@ refusal_status (NoClaim side) = NO_MEANING
 refusal_status (Game number line) = FAULTY_GAME
 refusal_status (Certificate number line) = REFUSED
 refusal_status (Rejected claim node why) = REFUSED
+refusal_status (RejectedSpan claim why) = REFUSED
+refusal_status (RejectedVectors claim node why) = REFUSED

@@ -9,11 +9,11 @@ use Rattle.pg_base.specs.declared.score.Score.{Score}
 use Rattle.pg_base.specs.declared.score.Score.TheVariants.{XWins, YWins, Draw as Drawn}
 use Rattle.pg_base.specs.declared.side.Side.{Side}
 use Rattle.pg_texts.specs.declared.message.Message.{Message}
-use Rattle.pg_texts.specs.declared.message.Message.TheVariants.{Refused, Accepted, Claim, Move, NoReply, Result, ClassShort, ClassCut, ClassFirstMover, Unknown, LineGame, SwitchingGame, Expanded}
+use Rattle.pg_texts.specs.declared.message.Message.TheVariants.{Refused, Accepted, Claim, Move, NoReply, Result, ClassShort, ClassCut, ClassMaker, ClassBreaker, ClassFirstMover, Unknown, LineGame, SwitchingGame, Expanded}
 use Rattle.pg_texts.specs.declared.message.ReplyFault.{ReplyFault}
 use Rattle.pg_texts.specs.declared.message.ReplyFault.TheVariants.{NoNumber, NoPoint, Taken}
 use Rattle.pg_texts.specs.declared.refusal.Refusal.{Refusal}
-use Rattle.pg_texts.specs.declared.refusal.Refusal.TheVariants.{NoMeaning, NoClaim, Game, Certificate, Rejected}
+use Rattle.pg_texts.specs.declared.refusal.Refusal.TheVariants.{NoMeaning, NoClaim, Game, Certificate, Rejected, RejectedSpan, RejectedVectors}
 
 -- ---- refusals
 
@@ -37,9 +37,25 @@ game_text number line = file_fault_text (codes "game G") number line
 abbrev pub certificate_text : ℕ → ℕ → List ℕ
 certificate_text number line = file_fault_text (codes "certificate C") number line
 
--- a certificate that isn't valid: the number of the first faulty claim, of its first faulty node, and of the fault
+-- a certificate that isn't valid: the sign of its faults, the number of the first faulty claim, and that of the fault
+abbrev pub faulty_claim_text : List ℕ → ℕ → ℕ → List ℕ
+faulty_claim_text sign claim why = sign ++ (decimal why ++ (codes " claim " ++ (decimal claim ++ codes "\n")))
+
+-- the same with the number of the claim's first faulty node
+abbrev pub faulty_node_text : List ℕ → ℕ → ℕ → ℕ → List ℕ
+faulty_node_text sign claim node why = sign ++ (decimal why ++ (codes " claim " ++ (decimal claim ++ (codes " node " ++ (decimal node ++ codes "\n")))))
+
+-- a certificate of a game on lines, or of a switching game
 abbrev pub rejected_text : ℕ → ℕ → ℕ → List ℕ
-rejected_text claim node why = codes "rejected J" ++ (decimal why ++ (codes " claim " ++ (decimal claim ++ (codes " node " ++ (decimal node ++ codes "\n")))))
+rejected_text claim node why = faulty_node_text (codes "rejected J") claim node why
+
+-- one of a connectivity game
+abbrev pub rejected_span_text : ℕ → ℕ → List ℕ
+rejected_span_text claim why = faulty_claim_text (codes "rejected S") claim why
+
+-- one of a game on vectors
+abbrev pub rejected_vectors_text : ℕ → ℕ → ℕ → List ℕ
+rejected_vectors_text claim node why = faulty_node_text (codes "rejected V") claim node why
 
 abbrev pub refusal_text : Refusal → List ℕ
 refusal_text NoMeaning = no_meaning_text
@@ -47,6 +63,8 @@ refusal_text (NoClaim side) = no_claim_text side
 refusal_text (Game number line) = game_text number line
 refusal_text (Certificate number line) = certificate_text number line
 refusal_text (Rejected claim node why) = rejected_text claim node why
+refusal_text (RejectedSpan claim why) = rejected_span_text claim why
+refusal_text (RejectedVectors claim node why) = rejected_vectors_text claim node why
 
 -- ---- claims, moves and outcomes
 
@@ -86,12 +104,18 @@ result_text kind score = codes "result " ++ (outcome_word kind score ++ codes "\
 
 -- ---- solving and making games
 
--- a switching game is Short's, or Cut's, or that of the side that moves first
+-- a switching game is Short's, or Cut's; a connectivity game is Maker's, or Breaker's; either is that of the side that moves first
 abbrev pub class_short_text : List ℕ
 class_short_text = codes "class short\n"
 
 abbrev pub class_cut_text : List ℕ
 class_cut_text = codes "class cut\n"
+
+abbrev pub class_maker_text : List ℕ
+class_maker_text = codes "class maker\n"
+
+abbrev pub class_breaker_text : List ℕ
+class_breaker_text = codes "class breaker\n"
 
 abbrev pub class_first_mover_text : List ℕ
 class_first_mover_text = codes "class first-mover\n"
@@ -127,6 +151,8 @@ message_text (NoReply fault) = reply_text fault
 message_text (Result kind score) = result_text kind score
 message_text ClassShort = class_short_text
 message_text ClassCut = class_cut_text
+message_text ClassMaker = class_maker_text
+message_text ClassBreaker = class_breaker_text
 message_text ClassFirstMover = class_first_mover_text
 message_text (Unknown positions) = unknown_text positions
 message_text (LineGame points lines) = line_game_text points lines

@@ -54,7 +54,11 @@ pub enum Message {
     ClassShort,
     /// A switching game is Cut's, whoever moves first.
     ClassCut,
-    /// A switching game is won by the side that moves first.
+    /// A connectivity game is Maker's, whoever moves first.
+    ClassMaker,
+    /// A connectivity game is Breaker's, whoever moves first.
+    ClassBreaker,
+    /// The game is won by the side that moves first.
     ClassFirstMover,
     /// So many positions were expanded, and the question is open.
     Unknown(u32),
@@ -208,6 +212,8 @@ impl Message {
             Message::Result { kind, score } => result_text(kind, score),
             Message::ClassShort => text_of("class short\n"),
             Message::ClassCut => text_of("class cut\n"),
+            Message::ClassMaker => text_of("class maker\n"),
+            Message::ClassBreaker => text_of("class breaker\n"),
             Message::ClassFirstMover => text_of("class first-mover\n"),
             Message::Unknown(positions) => unknown_text(positions),
             Message::LineGame { points, lines } => {

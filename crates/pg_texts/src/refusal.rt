@@ -1,6 +1,6 @@
 //! Why a command isn't carried out.
 ghost use Rattle.std.specs.Prelude.{◌≡◌, ◌≤◌, length};
-ghost use Rattle.pg_texts.specs.Texts.{file_fault_text, no_claim_text, refusal_text, rejected_text};
+ghost use Rattle.pg_texts.specs.Texts.{faulty_claim_text, faulty_node_text, file_fault_text, no_claim_text, refusal_text};
 ghost use Rattle.pg_texts.specs.Statuses.{refusal_status};
 
 use crate::line::{Line, push_number};
@@ -40,6 +40,22 @@ pub enum Refusal {
         /// The least number of the node's faults.
         why: u8,
     },
+    /// The certificate isn't valid for the connectivity game.
+    RejectedSpan {
+        /// The number of the first faulty claim.
+        claim: u32,
+        /// The number of its fault.
+        why: u8,
+    },
+    /// The certificate isn't valid for the game on vectors.
+    RejectedVectors {
+        /// The number of the first faulty claim.
+        claim: u32,
+        /// The number of its first faulty node.
+        node: u32,
+        /// The least number of the node's faults.
+        why: u8,
+    },
 }
 
 /// The text of a fault in a file: the file's sign, the number of the fault, and that of its line.
@@ -56,12 +72,27 @@ fn fault_text(file: &str, number: u8, line: u32) -> Line
     text
 }
 
-/// The text of a certificate that isn't valid.
-fn rejected_text(claim: u32, node: u32, why: u8) -> Line
-    ensures { result.bytes ≡ rejected_text claim node why }
+/// The text of a certificate with a faulty claim: the sign of its faults, the number of the fault, and that of the claim.
+fn faulty_claim_text(sign: &str, claim: u32, why: u8) -> Line
+    requires { length sign.now ≤ 20 }
+    ensures { result.bytes ≡ faulty_claim_text sign.now claim why }
 {
     let mut text = Line::new();
-    text.push_str("rejected J");
+    text.push_str(sign);
+    push_number(&mut text, u32::from(why));
+    text.push_str(" claim ");
+    push_number(&mut text, claim);
+    text.push_str("\n");
+    text
+}
+
+/// The text of a certificate with a faulty node: the sign of its faults, the number of the fault, and those of claim and node.
+fn faulty_node_text(sign: &str, claim: u32, node: u32, why: u8) -> Line
+    requires { length sign.now ≤ 15 }
+    ensures { result.bytes ≡ faulty_node_text sign.now claim node why }
+{
+    let mut text = Line::new();
+    text.push_str(sign);
     push_number(&mut text, u32::from(why));
     text.push_str(" claim ");
     push_number(&mut text, claim);
@@ -96,7 +127,13 @@ impl Refusal {
             Refusal::NoClaim { side } => no_claim_text(side),
             Refusal::Game { number, line } => fault_text("game G", number, line),
             Refusal::Certificate { number, line } => fault_text("certificate C", number, line),
-            Refusal::Rejected { claim, node, why } => rejected_text(claim, node, why),
+            Refusal::Rejected { claim, node, why } => {
+                faulty_node_text("rejected J", claim, node, why)
+            }
+            Refusal::RejectedSpan { claim, why } => faulty_claim_text("rejected S", claim, why),
+            Refusal::RejectedVectors { claim, node, why } => {
+                faulty_node_text("rejected V", claim, node, why)
+            }
         }
     }
 
@@ -107,7 +144,10 @@ impl Refusal {
         match self {
             Refusal::NoMeaning | Refusal::NoClaim { .. } => NO_MEANING,
             Refusal::Game { .. } => FAULTY_GAME,
-            Refusal::Certificate { .. } | Refusal::Rejected { .. } => REFUSED,
+            Refusal::Certificate { .. }
+            | Refusal::Rejected { .. }
+            | Refusal::RejectedSpan { .. }
+            | Refusal::RejectedVectors { .. } => REFUSED,
         }
     }
 }

@@ -1,0 +1,54 @@
+-- Checks and plays of a family's games on a console.
+use Rattle.std.proofs.Common.{◌≡◌, ℕ, List, [], ◌++◌, map, Result, Ok, Err, refl, sym, subst, inl, inr}
+use Rattle.pg_base.specs.declared.side.Side.{Side}
+use Rattle.pg_io.specs.Console.{ConsoleTold, Grows}
+use Rattle.pg_io.specs.Files.{Bytes}
+use Rattle.pg_io.specs.declared.entry.Entry.{Entry}
+use Rattle.pg_io.specs.declared.entry.Entry.TheVariants.{Said}
+use Rattle.pg_io.specs.declared.stop.Stop.{Stop}
+use Rattle.pg_io.specs.declared.stop.Stop.TheVariants.{Write}
+use Rattle.pg_texts.specs.declared.refusal.Refusal.{Refusal}
+use Rattle.pg_texts.specs.declared.refusal.Refusal.TheVariants.{NoClaim}
+use Rattle.pg_texts.specs.declared.statuses.TheConstants.{DONE}
+use Rattle.pg_talk.specs.Contender.{Contender}
+use Rattle.pg_talk.specs.Done.{End, Finished, Failed, Starved, Performs, stop_end}
+use Rattle.pg_talk.specs.Playing.{IsPlay}
+use Rattle.pg_talk.specs.Saying.{IsCut}
+use Rattle.pg_talk.specs.declared.halt.Halt.{Halt}
+use Rattle.pg_talk.specs.declared.halt.Halt.TheVariants.{Refused, Stopped}
+use Rattle.pg_talk.proofs.Runs.{performs_more, silent, talked_texts}
+use Rattle.pg_families.specs.Judged.{AcceptsValid, PlaysValid, RefusesChecked, RefusesPlayed}
+
+-- nothing was said before work was stopped
+pub stopped_here : (Against : Refusal → Type 0) (Act : List Entry → End → Type 0) (console : ConsoleTold) (stop : Stop) → Performs Against Act console console (Err (Stopped stop))
+stopped_here Against Act console stop = ([], inl refl, silent (stop_end stop) console console refl refl)
+
+-- what stands against work was found, and nothing was said
+pub refused_here : (Against : Refusal → Type 0) (Act : List Entry → End → Type 0) (console : ConsoleTold) (refusal : Refusal) → Against refusal → Performs Against Act console console (Err (Refused refusal))
+refused_here Against Act console refusal against = (against, silent Starved console console refl refl)
+
+module _ {G E C : Type 0} (entry : G → E) (IsValid : G → C → Type 0) (Rejects : G → C → Refusal → Type 0) (g : G) (c : C) (valid : IsValid g c) where
+  -- the texts that accept all claims were said
+  pub accepted_all : (acceptances : C → List Bytes) (before after : ConsoleTold) → Grows before.log after.log (map Said (acceptances c)) → after.left ≡ before.left
+      → Performs (RefusesChecked entry Rejects (Ok (entry g, c))) (AcceptsValid entry IsValid acceptances (Ok (entry g, c))) before after (Ok DONE)
+  accepted_all acceptances before after says left = (map Said (acceptances c), (g, refl, valid, (refl, refl)), talked_texts (Finished DONE) before after (acceptances c) says left)
+
+  -- the first of them were said, and then a write has failed
+  pub accepted_cut : (acceptances : C → List Bytes) (before after : ConsoleTold) (stop : Stop) → stop ≡ Write → IsCut (acceptances c) before.log after.log → after.left ≡ before.left
+      → Performs (RefusesChecked entry Rejects (Ok (entry g, c))) (AcceptsValid entry IsValid acceptances (Ok (entry g, c))) before after (Err (Stopped stop))
+  accepted_cut acceptances before after stop write (front, rest, whole, says) left =
+      subst (λ (s : Stop). Performs (RefusesChecked entry Rejects (Ok (entry g, c))) (AcceptsValid entry IsValid acceptances (Ok (entry g, c))) before after (Err (Stopped s))) (sym write)
+      (map Said front, inr (g, refl, valid, (front, rest, whole, refl)), talked_texts Failed before after front says left)
+
+  -- the side's claim was said and played
+  pub played_valid : (Has Lacks : G → C → Type 0) (player : G → Contender) (side : Side) (before after : ConsoleTold) (r : Result ℕ Halt) → Has g c → Performs (λ _. ⊥) (IsPlay (player g)) before after r
+      → Performs (RefusesPlayed entry IsValid Rejects Lacks side (Ok (entry g, c))) (PlaysValid entry IsValid Has player (Ok (entry g, c))) before after r
+  played_valid Has Lacks player side before after r has performs =
+      performs_more (λ _. ⊥) (RefusesPlayed entry IsValid Rejects Lacks side (Ok (entry g, c))) (IsPlay (player g)) (PlaysValid entry IsValid Has player (Ok (entry g, c)))
+      (λ refusal none. absurd none) (λ entries end plays. (g, refl, valid, has, plays)) before after r performs
+
+  -- there is no claim of the side
+  pub played_unclaimed : (Has Lacks : G → C → Type 0) (player : G → Contender) (side : Side) (console : ConsoleTold) → Lacks g c
+      → Performs (RefusesPlayed entry IsValid Rejects Lacks side (Ok (entry g, c))) (PlaysValid entry IsValid Has player (Ok (entry g, c))) console console (Err (Refused (NoClaim side)))
+  played_unclaimed Has Lacks player side console none =
+      refused_here (RefusesPlayed entry IsValid Rejects Lacks side (Ok (entry g, c))) (PlaysValid entry IsValid Has player (Ok (entry g, c))) console (NoClaim side) (g, refl, inr (valid, none, refl))

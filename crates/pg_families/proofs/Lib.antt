@@ -1,0 +1,5 @@
+pub mod Openings
+pub mod Judging
+pub mod Commands
+pub mod Spans
+pub mod OnVectors

@@ -1,0 +1,23 @@
+use Rattle.std.proofs.Common.{Err, ap}
+use Rattle.pg_span.specs.declared.player.SpanOpen.{SpanOpen}
+use Rattle.pg_span.specs.Valid.{IsSpanValid}
+use Rattle.pg_family_files.specs.Views.{span_entry}
+use Rattle.pg_families.specs.Connectivity.{HasSpanClaim, LacksSpanClaim, RejectsSpan, span_contender}
+use Rattle.pg_families.proofs.Commands.{play_halts}
+use Rattle.pg_families.proofs.Judging.{played_unclaimed}
+use Rattle.pg_families.proofs.Spans.{plays_opened}
+use Rattle.pg_families.proofs.span_play.play_checked.Goals as goal
+
+pub returns-in-Err-NoClaim-clause-played : goal.returns-in-Err-NoClaim-clause-played
+returns-in-Err-NoClaim-clause-played g c =
+    played_unclaimed span_entry IsSpanValid RejectsSpan c.args.checked.game.now c.args.checked.cert.now c.requires (HasSpanClaim c.args.side) (LacksSpanClaim c.args.side) (span_contender c.args.side) c.args.side
+    (g.C.Console.told c.args.console.now) (c.in-Err-NoClaim.ensures.none (ap (λ (f : SpanOpen). Err f) c.in-Err-NoClaim.field-0-is))
+
+pub returns-in-Ok-clause-played : goal.returns-in-Ok-clause-played
+returns-in-Ok-clause-played g c =
+    let opened = c.in-Ok.ensures in
+    plays_opened c.args.side c.args.checked.game.now c.args.checked.cert.now (g.C.Console.told c.args.console.now) (g.C.Console.told c.play_claim.new.console) c.in-Ok.player c.play_claim.result
+    c.requires opened.chosen opened.side opened.game opened.position c.play_claim.ensures.played
+
+pub returns-in-Ok-clause-halts : goal.returns-in-Ok-clause-halts
+returns-in-Ok-clause-halts g c = play_halts c.play_claim.result c.play_claim.ensures.halts

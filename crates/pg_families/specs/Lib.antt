@@ -1,0 +1,5 @@
+pub mod Judged
+pub mod Connectivity
+pub mod SpanPoints
+pub mod Vectors
+pub mod VectorPoints

@@ -1,0 +1,7 @@
+-- A game on vectors has few points.
+use Rattle.std.proofs.Common.{◌≤◌, length, arith}
+use Rattle.pg_base.specs.declared.limits.TheConstants.{MAX_MEMBERS}
+use Rattle.pg_gf2.specs.declared.game.VecGame.{VecGame}
+
+pub few_vectors : (g : VecGame) → length g.vectors ≤ MAX_MEMBERS
+few_vectors g = omega (arith, g.fits.few_vectors)

@@ -1,0 +1,94 @@
+-- What the commands of games on vectors read and say.
+use Rattle.std.specs.Prelude.{◌≡◌, ℕ, List, map, Option, Some, None, Result, Ok}
+use Rattle.pg_base.specs.declared.goal.Goal.TheVariants.{Win}
+use Rattle.pg_base.specs.declared.kind.Kind.TheVariants.{Switching}
+use Rattle.pg_base.specs.declared.side.Side.{Side}
+use Rattle.pg_io.specs.Files.{Bytes, Holding}
+use Rattle.pg_io.specs.declared.entry.Entry.{Entry}
+use Rattle.pg_files.specs.Views.{number_of as game_fault_number}
+use Rattle.pg_cert.specs.declared.cert.Cert.{Cert}
+use Rattle.pg_cert.specs.declared.cert.Claim.{Claim}
+use Rattle.pg_gf2.specs.Check.{IsFirstVecFault, IsVecValid, flaw_number}
+use Rattle.pg_gf2.specs.Classes.{vector_rules}
+use Rattle.pg_gf2.specs.Player.{VecPlay, chosen_vec_claim, vec_start}
+use Rattle.pg_gf2.specs.declared.flaw.VecFlaw.{VecFlaw}
+use Rattle.pg_gf2.specs.declared.game.VecGame.{VecGame}
+use Rattle.pg_family_files.specs.FamilyFile.{VectorEntry, vector_game}
+use Rattle.pg_family_files.specs.Views.{vector_entry}
+use Rattle.pg_texts.specs.Texts.{accepted_text}
+use Rattle.pg_texts.specs.declared.refusal.Refusal.{Refusal}
+use Rattle.pg_texts.specs.declared.refusal.Refusal.TheVariants.{RejectedVectors}
+use Rattle.pg_talk.specs.Contender.{Contender}
+use Rattle.pg_talk.specs.Done.{End}
+use Rattle.pg_talk.specs.Reading.{Opens, OpensTwo, IsLackingOne, IsLackingTwo, both, certificate_held, game_fault, held_as, or_halt}
+use Rattle.pg_talk.specs.declared.halt.Halt.{Halt}
+use Rattle.pg_families.specs.Judged.{AcceptsValid, PlaysValid, RefusesChecked, RefusesPlayed}
+
+-- ---- what names hold
+
+-- the game that a name holds, or what stands against it
+abbrev pub vectors_held : Option Bytes → Result VectorEntry Halt
+vectors_held o = held_as (λ text. or_halt (λ fault. game_fault (game_fault_number fault.0) fault.1) (vector_game text)) o
+
+-- a game and a certificate, or what stands against the first of them
+abbrev pub vectors_both_held : Option Bytes → Option Bytes → Result (VectorEntry × Cert) Halt
+vectors_both_held game_bytes certificate_bytes = both (vectors_held game_bytes) (certificate_held certificate_bytes)
+
+-- ---- checking and playing
+
+-- the text that accepts a claim
+abbrev pub vec_acceptance : Claim → Bytes
+vec_acceptance claim = accepted_text claim.turn claim.side claim.goal
+
+abbrev pub vec_acceptances : Cert → List Bytes
+vec_acceptances c = map vec_acceptance c.claims
+
+-- the certificate is rejected at its first faulty claim
+abbrev pub RejectsVectors : VecGame → Cert → Refusal → Type 0
+RejectsVectors g c refusal = (claim : ℕ) × (node : ℕ) × (why : VecFlaw) × IsFirstVecFault g c claim node why × (refusal ≡ RejectedVectors claim node (flaw_number why))
+
+-- the certificate has a claim of the side with the game's turn, or has none
+abbrev pub HasVecClaim : Side → VecGame → Cert → Type 0
+HasVecClaim side g c = (claim : Claim) × (chosen_vec_claim g c side ≡ Some claim)
+
+abbrev pub LacksVecClaim : Side → VecGame → Cert → Type 0
+LacksVecClaim side g c = chosen_vec_claim g c side ≡ None
+
+-- what is seen of a player: the rules of the game with the words short and cut, and the goal to win
+abbrev pub vec_player : VecPlay → Contender
+vec_player play = record { contest = record { rules = vector_rules play.game; kind = Switching }; side = play.side; goal = Win; position = play.position }
+
+-- the side at the game's position
+abbrev pub vec_contender : Side → VecGame → Contender
+vec_contender side g = record { contest = record { rules = vector_rules g; kind = Switching }; side = side; goal = Win; position = vec_start g }
+
+abbrev pub RefusesVectorCheck : Result (VectorEntry × Cert) Halt → Refusal → Type 0
+RefusesVectorCheck read refusal = RefusesChecked vector_entry RejectsVectors read refusal
+
+abbrev pub AcceptsVectors : Result (VectorEntry × Cert) Halt → List Entry → End → Type 0
+AcceptsVectors read entries end = AcceptsValid vector_entry IsVecValid vec_acceptances read entries end
+
+abbrev pub RefusesVectorPlay : Side → Result (VectorEntry × Cert) Halt → Refusal → Type 0
+RefusesVectorPlay side read refusal = RefusesPlayed vector_entry IsVecValid RejectsVectors (LacksVecClaim side) side read refusal
+
+abbrev pub PlaysVectors : Side → Result (VectorEntry × Cert) Halt → List Entry → End → Type 0
+PlaysVectors side read entries end = PlaysValid vector_entry IsVecValid (HasVecClaim side) (vec_contender side) read entries end
+
+-- ---- what the code has read
+
+abbrev pub OpensVectors : Option Holding → Bytes → Result VecGame Halt → Type 0
+OpensVectors h name r = Opens vector_entry vectors_held h name r
+
+-- a game and a certificate, with the game as its file says it
+abbrev pub vectors_pair : VecGame × Cert → VectorEntry × Cert
+vectors_pair pair = (vector_entry pair.0, pair.1)
+
+abbrev pub OpensVectorsBoth : Option Holding → Bytes → Bytes → Result (VecGame × Cert) Halt → Type 0
+OpensVectorsBoth h g c r = OpensTwo vectors_pair vectors_both_held h g c r
+
+-- it is told that a name that is wanted isn't held
+abbrev pub IsVectorLacking : Option Holding → Bytes → Type 0
+IsVectorLacking h name = IsLackingOne vectors_held h name
+
+abbrev pub AreVectorsLacking : Option Holding → Bytes → Bytes → Type 0
+AreVectorsLacking h g c = IsLackingTwo vectors_both_held h g c

@@ -1,0 +1,17 @@
+//! The commands of connectivity games and of games on vectors.
+#![tactic(auto)]
+
+mod contending;
+mod opening;
+mod span_check;
+mod span_play;
+mod span_solve;
+mod vec_check;
+mod vec_contending;
+mod vec_play;
+
+pub use span_check::check_span;
+pub use span_play::play_span;
+pub use span_solve::solve_span;
+pub use vec_check::check_vectors;
+pub use vec_play::play_vectors;
