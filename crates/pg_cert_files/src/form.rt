@@ -1,9 +1,9 @@
 //! The form of a node line, save for its numbers.
 
-ghost use Rattle.std.specs.Prelude.{◌≡◌, ◌==◌, option_map, is_some};
+ghost use Rattle.std.specs.Prelude.{◌≡◌, ◌==◌, option_map};
 ghost use Rattle.std.specs.List.{list_any};
 ghost use Rattle.pg_text.specs.Text.{two_parts, pair_of, words_of};
-ghost use Rattle.pg_cert_files.specs.Form.{has_form, named_form, form_of, are_none, only_word, are_odd, each_has_one, is_slash, has_one_slash};
+ghost use Rattle.pg_cert_files.specs.Form.{named_form, form_of, are_none, only_word, are_odd, each_has_one, is_slash, has_one_slash};
 ghost use Rattle.pg_cert_files.specs.Outline.{outline_of};
 
 use crate::turn::{Turn, turn_of};
@@ -75,25 +75,14 @@ fn named_form(word: &[u8]) -> Option<Form>
     }
 }
 
-/// Whether the version has the body.
-fn has_form(version: Version, form: Form) -> bool
-    ensures { result ≡ has_form version form }
-{
-    match (version, form) {
-        (Version::One, Form::Weaker) => false,
-        _ => true,
-    }
-}
-
-/// The body of the version that a word begins.
+/// The body of the version that a word begins: `weaker` stands in version 2 alone.
 fn form_of(version: Version, word: &[u8]) -> Option<Form>
     ensures { result ≡ form_of version word.now }
 {
-    let form = named_form(word)?;
-    if !has_form(version, form) {
-        return None;
+    match (version, named_form(word)?) {
+        (Version::One, Form::Weaker) => None,
+        (_, form) => Some(form),
     }
-    Some(form)
 }
 
 /// Whether the word stands between two sets of edges.
@@ -101,13 +90,6 @@ pub(crate) fn is_slash(word: &[u8]) -> bool
     ensures { result ≡ is_slash word.now }
 {
     word == b"/".as_slice()
-}
-
-/// Whether the word has the sign just once.
-fn has_one(sign: u8, word: &[u8]) -> bool
-    ensures { result ≡ is_some (two_parts sign word.now) }
-{
-    two_parts(sign, word).is_some()
 }
 
 /// Whether there is no word.
@@ -159,7 +141,7 @@ pub(crate) fn each_has_one(sign: u8, words: Words) -> bool
     ensures { result ≡ each_has_one sign words.entry }
 {
     let mut rest = words;
-    rest.all(|word| has_one(sign, word))
+    rest.all(|word| two_parts(sign, word).is_some())
 }
 
 /// Whether one of the words is the one between two sets of edges.

@@ -184,17 +184,7 @@ pub(crate) fn node_line(
 {
     match outline_of(version, line) {
         Some(outline) => read_node(alloc, outline),
-        None => Err(LineError::Fault(no_node(line))),
-    }
-}
-
-/// The fault of a line that has no outline: without a bar it stands in the wrong place.
-fn no_node(line: &[u8]) -> Fault
-    ensures { result ≡ (if has_bar line.now then Fault.Form else Fault.Place) }
-{
-    if has_bar(line) {
-        Fault::Form
-    } else {
-        Fault::Place
+        None if has_bar(line) => Err(LineError::Fault(Fault::Form)),
+        None => Err(LineError::Fault(Fault::Place)),
     }
 }

@@ -6,7 +6,7 @@ ghost use Rattle.std.specs.List.{All};
 ghost use Rattle.pg_text.specs.Text.{number, parts, two_parts, words_of, ascend_from};
 ghost use Rattle.pg_base.specs.declared.limits.TheConstants.{MAX_MEMBERS};
 ghost use Rattle.pg_text.specs.Faults.{Gives, each_of};
-ghost use Rattle.pg_cert_files.specs.NodeLine.{below, point_of, child_of, ascending_of, field_words, word_reply, word_pair, is_e, begins_with_e, after_e, before_slash, after_slash, edges_of};
+ghost use Rattle.pg_cert_files.specs.NodeLine.{below, point_of, child_of, ascending_of, field_words, word_reply, word_pair, begins_with_e, after_e, before_slash, after_slash, edges_of};
 ghost use Rattle.pg_cert_files.specs.Numerals.{SaysFirst};
 ghost use Rattle.pg_cert_files.specs.Outline.{IsFirstPoint, formed_each, formed_replies, gathered_from};
 
@@ -35,14 +35,8 @@ fn below(limit: u32, word: &[u8]) -> Result<u32, LineError<Fault>>
     ensures small { IfOk result (λ n. n < limit) }
 {
     match number(word) {
-        Some(n) => {
-            if n < limit {
-                Ok(n)
-            } else {
-                Err(LineError::Fault(Fault::Number))
-            }
-        }
-        None => Err(LineError::Fault(Fault::Number)),
+        Some(n) if n < limit => Ok(n),
+        _ => Err(LineError::Fault(Fault::Number)),
     }
 }
 
@@ -265,13 +259,6 @@ pub(crate) fn replies(alloc: Global, text: Option<&[u8]>) -> Result<Vec<Reply>, 
     }
 }
 
-/// Whether the word says that the first set holds the further edge.
-fn is_e(word: &[u8]) -> bool
-    ensures { result ≡ is_e word.now }
-{
-    word == b"e".as_slice()
-}
-
 /// Whether the first word is that one, and the words behind it.
 fn after_e<'a>(words: Words<'a>) -> (bool, Words<'a>)
     ensures begins { result.0 ≡ begins_with_e words.entry }
@@ -279,7 +266,7 @@ fn after_e<'a>(words: Words<'a>) -> (bool, Words<'a>)
 {
     let mut others = words.again();
     match others.next() {
-        Some(word) if is_e(word) => (true, others),
+        Some(word) if word == b"e".as_slice() => (true, others),
         _ => (false, words),
     }
 }

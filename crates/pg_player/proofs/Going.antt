@@ -1,5 +1,5 @@
 -- What a player keeps through a move and through a reply.
-use Rattle.std.proofs.Common.{◌≡◌, ◌∙◌, ℕ, ◌<◌, true, false, Option, Some, None, if◌then◌else◌, sym, subst, inl, inr, arith}
+use Rattle.std.proofs.Common.{◌≡◌, ◌∙◌, ℕ, ◌<◌, true, false, Option, Some, None, Ok, if◌then◌else◌, sym, subst, inl, inr, arith}
 use Rattle.std.proofs.lemmas.Bool.{false≢true}
 use Rattle.pg_base.specs.Points.{AreBelow}
 use Rattle.pg_base.specs.Side.{other}
@@ -9,7 +9,7 @@ use Rattle.pg_game.specs.declared.game.Game.{Game}
 use Rattle.pg_game.specs.declared.position.Position.{Position}
 use Rattle.pg_game.specs.Position.{is_free}
 use Rattle.pg_game.specs.Game.{point_count, is_over, outcome, after}
-use Rattle.pg_game.specs.Judge.{IsMadeForGame, HasJoiner}
+use Rattle.pg_game.specs.Judge.{IsMadeForGame, HasJoiner, judged_move}
 use Rattle.pg_game.specs.Value.{Forces}
 use Rattle.pg_game.proofs.Limits.{point_count-le}
 use Rattle.pg_game.proofs.Moves.{IsPosition-after}
@@ -21,7 +21,7 @@ use Rattle.pg_player.specs.Player.{Play, Waits, TakesReply, Moves, Answers}
 use Rattle.pg_player.specs.Stand.{LeadsOn}
 use Rattle.pg_player.proofs.Beside.{IsBeside-trans, beside-turn, beside-forces, beside-going, beside-move, beside-reply}
 use Rattle.pg_player.proofs.Plays.{IsPosition-reached}
-use Rattle.pg_player.proofs.Replying.{IsLegal, leads_on, on-replied}
+use Rattle.pg_player.proofs.Replying.{IsLegal, judged-legal, leads_on, on-replied}
 
 -- X's points are points of the game
 pub x_range : (g : Game) (p : Position) → IsReached g p → AreBelow p.x (point_count g)
@@ -103,6 +103,12 @@ IsPlaying-next g c p next s ending judge judge' joiner joiner' on reached e know
 -- where the game goes on, a player that waits has the other side to move
 pub theirs : (play : Play) → Waits play → is_over play.game play.position ≡ false → play.position.turn ≡ other play.claim.side
 theirs play waits going = elim waits [ inl over ↦ absurd (false≢true (sym going ∙ over)) | inr turn ↦ turn ]
+
+-- where the judge lets the point v of the other side pass, a player that waits hears of it
+pub heard-judged : (g : Game) (c : Claim) (p : Position) (s : Standing) (v w : ℕ) (next : Position) → GoesOn g c p s → Waits (record { game = g; claim = c; position = p; standing = s }) → judged_move g p v ≡ Ok next → w ≡ free_or_lowest g s.imagined v → Heard g c p s v w
+heard-judged g c p s v w next h waits judged chosen =
+    let legal = judged-legal g p v next judged in
+    heard g c p s v w next h legal (theirs (record { game = g; claim = c; position = p; standing = s }) waits legal.going) chosen
 
 -- a reply that is taken, and then a move where one is owed
 pub answered : (before between now : Play) (v : ℕ) (own : Option ℕ) → TakesReply before between v → Moves between now own → Answers before now v own

@@ -115,6 +115,26 @@ fn is_left(
     Some(left.status == status && is_logged && are_held)
 }
 
+/// What a word of a row tells of a run: its status, how many lines or calls there are, and whether G and C hold what is new.
+#[derive(Clone, Copy)]
+struct Told {
+    status: u8,
+    number: u8,
+    signs: (bool, bool),
+}
+
+/// What the word tells.
+fn told_by(word: &str) -> Option<Told> {
+    let [status, number, game, certificate] = word.as_bytes() else {
+        return None;
+    };
+    Some(Told {
+        status: status.checked_sub(b'0')?,
+        number: number.checked_sub(b'0')?,
+        signs: (*game == b'+', *certificate == b'+'),
+    })
+}
+
 /// The calls with this number and the next one.
 fn two_calls(alloc: Global, call: u64) -> Option<Vec<u64>> {
     let mut calls = Vec::new(alloc);
@@ -126,47 +146,27 @@ fn two_calls(alloc: Global, call: u64) -> Option<Vec<u64>> {
 /// Whether a run leaves what the word says where the call on the files with this number fails, and calls them no more: the next call
 /// fails too, and is the test's own.
 fn files_fail(alloc: Global, row: &str, call: u64, word: &str) -> Option<bool> {
-    let [status, count, game, certificate] = word.as_bytes() else {
-        return None;
-    };
+    let told = told_by(word)?;
     let mut left = ran(
         alloc,
         &given_by(row),
         two_calls(alloc, call)?,
         Vec::new(alloc),
     )?;
-    let status = status.checked_sub(b'0')?;
-    let count = usize::from(count.checked_sub(b'0')?);
-    let is_so = is_left(
-        alloc,
-        row,
-        &left,
-        status,
-        count,
-        (*game == b'+', *certificate == b'+'),
-    )?;
+    let lines = usize::from(told.number);
+    let is_so = is_left(alloc, row, &left, told.status, lines, told.signs)?;
     Some(is_so && left.files.open("G") == Err(Failed))
 }
 
 /// Whether a run leaves what the word says where the call on the console with this number fails, and calls neither files nor console
 /// behind it: of the files a call fails that isn't made, and is the test's own.
 fn console_fails(alloc: Global, row: &str, call: u64, word: &str) -> Option<bool> {
-    let [status, made, game, certificate] = word.as_bytes() else {
-        return None;
-    };
+    let told = told_by(word)?;
     let mut failing = Vec::new(alloc);
-    failing.push(u64::from(made.checked_sub(b'0')?)).ok()?;
+    failing.push(u64::from(told.number)).ok()?;
     let mut left = ran(alloc, &given_by(row), failing, two_calls(alloc, call)?)?;
-    let status = status.checked_sub(b'0')?;
-    let count = usize::try_from(call).ok()?;
-    let is_so = is_left(
-        alloc,
-        row,
-        &left,
-        status,
-        count,
-        (*game == b'+', *certificate == b'+'),
-    )?;
+    let lines = usize::try_from(call).ok()?;
+    let is_so = is_left(alloc, row, &left, told.status, lines, told.signs)?;
     let is_quiet = left.files.open("G") == Err(Failed) && left.console.say(b"more") == Err(Failed);
     Some(is_so && is_quiet)
 }

@@ -7,7 +7,7 @@ use Rattle.pg_player.specs.Player.{Play, Waits, TakesReply}
 use Rattle.pg_player.specs.Stand.{body_of, standing_of}
 use Rattle.pg_player.proofs.Replying.{judged-legal}
 use Rattle.pg_player.proofs.Plays.{reached-after}
-use Rattle.pg_player.proofs.Going.{x_range, x_range-next, small, heard, IsPlaying-next, theirs}
+use Rattle.pg_player.proofs.Going.{x_range, x_range-next, small, heard-judged, IsPlaying-next}
 use Rattle.pg_player.proofs.player.Player.take_reply.Goals as goal
 
 pub play-requires-clause-range : goal.play-requires-clause-range
@@ -28,31 +28,24 @@ over-self-inside-requires-clause-range c =
 pub replied-self-inside-requires-clause-leads : goal.replied-self-inside-requires-clause-leads
 replied-self-inside-requires-clause-leads c =
     let a = c.self.inside in
-    let here = standing_of a.claim.now.nodes a.stand in
-    let legal = judged-legal a.game.now a.position c.args.v c.in_ok-position.position (sym c.play.ensures.result ∙ c.in_ok-position.was) in
-    let view : Play = record { game = a.game.now; claim = a.claim.now; position = a.position; standing = here } in
-    let turn = theirs view (subst (λ (play : Play). Waits play) (sym c.self.view_is) c.requires) legal.going in
-    (heard a.game.now a.claim.now a.position here c.args.v c.free_or_lowest-reply.result c.in_ok-position.position c.self.invariant.on legal turn c.free_or_lowest-reply.ensures).leads
+    (heard-judged a.game.now a.claim.now a.position (standing_of a.claim.now.nodes a.stand) c.args.v c.free_or_lowest-reply.result c.in_ok-position.position c.self.invariant.on
+    (subst (λ (play : Play). Waits play) (sym c.self.view_is) c.requires) (sym c.play.ensures.result ∙ c.in_ok-position.was) c.free_or_lowest-reply.ensures).leads
 
 pub replied-self-inside-requires-clause-small : goal.replied-self-inside-requires-clause-small
 replied-self-inside-requires-clause-small c =
     let a = c.self.inside in
-    let here = standing_of a.claim.now.nodes a.stand in
-    let legal = judged-legal a.game.now a.position c.args.v c.in_ok-position.position (sym c.play.ensures.result ∙ c.in_ok-position.was) in
-    let view : Play = record { game = a.game.now; claim = a.claim.now; position = a.position; standing = here } in
-    let turn = theirs view (subst (λ (play : Play). Waits play) (sym c.self.view_is) c.requires) legal.going in
-    small a.game.now c.free_or_lowest-reply.result (heard a.game.now a.claim.now a.position here c.args.v c.free_or_lowest-reply.result c.in_ok-position.position c.self.invariant.on legal turn c.free_or_lowest-reply.ensures).within
+    small a.game.now c.free_or_lowest-reply.result
+    (heard-judged a.game.now a.claim.now a.position (standing_of a.claim.now.nodes a.stand) c.args.v c.free_or_lowest-reply.result c.in_ok-position.position c.self.invariant.on
+    (subst (λ (play : Play). Waits play) (sym c.self.view_is) c.requires) (sym c.play.ensures.result ∙ c.in_ok-position.was) c.free_or_lowest-reply.ensures).within
 
 pub invariant_of-self-2 : goal.invariant_of-self-2
 invariant_of-self-2 c =
     let a = c.self.inside in
     let i = c.self.invariant in
-    let here = standing_of a.claim.now.nodes a.stand in
     let legal = judged-legal a.game.now a.position c.args.v c.in_ok-position.position (sym c.play.ensures.result ∙ c.in_ok-position.was) in
-    let view : Play = record { game = a.game.now; claim = a.claim.now; position = a.position; standing = here } in
-    let turn = theirs view (subst (λ (play : Play). Waits play) (sym c.self.view_is) c.requires) legal.going in
     let next = standing_of a.claim.now.nodes c.replied-self-inside.result in
-    let hears = heard a.game.now a.claim.now a.position here c.args.v c.free_or_lowest-reply.result c.in_ok-position.position i.on legal turn c.free_or_lowest-reply.ensures in
+    let hears = heard-judged a.game.now a.claim.now a.position (standing_of a.claim.now.nodes a.stand) c.args.v c.free_or_lowest-reply.result c.in_ok-position.position c.self.invariant.on
+    (subst (λ (play : Play). Waits play) (sym c.self.view_is) c.requires) (sym c.play.ensures.result ∙ c.in_ok-position.was) c.free_or_lowest-reply.ensures in
     IsPlaying-next a.game.now a.claim.now (after a.game.now a.position c.args.v) c.in_ok-position.position next c.over-self-inside.result c.play.new.self c.over-self-inside.new.self a.joiner a.joiner
     (hears.on next c.replied-self-inside.ensures) (reached-after a.game.now a.position c.args.v i.reached legal.going legal.within legal.free) legal.leads
     c.over-self-inside.ensures.result (subst (λ (room : Room). IsMadeForGame room a.game.now) (sym c.play.ensures.kept) i.judged) c.over-self-inside.ensures.kept i.joined refl
