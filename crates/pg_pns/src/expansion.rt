@@ -230,6 +230,77 @@ fn claim_of(
     }
 }
 
+/// Expands positions, which are kept in their order, until the root has an answer or so many are expanded, and gives the
+/// root's answer.
+fn find_answer(
+    alloc: Global,
+    g: &Game,
+    question: Score,
+    budget: u32,
+    expanded: &mut IndexMap<Position, u32>,
+    board: &mut Board<'_>,
+    cache: &mut PairCache,
+    table: &mut Table,
+) -> Result<Option<Answered>, Memory>
+    requires asked { IsQuestion g.now.kind question }
+    requires lines { g.now.kind ≢ Switching }
+    requires starts { IsAtStart g.now board.old }
+    requires fits { Fits cache.old (lines_of g.now) }
+    requires few { budget * length (free_points g.now (start g.now)) ≤ 99999 }
+    requires empty { (keys_of expanded.old.entries) ≡ [] }
+    requires search { IsSearch g.now question [] [] table.old }
+    ensures fits { Fits cache.new (lines_of g.now) }
+    ensures rules { IsTable g.now question (keys_of expanded.new.entries) }
+    ensures count { length (keys_of expanded.new.entries) ≤ budget }
+    ensures search { OnOk result (IsSearch g.now question [] (keys_of expanded.new.entries) table.new) }
+    ensures some { IfOk result (λ found. IfSome found (λ a. slice_get table.new.answers.items 0 ≡ Some (Some a))) }
+    ensures none { IfOk result (λ found. IfNone found ((answer_at table.new.answers.items 0 ≡ None) × (length (keys_of expanded.new.entries) ≡ budget))) }
+{
+    let mut guide = Guide::new(alloc);
+    for n in 0..budget {
+        let answer = root_answer(table);
+        if answer.is_some() {
+            return Ok(answer);
+        }
+        step(
+            alloc, g, question, expanded, board, cache, table, &mut guide,
+        )?;
+    }
+    Ok(root_answer(table))
+}
+
+/// Whether X reaches the score from the game's position, at which the board stands, found by expanding positions, which are
+/// kept in their order.
+fn explore_on(
+    alloc: Global,
+    g: &Game,
+    question: Score,
+    budget: u32,
+    expanded: &mut IndexMap<Position, u32>,
+    board: &mut Board<'_>,
+    cache: &mut PairCache,
+) -> Result<Found, Memory>
+    requires asked { IsQuestion g.now.kind question }
+    requires lines { g.now.kind ≢ Switching }
+    requires starts { IsAtStart g.now board.old }
+    requires fits { Fits cache.old (lines_of g.now) }
+    requires few { budget * length (free_points g.now (start g.now)) ≤ 99999 }
+    requires empty { (keys_of expanded.old.entries) ≡ [] }
+    ensures fits { Fits cache.new (lines_of g.now) }
+    ensures answer { IfOk result (λ found. IsAnswer g.now question budget (keys_of expanded.new.entries) found) }
+    ensures rules { IsTable g.now question (keys_of expanded.new.entries) }
+    ensures count { length (keys_of expanded.new.entries) ≤ budget }
+{
+    let mut table = first_table(alloc, g, question, board, cache)?;
+    let found = find_answer(
+        alloc, g, question, budget, expanded, board, cache, &mut table,
+    )?;
+    match found {
+        Some(answered) => Ok(claim_of(alloc, g, question, answered, table)?),
+        None => Ok(Found::Unknown),
+    }
+}
+
 /// Whether X reaches the score from the game's position, found by expanding positions, which are kept in their order.
 pub(crate) fn explore(
     alloc: Global,
@@ -250,20 +321,7 @@ pub(crate) fn explore(
     ensures count { length (keys_of expanded.new.entries) ≤ budget }
 {
     let mut board = Board::open(alloc, g, &g.start())?;
-    let mut table = first_table(alloc, g, question, &mut board, cache)?;
-    if let Some(answered) = root_answer(&table) {
-        return Ok(claim_of(alloc, g, question, answered, table)?);
-    }
-    let mut guide = Guide::new(alloc);
-    for n in 0..budget {
-        step(
-            alloc, g, question, expanded, &mut board, cache, &mut table, &mut guide,
-        )?;
-        if let Some(answered) = root_answer(&table) {
-            return Ok(claim_of(alloc, g, question, answered, table)?);
-        }
-    }
-    Ok(Found::Unknown)
+    explore_on(alloc, g, question, budget, expanded, &mut board, cache)
 }
 
 /// The table with the game's position alone, where the board stands.
