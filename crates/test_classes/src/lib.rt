@@ -4,7 +4,7 @@
 
 mod small_games;
 
-pub use small_games::{Tally, tally_games};
+pub use small_games::{Tally, all_pairs, chosen, tally_games};
 
 #[cfg(test)]
 mod class_rows;

@@ -20,7 +20,7 @@ pub struct Tally {
 }
 
 /// The pairs of vertices below the count, the lesser first, in their order; a vertex is also paired with itself.
-fn all_pairs(alloc: Global, vertices: u16) -> Result<Vec<(u16, u16)>, Memory> {
+pub fn all_pairs(alloc: Global, vertices: u16) -> Result<Vec<(u16, u16)>, Memory> {
     let mut pairs = Vec::new(alloc);
     for u in 0..vertices {
         for v in u..vertices {
@@ -30,26 +30,26 @@ fn all_pairs(alloc: Global, vertices: u16) -> Result<Vec<(u16, u16)>, Memory> {
     Ok(pairs)
 }
 
-/// The edges that a number names: its digits, as many as there are edges, are places in the list of pairs. None where
-/// they don't ascend, so that each choice of edges is named once.
-fn edges_of(
+/// The things that a number names: its digits, as many as are chosen, are places in the list of all. None where they
+/// don't ascend, so that each choice is named once.
+pub fn chosen<T: Copy>(
     alloc: Global,
-    pairs: &[(u16, u16)],
-    edges: u16,
+    all: &[T],
+    count: u16,
     number: u32,
-) -> Result<Option<Vec<(u16, u16)>>, Memory> {
+) -> Result<Option<Vec<T>>, Memory> {
     let mut chosen = Vec::new(alloc);
     let (mut rest, mut last) = (number as usize, 0);
-    for _ in 0..edges {
-        if pairs.is_empty() {
+    for _ in 0..count {
+        if all.is_empty() {
             return Ok(None);
         }
-        let place = rest % pairs.len();
+        let place = rest % all.len();
         if place < last {
             return Ok(None);
         }
-        chosen.push(pairs[place])?;
-        (rest, last) = (rest / pairs.len(), place);
+        chosen.push(all[place])?;
+        (rest, last) = (rest / all.len(), place);
     }
     Ok(Some(chosen))
 }
@@ -145,7 +145,7 @@ pub fn tally_games(
     let pairs = all_pairs(alloc, vertices)?;
     let mut tally = Tally::none();
     for number in 0..edge_numbers {
-        if let Some(chosen) = edges_of(alloc, &pairs, edges, number)? {
+        if let Some(chosen) = chosen(alloc, &pairs, edges, number)? {
             for marks in 0..mark_numbers {
                 tally.add_marked(alloc, vertices, &chosen, marks_of(edges, marks))?;
             }

@@ -110,7 +110,7 @@ fn two_forests_of_the_bridged_graph(rt: HostRuntime) -> Result<(), Fail> {
     let none = PointSet::empty();
     assert!(rt; none.is_below(g.edge_count()));
     assert!(rt; none.shares_none(&none));
-    let mut trees = Trees::new(rt.alloc(), &g, &none, &none)?;
+    let mut trees = Trees::new(rt.alloc(), &g, &none, &none, true)?;
     trees.settle();
     assert_eq!(rt; members(&trees.elements()), 0b11_1111);
     assert_eq!(rt; trees.base(1).len(), 3);
@@ -158,7 +158,7 @@ fn exchanges_on_the_bridged_graph(rt: HostRuntime) -> Result<(), Fail> {
     let none = PointSet::empty();
     assert!(rt; none.is_below(g.edge_count()));
     assert!(rt; none.shares_none(&none));
-    let mut trees = Trees::new(rt.alloc(), &g, &none, &none)?;
+    let mut trees = Trees::new(rt.alloc(), &g, &none, &none, true)?;
     assert_eq!(rt; members(&trees.base(1)), 0b00_1011);
     assert_eq!(rt; members(&trees.base(2)), 0b11_0100);
     assert_eq!(rt; closed_by(&mut trees, 2), 0b00_0011);

@@ -1,176 +1,184 @@
 //! Graphs: rows worked by hand.
-ghost use Rattle.std.specs.Prelude.{◌≡◌, ◌≤◌, IfOk};
-ghost use Rattle.std.specs.FinSet.{contains};
-ghost use Rattle.pg_base.specs.Sets.{IsBelow};
+ghost use Rattle.std.specs.Prelude.{◌≡◌, ◌<◌, suc};
+ghost use Rattle.pg_base.specs.Points.{AreBelow};
 ghost use Rattle.pg_graph.specs.Graph.{IsGraph, edge_count};
+ghost use Rattle.pg_graph.specs.Joiner.{IsMadeFor};
 
-use pg_base::{MAX_MEMBERS, PointSet};
-use pg_graph::{Ends, Graph, Joiner};
-use std::alloc::{AllocError, Global};
+use pg_base::PointSet;
+use pg_game::Field;
+use pg_graph::{Graph, Joiner};
+use std::alloc::Global;
 use std::test::Fail;
+use test_kit::{game, numbers, set, word, wrong_rows};
 
-/// The set of those of the numbers that are below the limit.
-fn set_of(limit: u16, members: &[u16]) -> PointSet
-    requires { limit ≤ MAX_MEMBERS }
-    ensures { IsBelow (contains result) limit }
+/// Games as `test_kit` reads them, and what one joiner then answers on the graph, question after question: `CALL U V ANSWER/SET/OTHERS`, where
+/// the number of edges stands for the edge between the terminals. The graphs are two ways of two edges from 0 to 1 with an edge between their
+/// inner vertices; a loop at 0 and two parallel edges from 0 to 2, while 1 is apart; and two terminals without an edge.
+const ANSWERS: &str = "\
+switching 4 x 1:0 2,0 3,2 3,2 1,3 1::\
+:joined 0 1 no/0 4/:joined 3 1 yes/0 4/:crossing 0 0 1/0 4/1 2 3:parting 0 2 3/2 3 5/2 3:bridges 0 0 yes/1 2 3/2;\
+switching 3 x 1:0 0,0 2,2 0::\
+:joined 0 2 no/0/:joined 1 1 yes/0/:bridges 0 0 no/0/0:crossing 0 0 none/0/0:crossing 2 0 2/0/0 2 3:parting 0 0 none/0/0;\
+switching 3 x 1:0 0,0 2,2 0::\
+:bridges 0 0 no/1 2/1:parting 0 2 none/1 2/1 2:parting 2 0 2/0 2/0 1 2;\
+switching 3 x 1:0 0,0 2,2 0::\
+:bridges 0 0 yes/1 2 3/3:bridges 0 0 no/1 2 3/1 2 3:bridges 0 0 yes/3/1 2:bridges 0 0 no/1 3/1 2;\
+switching 3 x 1:0 0,0 2,2 0::\
+:joins 0 0 yes/1/0 2:joins 0 0 no/1/2 3:joins 0 0 yes//;\
+switching 2 x 1:::\
+:joined 0 1 no//:joined 0 1 yes/0/:bridges 0 0 yes/0/0:crossing 1 0 0//0:parting 1 0 0/0/0";
+
+/// Games, and the ends of edges of the graph, as `NUMBER U V`, behind the number of its edges.
+const ENDS: &str = "\
+switching 4 x 1:0 2,0 3,2 3,2 1,3 1:::5:3 2 1:5 0 1;\
+switching 2 x 1::::0:0 0 1";
+
+/// The piece of a question that has this number, from 0, and no text where it has fewer.
+fn piece(question: &str, number: usize) -> &str {
+    question.split('/').nth(number).unwrap_or("")
+}
+
+/// Whether the answer is yes or no, as the word says.
+fn is_said(answer: bool, due: &str) -> bool {
+    due == if answer { "yes" } else { "no" }
+}
+
+/// Whether the edge that was found, if there is one, is that of the word.
+fn is_found(found: Option<u16>, due: &str) -> bool {
+    match found {
+        Some(k) => due.parse::<u16>() == Ok(k),
+        None => due == "none",
+    }
+}
+
+/// Whether the joiner answers the question of which edges or vertices are joined as is due.
+fn says(
+    joiner: &mut Joiner,
+    graph: &Graph,
+    call: &str,
+    set: &PointSet,
+    others: &PointSet,
+) -> Option<bool>
+    requires graph { IsGraph graph.now }
+    requires made { IsMadeFor joiner.old graph.now }
+    requires set { AreBelow set.now (suc (edge_count graph.now)) }
+    requires others { AreBelow others.now (suc (edge_count graph.now)) }
+    ensures { joiner.new ≡ joiner.old }
 {
-    let mut set = PointSet::empty();
-    for &k in members {
-        if k < limit {
-            set.put(k);
+    match call {
+        "joins" => Some(joiner.joins_all(graph, set, others)),
+        "bridges" => Some(joiner.bridges_all(graph, set, others)),
+        _ => None,
+    }
+}
+
+/// Whether the joiner answers the question as it tells.
+fn is_answered(
+    joiner: &mut Joiner,
+    graph: &Graph,
+    asked: &str,
+    set: &PointSet,
+    others: &PointSet,
+    ends: (u16, u16),
+) -> bool
+    requires graph { IsGraph graph.now }
+    requires made { IsMadeFor joiner.old graph.now }
+    requires set { AreBelow set.now (suc (edge_count graph.now)) }
+    requires others { AreBelow others.now (suc (edge_count graph.now)) }
+    requires u { ends.0 < graph.now.vertices }
+    requires v { ends.1 < graph.now.vertices }
+    ensures { joiner.new ≡ joiner.old }
+{
+    let (u, v) = ends;
+    let due = word(asked, 3);
+    match word(asked, 0) {
+        "joined" => is_said(joiner.joined(graph, set, u, v), due),
+        "crossing" => is_found(joiner.crossing(graph, set, u, others), due),
+        "parting" => is_found(joiner.parting(graph, set, u, v, others), due),
+        call => match says(joiner, graph, call, set, others) {
+            Some(answer) => is_said(answer, due),
+            None => false,
+        },
+    }
+}
+
+/// Whether the question is one on the graph, and the joiner answers it as it tells.
+fn is_so(alloc: Global, joiner: &mut Joiner, graph: &Graph, question: &str) -> Option<bool>
+    requires graph { IsGraph graph.now }
+    requires made { IsMadeFor joiner.old graph.now }
+    ensures { joiner.new ≡ joiner.old }
+{
+    let asked = piece(question, 0);
+    let u = word(asked, 1).parse::<u16>().ok()?;
+    let v = word(asked, 2).parse::<u16>().ok()?;
+    let first = set(alloc, piece(question, 1))?;
+    let others = set(alloc, piece(question, 2))?;
+    let limit = graph.edge_count() + 1;
+    let are_edges = first.is_below(limit) && others.is_below(limit);
+    if !are_edges || u >= graph.vertices || v >= graph.vertices {
+        return None;
+    }
+    Some(is_answered(joiner, graph, asked, &first, &others, (u, v)))
+}
+
+/// Whether one joiner answers all questions of the row as they tell.
+fn are_so(alloc: Global, row: &str) -> Option<bool> {
+    let g = game(alloc, row)?;
+    let Field::Graph(graph) = &g.field else {
+        return None;
+    };
+    let mut joiner = Joiner::new(alloc, graph).ok()?;
+    for question in row.split(':').skip(4) {
+        if !is_so(alloc, &mut joiner, graph, question)? {
+            return Some(false);
         }
     }
-    set
+    Some(true)
 }
 
-/// Two ways of two edges from 0 to 1, and an edge between their inner vertices.
-fn diamond(alloc: Global) -> Result<Graph, AllocError>
-    ensures graph { IfOk result IsGraph }
-    ensures edges { IfOk result (λ g. edge_count g ≡ 5) }
-    ensures vertices { IfOk result (λ g. g.vertices ≡ 4) }
+/// Whether the edge has the ends that a text tells behind its number.
+fn has_ends(alloc: Global, graph: &Graph, text: &str) -> Option<bool>
+    requires { IsGraph graph.now }
 {
-    let ends = vec![in alloc; (0, 2), (0, 3), (2, 3), (2, 1), (3, 1)]?;
-    Ok(Graph {
-        vertices: 4,
-        s: 0,
-        t: 1,
-        ends: Ends::from_vec(ends),
-    })
+    let told = numbers(alloc, text)?;
+    let [k, u, v] = told.as_slice() else {
+        return None;
+    };
+    if *k > graph.edge_count() {
+        return None;
+    }
+    Some(graph.ends_of(*k) == (*u, *v))
 }
 
-/// A loop at 0 and two parallel edges from 0 to 1, while 2 is apart.
-fn loop_and_parallels(alloc: Global) -> Result<Graph, AllocError>
-    ensures graph { IfOk result IsGraph }
-    ensures edges { IfOk result (λ g. edge_count g ≡ 3) }
-    ensures vertices { IfOk result (λ g. g.vertices ≡ 3) }
-{
-    let ends = vec![in alloc; (0, 0), (0, 1), (1, 0)]?;
-    Ok(Graph {
-        vertices: 3,
-        s: 0,
-        t: 2,
-        ends: Ends::from_vec(ends),
-    })
-}
-
-/// Two terminals without an edge.
-fn without_edges(alloc: Global) -> Result<Graph, AllocError>
-    ensures graph { IfOk result IsGraph }
-    ensures edges { IfOk result (λ g. edge_count g ≡ 0) }
-    ensures vertices { IfOk result (λ g. g.vertices ≡ 2) }
-{
-    Ok(Graph {
-        vertices: 2,
-        s: 0,
-        t: 1,
-        ends: Ends::from_vec(vec![in alloc]?),
-    })
+/// Whether the graph of the row has as many edges as it tells, and with the ends that it tells.
+fn have_ends(alloc: Global, row: &str) -> Option<bool> {
+    let g = game(alloc, row)?;
+    let Field::Graph(graph) = &g.field else {
+        return None;
+    };
+    let mut told = row.split(':').skip(4);
+    let count = told.next()?.parse::<u16>().ok()?;
+    if graph.edge_count() != count || graph.ends.as_slice().len() != usize::from(count) {
+        return Some(false);
+    }
+    for text in told {
+        if !has_ends(alloc, graph, text)? {
+            return Some(false);
+        }
+    }
+    Some(true)
 }
 
 #[test]
-fn answers_on_a_diamond(rt: HostRuntime) -> Result<(), Fail> {
-    let g = diamond(rt.alloc())?;
-    let mut joiner = Joiner::new(rt.alloc(), &g)?;
-    let outer = set_of(6, &[0, 4]);
-    assert_eq!(rt; joiner.joined(&g, &outer, 0, 1), false);
-    assert_eq!(rt; joiner.joined(&g, &outer, 3, 1), true);
-    assert_eq!(rt;
-        joiner.crossing(&g, &outer, 0, &set_of(6, &[1, 2, 3])),
-        Some(1)
-    );
-    assert_eq!(rt;
-        joiner.parting(&g, &set_of(6, &[2, 3, 5]), 0, 2, &set_of(6, &[2, 3])),
-        Some(3)
-    );
-    assert_eq!(rt;
-        joiner.bridges_all(&g, &set_of(6, &[1, 2, 3]), &set_of(6, &[2])),
-        true
-    );
-    Ok(())
-}
-
-#[test]
-fn loops_cross_and_part_nothing(rt: HostRuntime) -> Result<(), Fail> {
-    let g = loop_and_parallels(rt.alloc())?;
-    let mut joiner = Joiner::new(rt.alloc(), &g)?;
-    let loops = set_of(4, &[0]);
-    assert_eq!(rt; joiner.joined(&g, &loops, 0, 1), false);
-    assert_eq!(rt; joiner.joined(&g, &loops, 2, 2), true);
-    assert_eq!(rt; joiner.bridges_all(&g, &loops, &loops), false);
-    assert_eq!(rt; joiner.crossing(&g, &loops, 0, &loops), None);
-    assert_eq!(rt;
-        joiner.crossing(&g, &loops, 1, &set_of(4, &[0, 2, 3])),
-        Some(2)
-    );
-    assert_eq!(rt; joiner.parting(&g, &loops, 0, 0, &loops), None);
-    Ok(())
-}
-
-#[test]
-fn one_of_two_parallel_edges_is_no_bridge(rt: HostRuntime) -> Result<(), Fail> {
-    let g = loop_and_parallels(rt.alloc())?;
-    let mut joiner = Joiner::new(rt.alloc(), &g)?;
-    let both = set_of(4, &[1, 2]);
-    assert_eq!(rt; joiner.bridges_all(&g, &both, &set_of(4, &[1])), false);
-    assert_eq!(rt; joiner.parting(&g, &both, 0, 1, &both), None);
-    assert_eq!(rt;
-        joiner.parting(&g, &set_of(4, &[0, 2]), 1, 0, &set_of(4, &[0, 1, 2])),
-        Some(2)
-    );
-    Ok(())
-}
-
-/// Two parallel edges and e: only e is a bridge.
-#[test]
-fn members_are_bridges_all_or_not(rt: HostRuntime) -> Result<(), Fail> {
-    let g = loop_and_parallels(rt.alloc())?;
-    let mut joiner = Joiner::new(rt.alloc(), &g)?;
-    let set = set_of(4, &[1, 2, 3]);
-    let e = set_of(4, &[3]);
-    let both = set_of(4, &[1, 2]);
-    assert_eq!(rt; joiner.bridges_all(&g, &set, &e), true);
-    assert_eq!(rt; joiner.bridges_all(&g, &set, &set), false);
-    assert_eq!(rt; joiner.bridges_all(&g, &e, &both), true);
-    assert_eq!(rt; joiner.bridges_all(&g, &set_of(4, &[1, 3]), &both), false);
-    Ok(())
-}
-
-#[test]
-fn members_are_joined_all_or_not(rt: HostRuntime) -> Result<(), Fail> {
-    let g = loop_and_parallels(rt.alloc())?;
-    let mut joiner = Joiner::new(rt.alloc(), &g)?;
-    let one = set_of(4, &[1]);
-    assert_eq!(rt; joiner.joins_all(&g, &one, &set_of(4, &[0, 2])), true);
-    assert_eq!(rt; joiner.joins_all(&g, &one, &set_of(4, &[2, 3])), false);
-    assert_eq!(rt;
-        joiner.joins_all(&g, &set_of(4, &[]), &set_of(4, &[])),
-        true
-    );
-    Ok(())
-}
-
-#[test]
-fn the_edge_between_the_terminals_has_the_last_number(rt: HostRuntime) -> Result<(), Fail> {
-    let g = without_edges(rt.alloc())?;
-    assert_eq!(rt; g.edge_count(), 0);
-    assert_eq!(rt; g.ends_of(0), (0, 1));
-    let mut joiner = Joiner::new(rt.alloc(), &g)?;
-    let none = set_of(1, &[]);
-    let e = set_of(1, &[0]);
-    assert_eq!(rt; joiner.joined(&g, &none, 0, 1), false);
-    assert_eq!(rt; joiner.joined(&g, &e, 0, 1), true);
-    assert_eq!(rt; joiner.bridges_all(&g, &e, &e), true);
-    assert_eq!(rt; joiner.crossing(&g, &none, 1, &e), Some(0));
-    assert_eq!(rt; joiner.parting(&g, &e, 1, 0, &e), Some(0));
+fn answers_of_a_joiner(rt: HostRuntime) -> Result<(), Fail> {
+    let wrong = wrong_rows(rt.alloc(), ANSWERS, |alloc, row| are_so(alloc, row))?;
+    assert_eq!(rt; wrong.as_str(), "");
     Ok(())
 }
 
 #[test]
 fn ends_stand_in_order(rt: HostRuntime) -> Result<(), Fail> {
-    let g = diamond(rt.alloc())?;
-    assert_eq!(rt; g.edge_count(), 5);
-    assert_eq!(rt; g.ends_of(3), (2, 1));
-    assert_eq!(rt; g.ends_of(5), (0, 1));
-    assert_eq!(rt; g.ends.as_slice().len(), 5);
+    let wrong = wrong_rows(rt.alloc(), ENDS, |alloc, row| have_ends(alloc, row))?;
+    assert_eq!(rt; wrong.as_str(), "");
     Ok(())
 }
