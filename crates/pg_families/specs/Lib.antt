@@ -3,3 +3,4 @@ pub mod Connectivity
 pub mod SpanPoints
 pub mod Vectors
 pub mod VectorPoints
+pub mod Family

@@ -1,26 +1,34 @@
 -- What the commands of games on vectors read and say.
-use Rattle.std.specs.Prelude.{◌≡◌, ℕ, List, map, Option, Some, None, Result, Ok}
+use Rattle.std.specs.Prelude.{◌≡◌, ℕ, [], ◌∷◌, List, length, map, Option, Some, None, Result, Ok, Err}
 use Rattle.pg_base.specs.declared.goal.Goal.TheVariants.{Win}
 use Rattle.pg_base.specs.declared.kind.Kind.TheVariants.{Switching}
 use Rattle.pg_base.specs.declared.side.Side.{Side}
+use Rattle.pg_base.specs.declared.side.Side.TheVariants.{X, Y}
 use Rattle.pg_io.specs.Files.{Bytes, Holding}
 use Rattle.pg_io.specs.declared.entry.Entry.{Entry}
 use Rattle.pg_files.specs.Views.{number_of as game_fault_number}
+use Rattle.pg_cert.specs.Limits.{IsWithinLimits}
+use Rattle.pg_cert.specs.Print.{printed_certificate}
 use Rattle.pg_cert.specs.declared.cert.Cert.{Cert}
 use Rattle.pg_cert.specs.declared.cert.Claim.{Claim}
 use Rattle.pg_gf2.specs.Check.{IsFirstVecFault, IsVecValid, flaw_number}
-use Rattle.pg_gf2.specs.Classes.{vector_rules}
+use Rattle.pg_class_claims.specs.ClassClaims.{class_claims}
+use Rattle.pg_lehman.specs.Sets.{named}
+use Rattle.pg_lehman.specs.declared.class.Class.{Class}
+use Rattle.pg_lehman.specs.declared.class.Class.TheVariants.{Short, Cut, First}
+use Rattle.pg_gf2.specs.Classes.{at_turn, vector_class, vector_rules}
 use Rattle.pg_gf2.specs.Player.{VecPlay, chosen_vec_claim, vec_start}
 use Rattle.pg_gf2.specs.declared.flaw.VecFlaw.{VecFlaw}
 use Rattle.pg_gf2.specs.declared.game.VecGame.{VecGame}
 use Rattle.pg_family_files.specs.FamilyFile.{VectorEntry, vector_game}
 use Rattle.pg_family_files.specs.Views.{vector_entry}
-use Rattle.pg_texts.specs.Texts.{accepted_text}
+use Rattle.pg_texts.specs.Texts.{accepted_text, class_cut_text, class_first_mover_text, class_short_text}
 use Rattle.pg_texts.specs.declared.refusal.Refusal.{Refusal}
 use Rattle.pg_texts.specs.declared.refusal.Refusal.TheVariants.{RejectedVectors}
 use Rattle.pg_talk.specs.Contender.{Contender}
-use Rattle.pg_talk.specs.Done.{End}
+use Rattle.pg_talk.specs.Done.{Done, End}
 use Rattle.pg_talk.specs.Reading.{Opens, OpensTwo, IsLackingOne, IsLackingTwo, both, certificate_held, game_fault, held_as, or_halt}
+use Rattle.pg_talk.specs.Storing.{Delivers}
 use Rattle.pg_talk.specs.declared.halt.Halt.{Halt}
 use Rattle.pg_families.specs.Judged.{AcceptsValid, PlaysValid, RefusesChecked, RefusesPlayed}
 
@@ -73,6 +81,30 @@ RefusesVectorPlay side read refusal = RefusesPlayed vector_entry IsVecValid Reje
 
 abbrev pub PlaysVectors : Side → Result (VectorEntry × Cert) Halt → List Entry → End → Type 0
 PlaysVectors side read entries end = PlaysValid vector_entry IsVecValid (HasVecClaim side) (vec_contender side) read entries end
+
+-- ---- solving
+
+-- the text of a class
+abbrev pub vec_class_text : Class → Bytes
+vec_class_text (Short a1 a2) = class_short_text
+vec_class_text (Cut d1 d2) = class_cut_text
+vec_class_text (First a1 a2 d1 d2) = class_first_mover_text
+
+-- the class of the sets is that of the values with X and with Y to move, and the certificate shows it by two valid claims of one node each, which stand on the sets
+pub record ShowsVecClass (g : VecGame) (sets : Class) (c : Cert) : Type 0 where
+  pub class_is : vector_class g ≡ Some (named sets)
+  pub valid : IsVecValid g c
+  pub limits : IsWithinLimits c
+  pub claims : c.claims ≡ class_claims (at_turn g X) (at_turn g Y) (length g.vectors) sets
+
+-- a certificate that shows the class is stored under the name, and then the class is said
+abbrev pub SolvesVectorGame : VecGame → Bytes → Done → End → Type 0
+SolvesVectorGame g name done end = (sets : Class) × (c : Cert) × ShowsVecClass g sets c × Delivers (name, printed_certificate c) (vec_class_text sets ∷ []) done end
+
+-- the same of what was read
+abbrev pub SolvesVectors : Result VectorEntry Halt → Bytes → Done → End → Type 0
+SolvesVectors (Err halt) name done end = ⊥
+SolvesVectors (Ok e) name done end = (g : VecGame) × (vector_entry g ≡ e) × SolvesVectorGame g name done end
 
 -- ---- what the code has read
 

@@ -2,7 +2,7 @@
 use Rattle.std.specs.Prelude.{List, Option, map, string_bytes, option_map}
 use Rattle.std.specs.Borrow.{Bor}
 use Rattle.pg_text.specs.Text.{Bytes}
-use Rattle.pg_words.specs.Words.{Command, Solve, Check, Play, Gen, Report}
+use Rattle.pg_words.specs.Words.{Command, Solve, Check, Play, Gen, Report, OfFamily}
 use Rattle.pg_words.specs.declared.command.Command.{Command as Order}
 use Rattle.pg_words.specs.declared.command.Command.TheVariants as order
 
@@ -12,6 +12,7 @@ ordered (order.Check g c) = Check (string_bytes g) (string_bytes c)
 ordered (order.Play g c side) = Play (string_bytes g) (string_bytes c) side
 ordered (order.Gen which g c) = Gen which (string_bytes g) (option_map string_bytes c)
 ordered (order.Report g c) = Report (string_bytes g) (string_bytes c)
+ordered (order.OfFamily family task g c) = OfFamily family task (string_bytes g) (string_bytes c)
 
 -- the words behind references
 abbrev pub texts : List (Bor Bytes) → List Bytes

@@ -7,6 +7,10 @@ use Rattle.pg_text.specs.Text.{Bytes}
 use Rattle.pg_words.specs.Given.{Given, given}
 use Rattle.pg_words.specs.Line.{line_of}
 use Rattle.pg_words.specs.Numbers.{number_in, seed_of}
+use Rattle.pg_words.specs.declared.family.Family.{Family}
+use Rattle.pg_words.specs.declared.family.Family.TheVariants.{Connectivity, Vectors}
+use Rattle.pg_words.specs.declared.family.FamilyTask.{FamilyTask}
+use Rattle.pg_words.specs.declared.family.FamilyTask.TheVariants as tasks
 use Rattle.pg_words.specs.declared.source.Source.{Source}
 use Rattle.pg_words.specs.declared.source.Source.TheVariants.{Rows, Bridge, Scatter}
 
@@ -22,6 +26,8 @@ pub data Command : Type 0 where
   Gen : (which : Source) (game : Bytes) (certificate : Option Bytes) → Command
   -- report on a certificate for a game
   Report : (game certificate : Bytes) → Command
+  -- do this with a game of a further family
+  OfFamily : (family : Family) (task : FamilyTask) (game certificate : Bytes) → Command
 
 -- a number of positions, where one is given
 abbrev pub limit_of : Option Bytes → Option (Option ℕ)
@@ -78,6 +84,18 @@ generate (kind ∷ others) None None =
     else None
 generate _ _ _ = None
 
+-- what is to be done with a game of a family: `play` alone takes a side, and needs one
+abbrev pub task_of : Bytes → Option Bytes → Option FamilyTask
+task_of name None =
+    if bytes_eq name (codes "solve") then Some tasks.Solve
+    else if bytes_eq name (codes "check") then Some tasks.Check
+    else None
+task_of name (Some word) = if bytes_eq name (codes "play") then option_map tasks.Play (side_of word) else None
+
+abbrev pub of_family : Family → List Bytes → Option Bytes → Option Bytes → Option Command
+of_family family (name ∷ game ∷ certificate ∷ []) None side = option_map (λ task. OfFamily family task game certificate) (task_of name side)
+of_family family _ _ _ = None
+
 -- what positionals and options ask for
 abbrev pub asked_by : List Bytes → Option Bytes → Option Bytes → Option Command
 asked_by [] positions side = None
@@ -87,6 +105,8 @@ asked_by (name ∷ others) positions side =
     else if bytes_eq name (codes "play") then play others positions side
     else if bytes_eq name (codes "gen") then generate others positions side
     else if bytes_eq name (codes "report") then report others positions side
+    else if bytes_eq name (codes "span") then of_family Connectivity others positions side
+    else if bytes_eq name (codes "vec") then of_family Vectors others positions side
     else None
 
 abbrev pub asked : Given → Option Command

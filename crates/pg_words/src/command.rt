@@ -1,4 +1,5 @@
 //! What the words ask for.
+use crate::family::{Family, FamilyTask};
 use crate::source::Source;
 use pg_base::Side;
 
@@ -41,6 +42,17 @@ pub enum Command {
     },
     /// Report on a certificate for a game.
     Report {
+        /// The name of the game.
+        game: String,
+        /// The name of the certificate.
+        certificate: String,
+    },
+    /// Do something with a game of a further family.
+    OfFamily {
+        /// Which family.
+        family: Family,
+        /// What is to be done.
+        task: FamilyTask,
         /// The name of the game.
         game: String,
         /// The name of the certificate.

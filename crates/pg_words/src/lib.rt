@@ -2,6 +2,7 @@
 #![tactic(auto)]
 
 mod command;
+mod family;
 mod key;
 mod matching;
 mod number;
@@ -11,5 +12,6 @@ mod source;
 mod table;
 
 pub use command::Command;
+pub use family::{Family, FamilyTask};
 pub use reading::meaning;
 pub use source::Source;

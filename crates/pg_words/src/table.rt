@@ -1,9 +1,10 @@
 //! The commands, by their positionals and options.
 ghost use Rattle.std.specs.Prelude.{◌≡◌, IfOk, option_map, string_bytes};
 ghost use Rattle.pg_words.specs.Ordered.{ordered, text, texts};
-ghost use Rattle.pg_words.specs.Words.{asked_by, bridge, check, generate, made, play, report, rows, scatter, scatter_of, solve};
+ghost use Rattle.pg_words.specs.Words.{asked_by, bridge, check, generate, made, of_family, play, report, rows, scatter, scatter_of, solve, task_of};
 
 use crate::command::Command;
+use crate::family::{Family, FamilyTask};
 use crate::number::{number_in, seed as read_seed};
 use crate::source::Source;
 use pg_base::{Memory, Side};
@@ -198,6 +199,45 @@ fn generate(
     }
 }
 
+/// What is to be done with a game of a family: `play` alone takes a side, and needs one.
+fn task(name: &str, side: Option<&str>) -> Option<FamilyTask>
+    ensures { result ≡ task_of name.now (text side.entry) }
+{
+    match (name, side) {
+        ("solve", None) => Some(FamilyTask::Solve),
+        ("check", None) => Some(FamilyTask::Check),
+        ("play", Some(word)) => {
+            let side = Side::from_word(word.as_bytes())?;
+            Some(FamilyTask::Play { side })
+        }
+        _ => None,
+    }
+}
+
+/// `span` or `vec`, what is to be done, a game and a certificate.
+fn of_family(
+    alloc: Global,
+    family: Family,
+    others: &[&str],
+    positions: Option<&str>,
+    side: Option<&str>,
+) -> Result<Option<Command>, Memory>
+    ensures { IfOk result (λ c. option_map ordered c ≡ of_family family (texts others.now) (text positions.entry) (text side.entry)) }
+{
+    let ([name, game, certificate], None) = (others, positions) else {
+        return Ok(None);
+    };
+    let Some(task) = task(name, side) else {
+        return Ok(None);
+    };
+    Ok(Some(Command::OfFamily {
+        family,
+        task,
+        game: named(alloc, game)?,
+        certificate: named(alloc, certificate)?,
+    }))
+}
+
 /// What positionals and options ask for.
 pub(crate) fn asked(
     alloc: Global,
@@ -216,6 +256,8 @@ pub(crate) fn asked(
         "play" => play(alloc, others, positions, side),
         "gen" => generate(alloc, others, positions, side),
         "report" => report(alloc, others, positions, side),
+        "span" => of_family(alloc, Family::Connectivity, others, positions, side),
+        "vec" => of_family(alloc, Family::Vectors, others, positions, side),
         _ => Ok(None),
     }
 }
