@@ -6,6 +6,8 @@ mod commands;
 #[cfg(test)]
 mod dashes;
 #[cfg(test)]
+mod families;
+#[cfg(test)]
 mod numbers;
 #[cfg(test)]
 mod options;

@@ -1,5 +1,5 @@
 //! What words mean, as text.
-use pg_words::{Command, Source, meaning};
+use pg_words::{Command, Family, FamilyTask, Source, meaning};
 use std::alloc::Global;
 use std::test::Fail;
 
@@ -30,6 +30,41 @@ fn source_text(alloc: Global, source: Source) -> Result<String, Fail> {
     })
 }
 
+/// A game that is made, and the certificate where one is.
+fn made_text(
+    alloc: Global,
+    which: Source,
+    game: &str,
+    certificate: Option<&str>,
+) -> Result<String, Fail> {
+    let source = source_text(alloc, which)?;
+    Ok(match certificate {
+        None => format!(in alloc; "{source} <{game}>")?,
+        Some(certificate) => format!(in alloc; "{source} <{game}> <{certificate}>")?,
+    })
+}
+
+/// What is to be done with a game of a family.
+fn family_text(
+    alloc: Global,
+    family: Family,
+    task: FamilyTask,
+    game: &str,
+    certificate: &str,
+) -> Result<String, Fail> {
+    let name = match family {
+        Family::Connectivity => "connectivity",
+        Family::Vectors => "vectors",
+    };
+    Ok(match task {
+        FamilyTask::Solve => format!(in alloc; "{name} solve <{game}> <{certificate}>")?,
+        FamilyTask::Check => format!(in alloc; "{name} check <{game}> <{certificate}>")?,
+        FamilyTask::Play { side } => {
+            format!(in alloc; "{name} play <{game}> <{certificate}> {}", side.word())?
+        }
+    })
+}
+
 /// A command, with its names in angle brackets.
 fn command_text(alloc: Global, command: &Command) -> Result<String, Fail> {
     Ok(match command {
@@ -54,16 +89,17 @@ fn command_text(alloc: Global, command: &Command) -> Result<String, Fail> {
         Command::Gen {
             which,
             game,
-            certificate: None,
-        } => format!(in alloc; "{} <{game}>", source_text(alloc, *which)?)?,
-        Command::Gen {
-            which,
-            game,
-            certificate: Some(certificate),
-        } => format!(in alloc; "{} <{game}> <{certificate}>", source_text(alloc, *which)?)?,
+            certificate,
+        } => made_text(alloc, *which, game, certificate.as_deref())?,
         Command::Report { game, certificate } => {
             format!(in alloc; "report <{game}> <{certificate}>")?
         }
+        Command::OfFamily {
+            family,
+            task,
+            game,
+            certificate,
+        } => family_text(alloc, *family, *task, game, certificate)?,
     })
 }
 
