@@ -7,60 +7,67 @@ use pg_pns::Work;
 use std::alloc::{AllocError, Global};
 use std::io;
 
-/// Each game with a certificate for it.
-const EXAMPLES: [(&str, &str); 37] = [
-    ("noughts-and-crosses.game", "breaker-in-the-centre.cert"),
-    ("noughts-and-crosses.game", "a-pair-missing.cert"),
-    ("two-lines.game", "maker-takes-the-middle.cert"),
-    ("empty-board-maker.game", "maker-fills-a-line.cert"),
-    ("empty-board-both.game", "both-draw.cert"),
-    ("empty-board-avoider.game", "enforcer-wins.cert"),
-    ("five-in-a-row-board.game", "five-in-a-row-draw.cert"),
-    ("five-in-a-row-board.game", "five-in-a-row-potential.cert"),
-    ("four-by-four.game", "four-by-four-potential.cert"),
-    ("two-rows-avoider.game", "two-rows-potential.cert"),
-    ("three-pairs-avoider.game", "three-pairs.cert"),
-    ("diamond.game", "diamond-trees-and-cuts.cert"),
-    ("bridg-it.game", "bridg-it-trees-and-cuts.cert"),
-    ("path.game", "path-cuts.cert"),
-    ("two-edges.game", "two-edges-trees.cert"),
-    ("two-edges.game", "two-edges-moves.cert"),
-    ("corners.game", "corners-pairs.cert"),
-    ("corners.game", "corners-a-pair-missing.cert"),
-    ("corners.game", "corners-too-heavy.cert"),
-    ("corners-breaker-begins.game", "corners-potential.cert"),
-    ("diamond.game", "diamond-an-edge-missing.cert"),
-    ("four-in-a-row.game", "four-in-a-row-threats.cert"),
-    ("four-in-a-row.game", "four-in-a-row-overlooked.cert"),
-    ("tippy-3-by-3.game", "tippy-3-by-3.cert"),
-    ("elly-3-by-3.game", "elly-3-by-3.cert"),
-    ("elly-4-by-4.game", "elly-4-by-4.cert"),
-    ("knobby-4-by-4.game", "knobby-4-by-4.cert"),
-    ("fatty-5-by-5.game", "fatty-5-by-5.cert"),
-    ("star.game", "star-moves.cert"),
-    ("star.game", "star-three-points.cert"),
-    ("eight-paths.game", "eight-paths-potential.cert"),
-    ("two-boxes-avoider.game", "two-boxes-moves.cert"),
-    ("two-boxes-avoider.game", "two-boxes-potential.cert"),
-    ("seven-boxes-avoider.game", "seven-boxes-potential.cert"),
-    ("tippy-5-by-5.game", "tippy-5-by-5.cert"),
-    ("tippy-5-by-5.game", "tippy-by-its-corner.cert"),
-    ("two-lines.game", "maker-rests-on-a-better-position.cert"),
-];
+/// The words that check each certificate for its game.
+const EXAMPLES: &str = "\
+check noughts-and-crosses.game breaker-in-the-centre.cert;\
+check noughts-and-crosses.game a-pair-missing.cert;\
+check two-lines.game maker-takes-the-middle.cert;\
+check empty-board-maker.game maker-fills-a-line.cert;\
+check empty-board-both.game both-draw.cert;\
+check empty-board-avoider.game enforcer-wins.cert;\
+check five-in-a-row-board.game five-in-a-row-draw.cert;\
+check five-in-a-row-board.game five-in-a-row-potential.cert;\
+check four-by-four.game four-by-four-potential.cert;\
+check two-rows-avoider.game two-rows-potential.cert;\
+check three-pairs-avoider.game three-pairs.cert;\
+check diamond.game diamond-trees-and-cuts.cert;\
+check bridg-it.game bridg-it-trees-and-cuts.cert;\
+check path.game path-cuts.cert;\
+check two-edges.game two-edges-trees.cert;\
+check two-edges.game two-edges-moves.cert;\
+check corners.game corners-pairs.cert;\
+check corners.game corners-a-pair-missing.cert;\
+check corners.game corners-too-heavy.cert;\
+check corners-breaker-begins.game corners-potential.cert;\
+check diamond.game diamond-an-edge-missing.cert;\
+check four-in-a-row.game four-in-a-row-threats.cert;\
+check four-in-a-row.game four-in-a-row-overlooked.cert;\
+check tippy-3-by-3.game tippy-3-by-3.cert;\
+check elly-3-by-3.game elly-3-by-3.cert;\
+check elly-4-by-4.game elly-4-by-4.cert;\
+check knobby-4-by-4.game knobby-4-by-4.cert;\
+check fatty-5-by-5.game fatty-5-by-5.cert;\
+check star.game star-moves.cert;\
+check star.game star-three-points.cert;\
+check eight-paths.game eight-paths-potential.cert;\
+check two-boxes-avoider.game two-boxes-moves.cert;\
+check two-boxes-avoider.game two-boxes-potential.cert;\
+check seven-boxes-avoider.game seven-boxes-potential.cert;\
+check tippy-5-by-5.game tippy-5-by-5.cert;\
+check tippy-5-by-5.game tippy-by-its-corner.cert;\
+check two-lines.game maker-rests-on-a-better-position.cert;\
+span check triangle-connectivity.game triangle-trees-and-parts.cert;\
+span check triangle-connectivity.game triangle-an-edge-too-many.cert;\
+span check four-vertices-connectivity.game four-vertices-two-trees.cert;\
+span check path-connectivity.game path-parts.cert;\
+vec check six-vectors.game six-vectors-trees.cert;\
+vec check six-vectors.game six-vectors-target-with-cut-to-move.cert;\
+vec check two-vectors.game two-vectors-cuts.cert;\
+vec check bridg-it-vectors.game bridg-it-vectors-trees-and-cuts.cert";
 
-/// The words that check a certificate for a game.
-fn words(alloc: Global, game: &str, certificate: &str) -> Result<Vec<String>, AllocError> {
+/// The words of a row.
+fn words(alloc: Global, row: &str) -> Result<Vec<String>, AllocError> {
     let mut words = Vec::new(alloc);
-    for word in ["check", game, certificate] {
+    for word in row.split(' ') {
         words.push(String::from_str(alloc, word)?)?;
     }
     Ok(words)
 }
 
 fn main(rt: HostRuntime) -> io::Result<()> {
-    for (game, certificate) in EXAMPLES {
-        let words = words(rt.alloc(), game, certificate)?;
-        rt.println(format!(in rt.alloc(); "{certificate}:")?.as_str())?;
+    for row in EXAMPLES.split(';') {
+        let words = words(rt.alloc(), row)?;
+        rt.println(format!(in rt.alloc(); "{row}:")?.as_str())?;
         let mut files = HostFiles::new(&rt);
         let mut console = HostConsole::new(&rt);
         let mut work = Work::new(rt.alloc());
