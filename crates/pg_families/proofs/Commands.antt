@@ -2,7 +2,7 @@
 use Rattle.std.proofs.Common.{◌≡◌, ℕ, Option, Some, None, Result, Ok, Err, refl, subst, inl, inr}
 use Rattle.std.specs.Prelude.{IfErr, IfSome}
 use Rattle.pg_io.specs.Console.{ConsoleTold}
-use Rattle.pg_io.specs.Files.{Bytes, Holding, FilesTold}
+use Rattle.pg_io.specs.Files.{Holding, FilesTold}
 use Rattle.pg_texts.specs.declared.refusal.Refusal.{Refusal}
 use Rattle.pg_talk.specs.Done.{Done, End, Finished, Does, Follows, stop_end}
 use Rattle.pg_talk.specs.Halts.{IsPlayHalt, IsTalkHalt}

@@ -1,5 +1,5 @@
 -- Checks and plays of a family's games on a console.
-use Rattle.std.proofs.Common.{◌≡◌, ℕ, List, [], ◌++◌, map, Result, Ok, Err, refl, sym, subst, inl, inr}
+use Rattle.std.proofs.Common.{◌≡◌, ℕ, List, [], map, Result, Ok, Err, refl, sym, subst, inl, inr}
 use Rattle.pg_base.specs.declared.side.Side.{Side}
 use Rattle.pg_io.specs.Console.{ConsoleTold, Grows}
 use Rattle.pg_io.specs.Files.{Bytes}

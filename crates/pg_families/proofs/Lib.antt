@@ -3,3 +3,5 @@ pub mod Judging
 pub mod Commands
 pub mod Spans
 pub mod OnVectors
+pub mod Announced
+pub mod Forced

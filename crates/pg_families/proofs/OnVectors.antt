@@ -1,29 +1,31 @@
--- Checks and plays of games on vectors.
-use Rattle.std.proofs.Common.{◌≡◌, ◌∙◌, ℕ, [], ◌∷◌, List, Option, Some, None, Result, Ok, Err, option_map, refl, sym, ap, subst, inl, inr}
+-- Checks, plays and classes of games on vectors.
+use Rattle.std.proofs.Common.{◌≡◌, ◌∙◌, ℕ, [], ◌∷◌, List, Option, Some, None, Result, Ok, Err, option_map, refl, ap, subst, inl}
 use Rattle.pg_base.specs.declared.side.Side.{Side}
 use Rattle.pg_io.specs.Console.{ConsoleTold}
-use Rattle.pg_io.specs.Files.{Bytes}
+use Rattle.pg_io.specs.Files.{Bytes, FilesTold}
 use Rattle.pg_game.specs.declared.position.Illegal.{Illegal}
 use Rattle.pg_game.specs.declared.position.Position.{Position}
 use Rattle.std.specs.Prelude.{IfOk}
 use Rattle.pg_gf2.specs.Check.{IsFirstVecFault, IsVecValid, flaw_number}
-use Rattle.pg_gf2.specs.Classes.{vector_rules}
 use Rattle.pg_gf2.specs.Player.{VecPlay, MakesVecMove, TakesVecReply, AnswersOnVectors, MovesOnVectors, chosen_vec_claim, plan_of_claim, vec_start}
 use Rattle.pg_cert.specs.declared.cert.Cert.{Cert}
 use Rattle.pg_cert.specs.declared.cert.Claim.{Claim}
 use Rattle.pg_gf2.specs.declared.flaw.VecFlaw.{VecFlaw}
 use Rattle.pg_gf2.specs.declared.game.VecGame.{VecGame}
 use Rattle.pg_gf2.specs.declared.plan.VecPlan.{VecPlan}
+use Rattle.pg_cert.specs.Print.{printed_certificate}
+use Rattle.pg_lehman.specs.declared.class.Class.{Class}
 use Rattle.pg_family_files.specs.Views.{vector_entry}
-use Rattle.pg_texts.specs.declared.refusal.Refusal.{Refusal}
 use Rattle.pg_texts.specs.declared.refusal.Refusal.TheVariants.{RejectedVectors}
 use Rattle.pg_talk.specs.Contender.{Answers, Contender, MakesMove, Moves, TakesReply, at}
-use Rattle.pg_talk.specs.Done.{Performs}
+use Rattle.pg_talk.specs.Done.{Does, Performs}
 use Rattle.pg_talk.specs.Playing.{IsPlay}
+use Rattle.pg_talk.specs.Storing.{Delivers}
 use Rattle.pg_talk.specs.declared.halt.Halt.{Halt}
 use Rattle.pg_talk.specs.declared.halt.Halt.TheVariants.{Refused}
-use Rattle.pg_families.specs.Vectors.{AcceptsVectors, HasVecClaim, LacksVecClaim, PlaysVectors, RefusesVectorCheck, RefusesVectorPlay, RejectsVectors, vec_contender, vectors_pair, vec_player}
-use Rattle.pg_families.proofs.Judging.{played_unclaimed, played_valid, refused_here}
+use Rattle.pg_talk.proofs.Delivering.{follows_more}
+use Rattle.pg_families.specs.Vectors.{AcceptsVectors, HasVecClaim, LacksVecClaim, PlaysVectors, RefusesVectorCheck, RefusesVectorPlay, RejectsVectors, ShowsVecClass, SolvesVectorGame, vec_class_text, vec_contender, vec_player, vectors_pair}
+use Rattle.pg_families.proofs.Judging.{played_valid, refused_here}
 
 -- ---- what stands against a certificate
 
@@ -86,3 +88,12 @@ pub seen_answers : (old new : VecPlay) (v : ℕ) (r : Result (Option ℕ) Illega
 seen_answers old new v (Err fault) answers = tt
 seen_answers old new v (Ok None) (takes, over) = (seen_reply old new v takes, inl over)
 seen_answers old new v (Ok (Some own)) (between, takes, made) = (vec_player between, seen_reply old between v takes, seen_move between new (Some v) own made)
+
+-- ---- classes
+
+-- what delivers the certificate that shows the class solves the game
+pub delivers_class : (g : VecGame) (name : Bytes) (sets : Class) (c : Cert) (texts : List Bytes) (files files' : FilesTold) (before after : ConsoleTold) (r : Result ℕ Halt)
+    → ShowsVecClass g sets c → texts ≡ vec_class_text sets ∷ [] → Does (Delivers (name, printed_certificate c) texts) files files' before after r → Does (SolvesVectorGame g name) files files' before after r
+delivers_class g name sets c texts files files' before after r shown is h =
+    follows_more (Delivers (name, printed_certificate c) texts) (SolvesVectorGame g name) files files' before after r
+    (λ done end act. (sets, c, shown, subst (λ (t : List Bytes). Delivers (name, printed_certificate c) t done end) is act)) h

@@ -1,5 +1,5 @@
 -- What names hold, from what was read of them.
-use Rattle.std.proofs.Common.{◌≡◌, ◌<◌, ◌+◌, ℕ, true, length, take, Option, Some, Result, Err, inl, inr, refl, ap, arith}
+use Rattle.std.proofs.Common.{◌≡◌, ◌+◌, ℕ, true, length, take, Option, Some, Result, Err, inl, inr, refl, ap, arith}
 use Rattle.std.specs.Prelude.{nat_lt}
 use Rattle.std.proofs.lemmas.Bool.{cases_lt}
 use Rattle.std.proofs.lemmas.Bool.Decides.{nat_tests}

@@ -1,5 +1,5 @@
 -- What the commands of further families read, store and say, by family and task.
-use Rattle.std.specs.Prelude.{◌≡◌, ◌⊎◌, ℕ, [], ◌∷◌, List, Option, Some, Result, Ok, Err, ⊤}
+use Rattle.std.specs.Prelude.{◌≡◌, ℕ, [], ◌∷◌, List, Option, Some, Result, Ok, Err, ⊤}
 use Rattle.std.specs.List.{Contains}
 use Rattle.pg_base.specs.declared.goal.Goal.{Goal}
 use Rattle.pg_base.specs.declared.side.Side.{Side}

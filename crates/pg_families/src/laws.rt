@@ -6,7 +6,7 @@ ghost use Rattle.pg_words.specs.declared.family.Family.{Family};
 ghost use Rattle.pg_words.specs.declared.family.FamilyTask.{FamilyTask};
 ghost use Rattle.pg_families.specs.Family.{ActsInFamily, AreForcedInFamily};
 
-use pg_gf2::valid_vector_claims_are_forced;
+use pg_gf2::laws::valid_vector_claims_are_forced;
 use pg_span::valid_claims_force;
 
 /// Whatever is done with a game of a family, each claim that is said to be accepted is forced: its side wins by best play

@@ -12,12 +12,12 @@ ghost use Rattle.pg_families.specs.Vectors.{IsVectorLacking, SolvesVectorGame, S
 
 use crate::opening::open_vectors;
 use pg_cert::print_cert;
-use pg_class_claims::class_certificate;
 use pg_gf2::VecGame;
 use pg_io::{Console, Files};
 use pg_lehman::Class;
 use pg_talk::{Halt, deliver};
 use pg_texts::Message;
+use pg_vec_solve::vec_solve;
 use std::alloc::Global;
 
 /// The message of a class.
@@ -29,4 +29,56 @@ fn class_message(class: &Class) -> Message
         Class::Cut { .. } => Message::ClassCut,
         Class::First { .. } => Message::ClassFirstMover,
     }
+}
+
+/// Stores the certificate that shows a game's class, and says the class.
+fn deliver_class<F: Files, C: Console>(
+    alloc: Global,
+    game: &VecGame,
+    certificate: &str,
+    files: &mut F,
+    console: &mut C,
+) -> Result<u8, Halt>
+    ensures solved { Does (SolvesVectorGame game.now certificate.now)
+        (F.told files.old) (F.told files.new) (C.told console.old) (C.told console.new) result }
+    ensures files { StoresAt (certificate.now ∷ []) (F.told files.old) (F.told files.new) }
+    ensures causes { BothCauses ⊥ (F.told files.old) (F.told files.new)
+        (C.told console.old) (C.told console.new) result }
+    ensures quiet { MuteAtMemory (C.told console.old) (C.told console.new) result }
+    ensures done { IfOk result (λ status. status ≡ DONE) }
+    ensures halts { IfErr result IsWriteHalt }
+{
+    let (class, shown) = vec_solve(alloc, game)?;
+    let text = print_cert(alloc, &shown)?;
+    deliver(
+        certificate,
+        &text,
+        class_message(&class),
+        None,
+        files,
+        console,
+    )
+}
+
+/// Solves the game on vectors under one name, and stores the certificate that shows its class under another.
+pub fn solve_vectors<F: Files, C: Console>(
+    alloc: Global,
+    game: &str,
+    certificate: &str,
+    files: &mut F,
+    console: &mut C,
+) -> Result<u8, Halt>
+    ensures ran { Runs (λ held refusal. vectors_held (held game.now) ≡ Err (Refused refusal))
+        (λ held. SolvesVectors (vectors_held (held game.now)) certificate.now)
+        (F.told files.old) (F.told files.new) (C.told console.old) (C.told console.new) result }
+    ensures causes { BothCauses (IsVectorLacking (F.told files.old).held game.now)
+        (F.told files.old) (F.told files.new) (C.told console.old) (C.told console.new) result }
+    ensures quiet { QuietsBy (Grows (C.told console.old).log (C.told console.new).log []) (Grows (C.told console.old).log (C.told console.new).log [])
+        (C.told console.old) (C.told console.new) result }
+    ensures files { StoresAt (certificate.now ∷ []) (F.told files.old) (F.told files.new) }
+    ensures done { IfOk result (λ status. status ≡ DONE) }
+    ensures halts { IfErr result IsGameHalt }
+{
+    let game = open_vectors(alloc, files, game)?;
+    deliver_class(alloc, &game, certificate, files, console)
 }
