@@ -13,8 +13,9 @@ use Rattle.pg_texts.specs.Statuses.{refusal_status}
 use Rattle.pg_texts.specs.Texts.{refusal_text}
 use Rattle.pg_texts.specs.declared.refusal.Refusal.{Refusal}
 use Rattle.pg_texts.specs.declared.refusal.Refusal.TheVariants.{NoMeaning, NoClaim, Game, Certificate, Rejected, RejectedSpan, RejectedVectors}
-use Rattle.pg_texts.specs.declared.statuses.TheConstants.{DONE, UNKNOWN, REFUSED, INPUT_ENDED, OUT_OF_REPLIES, NO_MEANING, READ_FAILED, WRITE_FAILED, NO_MEMORY}
-use Rattle.pg_words.specs.Words.{Command, Solve, Check, Play, Gen, Report}
+use Rattle.pg_texts.specs.declared.statuses.TheConstants.{DONE, UNKNOWN, REFUSED, NO_MEANING, READ_FAILED, WRITE_FAILED, NO_MEMORY}
+use Rattle.pg_words.specs.Words.{Command, Solve, Check, Play, Gen, Report, OfFamily}
+use Rattle.pg_words.specs.declared.family.FamilyTask.TheVariants as tasks
 use Rattle.pg_words.specs.declared.source.Source.{Source}
 use Rattle.pg_cli.specs.Generating.{searches}
 use Rattle.pg_cli.specs.Commands.{Gives, Quiets, Silences, SaysNoMeaning, statuses_of}
@@ -27,6 +28,7 @@ use Rattle.pg_talk.specs.declared.halt.Halt.{Halt}
 use Rattle.pg_talk.specs.declared.halt.Halt.TheVariants.{Refused, Stopped}
 use Rattle.pg_talk.proofs.Speaking.{Grows-then}
 use Rattle.pg_talk.proofs.Talking.{Hearing-then, Hearing-said}
+use Rattle.pg_cli.proofs.Tasks.{at_place, task_done, task_finishes, task_refuses, task_stops}
 
 -- ---- statuses
 
@@ -35,14 +37,13 @@ pub finishes : (command : Option Command) (status : ℕ) → Gives command (Ok s
 finishes None status gives = absurd gives
 finishes (Some (Solve g c positions)) status (inl is) = subst (λ (s : ℕ). ending s ≡ Finished s) (sym is) refl
 finishes (Some (Solve g c positions)) status (inr is) = subst (λ (s : ℕ). ending s ≡ Finished s) (sym is) refl
-finishes (Some (Check g c)) status gives = subst (λ (s : ℕ). ending s ≡ Finished s) (sym gives) refl
-finishes (Some (Play g c side)) status (inl is) = subst (λ (s : ℕ). ending s ≡ Finished s) (sym is) refl
-finishes (Some (Play g c side)) status (inr (inl is)) = subst (λ (s : ℕ). ending s ≡ Finished s) (sym is) refl
-finishes (Some (Play g c side)) status (inr (inr is)) = subst (λ (s : ℕ). ending s ≡ Finished s) (sym is) refl
+finishes (Some (Check g c)) status gives = task_finishes tasks.Check status gives
+finishes (Some (Play g c side)) status gives = task_finishes (tasks.Play side) status gives
 finishes (Some (Gen which g c)) status (inl is) = subst (λ (s : ℕ). ending s ≡ Finished s) (sym is) refl
 finishes (Some (Gen which g c)) status (inr (searched, is)) = subst (λ (s : ℕ). ending s ≡ Finished s) (sym is) refl
 finishes (Some (Report g c)) status (inl is) = subst (λ (s : ℕ). ending s ≡ Finished s) (sym is) refl
 finishes (Some (Report g c)) status (inr is) = subst (λ (s : ℕ). ending s ≡ Finished s) (sym is) refl
+finishes (Some (OfFamily family task g c)) status gives = task_finishes task status gives
 
 refusal_finishes : (refusal : Refusal) → ending (refusal_status refusal) ≡ Finished (refusal_status refusal)
 refusal_finishes NoMeaning = refl
@@ -136,9 +137,6 @@ silent_early command before mid after (Stopped Memory) status quiets (is, same) 
 
 -- ---- which statuses
 
-at_place : (l : List ℕ) (n m : ℕ) → n ≡ m → Contains l m → Contains l n
-at_place l n m is there = subst (λ (s : ℕ). Contains l s) (sym is) there
-
 abbrev gen_statuses : Bool → List ℕ
 gen_statuses b = if b then DONE ∷ UNKNOWN ∷ WRITE_FAILED ∷ NO_MEMORY ∷ [] else DONE ∷ WRITE_FAILED ∷ NO_MEMORY ∷ []
 
@@ -153,40 +151,28 @@ pub status_done : (command : Option Command) (status : ℕ) → Gives command (O
 status_done None status gives = absurd gives
 status_done (Some (Solve g c positions)) status (inl is) = at_place (statuses_of (Some (Solve g c positions))) status DONE is (0, omega arith, refl)
 status_done (Some (Solve g c positions)) status (inr is) = at_place (statuses_of (Some (Solve g c positions))) status UNKNOWN is (1, omega arith, refl)
-status_done (Some (Check g c)) status is = at_place (statuses_of (Some (Check g c))) status DONE is (0, omega arith, refl)
-status_done (Some (Play g c side)) status (inl is) = at_place (statuses_of (Some (Play g c side))) status DONE is (0, omega arith, refl)
-status_done (Some (Play g c side)) status (inr (inl is)) = at_place (statuses_of (Some (Play g c side))) status INPUT_ENDED is (7, omega arith, refl)
-status_done (Some (Play g c side)) status (inr (inr is)) = at_place (statuses_of (Some (Play g c side))) status OUT_OF_REPLIES is (8, omega arith, refl)
+status_done (Some (Check g c)) status gives = task_done tasks.Check status gives
+status_done (Some (Play g c side)) status gives = task_done (tasks.Play side) status gives
 status_done (Some (Gen which g c)) status (inl is) = gen_status which c (λ l. Contains l status) (λ _. at_place (gen_statuses true) status DONE is (0, omega arith, refl)) (λ _. at_place (gen_statuses false) status DONE is (0, omega arith, refl))
 status_done (Some (Gen which g c)) status (inr (searched, is)) = gen_status which c (λ l. Contains l status)
     (λ _. at_place (gen_statuses true) status UNKNOWN is (1, omega arith, refl)) (λ unsearched. absurd (cc (searched, unsearched)))
 status_done (Some (Report g c)) status (inl is) = at_place (statuses_of (Some (Report g c))) status DONE is (0, omega arith, refl)
 status_done (Some (Report g c)) status (inr is) = at_place (statuses_of (Some (Report g c))) status REFUSED is (2, omega arith, refl)
+status_done (Some (OfFamily family task g c)) status gives = task_done task status gives
 
 -- a write that fails ends every command
 write_fails : (command : Option Command) → Contains (statuses_of command) WRITE_FAILED
 write_fails None = (1, omega arith, refl)
 write_fails (Some (Solve g c positions)) = (4, omega arith, refl)
-write_fails (Some (Check g c)) = (4, omega arith, refl)
-write_fails (Some (Play g c side)) = (5, omega arith, refl)
+write_fails (Some (Check g c)) = task_stops tasks.Check Write
+write_fails (Some (Play g c side)) = task_stops (tasks.Play side) Write
 write_fails (Some (Gen which g c)) = gen_status which c (λ l. Contains l WRITE_FAILED) (λ _. (2, omega arith, refl)) (λ _. (1, omega arith, refl))
-write_fails (Some (Report g c)) = (4, omega arith, refl)
+write_fails (Some (Report g c)) = task_stops tasks.Check Write
+write_fails (Some (OfFamily family task g c)) = task_stops task Write
 
 refuses : (command : Option Command) (refusal : Refusal) → Gives command (Err (Refused refusal)) → Contains (statuses_of command) (refusal_status refusal)
-refuses (Some (Check g c)) NoMeaning gives = absurd gives
-refuses (Some (Check g c)) (NoClaim side) gives = absurd gives
-refuses (Some (Check g c)) (Game number line) gives = (1, omega arith, refl)
-refuses (Some (Check g c)) (Certificate number line) gives = (2, omega arith, refl)
-refuses (Some (Check g c)) (Rejected claim node why) gives = (2, omega arith, refl)
-refuses (Some (Check g c)) (RejectedSpan claim why) gives = (2, omega arith, refl)
-refuses (Some (Check g c)) (RejectedVectors claim node why) gives = (2, omega arith, refl)
-refuses (Some (Play g c side)) NoMeaning gives = absurd gives
-refuses (Some (Play g c side)) (NoClaim other) gives = (1, omega arith, refl)
-refuses (Some (Play g c side)) (Game number line) gives = (2, omega arith, refl)
-refuses (Some (Play g c side)) (Certificate number line) gives = (3, omega arith, refl)
-refuses (Some (Play g c side)) (Rejected claim node why) gives = (3, omega arith, refl)
-refuses (Some (Play g c side)) (RejectedSpan claim why) gives = (3, omega arith, refl)
-refuses (Some (Play g c side)) (RejectedVectors claim node why) gives = (3, omega arith, refl)
+refuses (Some (Check g c)) refusal gives = task_refuses tasks.Check refusal gives
+refuses (Some (Play g c side)) refusal gives = task_refuses (tasks.Play side) refusal gives
 refuses None refusal (inl is) = let e : refusal ≡ NoMeaning = cc is in subst (λ (r : Refusal). Contains (statuses_of None) (refusal_status r)) (sym e) (0, omega arith, refl)
 refuses None refusal (inr is) = absurd (cc is)
 refuses (Some (Solve g c positions)) NoMeaning gives = absurd gives
@@ -197,21 +183,12 @@ refuses (Some (Solve g c positions)) (Rejected claim node why) gives = absurd gi
 refuses (Some (Solve g c positions)) (RejectedSpan claim why) gives = absurd gives
 refuses (Some (Solve g c positions)) (RejectedVectors claim node why) gives = absurd gives
 refuses (Some (Gen which g c)) refusal gives = absurd gives
-refuses (Some (Report g c)) NoMeaning gives = absurd gives
-refuses (Some (Report g c)) (NoClaim side) gives = absurd gives
-refuses (Some (Report g c)) (Game number line) gives = (1, omega arith, refl)
-refuses (Some (Report g c)) (Certificate number line) gives = (2, omega arith, refl)
-refuses (Some (Report g c)) (Rejected claim node why) gives = (2, omega arith, refl)
-refuses (Some (Report g c)) (RejectedSpan claim why) gives = (2, omega arith, refl)
-refuses (Some (Report g c)) (RejectedVectors claim node why) gives = (2, omega arith, refl)
+refuses (Some (Report g c)) refusal gives = task_refuses tasks.Check refusal gives
+refuses (Some (OfFamily family task g c)) refusal gives = task_refuses task refusal gives
 
 stops : (command : Option Command) (stop : Stop) → Gives command (Err (Stopped stop)) → Contains (statuses_of command) (stop_status stop)
-stops (Some (Check g c)) Read gives = (3, omega arith, refl)
-stops (Some (Check g c)) Write gives = (4, omega arith, refl)
-stops (Some (Check g c)) Memory gives = (5, omega arith, refl)
-stops (Some (Play g c side)) Read gives = (4, omega arith, refl)
-stops (Some (Play g c side)) Write gives = (5, omega arith, refl)
-stops (Some (Play g c side)) Memory gives = (6, omega arith, refl)
+stops (Some (Check g c)) stop gives = task_stops tasks.Check stop
+stops (Some (Play g c side)) stop gives = task_stops (tasks.Play side) stop
 stops None stop (inl is) = absurd (cc is)
 stops None stop (inr is) = let e : stop ≡ Memory = cc is in subst (λ (s : Stop). Contains (statuses_of None) (stop_status s)) (sym e) (2, omega arith, refl)
 stops (Some (Solve g c positions)) Read gives = (3, omega arith, refl)
@@ -220,9 +197,8 @@ stops (Some (Solve g c positions)) Memory gives = (5, omega arith, refl)
 stops (Some (Gen which g c)) Read gives = absurd gives
 stops (Some (Gen which g c)) Write gives = write_fails (Some (Gen which g c))
 stops (Some (Gen which g c)) Memory gives = gen_status which c (λ l. Contains l NO_MEMORY) (λ _. (3, omega arith, refl)) (λ _. (2, omega arith, refl))
-stops (Some (Report g c)) Read gives = (3, omega arith, refl)
-stops (Some (Report g c)) Write gives = (4, omega arith, refl)
-stops (Some (Report g c)) Memory gives = (5, omega arith, refl)
+stops (Some (Report g c)) stop gives = task_stops tasks.Check stop
+stops (Some (OfFamily family task g c)) stop gives = task_stops task stop
 
 pub status_early : (command : Option Command) (before after : ConsoleTold) (halt : Halt) (status : ℕ) → Gives command (Err halt) → Ends halt before after status → Contains (statuses_of command) status
 status_early command before after (Refused refusal) status gives (inl ends) = at_place (statuses_of command) status (refusal_status refusal) ends.0 (refuses command refusal gives)

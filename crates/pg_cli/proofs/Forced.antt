@@ -1,16 +1,12 @@
 -- Claims that are said are forced.
-use Rattle.std.proofs.Common.{◌≡◌, ◌≢◌, ◌⊎◌, ℕ, zero, suc, nat_eq, Bool, true, false, cond, List, [], ◌∷◌, ◌++◌, length, get_or, map, find, slice_get, Option, Some, None, Result, Ok, Err, refl, sym, ◌∙◌, ap, subst, inl, inr, arith}
+use Rattle.std.proofs.Common.{◌≡◌, ℕ, suc, Bool, true, false, cond, List, [], ◌∷◌, ◌++◌, length, map, find, slice_get, Option, Some, None, Result, Ok, Err, refl, sym, ◌∙◌, ap, subst, inl, inr}
 use Rattle.std.specs.Prelude.{◌==◌, if◌then◌else◌, codes, decimal, IfSome}
 use Rattle.std.specs.List.{Contains}
 use Rattle.std.specs.Option.{option_or}
 use Rattle.std.proofs.lemmas.Bool.{and_parts}
-use Rattle.std.proofs.lemmas.Bool.Decides.{nat_tests}
 use Rattle.std.proofs.lemmas.List.{append_cancel_left}
-use Rattle.std.proofs.lemmas.List.Elements.{Contains-append_left, Contains-append_right, Contains-append_cases}
-use Rattle.pg_base.specs.Goal.{goal_word}
-use Rattle.pg_base.specs.Side.{is_same_side, side_word}
-use Rattle.pg_base.specs.declared.goal.Goal.{Goal}
-use Rattle.pg_base.specs.declared.goal.Goal.TheVariants.{Win, Draw}
+use Rattle.std.proofs.lemmas.List.Elements.{Contains-append_cases}
+use Rattle.pg_base.specs.Side.{is_same_side}
 use Rattle.pg_base.specs.declared.side.Side.{Side}
 use Rattle.pg_base.specs.declared.side.Side.TheVariants.{X, Y}
 use Rattle.pg_io.specs.Console.{ConsoleTold, Grows}
@@ -21,36 +17,34 @@ use Rattle.pg_game.specs.declared.field.Field.{Field}
 use Rattle.pg_game.specs.declared.field.Field.TheVariants.{Graph, Lines}
 use Rattle.pg_game.specs.declared.game.Game.{Game}
 use Rattle.pg_files.specs.GameFile.{game, Entry as GameEntry}
-use Rattle.pg_files.specs.Views.{entry}
 use Rattle.pg_cert_files.specs.CertFile.{certificate}
 use Rattle.pg_cert.specs.Limits.{IsWithinLimits, node_count}
 use Rattle.pg_cert.specs.Print.{printed_certificate}
 use Rattle.pg_cert.specs.Valid.{IsValid}
 use Rattle.pg_cert.specs.declared.cert.Cert.{Cert}
 use Rattle.pg_cert.specs.declared.cert.Claim.{Claim}
-use Rattle.pg_game.specs.Game.{with_turn, start}
+use Rattle.pg_game.specs.Game.{with_turn}
 use Rattle.pg_game.specs.Value.{Forces}
 use Rattle.pg_player.specs.Player.{is_win, is_claim_of, is_win_of, chosen_claim}
-use Rattle.pg_texts.specs.Texts.{accepted_text, claim_text, reply_text, refusal_text, unknown_text, expanded_text}
-use Rattle.pg_texts.specs.declared.message.ReplyFault.{ReplyFault}
-use Rattle.pg_texts.specs.declared.message.ReplyFault.TheVariants.{NoNumber, NoPoint, Taken}
+use Rattle.pg_texts.specs.Texts.{refusal_text, unknown_text, expanded_text}
 use Rattle.pg_texts.specs.declared.refusal.Refusal.{Refusal}
 use Rattle.pg_texts.specs.declared.refusal.Refusal.TheVariants as refusals
-use Rattle.pg_words.specs.Words.{Command, Solve, Check, Play, Gen, Report}
-use Rattle.pg_talk.specs.Contest.{Contest, contest_of}
-use Rattle.pg_cli.specs.Checking.{acceptance, AcceptsAll}
-use Rattle.pg_talk.specs.Saying.{SaysAll}
+use Rattle.pg_words.specs.Words.{Command, Solve, Check, Play, Gen, Report, OfFamily}
+use Rattle.pg_words.specs.declared.family.Family.{Family}
+use Rattle.pg_words.specs.declared.family.FamilyTask.{FamilyTask}
+use Rattle.pg_cli.specs.Checking.{AcceptsAll}
 use Rattle.pg_cli.specs.Commands.{game_read}
-use Rattle.pg_talk.specs.Dialogue.{Stage, At, Owes, Over, Steps, Leads}
 use Rattle.pg_talk.specs.Done.{Done, End, Finished, Failed, Starved, Stops, behind, ending}
-use Rattle.pg_cli.specs.Forced.{SaysGame, IsForcedFrom, IsForced, AreForced, AnnouncesForced}
-use Rattle.pg_cli.specs.Playing.{IsPlayedBy, PlaysOn}
+use Rattle.pg_families.specs.Family.{ActsInFamily, AreForcedInFamily, IsForcedInFamily, IsForcedInFamilyFrom}
+use Rattle.pg_families.proofs.Announced.{AllOther, AreOther, IsOther, accepted_forced, apart, delivers_other, first_or_later, held_there, none_of, one_of, one_other, others_forced, play_forced, said_is, stays_other, unsaid}
+use Rattle.pg_cli.specs.Forced.{SaysGame, IsForcedFrom, IsForced, AreForced, AreForcedInGame, AnnouncesForced}
+use Rattle.pg_cli.specs.Playing.{IsPlayedBy, PlaysOn, claimer}
 use Rattle.pg_cli.specs.Reading.{game_held, both_held, IsSaidBy}
-use Rattle.pg_talk.specs.Reading.{or_halt, certificate_held, both}
+use Rattle.pg_talk.specs.Reading.{certificate_held, both}
 use Rattle.pg_cli.specs.Reporting.{Accounts, Reports}
 use Rattle.pg_cli.specs.Generating.{StoresGame, game_file, size_text, size_texts}
 use Rattle.pg_cli.specs.Solving.{Solves, SolvesGame, Told, result_alone, result_and_counts, solution_text}
-use Rattle.pg_talk.specs.Storing.{Delivers, delivered}
+use Rattle.pg_talk.specs.Storing.{delivered}
 use Rattle.pg_cli.specs.declared.solving.TheConstants.{DEFAULT_POSITIONS}
 use Rattle.pg_solve.specs.Left.{budget}
 use Rattle.pg_solve.specs.Solved.{certificate_of}
@@ -61,22 +55,7 @@ use Rattle.pg_cli.specs.Run.{Allows, Acts, Declines, RanOn, Ran}
 use Rattle.pg_pns.specs.Expanded.{Expanded}
 use Rattle.pg_talk.specs.declared.halt.Halt.{Halt}
 
--- ---- texts that neither accept a claim nor say one
-
--- by its first letter it doesn't accept a claim, and by its fifth it says none
-abbrev pub IsOther : Bytes → Type 0
-IsOther text = (get_or text 0 0 ≢ 97) × (get_or text 4 0 ≢ 109)
-
--- the same of each text
-abbrev pub AreOther : List Bytes → Type 0
-AreOther texts = (text : Bytes) → Contains texts text → IsOther text
-
--- and of each that was said
-abbrev pub AllOther : List Entry → Type 0
-AllOther entries = (text : Bytes) → Contains entries (Said text) → IsOther text
-
-apart : (a b : ℕ) → nat_eq a b ≡ false → a ≢ b
-apart a b e = grind (arith, nat_tests, e)
+-- ---- texts that neither accept a claim nor say one (`IsOther`)
 
 refusal_other : (refusal : Refusal) → IsOther (refusal_text refusal)
 refusal_other refusals.NoMeaning = (apart _ 97 refl, apart _ 109 refl)
@@ -87,108 +66,18 @@ refusal_other (refusals.Rejected claim node why) = (apart _ 97 refl, apart _ 109
 refusal_other (refusals.RejectedSpan claim why) = (apart _ 97 refl, apart _ 109 refl)
 refusal_other (refusals.RejectedVectors claim node why) = (apart _ 97 refl, apart _ 109 refl)
 
-reply_other : (fault : ReplyFault) → IsOther (reply_text fault)
-reply_other NoNumber = (apart _ 97 refl, apart _ 109 refl)
-reply_other NoPoint = (apart _ 97 refl, apart _ 109 refl)
-reply_other Taken = (apart _ 97 refl, apart _ 109 refl)
-
--- what is said next in a dialogue is another text
-step_other : (g : Contest) (side : Side) (s m : Stage) (text : Bytes) → Steps g side s (Said text) m → IsOther text
-step_other g side (At p refusals) m text (inl result) = subst (λ (t : Bytes). IsOther t) (sym result.1) (apart _ 97 refl, apart _ 109 refl)
-step_other g side (At p refusals) m text (inr move) = subst (λ (t : Bytes). IsOther t) (sym move.5) (apart _ 97 refl, apart _ 109 refl)
-step_other g side (Owes p refusals fault) m text step = subst (λ (t : Bytes). IsOther t) (sym step.0) (reply_other fault)
-step_other g side (Over p status) m text step = absurd step
-
--- ---- members of lists
-
-one_of : {A : Type 0} (x y : A) → Contains (x ∷ []) y → x ≡ y
-one_of x y (zero, lt, e) = e
-one_of x y (suc k, lt, e) = absurd (omega (arith, lt))
-
-first_or_later : {A : Type 0} (x : A) (xs : List A) (y : A) → Contains (x ∷ xs) y → (x ≡ y) ⊎ Contains xs y
-first_or_later x xs y among = elim (Contains-append_cases (x ∷ []) xs y among) as (λ _. (x ≡ y) ⊎ Contains xs y) [ inl here ↦ inl (one_of x y here) | inr later ↦ inr later ]
-
-none_of : {A : Type 0} (y : A) → Contains [] y → ⊥
-none_of y (k, lt, e) = absurd (omega (arith, lt))
-
--- a member of a list of images is the image of a member
-image_of : {A B : Type 0} (f : A → B) (xs : List A) (y : B) → Contains (map f xs) y → (i : ℕ) × (x : A) × (slice_get xs i ≡ Some x) × (f x ≡ y)
-image_of f [] y among = absurd (none_of y among)
-image_of f (x ∷ xs) y among = elim (first_or_later (f x) (map f xs) y among) as (λ _. (i : ℕ) × (z : _) × (slice_get (x ∷ xs) i ≡ Some z) × (f z ≡ y)) [
-  | inl here ↦ (0, x, refl, here)
-  | inr later ↦ let rest = image_of f xs y later in (suc rest.0, rest.1, rest.2, rest.3)
-]
-
-said_is : (a b : Bytes) → Said a ≡ Said b → a ≡ b
-said_is a b e = cc e
-
--- ---- what is said of other texts alone
-
-one_other : (text : Bytes) → IsOther text → AreOther (text ∷ [])
-one_other text other said among = subst (λ (t : Bytes). IsOther t) (one_of text said among) other
-
 two_other : (first second : Bytes) → IsOther first → IsOther second → AreOther (first ∷ second ∷ [])
 two_other first second one two said among = elim (first_or_later first (second ∷ []) said among) as (λ _. IsOther said) [
   | inl here ↦ subst (λ (t : Bytes). IsOther t) here one
   | inr later ↦ one_other second two said later
 ]
 
-others_forced : (bytes : Option Bytes) (entries : List Entry) → AllOther entries → AreForced bytes entries
-others_forced bytes entries others = record {
-  accepted = λ turn side claimed among. absurd ((others (accepted_text turn side claimed) among).0 refl);
-  claimed = λ side claimed among. absurd ((others (claim_text side claimed) among).1 refl);
-}
-
-leads_other : (g : Contest) (side : Side) (s t : Stage) (entries : List Entry) → Leads g side s entries t → AllOther entries
-leads_other g side s t [] leads text among = absurd (none_of (Said text) among)
-leads_other g side s t (entry ∷ entries) (m, step, rest) text among = elim (first_or_later entry entries (Said text) among) as (λ _. IsOther text) [
-  | inl here ↦ step_other g side s m text (subst (λ (e : Entry). Steps g side s e m) here step)
-  | inr later ↦ leads_other g side m t entries rest text later
-]
-
--- ---- words that texts share
-
-side_words : (s t : Side) (a b : Bytes) → side_word s ++ a ≡ side_word t ++ b → (s ≡ t) × (a ≡ b)
-side_words X X a b e = (refl, append_cancel_left (codes "x") a b e)
-side_words X Y a b e = absurd (apart 120 121 refl (ap (λ (t : Bytes). get_or t 0 0) e))
-side_words Y X a b e = absurd (apart 121 120 refl (ap (λ (t : Bytes). get_or t 0 0) e))
-side_words Y Y a b e = (refl, append_cancel_left (codes "y") a b e)
-
-goal_words : (s t : Goal) (a b : Bytes) → goal_word s ++ a ≡ goal_word t ++ b → s ≡ t
-goal_words Win Win a b e = refl
-goal_words Win Draw a b e = absurd (apart 119 100 refl (ap (λ (t : Bytes). get_or t 0 0) e))
-goal_words Draw Win a b e = absurd (apart 100 119 refl (ap (λ (t : Bytes). get_or t 0 0) e))
-goal_words Draw Draw a b e = refl
-
-claim_words : (side side' : Side) (claimed claimed' : Goal) → claim_text side claimed ≡ claim_text side' claimed' → (side ≡ side') × (claimed ≡ claimed')
-claim_words side side' claimed claimed' e =
-    let first = side_words side side' _ _ (append_cancel_left (codes "claim ") _ _ e) in
-    (first.0, goal_words claimed claimed' _ _ (append_cancel_left (codes " ") _ _ first.1))
-
-accepted_words : (turn turn' side side' : Side) (claimed claimed' : Goal) → accepted_text turn side claimed ≡ accepted_text turn' side' claimed' → (turn ≡ turn') × (side ≡ side') × (claimed ≡ claimed')
-accepted_words turn turn' side side' claimed claimed' e =
-    let first = side_words turn turn' _ _ (append_cancel_left (codes "accepted ") _ _ e) in
-    let second = side_words side side' _ _ (append_cancel_left (codes " ") _ _ first.1) in
-    (first.0, second.0, goal_words claimed claimed' _ _ (append_cancel_left (codes " ") _ _ second.1))
-
 -- ---- what both names hold
-
-or_halt_ok : {T F : Type 0} (halt_of : F → Halt) (r : Result T F) (x : T) → or_halt halt_of r ≡ Ok x → r ≡ Ok x
-or_halt_ok halt_of (Ok y) x e = let same : y ≡ x = cc e in ap (λ z. Ok z) same
-or_halt_ok halt_of (Err fault) x e = absurd (cc e)
 
 both_ok : (p : Result GameEntry Halt) (q : Result Cert Halt) (pair : GameEntry × Cert) → both p q ≡ Ok pair → (p ≡ Ok pair.0) × (q ≡ Ok pair.1)
 both_ok (Err b) q pair e = absurd (cc e)
 both_ok (Ok x) (Err b) pair e = absurd (cc e)
 both_ok (Ok x) (Ok c) pair e = let same : (x, c) ≡ pair = cc e in (ap (λ (p : GameEntry × Cert). Ok p.0) same, ap (λ (p : GameEntry × Cert). Ok p.1) same)
-
-game_there : (o : Option Bytes) (x : GameEntry) → game_held o ≡ Ok x → (text : Bytes) × (o ≡ Some text) × (game text ≡ Ok x)
-game_there None x e = absurd (cc e)
-game_there (Some text) x e = (text, refl, or_halt_ok _ (game text) x e)
-
-certificate_there : (o : Option Bytes) (x : Cert) → certificate_held o ≡ Ok x → (text : Bytes) × (o ≡ Some text) × (certificate text ≡ Ok x)
-certificate_there None x e = absurd (cc e)
-certificate_there (Some text) x e = (text, refl, or_halt_ok _ (certificate text) x e)
 
 -- what is read of a certificate is within the limits
 abbrev pub ReadsWithinLimits : Type 0
@@ -198,12 +87,17 @@ ReadsWithinLimits = (text : Bytes) (c : Cert) → certificate text ≡ Ok c → 
 abbrev pub ValidClaimsAreForced : Type 0
 ValidClaimsAreForced = (g : Game) (c : Cert) → IsWithinLimits c → IsValid g c → (i : ℕ) (claim : Claim) → slice_get c.claims i ≡ Some claim → Forces g (with_turn g claim.turn) claim.side claim.goal
 
+-- each claim that is said of a game of a family is forced
+abbrev pub FamilyClaimsAreForced : Type 0
+FamilyClaimsAreForced = (family : Family) (task : FamilyTask) (game certificate : Option Bytes) (name : Bytes) (done : Done) (end : End) → ActsInFamily family task game certificate name done end
+    → AreForcedInFamily family game done.entries
+
 -- the game that is read, and a certificate within the limits
 said_game : ReadsWithinLimits → (g c : Option Bytes) (pair : GameEntry × Cert) (played : Game) → both_held g c ≡ Ok pair → IsSaidBy pair.0 played → SaysGame g played × IsWithinLimits pair.1
 said_game limits g c pair played e said =
     let parts = both_ok (game_held g) (certificate_held c) pair e in
-    let first = game_there g pair.0 parts.0 in
-    let second = certificate_there c pair.1 parts.1 in
+    let first = held_there _ game g pair.0 parts.0 in
+    let second = held_there _ certificate c pair.1 parts.1 in
     (record { text = first.0; held = first.1; said = first.2 ∙ ap (λ (x : GameEntry). Ok x) (sym said) }, limits second.0 pair.1 second.2)
 
 -- ---- the claim that is chosen
@@ -244,46 +138,15 @@ chosen g c side claim e = go (find (is_win_of side g.turn) c.claims) refl e wher
 
 -- ---- a check
 
--- a text among those that were said
-unsaid : (texts : List Bytes) (text : Bytes) → Contains (map Said texts) (Said text) → Contains texts text
-unsaid [] text among = absurd (none_of (Said text) among)
-unsaid (t ∷ texts) text among = elim (first_or_later (Said t) (map Said texts) (Said text) among) as (λ _. Contains (t ∷ texts) text) [
-  | inl here ↦ (0, omega arith, said_is t text here)
-  | inr later ↦ Contains-append_right (t ∷ []) texts text (unsaid texts text later)
-]
-
--- all that was said accepts claims of the list
-accepts_among : (claims : List Claim) (entries : List Entry) (end : End) → SaysAll (map acceptance claims) entries end → (text : Bytes) → Contains entries (Said text)
-    → (i : ℕ) × (claim : Claim) × (slice_get claims i ≡ Some claim) × (acceptance claim ≡ text)
-accepts_among claims entries (Finished status) says text among =
-    image_of acceptance claims text (unsaid (map acceptance claims) text (subst (λ (l : List Entry). Contains l (Said text)) says.0 among))
-accepts_among claims entries Failed (front, rest, whole, is) text among =
-    let here = unsaid front text (subst (λ (l : List Entry). Contains l (Said text)) is among) in
-    image_of acceptance claims text (subst (λ (l : List Bytes). Contains l text) (sym whole) (Contains-append_left front rest text here))
-accepts_among claims entries Starved says text among = absurd says
-
-module _ (limits : ReadsWithinLimits) (valid_forced : ValidClaimsAreForced) where
-  check_forced : (g c : Option Bytes) (entries : List Entry) (end : End) → AcceptsAll (both_held g c) entries end → AreForced g entries
+module _ (limits : ReadsWithinLimits) (valid_forced : ValidClaimsAreForced) (family_forced : FamilyClaimsAreForced) where
+  check_forced : (g c : Option Bytes) (entries : List Entry) (end : End) → AcceptsAll (both_held g c) entries end → AreForcedInGame g entries
   check_forced g c entries end accepts = go (both_held g c) refl accepts where
-    go : (r : Result (GameEntry × Cert) Halt) → both_held g c ≡ r → AcceptsAll r entries end → AreForced g entries
+    go : (r : Result (GameEntry × Cert) Halt) → both_held g c ≡ r → AcceptsAll r entries end → AreForcedInGame g entries
     go (Err halt) e accepts = absurd accepts
     go (Ok pair) e (played, said, valid, says) =
         let there = said_game limits g c pair played e said in
-        record {
-          accepted = λ turn side claimed among.
-              let one = accepts_among pair.1.claims entries end says (accepted_text turn side claimed) among in
-              let words = accepted_words one.1.turn turn one.1.side side one.1.goal claimed one.3 in
-              let forces = valid_forced played pair.1 there.1 valid one.0 one.1 one.2 in
-              let by_turn = subst (λ (t : Side). Forces played (with_turn played t) one.1.side one.1.goal) words.0 forces in
-              let by_side = subst (λ (s : Side). Forces played (with_turn played turn) s one.1.goal) words.1 by_turn in
-              (played, there.0, subst (λ (k : Goal). Forces played (with_turn played turn) side k) words.2 by_side);
-          claimed = λ side claimed among.
-              let one = accepts_among pair.1.claims entries end says (claim_text side claimed) among in
-              absurd (not_both one.1.turn one.1.side side one.1.goal claimed one.3);
-        }
-      where
-        not_both : (turn side side' : Side) (claimed claimed' : Goal) → accepted_text turn side claimed ≡ claim_text side' claimed' → ⊥
-        not_both turn side side' claimed claimed' e = apart 97 99 refl (ap (λ (t : Bytes). get_or t 0 0) e)
+        accepted_forced (IsForcedFrom g) (IsForced g) (λ (k : Claim). k.turn) (λ (k : Claim). k.side) (λ (k : Claim). k.goal) pair.1.claims entries end says
+        (λ i claim at. (played, there.0, valid_forced played pair.1 there.1 valid i claim at))
 
   -- ---- a play
 
@@ -299,41 +162,15 @@ module _ (limits : ReadsWithinLimits) (valid_forced : ValidClaimsAreForced) wher
         let forces = valid_forced played pair.1 there.1 valid one.0 claim one.1 in
         (played, there.0, subst (λ (turn : Side). Forces played (with_turn played turn) claim.side claim.goal) one.3 forces)
 
-  -- the claim is said, and then other texts
-  claim_forced : (bytes : Option Bytes) (claim : Claim) (entries others : List Entry) → IsForced bytes claim.side claim.goal → entries ≡ Said (claim_text claim.side claim.goal) ∷ others
-      → AllOther others → AreForced bytes entries
-  claim_forced bytes claim entries others forced is quiet = record {
-    accepted = λ turn side claimed among.
-        elim (split (accepted_text turn side claimed) among) as (λ _. IsForcedFrom bytes turn side claimed) [
-          | inl here ↦ absurd (not_both turn side claimed here)
-          | inr later ↦ absurd ((quiet (accepted_text turn side claimed) later).0 refl)
-        ];
-    claimed = λ side claimed among.
-        elim (split (claim_text side claimed) among) as (λ _. IsForced bytes side claimed) [
-          | inl here ↦ let words = claim_words claim.side side claim.goal claimed here in
-              subst (λ (k : Goal). IsForced bytes side k) words.1 (subst (λ (s : Side). IsForced bytes s claim.goal) words.0 forced)
-          | inr later ↦ absurd ((quiet (claim_text side claimed) later).1 refl)
-        ];
-  } where
-    split : (text : Bytes) → Contains entries (Said text) → (claim_text claim.side claim.goal ≡ text) ⊎ Contains others (Said text)
-    split text among = elim (first_or_later (Said (claim_text claim.side claim.goal)) others (Said text) (subst (λ (l : List Entry). Contains l (Said text)) is among))
-        as (λ _. (claim_text claim.side claim.goal ≡ text) ⊎ Contains others (Said text)) [ inl here ↦ inl (said_is _ text here) | inr later ↦ inr later ]
-
-    not_both : (turn side : Side) (claimed : Goal) → claim_text claim.side claim.goal ≡ accepted_text turn side claimed → ⊥
-    not_both turn side claimed e = apart 99 97 refl (ap (λ (t : Bytes). get_or t 0 0) e)
-
-  play_forced : (g c : Option Bytes) (side : Side) (entries : List Entry) (end : End) → PlaysOn side (both_held g c) entries end → AreForced g entries
-  play_forced g c side entries (Finished status) (played, claim, by, whole) =
-      claim_forced g claim entries whole.others (play_claim_forced g c side played claim by) whole.said (leads_other (contest_of played) claim.side (At (start played) 0) _ whole.others whole.dialogue)
-  play_forced g c side entries Failed (played, claim, by, unended) =
-      claim_forced g claim entries unended.others (play_claim_forced g c side played claim by) unended.said (leads_other (contest_of played) claim.side (At (start played) 0) unended.dialogue.0 unended.others unended.dialogue.2)
-  play_forced g c side entries Starved (played, claim, by, none) = absurd none
+  plays_forced : (g c : Option Bytes) (side : Side) (entries : List Entry) (end : End) → PlaysOn side (both_held g c) entries end → AreForcedInGame g entries
+  plays_forced g c side entries end (played, claim, by, plays) =
+      play_forced (IsForcedFrom g) (IsForced g) (claimer played claim) entries end (play_claim_forced g c side played claim by) plays
 
   -- ---- solving
 
   -- nothing was said
-  silent_forced : (bytes : Option Bytes) (entries : List Entry) → entries ≡ [] → AreForced bytes entries
-  silent_forced bytes entries none = others_forced bytes entries (λ text among. absurd (none_of (Said text) (subst (λ (l : List Entry). Contains l (Said text)) none among)))
+  silent_other : (entries : List Entry) → entries ≡ [] → AllOther entries
+  silent_other entries none text among = absurd (none_of (Said text) (subst (λ (l : List Entry). Contains l (Said text)) none among))
 
   solution_other : (g : Game) (solution : Solution) (c : Cert) → certificate_of solution ≡ Some c → IsOther (solution_text g solution)
   solution_other g (Value score certificate) c own = (apart _ 97 refl, apart _ 109 refl)
@@ -343,21 +180,12 @@ module _ (limits : ReadsWithinLimits) (valid_forced : ValidClaimsAreForced) wher
   solution_other g Unknown c own = absurd (cc own)
 
   -- one other text was said
-  other_forced : (bytes : Option Bytes) (entries : List Entry) (said : Bytes) → entries ≡ Said said ∷ [] → IsOther said → AreForced bytes entries
-  other_forced bytes entries said is other = others_forced bytes entries
-      (λ text among. let here = one_of (Said said) (Said text) (subst (λ (l : List Entry). Contains l (Said text)) is among) in
-      subst (λ (t : Bytes). IsOther t) (said_is said text here) other)
+  single_other : (entries : List Entry) (said : Bytes) → entries ≡ Said said ∷ [] → IsOther said → AllOther entries
+  single_other entries said is other text among =
+      let here = one_of (Said said) (Said text) (subst (λ (l : List Entry). Contains l (Said text)) is among) in
+      subst (λ (t : Bytes). IsOther t) (said_is said text here) other
 
   -- ---- parts that say other texts alone
-
-  stays_other : (entries : List Entry) (texts : List Bytes) → entries ≡ map Said texts → AreOther texts → AllOther entries
-  stays_other entries texts is others text among = others text (unsaid texts text (subst (λ (l : List Entry). Contains l (Said text)) is among))
-
-  delivers_other : (file : Making) (texts : List Bytes) (done : Done) (end : End) → AreOther texts → Delivers file texts done end → AllOther done.entries
-  delivers_other file texts done (Finished status) others (is, status_is) = stays_other done.entries texts (ap (λ (d : Done). d.entries) is) others
-  delivers_other file texts done Failed others (front, (text, rest, whole), is) = stays_other done.entries front (ap (λ (d : Done). d.entries) is)
-      (λ said among. others said (subst (λ (l : List Bytes). Contains l said) (sym whole) (Contains-append_left front (text ∷ rest) said among)))
-  delivers_other file texts done Starved others none = absurd none
 
   behind_other : (file : Making) (texts : List Bytes) (part done : Done) → done ≡ behind (delivered file texts) part → AreOther texts → AllOther part.entries → AllOther done.entries
   behind_other file texts part done is others later text among =
@@ -386,9 +214,9 @@ module _ (limits : ReadsWithinLimits) (valid_forced : ValidClaimsAreForced) wher
   counts_other : (g : Game) (work : Expanded) (solution : Solution) (c : Cert) → certificate_of solution ≡ Some c → AreOther (result_and_counts g work solution c)
   counts_other g work solution c own = two_other (solution_text g solution) (expanded_text (length work.positions) (node_count c.claims)) (solution_other g solution c own) (apart _ 97 refl, apart _ 109 refl)
 
-  solves_forced : (bytes : Option Bytes) (read : Result GameEntry Halt) (name : Bytes) (positions : ℕ) (work : Expanded) (done : Done) (end : End) → Solves read name positions work done end → AreForced bytes done.entries
+  solves_forced : (bytes : Option Bytes) (read : Result GameEntry Halt) (name : Bytes) (positions : ℕ) (work : Expanded) (done : Done) (end : End) → Solves read name positions work done end → AreForcedInGame bytes done.entries
   solves_forced bytes (Err halt) name positions work done end solves = absurd solves
-  solves_forced bytes (Ok e) name positions work done end (g, said, solves) = others_forced bytes done.entries (solves_other (result_alone g) g name positions work done end (result_other g) solves)
+  solves_forced bytes (Ok e) name positions work done end (g, said, solves) = others_forced (IsForcedFrom bytes) (IsForced bytes) done.entries (solves_other (result_alone g) g name positions work done end (result_other g) solves)
 
   -- ---- a game that is made
 
@@ -420,38 +248,48 @@ module _ (limits : ReadsWithinLimits) (valid_forced : ValidClaimsAreForced) wher
   account_other g c text status (inl tells) = subst (λ (t : Bytes). IsOther t) (sym tells.text_is) (report_other (g.bias == 1) g.bias _)
   account_other g c text status (inr tells) = subst (λ (t : Bytes). IsOther t) (sym tells.text_is) (apart _ 97 refl, apart _ 109 refl)
 
-  reports_forced : (bytes : Option Bytes) (read : Result (GameEntry × Cert) Halt) (entries : List Entry) (end : End) → Reports read entries end → AreForced bytes entries
+  reports_forced : (bytes : Option Bytes) (read : Result (GameEntry × Cert) Halt) (entries : List Entry) (end : End) → Reports read entries end → AreForcedInGame bytes entries
   reports_forced bytes (Err halt) entries end none = absurd none
-  reports_forced bytes (Ok pair) entries (Finished status) (g, said, text, told, is) = other_forced bytes entries text is (account_other g pair.1 text status told)
+  reports_forced bytes (Ok pair) entries (Finished status) (g, said, text, told, is) = others_forced (IsForcedFrom bytes) (IsForced bytes) entries (single_other entries text is (account_other g pair.1 text status told))
   reports_forced bytes (Ok pair) entries Failed none = absurd none
   reports_forced bytes (Ok pair) entries Starved none = absurd none
 
   -- ---- all commands
 
-  acts_forced : (held : Holding) (command : Option Command) (work : Expanded) (done : Done) (end : End) → Acts held command work done end → AreForced (game_read held command) done.entries
+  acts_forced : (held : Holding) (command : Option Command) (work : Expanded) (done : Done) (end : End) → Acts held command work done end → AreForced command (game_read held command) done.entries
   acts_forced held None work done end acts = absurd acts
   acts_forced held (Some (Solve g c None)) work done end acts = absurd acts
   acts_forced held (Some (Solve g c (Some positions))) work done end acts = solves_forced (held g) (game_held (held g)) c positions work done end acts
   acts_forced held (Some (Check g c)) work done end acts = check_forced (held g) (held c) done.entries end acts.0
-  acts_forced held (Some (Play g c side)) work done end acts = play_forced (held g) (held c) side done.entries end acts.0
-  acts_forced held (Some (Gen which g c)) work done end (made, is, stores) = others_forced None done.entries (stores_other made g c work done end stores)
+  acts_forced held (Some (Play g c side)) work done end acts = plays_forced (held g) (held c) side done.entries end acts.0
+  acts_forced held (Some (Gen which g c)) work done end (made, is, stores) = others_forced (IsForcedFrom None) (IsForced None) done.entries (stores_other made g c work done end stores)
   acts_forced held (Some (Report g c)) work done end acts = reports_forced (held g) (both_held (held g) (held c)) done.entries end acts.0
+  acts_forced held (Some (OfFamily family task g c)) work done end acts = family_forced family task (held g) (held c) c done end acts
 
-  declines_forced : (held : Holding) (command : Option Command) (done : Done) (end : End) → Declines held command done end → AreForced (game_read held command) done.entries
-  declines_forced held command done (Finished status) (refusal, refuses, says, stored, is) = others_forced (game_read held command) done.entries
-      (λ text among. let here = one_of (Said (refusal_text refusal)) (Said text) (subst (λ (l : List Entry). Contains l (Said text)) says among) in
-      subst (λ (t : Bytes). IsOther t) (said_is (refusal_text refusal) text here) (refusal_other refusal))
-  declines_forced held command done Failed none = silent_forced (game_read held command) done.entries none.0
-  declines_forced held command done Starved none = silent_forced (game_read held command) done.entries none.0
+  -- where other texts alone were said, whatever the command
+  nothing_announced : (command : Option Command) (bytes : Option Bytes) (entries : List Entry) → AllOther entries → AreForced command bytes entries
+  nothing_announced None bytes entries others = others_forced (IsForcedFrom bytes) (IsForced bytes) entries others
+  nothing_announced (Some (Solve g c positions)) bytes entries others = others_forced (IsForcedFrom bytes) (IsForced bytes) entries others
+  nothing_announced (Some (Check g c)) bytes entries others = others_forced (IsForcedFrom bytes) (IsForced bytes) entries others
+  nothing_announced (Some (Play g c side)) bytes entries others = others_forced (IsForcedFrom bytes) (IsForced bytes) entries others
+  nothing_announced (Some (Gen which g c)) bytes entries others = others_forced (IsForcedFrom bytes) (IsForced bytes) entries others
+  nothing_announced (Some (Report g c)) bytes entries others = others_forced (IsForcedFrom bytes) (IsForced bytes) entries others
+  nothing_announced (Some (OfFamily family task g c)) bytes entries others = others_forced (IsForcedInFamilyFrom family bytes) (IsForcedInFamily family bytes) entries others
 
-  pub announced : (held : Holding) (command : Option Command) (work : Expanded) (done : Done) (end : End) → Allows held command work done end → AreForced (game_read held command) done.entries
+  declines_forced : (held : Holding) (command : Option Command) (done : Done) (end : End) → Declines held command done end → AreForced command (game_read held command) done.entries
+  declines_forced held command done (Finished status) (refusal, refuses, says, stored, is) = nothing_announced command (game_read held command) done.entries
+      (single_other done.entries (refusal_text refusal) says (refusal_other refusal))
+  declines_forced held command done Failed none = nothing_announced command (game_read held command) done.entries (silent_other done.entries none.0)
+  declines_forced held command done Starved none = nothing_announced command (game_read held command) done.entries (silent_other done.entries none.0)
+
+  pub announced : (held : Holding) (command : Option Command) (work : Expanded) (done : Done) (end : End) → Allows held command work done end → AreForced command (game_read held command) done.entries
   announced held command work done end (inl declines) = declines_forced held command done end declines
   announced held command work done end (inr acts) = acts_forced held command work done end acts
 
 -- ---- a run
 
 abbrev pub AllowedAreForced : Type 0
-AllowedAreForced = (held : Holding) (command : Option Command) (work : Expanded) (done : Done) (end : End) → Allows held command work done end → AreForced (game_read held command) done.entries
+AllowedAreForced = (held : Holding) (command : Option Command) (work : Expanded) (done : Done) (end : End) → Allows held command work done end → AreForced command (game_read held command) done.entries
 
 said_more : (before after : Option (List Entry)) (earlier entries more : List Entry) → before ≡ Some earlier → after ≡ Some (earlier ++ entries) → Grows before after more → more ≡ entries
 said_more None after earlier entries more before_is after_is grows = absurd (cc before_is)
@@ -464,5 +302,5 @@ pub forced_ran : AllowedAreForced → (command : Option Command) (work : Expande
     → AnnouncesForced files.held command before.log after.log
 forced_ran law command work files files' before after status ran held earlier entries told before_is after_is =
     let ran_on = subst (λ (h : Option Holding). IfSome h (λ held. RanOn held command work files' before after (ending status))) told ran in
-    subst (λ (l : List Entry). AreForced (game_read held command) l) (said_more before.log after.log earlier entries ran_on.0.entries before_is after_is ran_on.2.talked.logged)
+    subst (λ (l : List Entry). AreForced command (game_read held command) l) (said_more before.log after.log earlier entries ran_on.0.entries before_is after_is ran_on.2.talked.logged)
     (law held command work ran_on.0 (ending status) ran_on.1)

@@ -1,4 +1,5 @@
 pub mod Openings
+pub mod Tasks
 pub mod Runs
 pub mod Plays
 pub mod Forced

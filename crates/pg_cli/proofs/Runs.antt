@@ -8,7 +8,7 @@ use Rattle.pg_game.specs.declared.game.Game.{Game}
 use Rattle.pg_files.specs.GameFile.{Entry as GameEntry}
 use Rattle.pg_cert.specs.declared.cert.Cert.{Cert}
 use Rattle.pg_texts.specs.declared.refusal.Refusal.{Refusal}
-use Rattle.pg_words.specs.Words.{Command, Solve, Check, Play, Gen, Report}
+use Rattle.pg_words.specs.Words.{Command, Solve, Check, Play, Gen, Report, OfFamily}
 use Rattle.pg_cli.specs.Checking.{RefusesCheck, AcceptsAll}
 use Rattle.pg_cli.specs.Commands.{Gives, LeavesFiles, LeavesWork, Quiets}
 use Rattle.pg_cli.specs.Playing.{RefusesPlay, PlaysOn}
@@ -22,6 +22,7 @@ use Rattle.pg_talk.specs.declared.halt.Halt.TheVariants.{Refused, Stopped}
 use Rattle.pg_talk.proofs.Openings.{opened_two, not_opened_two}
 use Rattle.pg_talk.proofs.Runs.{runs_halt, runs_read}
 use Rattle.pg_talk.proofs.Speaking.{Grows-nothing}
+use Rattle.pg_cli.proofs.Tasks.{task_leaves, task_memory, task_quiet}
 
 -- ---- a game and a certificate that were read, for a check and for a play
 
@@ -76,6 +77,7 @@ quiet_halt (Some (Check g c)) console (Stopped Read) = Grows-nothing console.log
 quiet_halt (Some (Solve g c positions)) console (Stopped Read) = Grows-nothing console.log
 quiet_halt (Some (Gen which g c)) console (Stopped Read) = Grows-nothing console.log
 quiet_halt (Some (Report g c)) console (Stopped Read) = Grows-nothing console.log
+quiet_halt (Some (OfFamily family task g c)) console (Stopped Read) = task_quiet task console
 quiet_halt command console (Stopped Write) = tt
 quiet_halt None console (Stopped Memory) = Grows-nothing console.log
 quiet_halt (Some (Solve g c positions)) console (Stopped Memory) = Grows-nothing console.log
@@ -84,6 +86,7 @@ quiet_halt (Some (Play g c side)) console (Stopped Memory) = Grows-nothing conso
 quiet_halt (Some (Gen which g None)) console (Stopped Memory) = Grows-nothing console.log
 quiet_halt (Some (Gen which g (Some c))) console (Stopped Memory) = inl (Grows-nothing console.log)
 quiet_halt (Some (Report g c)) console (Stopped Memory) = Grows-nothing console.log
+quiet_halt (Some (OfFamily family task g c)) console (Stopped Memory) = Grows-nothing console.log
 
 -- ---- words
 
@@ -104,6 +107,7 @@ module _ (command : Option Command) where
     go (Some (Play g c side)) = reads
     go (Some (Gen which g c)) = inl reads
     go (Some (Report g c)) = reads
+    go (Some (OfFamily family task g c)) = task_leaves task c files reads
 
   pub leaves_work : (work : Expanded) → LeavesWork command work work
   leaves_work work = go command where
@@ -115,6 +119,7 @@ module _ (command : Option Command) where
     go (Some (Play g c side)) = refl
     go (Some (Gen which g c)) = ((λ none. refl), inl refl)
     go (Some (Report g c)) = refl
+    go (Some (OfFamily family task g c)) = refl
 
   pub gives_memory : Gives command (Err (Stopped Memory))
   gives_memory = go command where
@@ -125,3 +130,4 @@ module _ (command : Option Command) where
     go (Some (Play g c side)) = tt
     go (Some (Gen which g c)) = tt
     go (Some (Report g c)) = tt
+    go (Some (OfFamily family task g c)) = task_memory task

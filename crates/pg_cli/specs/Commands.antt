@@ -6,7 +6,7 @@ use Rattle.pg_io.specs.declared.entry.Entry.TheVariants.{Said}
 use Rattle.pg_texts.specs.Texts.{no_meaning_text}
 use Rattle.pg_texts.specs.declared.refusal.Refusal.TheVariants.{NoMeaning}
 use Rattle.pg_texts.specs.declared.statuses.TheConstants.{DONE, UNKNOWN, NO_MEANING, FAULTY_GAME, REFUSED, READ_FAILED, WRITE_FAILED, NO_MEMORY, INPUT_ENDED, OUT_OF_REPLIES}
-use Rattle.pg_words.specs.Words.{Command, Solve, Check, Play, Gen, Report, meaning_of}
+use Rattle.pg_words.specs.Words.{Command, Solve, Check, Play, Gen, Report, OfFamily, meaning_of}
 use Rattle.pg_cli.specs.Generating.{TellsSize, has_source, names_of, searches}
 use Rattle.pg_talk.specs.Halts.{IsGameHalt, IsReadHalt, IsPlayHalt, IsPlayEnd, IsWriteHalt}
 use Rattle.pg_cli.specs.Reading.{both_held, game_held}
@@ -16,6 +16,7 @@ use Rattle.pg_cli.specs.declared.solving.TheConstants.{DEFAULT_POSITIONS}
 use Rattle.pg_talk.specs.Reading.{lacking}
 use Rattle.pg_talk.specs.Runs.{QuietsBy}
 use Rattle.pg_talk.specs.Storing.{StoresAt}
+use Rattle.pg_families.specs.Family.{GivesInFamily, LacksInFamily, LeavesFamilyFiles, QuietAtReadInFamily, statuses_in_family}
 use Rattle.pg_pns.specs.Expanded.{Expanded}
 use Rattle.pg_io.specs.declared.stop.Stop.TheVariants.{Memory}
 use Rattle.pg_talk.specs.declared.halt.Halt.{Halt}
@@ -28,6 +29,7 @@ built (Check g c) = Some (Check g c)
 built (Play g c side) = Some (Play g c side)
 built (Gen which g c) = if has_source which then Some (Gen which g c) else None
 built (Report g c) = Some (Report g c)
+built (OfFamily family task g c) = Some (OfFamily family task g c)
 
 -- what words ask for
 abbrev pub asked : List Bytes → Option Command
@@ -39,12 +41,14 @@ statuses_of (Some (Solve g c positions)) = DONE ∷ UNKNOWN ∷ FAULTY_GAME ∷ 
 statuses_of (Some (Check g c)) = DONE ∷ FAULTY_GAME ∷ REFUSED ∷ READ_FAILED ∷ WRITE_FAILED ∷ NO_MEMORY ∷ []
 statuses_of (Some (Play g c side)) = DONE ∷ NO_MEANING ∷ FAULTY_GAME ∷ REFUSED ∷ READ_FAILED ∷ WRITE_FAILED ∷ NO_MEMORY ∷ INPUT_ENDED ∷ OUT_OF_REPLIES ∷ []
 statuses_of (Some (Report g c)) = DONE ∷ FAULTY_GAME ∷ REFUSED ∷ READ_FAILED ∷ WRITE_FAILED ∷ NO_MEMORY ∷ []
+statuses_of (Some (OfFamily family task g c)) = statuses_in_family task
 statuses_of (Some (Gen which g c)) = if searches which c then DONE ∷ UNKNOWN ∷ WRITE_FAILED ∷ NO_MEMORY ∷ [] else DONE ∷ WRITE_FAILED ∷ NO_MEMORY ∷ []
 statuses_of None = NO_MEANING ∷ WRITE_FAILED ∷ NO_MEMORY ∷ []
 
 -- what is said where a read has failed: nothing, but in play
 abbrev pub QuietAtRead : Option Command → ConsoleTold → ConsoleTold → Type 0
 QuietAtRead (Some (Play g c side)) before after = ⊤
+QuietAtRead (Some (OfFamily family task g c)) before after = QuietAtReadInFamily task before after
 QuietAtRead _ before after = Grows before.log after.log []
 
 -- what is said where memory is wanting: nothing, so it isn't wanting once a claim was accepted or is played; of a game that is made and to be solved, perhaps its size
@@ -68,6 +72,7 @@ Gives (Some (Gen which g c)) (Ok status) = (status ≡ DONE) ⊎ ((searches whic
 Gives (Some (Gen which g c)) (Err halt) = IsWriteHalt halt
 Gives (Some (Report g c)) (Ok status) = IsReportEnd status
 Gives (Some (Report g c)) (Err halt) = IsReadHalt halt
+Gives (Some (OfFamily family task g c)) result = GivesInFamily task result
 Gives None (Ok status) = ⊥
 Gives None (Err halt) = (halt ≡ Refused NoMeaning) ⊎ (halt ≡ Stopped Memory)
 
@@ -85,6 +90,7 @@ pub record SaysNoMeaning (before after : ConsoleTold) (status : ℕ) : Type 0 wh
 abbrev pub LeavesFiles : Option Command → FilesTold → FilesTold → Type 0
 LeavesFiles (Some (Solve g c positions)) before after = StoresAt (c ∷ []) before after
 LeavesFiles (Some (Gen which g c)) before after = StoresAt (names_of g c) before after
+LeavesFiles (Some (OfFamily family task g c)) before after = LeavesFamilyFiles task c before after
 LeavesFiles _ before after = ReadsOnly before after
 
 -- what a command leaves of the work of a search: all, unless it searches; then at every status what a search may leave
@@ -100,6 +106,7 @@ Lacks held (Some (Solve g c positions)) = game_held (held g) ≡ Err lacking
 Lacks held (Some (Check g c)) = both_held (held g) (held c) ≡ Err lacking
 Lacks held (Some (Play g c side)) = both_held (held g) (held c) ≡ Err lacking
 Lacks held (Some (Report g c)) = both_held (held g) (held c) ≡ Err lacking
+Lacks held (Some (OfFamily family task g c)) = LacksInFamily family task (held g) (held c)
 Lacks held _ = ⊥
 
 -- the same where it is told what the names hold
@@ -113,4 +120,5 @@ game_read held (Some (Solve g c positions)) = held g
 game_read held (Some (Check g c)) = held g
 game_read held (Some (Play g c side)) = held g
 game_read held (Some (Report g c)) = held g
+game_read held (Some (OfFamily family task g c)) = held g
 game_read held _ = None

@@ -1,18 +1,16 @@
 -- What it means that a claim is accepted, or played.
 use Rattle.std.specs.Prelude.{◌≡◌, List, ◌++◌, Option, Some, Ok}
-use Rattle.std.specs.List.{Contains}
 use Rattle.pg_base.specs.declared.goal.Goal.{Goal}
 use Rattle.pg_base.specs.declared.side.Side.{Side}
 use Rattle.pg_io.specs.Files.{Bytes, Holding}
 use Rattle.pg_io.specs.declared.entry.Entry.{Entry}
-use Rattle.pg_io.specs.declared.entry.Entry.TheVariants.{Said}
 use Rattle.pg_game.specs.Game.{with_turn, start}
 use Rattle.pg_game.specs.Value.{Forces}
 use Rattle.pg_game.specs.declared.game.Game.{Game}
 use Rattle.pg_files.specs.GameFile.{game}
 use Rattle.pg_files.specs.Views.{entry}
-use Rattle.pg_texts.specs.Texts.{accepted_text, claim_text}
-use Rattle.pg_words.specs.Words.{Command}
+use Rattle.pg_words.specs.Words.{Command, OfFamily}
+use Rattle.pg_families.specs.Family.{AreForcedBy, AreForcedInFamily}
 use Rattle.pg_cli.specs.Commands.{game_read}
 
 -- these bytes say this game
@@ -29,12 +27,16 @@ IsForcedFrom bytes turn side goal = (g : Game) × SaysGame bytes g × Forces g (
 abbrev pub IsForced : Option Bytes → Side → Goal → Type 0
 IsForced bytes side goal = (g : Game) × SaysGame bytes g × Forces g (start g) side goal
 
--- each claim that is accepted among what was said, and each that is played, is forced
-pub record AreForced (bytes : Option Bytes) (entries : List Entry) : Type 0 where
-  pub accepted : (turn side : Side) (goal : Goal) → Contains entries (Said (accepted_text turn side goal)) → IsForcedFrom bytes turn side goal
-  pub claimed : (side : Side) (goal : Goal) → Contains entries (Said (claim_text side goal)) → IsForced bytes side goal
+-- each claim that is accepted among what was said, and each that is played, is forced in the game that these bytes say
+abbrev pub AreForcedInGame : Option Bytes → List Entry → Type 0
+AreForcedInGame bytes entries = AreForcedBy (IsForcedFrom bytes) (IsForced bytes) entries
+
+-- the same by the command: that of a family reads a game of the family
+abbrev pub AreForced : Option Command → Option Bytes → List Entry → Type 0
+AreForced (Some (OfFamily family task g c)) bytes entries = AreForcedInFamily family bytes entries
+AreForced _ bytes entries = AreForcedInGame bytes entries
 
 -- of all that a command has said, where it is told what the names hold and what was said
 abbrev pub AnnouncesForced : Option Holding → Option Command → Option (List Entry) → Option (List Entry) → Type 0
 AnnouncesForced told command log after = (held : Holding) (earlier entries : List Entry) → told ≡ Some held → log ≡ Some earlier → after ≡ Some (earlier ++ entries)
-    → AreForced (game_read held command) entries
+    → AreForced command (game_read held command) entries

@@ -9,7 +9,7 @@ use Rattle.pg_texts.specs.Texts.{refusal_text}
 use Rattle.pg_texts.specs.declared.refusal.Refusal.{Refusal}
 use Rattle.pg_texts.specs.declared.refusal.Refusal.TheVariants.{NoMeaning}
 use Rattle.pg_texts.specs.declared.statuses.TheConstants.{READ_FAILED, WRITE_FAILED}
-use Rattle.pg_words.specs.Words.{Command, Solve, Check, Play, Gen, Report}
+use Rattle.pg_words.specs.Words.{Command, Solve, Check, Play, Gen, Report, OfFamily}
 use Rattle.pg_cli.specs.Checking.{RefusesCheck, AcceptsAll}
 use Rattle.pg_talk.specs.Done.{Done, End, Finished, Failed, Starved, Changes, Follows, IsNothing, ending}
 use Rattle.pg_cli.specs.Generating.{Generates}
@@ -19,6 +19,7 @@ use Rattle.pg_cli.specs.Reading.{both_held, game_held}
 use Rattle.pg_cli.specs.Reporting.{RefusesReport, Reports}
 use Rattle.pg_cli.specs.Solving.{Solves}
 use Rattle.pg_talk.specs.Runs.{Runs}
+use Rattle.pg_families.specs.Family.{ActsInFamily, RefusesFamily}
 use Rattle.pg_pns.specs.Expanded.{Expanded}
 use Rattle.pg_talk.specs.declared.halt.Halt.{Halt}
 use Rattle.pg_talk.specs.declared.halt.Halt.TheVariants.{Refused, Stopped}
@@ -30,6 +31,7 @@ Refuses held (Some (Check g c)) refusal = RefusesCheck (both_held (held g) (held
 Refuses held (Some (Play g c side)) refusal = RefusesPlay side (both_held (held g) (held c)) refusal
 Refuses held (Some (Report g c)) refusal = RefusesReport (both_held (held g) (held c)) refusal
 Refuses held (Some (Gen which g c)) refusal = ⊥
+Refuses held (Some (OfFamily family task g c)) refusal = RefusesFamily family task (held g) (held c) refusal
 Refuses held None refusal = refusal ≡ NoMeaning
 
 -- the command does what it is there for, and ends so
@@ -39,6 +41,7 @@ Acts held (Some (Check g c)) work done end = AcceptsAll (both_held (held g) (hel
 Acts held (Some (Play g c side)) work done end = PlaysOn side (both_held (held g) (held c)) done.entries end × (done.stored ≡ [])
 Acts held (Some (Gen which g c)) work done end = Generates which g c work done end
 Acts held (Some (Report g c)) work done end = Reports (both_held (held g) (held c)) done.entries end × (done.stored ≡ [])
+Acts held (Some (OfFamily family task g c)) work done end = ActsInFamily family task (held g) (held c) c done end
 Acts held _ work done end = ⊥
 
 -- the command isn't carried out: what stands against it is said, with its status; where the run was stopped, nothing was done

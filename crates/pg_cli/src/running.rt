@@ -13,6 +13,7 @@ use crate::laws::announced_claims_are_forced;
 use crate::playing::play;
 use crate::reporting::report;
 use crate::solving::{positions_for, solve};
+use pg_families::carry_out_in_family;
 use pg_io::{Console, Files, Stop};
 use pg_pns::Work;
 use pg_talk::{Halt, say};
@@ -66,6 +67,12 @@ fn carry_out<F: Files, C: Console>(
             let certificate = certificate.as_deref();
             generate(alloc, which, &game, certificate, files, console, work)
         }
+        Command::OfFamily {
+            family,
+            task,
+            game,
+            certificate,
+        } => carry_out_in_family(alloc, family, task, &game, &certificate, files, console),
     }
 }
 
@@ -88,7 +95,7 @@ fn end_early<C: Console>(console: &mut C, halt: Halt) -> u8
 ///
 /// | status | when |
 /// |---|---|
-/// | 0 | done: the game is made and stored, the game is solved and its certificate stored, each claim of the certificate is accepted, the game that was played is over, or the report of a valid certificate is said |
+/// | 0 | done: the game is made and stored, the game is solved (that of a family: its class is found) and its certificate stored, each claim of the certificate is accepted, the game that was played is over, or the report of a valid certificate is said |
 /// | 1 | the question that was asked last of a game on lines is open after as many positions as the budget allows |
 /// | 2 | the words have no meaning, or the certificate has no claim of the side to play with the game's turn |
 /// | 3 | the game file has a fault |
@@ -102,11 +109,11 @@ fn end_early<C: Console>(console: &mut C, halt: Halt) -> u8
 /// A game that is made is stored before its size is said, and solved only then. Where the files tell what they
 /// hold, `ran` says what is said and stored at each status, by the command; in play, that the log is a dialogue
 /// of the side to its end, and that at 0 the outcome reaches the goal of the claim. `forced` says that at any
-/// status every claim that is accepted or played is forced by its side. `silent` says what is said at 5 and 7,
-/// `words` what is said of words without a meaning, `files` and `work` what is left, `statuses` which statuses
-/// the command may give, and `causes` when a status comes from a failed call. Of files and consoles that tell
-/// nothing, as the system's, the last four alone say something: what `work` holds, the statuses, their causes,
-/// and that no file is being made afterwards.
+/// status every claim that is accepted or played is forced by its side in the game that the file says, of a family
+/// where the command is a family's. `silent` says what is said at 5 and 7, `words` what is said of words without a
+/// meaning, `files` and `work` what is left, `statuses` which statuses the command may give, and `causes` when a
+/// status comes from a failed call. Of files and consoles that tell nothing, as the system's, the last four alone
+/// say something: what `work` holds, the statuses, their causes, and that no file is being made afterwards.
 pub fn run<F: Files, C: Console>(
     alloc: Global,
     words: &[String],

@@ -4,6 +4,7 @@ use Rattle.pg_io.specs.declared.stop.Stop.TheVariants.{Memory}
 use Rattle.pg_cli.specs.Commands.{asked}
 use Rattle.pg_talk.specs.declared.halt.Halt.TheVariants.{Stopped}
 use Rattle.pg_cli.proofs.Runs.{carries_memory, gives_memory, leaves_all, leaves_work, quiet_halt}
+use Rattle.pg_cli.proofs.Tasks.{task_causes}
 use Rattle.pg_cli.proofs.running.carry_out.Goals as goal
 
 pub returns-in_err-command-clause-ran : goal.returns-in_err-command-clause-ran
@@ -26,3 +27,7 @@ pub returns-in_err-command-clause-gives : goal.returns-in_err-command-clause-giv
 returns-in_err-command-clause-gives g c =
     let p = err_from_is_err_and c.from_residual.result c.from_residual.ensures.1 in
     rw (p.1, p.2) (gives_memory (asked (map string_bytes c.args.words.now)))
+
+pub returns-in-OfFamily-clause-causes : goal.returns-in-OfFamily-clause-causes
+returns-in-OfFamily-clause-causes g c =
+    task_causes c.in-OfFamily.family c.in-OfFamily.task c.in-OfFamily.game c.in-OfFamily.certificate (g.F.Files.told c.args.files.now) (g.F.Files.told c.carry_out_in_family.new.files) (g.C.Console.told c.args.console.now) (g.C.Console.told c.carry_out_in_family.new.console) c.carry_out_in_family.result c.carry_out_in_family.ensures.causes

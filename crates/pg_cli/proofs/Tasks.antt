@@ -1,0 +1,123 @@
+-- What a task done with a game of a family gives, says and leaves; a check and a play of any other game have the same statuses.
+use Rattle.std.proofs.Common.{◌≡◌, ℕ, List, Option, Some, None, Result, Ok, Err, refl, sym, subst, inl, inr, arith}
+use Rattle.std.specs.List.{Contains}
+use Rattle.pg_io.specs.Console.{ConsoleTold}
+use Rattle.pg_io.specs.Files.{Bytes, Holding, FilesTold, ReadsOnly}
+use Rattle.pg_io.specs.declared.stop.Stop.{Stop}
+use Rattle.pg_io.specs.declared.stop.Stop.TheVariants.{Read, Write, Memory}
+use Rattle.pg_texts.specs.Statuses.{refusal_status}
+use Rattle.pg_texts.specs.declared.refusal.Refusal.{Refusal}
+use Rattle.pg_texts.specs.declared.refusal.Refusal.TheVariants.{NoMeaning, NoClaim, Game, Certificate, Rejected, RejectedSpan, RejectedVectors}
+use Rattle.pg_texts.specs.declared.statuses.TheConstants.{DONE, INPUT_ENDED, OUT_OF_REPLIES}
+use Rattle.pg_words.specs.Words.{OfFamily}
+use Rattle.pg_words.specs.declared.family.Family.{Family}
+use Rattle.pg_words.specs.declared.family.Family.TheVariants.{Connectivity, Vectors}
+use Rattle.pg_words.specs.declared.family.FamilyTask.{FamilyTask}
+use Rattle.pg_words.specs.declared.family.FamilyTask.TheVariants.{Solve, Check, Play}
+use Rattle.pg_families.specs.Family.{GivesInFamily, IsLackingInFamily, LeavesFamilyFiles, QuietAtReadInFamily, statuses_in_family}
+use Rattle.pg_talk.specs.Done.{Finished, ending}
+use Rattle.pg_talk.specs.Halts.{BothCauses, stop_status}
+use Rattle.pg_talk.specs.declared.halt.Halt.{Halt}
+use Rattle.pg_talk.specs.declared.halt.Halt.TheVariants.{Refused, Stopped}
+use Rattle.pg_talk.proofs.Speaking.{Grows-nothing}
+use Rattle.pg_cli.specs.Commands.{IsLacking}
+
+-- ---- statuses
+
+pub at_place : (l : List ℕ) (n m : ℕ) → n ≡ m → Contains l m → Contains l n
+at_place l n m is there = subst (λ (s : ℕ). Contains l s) (sym is) there
+
+-- a task that is done has a status of its own
+pub task_finishes : (task : FamilyTask) (status : ℕ) → GivesInFamily task (Ok status) → ending status ≡ Finished status
+task_finishes Solve status is = subst (λ (s : ℕ). ending s ≡ Finished s) (sym is) refl
+task_finishes Check status is = subst (λ (s : ℕ). ending s ≡ Finished s) (sym is) refl
+task_finishes (Play side) status (inl is) = subst (λ (s : ℕ). ending s ≡ Finished s) (sym is) refl
+task_finishes (Play side) status (inr (inl is)) = subst (λ (s : ℕ). ending s ≡ Finished s) (sym is) refl
+task_finishes (Play side) status (inr (inr is)) = subst (λ (s : ℕ). ending s ≡ Finished s) (sym is) refl
+
+pub task_done : (task : FamilyTask) (status : ℕ) → GivesInFamily task (Ok status) → Contains (statuses_in_family task) status
+task_done Solve status is = at_place (statuses_in_family Solve) status DONE is (0, omega arith, refl)
+task_done Check status is = at_place (statuses_in_family Check) status DONE is (0, omega arith, refl)
+task_done (Play side) status (inl is) = at_place (statuses_in_family (Play side)) status DONE is (0, omega arith, refl)
+task_done (Play side) status (inr (inl is)) = at_place (statuses_in_family (Play side)) status INPUT_ENDED is (7, omega arith, refl)
+task_done (Play side) status (inr (inr is)) = at_place (statuses_in_family (Play side)) status OUT_OF_REPLIES is (8, omega arith, refl)
+
+-- what stops a task has a status of its table
+pub task_stops : (task : FamilyTask) (stop : Stop) → Contains (statuses_in_family task) (stop_status stop)
+task_stops Solve Read = (2, omega arith, refl)
+task_stops Solve Write = (3, omega arith, refl)
+task_stops Solve Memory = (4, omega arith, refl)
+task_stops Check Read = (3, omega arith, refl)
+task_stops Check Write = (4, omega arith, refl)
+task_stops Check Memory = (5, omega arith, refl)
+task_stops (Play side) Read = (4, omega arith, refl)
+task_stops (Play side) Write = (5, omega arith, refl)
+task_stops (Play side) Memory = (6, omega arith, refl)
+
+-- and so has what stands against it
+pub task_refuses : (task : FamilyTask) (refusal : Refusal) → GivesInFamily task (Err (Refused refusal)) → Contains (statuses_in_family task) (refusal_status refusal)
+task_refuses Solve NoMeaning gives = absurd gives
+task_refuses Solve (NoClaim side) gives = absurd gives
+task_refuses Solve (Game number line) gives = (1, omega arith, refl)
+task_refuses Solve (Certificate number line) gives = absurd gives
+task_refuses Solve (Rejected claim node why) gives = absurd gives
+task_refuses Solve (RejectedSpan claim why) gives = absurd gives
+task_refuses Solve (RejectedVectors claim node why) gives = absurd gives
+task_refuses Check NoMeaning gives = absurd gives
+task_refuses Check (NoClaim side) gives = absurd gives
+task_refuses Check (Game number line) gives = (1, omega arith, refl)
+task_refuses Check (Certificate number line) gives = (2, omega arith, refl)
+task_refuses Check (Rejected claim node why) gives = (2, omega arith, refl)
+task_refuses Check (RejectedSpan claim why) gives = (2, omega arith, refl)
+task_refuses Check (RejectedVectors claim node why) gives = (2, omega arith, refl)
+task_refuses (Play side) NoMeaning gives = absurd gives
+task_refuses (Play side) (NoClaim other) gives = (1, omega arith, refl)
+task_refuses (Play side) (Game number line) gives = (2, omega arith, refl)
+task_refuses (Play side) (Certificate number line) gives = (3, omega arith, refl)
+task_refuses (Play side) (Rejected claim node why) gives = (3, omega arith, refl)
+task_refuses (Play side) (RejectedSpan claim why) gives = (3, omega arith, refl)
+task_refuses (Play side) (RejectedVectors claim node why) gives = (3, omega arith, refl)
+
+-- ---- where memory for the words is wanting
+
+pub task_quiet : (task : FamilyTask) (console : ConsoleTold) → QuietAtReadInFamily task console console
+task_quiet Solve console = Grows-nothing console.log
+task_quiet Check console = Grows-nothing console.log
+task_quiet (Play side) console = tt
+
+pub task_leaves : (task : FamilyTask) (c : Bytes) (files : FilesTold) → ReadsOnly files files → LeavesFamilyFiles task c files files
+task_leaves Solve c files reads = inl reads
+task_leaves Check c files reads = reads
+task_leaves (Play side) c files reads = reads
+
+pub task_memory : (task : FamilyTask) → GivesInFamily task (Err (Stopped Memory))
+task_memory Solve = tt
+task_memory Check = tt
+task_memory (Play side) = tt
+
+-- ---- a name that isn't held
+
+-- where a name that is read for a task isn't held, so it is for the command
+task_lacks : (family : Family) (task : FamilyTask) (h : Option Holding) (g c : Bytes) → IsLackingInFamily family task h g c → IsLacking h (Some (OfFamily family task g c))
+task_lacks Connectivity Solve None g c lacks = absurd lacks
+task_lacks Connectivity Solve (Some held) g c lacks = lacks
+task_lacks Connectivity Check None g c lacks = absurd lacks
+task_lacks Connectivity Check (Some held) g c lacks = lacks
+task_lacks Connectivity (Play side) None g c lacks = absurd lacks
+task_lacks Connectivity (Play side) (Some held) g c lacks = lacks
+task_lacks Vectors Solve None g c lacks = absurd lacks
+task_lacks Vectors Solve (Some held) g c lacks = lacks
+task_lacks Vectors Check None g c lacks = absurd lacks
+task_lacks Vectors Check (Some held) g c lacks = lacks
+task_lacks Vectors (Play side) None g c lacks = absurd lacks
+task_lacks Vectors (Play side) (Some held) g c lacks = lacks
+
+-- the causes of how a task ends are those of the command
+pub task_causes : (family : Family) (task : FamilyTask) (g c : Bytes) (files files' : FilesTold) (before after : ConsoleTold) (r : Result ℕ Halt)
+    → BothCauses (IsLackingInFamily family task files.held g c) files files' before after r → BothCauses (IsLacking files.held (Some (OfFamily family task g c))) files files' before after r
+task_causes family task g c files files' before after (Ok status) causes = causes
+task_causes family task g c files files' before after (Err (Refused refusal)) causes = causes
+task_causes family task g c files files' before after (Err (Stopped Read)) (inl rose) = inl rose
+task_causes family task g c files files' before after (Err (Stopped Read)) (inr lacks) = inr (task_lacks family task files.held g c lacks)
+task_causes family task g c files files' before after (Err (Stopped Write)) causes = causes
+task_causes family task g c files files' before after (Err (Stopped Memory)) causes = causes
