@@ -1,0 +1,3 @@
+pub mod GridMaps
+pub mod Images
+pub mod Rows
