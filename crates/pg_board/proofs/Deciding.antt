@@ -1,7 +1,6 @@
 -- Whether a potential decides, and whether the game is over, by counts.
 use Rattle.std.proofs.Common.{◌≡◌, ℕ, zero, suc, ◌+◌, ◌-◌, ◌*◌, ◌^◌, ◌<◌, ◌≤◌, Bool, true, false, not, ◌&&◌, List, [], ◌∷◌, Option, length, get_or, eqb, nat_lt, if◌then◌else◌, refl, sym, ap, ◌∙◌, arith, inl, inr}
 use Rattle.std.proofs.lemmas.Bool.{cases_Bool, ne_eqb, le-ltb, lt-ltb, and_right, false≢true}
-use Rattle.std.proofs.lemmas.List.{length_push}
 use Rattle.std.specs.Prelude.{slice_get}
 use Rattle.std.specs.Option.{is_some}
 use Rattle.std.specs.List.{count_by, filter, range_with_len, list_all, list_any}
@@ -21,7 +20,7 @@ use Rattle.pg_board.specs.Fits.{Rules, position_of, turn_of, left_of, live_lines
 use Rattle.pg_board.specs.Board.{is_live_with}
 use Rattle.pg_board.specs.Totals.{live_with_in, total_in, greatest_in, times_in, potential_in, risk_in, avoider_in, Agree}
 use Rattle.pg_board.proofs.CellPlaces.{mark-within}
-use Rattle.pg_board.proofs.Ranges.{count-cons, filter-on, filter-off}
+use Rattle.pg_board.proofs.Ranges.{count-cons}
 use Rattle.pg_board.proofs.Walks.{disjoint-is}
 use Rattle.pg_board.proofs.Digits.{count-first}
 

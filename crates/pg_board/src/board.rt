@@ -16,7 +16,7 @@ ghost use Rattle.pg_board.specs.Shape.{lines_holding};
 
 use crate::decided::{self, has_filled};
 use crate::layout::Layout;
-use crate::opening::{blank_cells, open_marks, turn_code, whole_room};
+use crate::opening::{Rings, blank_trail, open_marks, turn_code, whole_rings};
 use crate::plays::{Played, play_point, undo_play};
 use crate::points::{free_point, is_unmarked, left, marked, turn};
 use crate::totals;
@@ -75,12 +75,14 @@ impl<'a> Board<'a> {
         ensures earlier { IfOk result (λ b. b.earlier ≡ []) }
     {
         let layout = Layout::of_game(alloc, g)?;
-        let cells = blank_cells(alloc, &layout)?;
-        let mut trail = Trail::new(alloc, cells.as_slice(), whole_room(&layout))?;
-        let mut live_x = Ring::new(alloc, layout.lines())?;
-        let mut live_y = Ring::new(alloc, layout.lines())?;
-        let mut free = Ring::new(alloc, u32::from(layout.points()))?;
+        let mut trail = blank_trail(alloc, &layout)?;
         let plays = Vec::with_capacity(alloc, usize::from(layout.points()))?;
+        let rings = whole_rings(alloc, &layout)?;
+        let Rings {
+            mut live_x,
+            mut live_y,
+            mut free,
+        } = rings;
         open_marks(
             &layout,
             g.bias,

@@ -1,4 +1,4 @@
-use Rattle.std.proofs.Common.{◌≡◌, List, ℕ, map, length, replicate, [], ap, ◌∙◌, sym, subst, arith}
+use Rattle.std.proofs.Common.{List, ℕ, map, length, [], ap, ◌∙◌}
 use Rattle.std.proofs.lemmas.List.{length-replicate}
 use Rattle.std.specs.List.{range_with_len}
 use Rattle.pg_board.specs.Shape.{lines_holding}

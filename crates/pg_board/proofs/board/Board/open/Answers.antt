@@ -1,5 +1,4 @@
-use Rattle.std.proofs.Common.{◌≡◌, ◌+◌, ◌^◌, ◌≤◌, [], ◌∷◌, length, reverse, arith, ap, ◌∙◌}
-use Rattle.std.specs.List.{range_with_len}
+use Rattle.std.proofs.Common.{◌≡◌, ◌+◌, ◌^◌, ◌≤◌, [], length, reverse, arith, ap, ◌∙◌}
 use Rattle.pg_base.specs.declared.side.Side.TheVariants.{Y}
 use Rattle.pg_game.specs.Game.{point_count, lines_of}
 use Rattle.pg_game.specs.Potential.{greatest_length}
@@ -8,7 +7,7 @@ use Rattle.pg_game.proofs.Moves.{some_bias}
 use Rattle.pg_game.proofs.WeightBounds.{bias-le, bias-few}
 use Rattle.pg_trail.specs.Trail.{Cells, with_set}
 use Rattle.pg_board.specs.Shape.{Shape, turn_cell}
-use Rattle.pg_board.specs.Opening.{AreBlank, turn_code}
+use Rattle.pg_board.specs.Opening.{turn_code}
 use Rattle.pg_board.specs.Fits.{Rules, Fits, position_of}
 use Rattle.pg_board.proofs.Fitting.{some-cells}
 use Rattle.pg_board.proofs.OpeningSteps.{turned-fits}
@@ -19,16 +18,12 @@ use Rattle.pg_board.proofs.board.Board.open.Goals as goal
 pub open_marks-requires-clause-opens : goal.open_marks-requires-clause-opens
 open_marks-requires-clause-opens c =
     let s = c.in_ok-layout.layout in
-    let cells = c.in_ok-trail.ensures.cells ∙ c.as_slice.ensures.value in
-    let blank : AreBlank s (length s.lines) c.in_ok-trail.trail.cells = rw cells c.in_ok-cells.ensures in
     let longest : s.longest ≡ greatest_length (lines_of c.args.g.now) = ap (λ (k : Shape). k.longest) c.in_ok-layout.ensures in
     let weights : (1 + c.args.g.now.bias) ^ s.longest ≤ 2 ^ 100 = omega (arith, full_weight-is (1 + c.args.g.now.bias) c.args.g.now s.longest longest, bias-few c.args.g.now) in
-    blank-opens (record { bias = c.args.g.now.bias; shape = s }) c.args.p.now c.in_ok-trail.trail c.in_ok-live_x.live_x c.in_ok-live_y.live_y c.in_ok-free.free
-    c.lines.ensures.shape (some_bias c.args.g.now Y) (bias-le c.args.g.now) weights blank
-    (c.in_ok-live_x.ensures ∙ ap (λ n. range_with_len 0 n ∷ []) c.lines.ensures.count)
-    (c.in_ok-live_y.ensures ∙ ap (λ n. range_with_len 0 n ∷ []) c.lines-2.ensures.count)
-    (c.in_ok-free.ensures ∙ ap (λ n. range_with_len 0 n ∷ []) (c.from.ensures ∙ c.points.ensures))
-    (omega (arith, c.in_ok-trail.ensures.spare, c.whole_room.ensures))
+    blank-opens (record { bias = c.args.g.now.bias; shape = s }) c.args.p.now c.in_ok-trail.trail c.in_ok-rings.rings.live_x c.in_ok-rings.rings.live_y c.in_ok-rings.rings.free
+    c.in_ok-rings.ensures.shape (some_bias c.args.g.now Y) (bias-le c.args.g.now) weights c.in_ok-trail.ensures.cells
+    c.in_ok-rings.ensures.live_x c.in_ok-rings.ensures.live_y c.in_ok-rings.ensures.free
+    (omega (arith, c.in_ok-trail.ensures.spare))
 
 pub set-requires-clause-within : goal.set-requires-clause-within
 set-requires-clause-within c = some-cells _ _ _ _ _ c.open_marks.ensures.fits
@@ -50,7 +45,7 @@ invariant_of-result c =
       has_lines = c.requires.lines;
       layout = c.in_ok-layout.ensures;
       fit = fit-none r _ _ _ _ _ none settled_fits;
-      places = omega (arith, c.in_ok-plays.ensures.capacity, c.from-2.ensures, c.points-2.ensures);
+      places = omega (arith, c.in_ok-plays.ensures.capacity, c.from.ensures, c.points.ensures);
     }
 
 pub returns-clause-position : goal.returns-clause-position
