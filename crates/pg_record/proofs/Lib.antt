@@ -1,0 +1,4 @@
+pub mod Standing
+pub mod Along
+pub mod Boards
+pub mod Sessions

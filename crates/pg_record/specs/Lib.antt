@@ -1,0 +1,4 @@
+pub mod Replay
+pub mod Session
+pub mod SessionCode
+pub mod Print
