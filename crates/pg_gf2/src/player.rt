@@ -22,8 +22,7 @@ use std::marker::Model;
 ///
 /// A contract sees the game, the side, the position and the plan, which is what is left of the claim's sets. The position
 /// is always one after a legal play from the game's marks, and the side forces its win from it. No call after `open` takes
-/// memory. A call takes the time of a few eliminations, and for Y of one for each vector of a set that bridges another, of
-/// which there are at most as many as a vector has signs.
+/// memory. A call takes the time of a few eliminations.
 #[derive(Drop)]
 pub struct VecPlayer<'a> {
     game: &'a VecGame,

@@ -1,14 +1,16 @@
 use Rattle.std.proofs.Common.{◌≡◌, ◌<◌, ◌≤◌, ◌+◌, ℕ, Bool, true, false, length, List, sym, ap, ◌∙◌, subst, subst₂, arith, inl, inr}
-use Rattle.std.specs.FinSet.{contains, contains-empty, empty}
+use Rattle.std.specs.FinSet.{FinSet, contains, contains-empty, empty}
 use Rattle.std.specs.Ordering.{nat_cmp}
 use Rattle.std.specs.Vec.{vec_len, vec_capacity}
-use Rattle.std.proofs.lemmas.Bool.{cases_eq, false_from_ne_true}
+use Rattle.std.proofs.lemmas.Bool.{both_ways, cases_eq, false_from_ne_true}
 use Rattle.pg_base.specs.Sets.{below, plus, IsWithin}
-use Rattle.pg_base.proofs.SetLemmas.{plus_old, plus_new}
+use Rattle.pg_base.proofs.SetLemmas.{plus_cases, plus_old, plus_new}
 use Rattle.pg_base.proofs.BelowLemmas.{below_parts, below_from, below_in, below_out}
+use Rattle.pg_exchange.proofs.Tests.{emptied, with_point}
 use Rattle.pg_gf2.specs.declared.row.Row.{Row}
 use Rattle.pg_gf2.specs.Vectors.{vector_at}
-use Rattle.pg_gf2.specs.Rows.{AreRows, IsEliminated, reduced}
+use Rattle.pg_gf2.specs.Rows.{IsEliminated, reduced}
+use Rattle.pg_gf2.proofs.RowLemmas.{told_whole}
 use Rattle.pg_gf2.proofs.EliminationLemmas.{eliminated_all, eliminated_begin, eliminated_own, eliminated_skip}
 use Rattle.pg_gf2.proofs.room.fill.Goals as goal
 use Rattle.pg_gf2.proofs.room.fill.Goals.{then-has+then-left-ne0, then-has+else-left-ne0, else-has}
@@ -29,6 +31,7 @@ loop-k-init c =
     record {
       eliminated = subst (λ (rows : List Row). IsEliminated v (length c.args.vectors.now) x (λ _. false) (below x 0) rows) (sym c.clear.ensures.items)
           (eliminated_begin v (length c.args.vectors.now) x (below x 0) (nothing_below x));
+      within = λ z h. absurd (both_ways _ (emptied c.empty-base.result c.empty-base.ensures z) h);
       few = omega (arith, c.clear.ensures.len);
       room = omega (arith, c.clear.ensures.capacity, c.requires.room);
     }
@@ -45,24 +48,27 @@ loop-k-preserved c =
     elim c.if-has.branch [
       | then-has+then-left-ne0 w ↦
           let xk : x k ≡ true = sym w.if-has.ensures in
-          let told = w.reduced-left.ensures.members v n x (λ _. false) (subst (λ (rows : List Row). AreRows v n x (λ _. false) rows) (sym w.deref.ensures.value) i.eliminated.told) in
-          let left = w.reduced-left.ensures.value ∙ ap (λ (rows : List Row). reduced rows (v k)) w.deref.ensures.value in
+          let left : w.rest-left.result ≡ reduced c.loop-k.rows.items (v k) = w.rest-left.ensures ∙ ap (λ (rows : List Row). reduced rows (v k)) w.deref.ensures.value in
+          let told = told_whole v n x (λ _. false) c.loop-k.rows.items (v k) w.rest-left.result i.eliminated.told left in
+          let now : contains c.if-has.base ≡ plus (contains c.loop-k.base) k = ap (λ (s : FinSet nat_cmp). contains s) w.base-is ∙ with_point c.loop-k.base w.put.new.self k w.put.ensures in
           let count : vec_len c.if-has.rows ≡ vec_len c.loop-k.rows + 1 = ap vec_len w.rows-is ∙ w.put_row.ensures.len in
           let more : vec_capacity c.loop-k.rows ≤ vec_capacity c.if-has.rows = subst (λ (q : ℕ). vec_capacity c.loop-k.rows ≤ q) (sym (ap vec_capacity w.rows-is)) w.put_row.ensures.capacity in
           record {
             eliminated = subst₂ (λ (set : ℕ → Bool) (rows : List Row). IsEliminated v n x (λ _. false) set rows) (below_in x k xk) (sym (ap (λ r. r.items) w.rows-is))
-                (eliminated_own v n x (below x k) (contains w.reduced-left.result.1) empty c.loop-k.rows.items w.put_row.new.rows.items w.reduced-left.result.0 k low xk i.eliminated left told
+                (eliminated_own v n x (below x k) told.0 empty c.loop-k.rows.items w.put_row.new.rows.items w.rest-left.result k low xk i.eliminated left told.1
                 (contains-empty nat_cmp) w.put_row.ensures.row);
+            within = λ z h. elim (plus_cases (contains c.loop-k.base) k z (subst (λ (s : ℕ → Bool). s z ≡ true) now h)) [ inl m ↦ i.within z m | inr e ↦ subst (λ (j : ℕ). x j ≡ true) e xk ];
             few = omega (arith, count, i.few);
             room = omega (arith, more, i.room);
           }
       | then-has+else-left-ne0 w ↦
-          let left : reduced c.loop-k.rows.items (v k) ≡ 0 = sym (w.reduced-left.ensures.value ∙ ap (λ (rows : List Row). reduced rows (v k)) w.deref.ensures.value) ∙ w.if-left-ne0.false in
+          let left : reduced c.loop-k.rows.items (v k) ≡ 0 = sym (w.rest-left.ensures ∙ ap (λ (rows : List Row). reduced rows (v k)) w.deref.ensures.value) ∙ w.if-left-ne0.false in
           let count : vec_len c.if-has.rows ≡ vec_len c.loop-k.rows = ap vec_len w.rows-is in
           let more : vec_capacity c.if-has.rows ≡ vec_capacity c.loop-k.rows = ap vec_capacity w.rows-is in
           record {
             eliminated = subst (λ (rows : List Row). IsEliminated v n x (λ _. false) (below x (k + 1)) rows) (sym (ap (λ r. r.items) w.rows-is))
                 (eliminated_skip v n x (λ _. false) (below x k) (below x (k + 1)) c.loop-k.rows.items k i.eliminated (one_more x k) (λ _. left));
+            within = λ z h. i.within z (subst (λ (s : FinSet nat_cmp). contains s z ≡ true) w.base-is h);
             few = omega (arith, count, i.few);
             room = omega (arith, more, i.room);
           }
@@ -71,6 +77,7 @@ loop-k-preserved c =
           let more : vec_capacity c.if-has.rows ≡ vec_capacity c.loop-k.rows = ap vec_capacity w.rows-is in
           record {
             eliminated = subst₂ (λ (set : ℕ → Bool) (rows : List Row). IsEliminated v n x (λ _. false) set rows) (below_out x k (sym w.if-has.ensures)) (sym (ap (λ r. r.items) w.rows-is)) i.eliminated;
+            within = λ z h. i.within z (subst (λ (s : FinSet nat_cmp). contains s z ≡ true) w.base-is h);
             few = omega (arith, count, i.few);
             room = omega (arith, more, i.room);
           }

@@ -3,7 +3,8 @@ use Rattle.std.proofs.lemmas.Bool.{both_ways, cases_eq, and_parts, and_from, fal
 use Rattle.std.specs.FinSet.{contains}
 use Rattle.pg_gf2.specs.declared.row.Row.{Row}
 use Rattle.pg_gf2.specs.Vectors.{vector_at, vector_spans}
-use Rattle.pg_gf2.specs.Rows.{AreRows, IsTold, reduced}
+use Rattle.pg_gf2.specs.Rows.{reduced}
+use Rattle.pg_gf2.proofs.RowLemmas.{told_whole}
 use Rattle.pg_gf2.proofs.Lowest.{first_below, none_below}
 use Rattle.pg_gf2.proofs.SpanTests.{left_zero, left_some}
 use Rattle.pg_gf2.proofs.room.lowest_unspanned.Goals as goal
@@ -20,9 +21,9 @@ loop-k-preserved c f low on =
       | inr d ↦ c.loop-k.invariant f (omega arith) on
       | inl e ↦ elim c.if-has.branch [
         | then-has+else-left-ne0 w ↦
-            let told : IsTold v (length vectors) set (λ _. false) (v k) w.reduced-left.result.0 (contains w.reduced-left.result.1) =
-            w.reduced-left.ensures.members v (length vectors) set (λ _. false) (subst (λ (q : List Row). AreRows v (length vectors) set (λ _. false) q) (sym w.deref.ensures.value) c.fill.ensures.eliminated.told) in
-            subst (λ (z : ℕ). vector_spans vectors set z ≡ true) e (left_zero vectors set k w.reduced-left.result.0 (contains w.reduced-left.result.1) told w.if-left-ne0.false)
+            let same : w.rest-left.result ≡ reduced c.fill.new.rows.items (v k) = w.rest-left.ensures ∙ ap (λ (q : List Row). reduced q (v k)) w.deref.ensures.value in
+            let told = told_whole v (length vectors) set (λ _. false) c.fill.new.rows.items (v k) w.rest-left.result c.fill.ensures.eliminated.told same in
+            subst (λ (z : ℕ). vector_spans vectors set z ≡ true) e (left_zero vectors set k w.rest-left.result told.0 told.1 w.if-left-ne0.false)
         | else-has w ↦ absurd (both_ways _ (sym c.has.ensures ∙ w.if-has.false) (subst (λ (z : ℕ). contains c.args.candidates.now z ≡ true) (sym e) on))
       ]
     ]
@@ -34,8 +35,8 @@ returns-then-left-ne0-clause-lowest c =
     let v = vector_at vectors in
     let set = contains c.args.set.now in
     let k = c.loop-k.k in
-    let same = c.reduced-left.ensures.value ∙ ap (λ (q : List Row). reduced q (v k)) c.deref.ensures.value in
-    let off = left_some vectors set k c.reduced-left.result.0 c.fill.new.rows.items c.fill.ensures.eliminated same c.if-left-ne0.true in
+    let same : c.rest-left.result ≡ reduced c.fill.new.rows.items (v k) = c.rest-left.ensures ∙ ap (λ (q : List Row). reduced q (v k)) c.deref.ensures.value in
+    let off = left_some vectors set k c.rest-left.result c.fill.new.rows.items c.fill.ensures.eliminated same c.if-left-ne0.true in
     sym (first_below (λ q. contains c.args.candidates.now q && not (vector_spans vectors set q)) k c.args.n (omega (arith, c.loop-k-test.true))
     (and_from _ _ (sym c.has.ensures ∙ c.if-has.true) (not_from_false _ off))
     (λ w under. false_from_ne_true _ (λ on. let q = and_parts (contains c.args.candidates.now w) (not (vector_spans vectors set w)) on in both_ways _ (not-true _ q.1) (c.loop-k.invariant w under q.0))))

@@ -1,0 +1,17 @@
+use Rattle.std.proofs.Common.{◌≡◌, ◌<◌, ◌≤◌, ◌-◌, ℕ, length, true}
+use Rattle.std.specs.FinSet.{contains}
+use Rattle.std.specs.Vec.{vec_capacity}
+use Rattle.pg_base.specs.Sets.{minus}
+use Rattle.pg_gf2.specs.Vectors.{vector_spans}
+use Rattle.pg_gf2.proofs.room.unneeded_below.Given as goal
+
+abbrev pub invariant-loop-low : goal.invariant-loop-low
+invariant-loop-low l = record {
+  order : l.low ≤ l.high;
+  limit : l.high ≤ l.n;
+  room : length l.vectors ≤ vec_capacity l.rows;
+  unneeded : (d : ℕ) → d < l.low → contains l.candidates d ≡ true → vector_spans l.vectors (minus (contains l.set) d) l.x ≡ true;
+}
+
+abbrev pub decreases-loop-low : goal.decreases-loop-low
+decreases-loop-low l = l.high - l.low
