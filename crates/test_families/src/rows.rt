@@ -1,8 +1,9 @@
 //! Classes worked by hand. The lines of a game's file, but for its first, end at commas.
 use pg_family_files::{read_span, read_vectors};
-use pg_gf2::{VecGame, vec_classify};
+use pg_gf2::VecGame;
 use pg_lehman::Class;
 use pg_span::{SpanClass, SpanGame, span_solve};
+use pg_vec_solve::vec_solve;
 use std::alloc::Global;
 use std::test::Fail;
 use test_kit::{part, wrong_rows};
@@ -61,7 +62,7 @@ fn has_span_class(alloc: Global, row: &str) -> Option<bool> {
 /// Whether the game on vectors of a row has its class.
 fn has_vec_class(alloc: Global, row: &str) -> Option<bool> {
     let game = vec_game(alloc, part(row, 0))?;
-    let word = match vec_classify(alloc, &game).ok()? {
+    let word = match vec_solve(alloc, &game).ok()?.0 {
         Class::Short { .. } => "short",
         Class::Cut { .. } => "cut",
         Class::First { .. } => "first-mover",
