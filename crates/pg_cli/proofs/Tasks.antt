@@ -1,26 +1,21 @@
 -- What a task done with a game of a family gives, says and leaves; a check and a play of any other game have the same statuses.
-use Rattle.std.proofs.Common.{◌≡◌, ℕ, List, Option, Some, None, Result, Ok, Err, refl, sym, subst, inl, inr, arith}
+use Rattle.std.proofs.Common.{◌≡◌, ℕ, List, Ok, Err, refl, sym, subst, inl, inr, arith}
 use Rattle.std.specs.List.{Contains}
 use Rattle.pg_io.specs.Console.{ConsoleTold}
-use Rattle.pg_io.specs.Files.{Bytes, Holding, FilesTold, ReadsOnly}
+use Rattle.pg_io.specs.Files.{Bytes, FilesTold, ReadsOnly}
 use Rattle.pg_io.specs.declared.stop.Stop.{Stop}
 use Rattle.pg_io.specs.declared.stop.Stop.TheVariants.{Read, Write, Memory}
 use Rattle.pg_texts.specs.Statuses.{refusal_status}
 use Rattle.pg_texts.specs.declared.refusal.Refusal.{Refusal}
 use Rattle.pg_texts.specs.declared.refusal.Refusal.TheVariants.{NoMeaning, NoClaim, Game, Certificate, Rejected, RejectedSpan, RejectedVectors}
 use Rattle.pg_texts.specs.declared.statuses.TheConstants.{DONE, INPUT_ENDED, OUT_OF_REPLIES}
-use Rattle.pg_words.specs.Words.{OfFamily}
-use Rattle.pg_words.specs.declared.family.Family.{Family}
-use Rattle.pg_words.specs.declared.family.Family.TheVariants.{Connectivity, Vectors}
 use Rattle.pg_words.specs.declared.family.FamilyTask.{FamilyTask}
 use Rattle.pg_words.specs.declared.family.FamilyTask.TheVariants.{Solve, Check, Play}
-use Rattle.pg_families.specs.Family.{GivesInFamily, IsLackingInFamily, LeavesFamilyFiles, QuietAtReadInFamily, statuses_in_family}
+use Rattle.pg_families.specs.Family.{GivesInFamily, LeavesFamilyFiles, QuietAtReadInFamily, statuses_in_family}
 use Rattle.pg_talk.specs.Done.{Finished, ending}
-use Rattle.pg_talk.specs.Halts.{BothCauses, stop_status}
-use Rattle.pg_talk.specs.declared.halt.Halt.{Halt}
+use Rattle.pg_talk.specs.Halts.{stop_status}
 use Rattle.pg_talk.specs.declared.halt.Halt.TheVariants.{Refused, Stopped}
 use Rattle.pg_talk.proofs.Speaking.{Grows-nothing}
-use Rattle.pg_cli.specs.Commands.{IsLacking}
 
 -- ---- statuses
 
@@ -94,30 +89,3 @@ pub task_memory : (task : FamilyTask) → GivesInFamily task (Err (Stopped Memor
 task_memory Solve = tt
 task_memory Check = tt
 task_memory (Play side) = tt
-
--- ---- a name that isn't held
-
--- where a name that is read for a task isn't held, so it is for the command
-task_lacks : (family : Family) (task : FamilyTask) (h : Option Holding) (g c : Bytes) → IsLackingInFamily family task h g c → IsLacking h (Some (OfFamily family task g c))
-task_lacks Connectivity Solve None g c lacks = absurd lacks
-task_lacks Connectivity Solve (Some held) g c lacks = lacks
-task_lacks Connectivity Check None g c lacks = absurd lacks
-task_lacks Connectivity Check (Some held) g c lacks = lacks
-task_lacks Connectivity (Play side) None g c lacks = absurd lacks
-task_lacks Connectivity (Play side) (Some held) g c lacks = lacks
-task_lacks Vectors Solve None g c lacks = absurd lacks
-task_lacks Vectors Solve (Some held) g c lacks = lacks
-task_lacks Vectors Check None g c lacks = absurd lacks
-task_lacks Vectors Check (Some held) g c lacks = lacks
-task_lacks Vectors (Play side) None g c lacks = absurd lacks
-task_lacks Vectors (Play side) (Some held) g c lacks = lacks
-
--- the causes of how a task ends are those of the command
-pub task_causes : (family : Family) (task : FamilyTask) (g c : Bytes) (files files' : FilesTold) (before after : ConsoleTold) (r : Result ℕ Halt)
-    → BothCauses (IsLackingInFamily family task files.held g c) files files' before after r → BothCauses (IsLacking files.held (Some (OfFamily family task g c))) files files' before after r
-task_causes family task g c files files' before after (Ok status) causes = causes
-task_causes family task g c files files' before after (Err (Refused refusal)) causes = causes
-task_causes family task g c files files' before after (Err (Stopped Read)) (inl rose) = inl rose
-task_causes family task g c files files' before after (Err (Stopped Read)) (inr lacks) = inr (task_lacks family task files.held g c lacks)
-task_causes family task g c files files' before after (Err (Stopped Write)) causes = causes
-task_causes family task g c files files' before after (Err (Stopped Memory)) causes = causes

@@ -1,10 +1,16 @@
-use Rattle.std.proofs.Common.{map, string_bytes}
+use Rattle.std.proofs.Common.{◌≡◌, map, string_bytes, Option, Some, option_and_then, option_map, ap, ◌∙◌, subst}
 use Rattle.std.proofs.lemmas.Result.{err_from_is_err_and}
+use Rattle.pg_io.specs.Files.{Bytes, Holding}
 use Rattle.pg_io.specs.declared.stop.Stop.TheVariants.{Memory}
-use Rattle.pg_cli.specs.Commands.{asked}
+use Rattle.pg_words.specs.Ordered.{ordered}
+use Rattle.pg_words.specs.Words.{Command, OfFamily, meaning_of}
+use Rattle.pg_words.specs.declared.command.Command.{Command as Order}
+use Rattle.pg_families.specs.Family.{ActsInFamily, RefusesFamily}
+use Rattle.pg_cli.specs.Commands.{asked, built}
+use Rattle.pg_cli.specs.Run.{Carries}
+use Rattle.pg_talk.specs.Runs.{Runs}
 use Rattle.pg_talk.specs.declared.halt.Halt.TheVariants.{Stopped}
 use Rattle.pg_cli.proofs.Runs.{carries_memory, gives_memory, leaves_all, leaves_work, quiet_halt}
-use Rattle.pg_cli.proofs.Tasks.{task_causes}
 use Rattle.pg_cli.proofs.running.carry_out.Goals as goal
 
 pub returns-in_err-command-clause-ran : goal.returns-in_err-command-clause-ran
@@ -28,6 +34,17 @@ returns-in_err-command-clause-gives g c =
     let p = err_from_is_err_and c.from_residual.result c.from_residual.ensures.1 in
     rw (p.1, p.2) (gives_memory (asked (map string_bytes c.args.words.now)))
 
-pub returns-in-OfFamily-clause-causes : goal.returns-in-OfFamily-clause-causes
-returns-in-OfFamily-clause-causes g c =
-    task_causes c.in-OfFamily.family c.in-OfFamily.task c.in-OfFamily.game c.in-OfFamily.certificate (g.F.Files.told c.args.files.now) (g.F.Files.told c.carry_out_in_family.new.files) (g.C.Console.told c.args.console.now) (g.C.Console.told c.carry_out_in_family.new.console) c.carry_out_in_family.result c.carry_out_in_family.ensures.causes
+pub returns-clause-ran : goal.returns-clause-ran
+returns-clause-ran g c =
+    let words = map string_bytes c.args.words.now in
+    let family = c.in-OfFamily.family in
+    let task = c.in-OfFamily.task in
+    let found : Some (OfFamily family task (string_bytes c.in-OfFamily.game) (string_bytes c.in-OfFamily.certificate)) ≡ meaning_of words =
+    subst (λ (o : Option Order). option_map ordered o ≡ meaning_of words) (c.in-Some.is ∙ ap (λ (o : Order). Some o) c.in-OfFamily.is) c.in_ok-command.ensures in
+    let runs = c.carry_out_in_family.ensures.ran in
+    let by_game = subst (λ (b : Bytes). Runs (λ (held : Holding). RefusesFamily family task (held b) (held c.deref-in-OfFamily-2.result.now)) (λ (held : Holding). ActsInFamily family task (held b) (held c.deref-in-OfFamily-2.result.now) c.deref-in-OfFamily-2.result.now)
+    (g.F.Files.told c.args.files.now) (g.F.Files.told c.carry_out_in_family.new.files) (g.C.Console.told c.args.console.now) (g.C.Console.told c.carry_out_in_family.new.console) c.carry_out_in_family.result) c.deref-in-OfFamily.ensures runs in
+    let by_both = subst (λ (b : Bytes). Runs (λ (held : Holding). RefusesFamily family task (held (string_bytes c.in-OfFamily.game)) (held b)) (λ (held : Holding). ActsInFamily family task (held (string_bytes c.in-OfFamily.game)) (held b) b)
+    (g.F.Files.told c.args.files.now) (g.F.Files.told c.carry_out_in_family.new.files) (g.C.Console.told c.args.console.now) (g.C.Console.told c.carry_out_in_family.new.console) c.carry_out_in_family.result) c.deref-in-OfFamily-2.ensures by_game in
+    subst (λ (k : Option Command). Carries k c.args.work.now (g.F.Files.told c.args.files.now) (g.F.Files.told c.carry_out_in_family.new.files) (g.C.Console.told c.args.console.now) (g.C.Console.told c.carry_out_in_family.new.console) c.carry_out_in_family.result)
+    (ap (option_and_then built) found) by_both
