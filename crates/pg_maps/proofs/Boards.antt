@@ -1,15 +1,13 @@
 -- The maps of a game's board that fit it.
-use Rattle.std.proofs.Common.{◌≡◌, ℕ, ◌*◌, ◌<◌, List, Option, Some, None, map, refl, sym, ap, ◌∙◌, subst}
+use Rattle.std.proofs.Common.{◌≡◌, ℕ, ◌*◌, Option, Some, None, map, refl, sym, ap, ◌∙◌, subst}
 use Rattle.std.proofs.lemmas.Bool.{false≢true}
 use Rattle.std.proofs.lemmas.Option.{none-some}
 use Rattle.std.proofs.lemmas.List.Elements.{All-weaker}
 use Rattle.std.specs.List.{All}
 use Rattle.std.specs.List.Sorted.{IsPermutation}
 use Rattle.pg_base.specs.declared.grid.Grid.{Grid}
-use Rattle.pg_graph.specs.declared.graph.Graph.{Graph}
 use Rattle.pg_game.specs.declared.field.Field.{Field}
 use Rattle.pg_game.specs.declared.field.Field.TheVariants.{Lines, Graph as OnGraph}
-use Rattle.pg_game.specs.declared.field.LineField.{LineField}
 use Rattle.pg_game.specs.declared.game.Game.{Game}
 use Rattle.pg_game.specs.Field.{field_points}
 use Rattle.pg_game.specs.Fit.{IsLineOf}
@@ -114,7 +112,7 @@ pub Fits-followed : (g : Game) (a b : GridMap) → Fits g a → Fits g b → Fit
 Fits-followed g a b h k = record {
   is_map = IsMapOn-followed (board_of g.field) a b h.is_map k.is_map;
   lines = subst (λ images. IsPermutation images (lines_of g)) same
-    (AreSameLines-followed (image_on (board_of g.field) a) (image_on (board_of g.field) (reverse_of a)) (image_on (board_of g.field) b) (point_count g) (lines_of g) (AreInverse-fits g a h.is_map) (rows g) h.lines k.lines);
+      (AreSameLines-followed (image_on (board_of g.field) a) (image_on (board_of g.field) (reverse_of a)) (image_on (board_of g.field) b) (point_count g) (lines_of g) (AreInverse-fits g a h.is_map) (rows g) h.lines k.lines);
 }
   where
     both : ℕ → ℕ
@@ -122,5 +120,5 @@ Fits-followed g a b h k = record {
 
     same : map (image_line both (point_count g)) (lines_of g) ≡ map (image_line (image_on (board_of g.field) (followed_by a b)) (point_count g)) (lines_of g)
     same = map-each (image_line both (point_count g)) (image_line (image_on (board_of g.field) (followed_by a b)) (point_count g)) (lines_of g)
-      (All-weaker (IsRow (point_count g)) (λ line. image_line both (point_count g) line ≡ image_line (image_on (board_of g.field) (followed_by a b)) (point_count g) line)
-      (λ line row. image_line-same both (image_on (board_of g.field) (followed_by a b)) (point_count g) line (λ v lt. image_on-followed (board_of g.field) a b v h.is_map k.is_map) row.below) (lines_of g) (rows g))
+        (All-weaker (IsRow (point_count g)) (λ line. image_line both (point_count g) line ≡ image_line (image_on (board_of g.field) (followed_by a b)) (point_count g) line)
+        (λ line row. image_line-same both (image_on (board_of g.field) (followed_by a b)) (point_count g) line (λ v lt. image_on-followed (board_of g.field) a b v h.is_map k.is_map) row.below) (lines_of g) (rows g))

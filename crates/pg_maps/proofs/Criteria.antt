@@ -1,33 +1,28 @@
 -- A map that fits a game keeps potentials, threat lines and pairs.
-use Rattle.std.proofs.Common.{◌≡◌, ◌≢◌, ℕ, zero, suc, ◌+◌, ◌-◌, ◌*◌, ◌^◌, ◌<◌, ◌≤◌, Bool, true, false, not, ◌&&◌, ◌||◌, List, [], ◌∷◌, length, get_or, map, cond, if◌then◌else◌, refl, sym, ap, ap₂, ◌∙◌, subst, subst₂, inl, inr, arith, eqb, eq-eqb, eqb-true, ne_eqb}
-use Rattle.std.proofs.lemmas.Bool.{cases_Bool, cases_eq, both_ways, false≢true, and_from, and_parts}
-use Rattle.std.proofs.lemmas.List.Elements.{All-weaker, All-head, All-tail, All-contains}
-use Rattle.std.proofs.lemmas.List.Sums.{sum_by-cons, length-filter}
-use Rattle.std.proofs.lemmas.List.Sorted.{sum_by-IsPermutation, length_permutation, Contains-permutation, All-permutation, IsPermutation-sym}
-use Rattle.std.specs.List.{All, AllPairs, Any, Contains, filter, count_by, sum_by, list_any, list_all, range_with_len}
+use Rattle.std.proofs.Common.{◌≡◌, ℕ, zero, suc, ◌+◌, ◌-◌, ◌*◌, ◌^◌, ◌<◌, ◌≤◌, Bool, true, List, [], ◌∷◌, length, map, cond, if◌then◌else◌, refl, sym, ap, ap₂, ◌∙◌, subst, inl, inr, arith, eqb, eq-eqb, ne_eqb}
+use Rattle.std.proofs.lemmas.Bool.{cases_Bool, both_ways}
+use Rattle.std.proofs.lemmas.List.Elements.{All-weaker, All-head, All-tail}
+use Rattle.std.proofs.lemmas.List.Sums.{sum_by-cons}
+use Rattle.std.proofs.lemmas.List.Sorted.{sum_by-IsPermutation, length_permutation}
+use Rattle.std.specs.List.{All, Contains, filter, count_by, sum_by, range_with_len}
 use Rattle.std.specs.List.Sorted.{IsPermutation}
 use Rattle.std.specs.FinSet.{FinSet, contains}
 use Rattle.std.specs.Ordering.{nat_cmp}
-use Rattle.pg_base.specs.Side.{other, is_same_side}
-use Rattle.pg_base.specs.declared.kind.Kind.{Kind}
-use Rattle.pg_base.specs.declared.kind.Kind.TheVariants.{MakerMaker, AvoiderEnforcer}
-use Rattle.pg_base.specs.declared.pair.Pair.{Pair}
+use Rattle.pg_base.specs.Side.{is_same_side}
 use Rattle.pg_base.specs.declared.side.Side.{Side}
-use Rattle.pg_base.specs.declared.side.Side.TheVariants.{X, Y}
 use Rattle.pg_game.specs.declared.game.Game.{Game}
 use Rattle.pg_game.specs.declared.position.Position.{Position}
 use Rattle.pg_game.specs.Fit.{IsLineOf}
 use Rattle.pg_game.specs.Position.{is_free, points_of}
-use Rattle.pg_game.specs.Game.{point_count, lines_of, free_points, after, is_touched, has_filled}
-use Rattle.pg_game.specs.Potential.{greatest_length, is_on, line_weight, total_weight, point_weight, full_weight, greatest, weight, total, greatest_weight, times_counted, limit, PotentialHolds}
-use Rattle.pg_game.specs.Avoider.{x_takes_last, avoider_ends, avoider_total, avoider_risk, AvoiderHolds}
-use Rattle.pg_game.specs.Threat.{is_near, threatens, has_threat, IsAttack, Forcing, Filling, LeadsToLine, IsThreatLine}
+use Rattle.pg_game.specs.Game.{point_count, lines_of, free_points}
+use Rattle.pg_game.specs.Potential.{greatest_length, is_on, line_weight, total_weight, point_weight, full_weight, greatest, weight, greatest_weight, times_counted, limit, PotentialHolds}
+use Rattle.pg_game.specs.Avoider.{x_takes_last, avoider_ends, avoider_total, AvoiderHolds}
 use Rattle.pg_game.proofs.Limits.{lines-fit}
 use Rattle.pg_game.proofs.Members.{Contains-head, Contains-tail, list_any-one, list_any-none, All-from_members}
 use Rattle.pg_game.proofs.Greatest.{free-member, member-free, member-within, greatest-le, greatest-ge}
-use Rattle.pg_maps.specs.Images.{AreInverse, image_line, IsAutomorphism, IsImage}
-use Rattle.pg_maps.proofs.ImageLines.{list_any-same, list_any-through, is_in, filter-permutes, AreDistinct-map, AreDistinct-range, All-through}
-use Rattle.pg_maps.proofs.Imaging.{permuted, any-image, all-image, any-lines, eqb-image, has-image, free-image, filled-image, over-image, IsImage-after}
+use Rattle.pg_maps.specs.Images.{image_line, IsAutomorphism, IsImage}
+use Rattle.pg_maps.proofs.ImageLines.{is_in, filter-permutes, AreDistinct-map, AreDistinct-range, All-through}
+use Rattle.pg_maps.proofs.Imaging.{permuted, any-image, eqb-image, has-image, free-image}
 
 pub sum-through : {A B : Type 0} (f : A → B) (t : B → ℕ) (xs : List A) → sum_by t (map f xs) ≡ sum_by (λ x. t (f x)) xs
 sum-through f t [] = refl
@@ -131,17 +126,17 @@ module _ (g : Game) (f back : ℕ → ℕ) (fits : IsAutomorphism g f back) wher
     greatest-image : (t u : ℕ → ℕ) → ((v : ℕ) → v < point_count g → t (f v) ≡ u v) → greatest (map t (free_points g q)) ≡ greatest (map u (free_points g p))
     greatest-image t u same =
         let up : greatest (map t (free_points g q)) ≤ greatest (map u (free_points g p)) = greatest-le t (free_points g q) (greatest (map u (free_points g p))) (λ w c.
-          let range = member-within g q w c in
-          let was = fits.points.back_range w range in
-          let there = fits.points.redone w range in
-          let free : is_free p (back w) ≡ true = sym (free-image g f back fits p q h (back w) was) ∙ ap (is_free q) there ∙ member-free g q w c in
-          let value : t w ≡ u (back w) = ap t (sym there) ∙ same (back w) was in
-          omega (arith, value, greatest-ge u (free_points g p) (back w) (free-member g p (back w) was free))) in
+        let range = member-within g q w c in
+        let was = fits.points.back_range w range in
+        let there = fits.points.redone w range in
+        let free : is_free p (back w) ≡ true = sym (free-image g f back fits p q h (back w) was) ∙ ap (is_free q) there ∙ member-free g q w c in
+        let value : t w ≡ u (back w) = ap t (sym there) ∙ same (back w) was in
+        omega (arith, value, greatest-ge u (free_points g p) (back w) (free-member g p (back w) was free))) in
         let down : greatest (map u (free_points g p)) ≤ greatest (map t (free_points g q)) = greatest-le u (free_points g p) (greatest (map t (free_points g q))) (λ v c.
-          let range = member-within g p v c in
-          let free : is_free q (f v) ≡ true = free-image g f back fits p q h v range ∙ member-free g p v c in
-          let value = same v range in
-          omega (arith, value, greatest-ge t (free_points g q) (f v) (free-member g q (f v) (fits.points.range v range) free))) in
+        let range = member-within g p v c in
+        let free : is_free q (f v) ≡ true = free-image g f back fits p q h v range ∙ member-free g p v c in
+        let value = same v range in
+        omega (arith, value, greatest-ge t (free_points g q) (f v) (free-member g q (f v) (fits.points.range v range) free))) in
         omega (arith, up, down)
 
     pub PotentialHolds-image : (side : Side) → PotentialHolds g p side → PotentialHolds g q side

@@ -1,11 +1,11 @@
 -- Images of lines: their points are the images of the points, and maps that take the lines onto the lines are a group.
-use Rattle.std.proofs.Common.{◌≡◌, ◌≢◌, ℕ, zero, suc, ◌+◌, ◌<◌, ◌≤◌, Bool, true, false, ◌||◌, List, [], ◌∷◌, length, get_or, map, refl, sym, ap, ap₂, ◌∙◌, subst, inl, inr, arith, eqb, eq-eqb, ne_eqb}
-use Rattle.std.proofs.lemmas.Bool.{cases_Bool, cases_eq, false≢true}
+use Rattle.std.proofs.Common.{◌≡◌, ℕ, zero, suc, ◌+◌, ◌<◌, ◌≤◌, Bool, false, ◌||◌, List, [], ◌∷◌, get_or, map, refl, sym, ap, ap₂, ◌∙◌, subst, inl, inr, arith, eqb, eq-eqb, ne_eqb}
+use Rattle.std.proofs.lemmas.Bool.{cases_Bool, cases_eq}
 use Rattle.std.proofs.lemmas.List.Elements.{All-weaker, All-head, All-tail, All-cons, filter_agree}
 use Rattle.std.proofs.lemmas.List.Folds.{list_any_none}
 use Rattle.std.proofs.lemmas.List.Kept.{AllPairs-from_increasing, AllPairs-filter}
 use Rattle.std.proofs.lemmas.List.FromFn.{length-range_with_len, get_or-range_with_len}
-use Rattle.std.proofs.lemmas.List.Sorted.{IsPermutation-refl, IsPermutation-cons, IsPermutation-middle, IsPermutation-trans, IsPermutation-sym, IsPermutation-map, All-permutation, list_any-IsPermutation}
+use Rattle.std.proofs.lemmas.List.Sorted.{IsPermutation-refl, IsPermutation-cons, IsPermutation-middle, IsPermutation-trans, IsPermutation-sym, IsPermutation-map, list_any-IsPermutation}
 use Rattle.std.specs.List.{All, AllPairs, filter, list_any, range_with_len}
 use Rattle.std.specs.List.Sorted.{IsPermutation, IsStrictlyIncreasing}
 use Rattle.std.specs.FinSet.{FinSet, contains, from_list, contains-from_list_nat}
@@ -79,8 +79,8 @@ filter-permutes (x ∷ xs) n distinct below =
     let rest = filter-permutes xs n distinct.1 (All-tail (λ v. v < n) x xs below) in
     let here : x < n = All-head (λ v. v < n) x xs below in
     IsPermutation-trans (x ∷ xs) (x ∷ filter (is_in xs) (range_with_len 0 n)) (filter (is_in (x ∷ xs)) (range_with_len 0 n))
-      (IsPermutation-cons x xs (filter (is_in xs) (range_with_len 0 n)) rest)
-      (one_more (is_in xs) x 0 n distinct.0 (omega arith) (omega (arith, here)))
+    (IsPermutation-cons x xs (filter (is_in xs) (range_with_len 0 n)) rest)
+    (one_more (is_in xs) x 0 n distinct.0 (omega arith) (omega (arith, here)))
 
 points-filter : (xs : List ℕ) (n : ℕ) → points_below (from_list xs) n ≡ filter (is_in xs) (range_with_len 0 n)
 unfolding points_below
@@ -94,9 +94,10 @@ members-permute xs n distinct below = subst (λ ys. IsPermutation xs ys) (sym (p
 
 pub AreDistinct-rising : (xs : List ℕ) → AllPairs (λ x y. x < y) xs → AreDistinct xs
 AreDistinct-rising [] rising = tt
-AreDistinct-rising (x ∷ xs) rising =
-    (list_any_none (λ y. eqb y x) xs (λ k d h. ne_eqb (get_or xs k d) x (λ e. let above : x < get_or xs k d = rising 0 (suc k) d (omega arith) (omega arith) in omega (arith, above, e))),
-    AreDistinct-rising xs (λ i j d before inside. rising (suc i) (suc j) d (omega arith) (omega arith)))
+AreDistinct-rising (x ∷ xs) rising = (
+  list_any_none (λ y. eqb y x) xs (λ k d h. ne_eqb (get_or xs k d) x (λ e. let above : x < get_or xs k d = rising 0 (suc k) d (omega arith) (omega arith) in omega (arith, above, e))),
+  AreDistinct-rising xs (λ i j d before inside. rising (suc i) (suc j) d (omega arith) (omega arith)),
+)
 
 pub filter-rising : (xs : List ℕ) (a n : ℕ) → AllPairs (λ x y. x < y) xs → All (λ v. a ≤ v) xs → All (λ v. v < a + n) xs → filter (is_in xs) (range_with_len a n) ≡ xs
 filter-rising [] a n rising low high = filter-none (is_in []) a n (λ v. refl)
@@ -117,7 +118,7 @@ filter-rising (x ∷ xs) a (suc n) rising low high =
           let none : is_in xs a ≡ false = list_any_none (λ y. eqb y a) xs (All-weaker (λ v. x < v) (λ v. eqb v a ≡ false) (λ v lt. ne_eqb v a (λ e. omega (arith, lt, l, e))) xs above) in
           let top : x < (a + 1) + n = (let h : x < a + suc n = All-head (λ v. v < a + suc n) x xs high in omega (arith, h)) in
           rw (apart, none) (filter-rising (x ∷ xs) (a + 1) n rising (All-cons (λ v. a + 1 ≤ v) x xs more (All-weaker (λ v. x < v) (λ v. a + 1 ≤ v) (λ v lt. omega (arith, lt, more)) xs above))
-            (All-cons (λ v. v < (a + 1) + n) x xs top small))
+          (All-cons (λ v. v < (a + 1) + n) x xs top small))
     ]
 
 -- an ascending list is that of the members of its set
@@ -146,9 +147,10 @@ pub AreDistinct-map : (f back : ℕ → ℕ) (n : ℕ) (xs : List ℕ) → AreIn
 AreDistinct-map f back n [] inverse distinct below = tt
 AreDistinct-map f back n (x ∷ xs) inverse distinct below =
     let here : x < n = All-head (λ v. v < n) x xs below in
-    let rest = All-tail (λ v. v < n) x xs below in
-    (list_any-through f (λ y. eqb y (f x)) xs ∙ list_any-same (λ v. eqb (f v) (f x)) (λ v. eqb v x) xs (All-weaker (λ v. v < n) (λ v. eqb (f v) (f x) ≡ eqb v x) (λ v lt. same v lt here) xs rest) ∙ distinct.0,
-    AreDistinct-map f back n xs inverse distinct.1 rest)
+    let rest = All-tail (λ v. v < n) x xs below in (
+      list_any-through f (λ y. eqb y (f x)) xs ∙ list_any-same (λ v. eqb (f v) (f x)) (λ v. eqb v x) xs (All-weaker (λ v. v < n) (λ v. eqb (f v) (f x) ≡ eqb v x) (λ v lt. same v lt here) xs rest) ∙ distinct.0,
+      AreDistinct-map f back n xs inverse distinct.1 rest,
+    )
   where
     same : (v : ℕ) → v < n → x < n → eqb (f v) (f x) ≡ eqb v x
     same v lt here = elim (cases_eq v x) [
@@ -222,7 +224,7 @@ AreSameLines-followed f back h n lines inverse rows first second =
 pub AreSameLines-back : (f back : ℕ → ℕ) (n : ℕ) (lines : List (List ℕ)) → AreInverse n f back → All (IsRow n) lines → AreSameLines f n lines → AreSameLines back n lines
 AreSameLines-back f back n lines inverse rows same =
     let restored : map (image_line (λ v. back (f v)) n) lines ≡ lines = map-each (image_line (λ v. back (f v)) n) (λ line. line) lines (All-weaker (IsRow n) (λ line. image_line (λ v. back (f v)) n line ≡ line)
-      (λ line row. image_line-itself (λ v. back (f v)) n line inverse.undone row.up row.below) lines rows) ∙ map_rows lines in
+    (λ line row. image_line-itself (λ v. back (f v)) n line inverse.undone row.up row.below) lines rows) ∙ map_rows lines in
     subst (λ images. IsPermutation (map (image_line back n) lines) images) (images-followed f back back n lines inverse rows ∙ restored)
     (IsPermutation-sym (map (image_line back n) (map (image_line f n) lines)) (map (image_line back n) lines) (IsPermutation-map (image_line back n) (map (image_line f n) lines) lines same))
   where

@@ -1,15 +1,14 @@
 -- A map that fits a game keeps who has filled a line, when the game is over, its outcome, and its value.
-use Rattle.std.proofs.Common.{◌≡◌, ℕ, ◌<◌, ◌-◌, Bool, true, false, not, ◌&&◌, ◌||◌, List, [], ◌∷◌, length, map, nat_lt, if◌then◌else◌, refl, sym, ap, ap₂, ◌∙◌, subst, inl, inr, ◌⊎◌, eqb, eqb-true, eq-eqb, ne_eqb}
+use Rattle.std.proofs.Common.{◌≡◌, ℕ, ◌<◌, ◌-◌, Bool, true, not, ◌&&◌, ◌||◌, List, [], ◌∷◌, length, map, nat_lt, if◌then◌else◌, refl, sym, ap, ap₂, ◌∙◌, subst, inl, inr, eqb, eq-eqb, ne_eqb}
 use Rattle.std.proofs.lemmas.Bool.{cases_Bool, cases_eq, both_ways, false≢true}
 use Rattle.std.proofs.lemmas.List.Elements.{All-weaker}
-use Rattle.std.proofs.lemmas.List.Sorted.{list_any-IsPermutation, Contains-permutation, IsPermutation-sym}
-use Rattle.std.specs.List.{list_any, list_all, All, AllZip, Contains}
+use Rattle.std.proofs.lemmas.List.Sorted.{list_any-IsPermutation}
+use Rattle.std.specs.List.{list_any, list_all}
 use Rattle.std.specs.List.Sorted.{IsPermutation}
 use Rattle.std.specs.FinSet.{FinSet, contains, insert}
 use Rattle.std.specs.Ordering.{nat_cmp}
 use Rattle.pg_base.specs.declared.goal.Goal.{Goal}
 use Rattle.pg_base.specs.declared.goal.Goal.TheVariants.{Win, Draw as AtLeastDraw}
-use Rattle.pg_base.specs.declared.kind.Kind.{Kind}
 use Rattle.pg_base.specs.declared.score.Score.{Score}
 use Rattle.pg_base.specs.declared.score.Score.TheVariants.{XWins, Draw, YWins}
 use Rattle.pg_base.specs.declared.side.Side.{Side}
@@ -31,9 +30,8 @@ use Rattle.pg_game.proofs.Strategy.{Forces-from_keeps}
 use Rattle.pg_game.proofs.FreePoints.{none-full, is_full-none}
 use Rattle.pg_game.proofs.Limits.{lines-fit}
 use Rattle.pg_game.specs.Fit.{IsLineOf}
-use Rattle.pg_game.proofs.Members.{Contains-head, Contains-tail, true-at, false-at, list_any-one, list_any-none, member-from_any}
 use Rattle.pg_game.proofs.ValueLaws.{value-over, Forces-move-from, Forces-all-from}
-use Rattle.pg_maps.specs.Images.{AreInverse, image_line, AreSameLines, IsAutomorphism, IsImage}
+use Rattle.pg_maps.specs.Images.{image_line, IsAutomorphism, IsImage}
 use Rattle.pg_maps.proofs.ImageLines.{list_any-same, list_any-through, image_line-permutes}
 
 -- ---- tests of all members, in another order
@@ -73,7 +71,7 @@ module _ (g : Game) (f back : ℕ → ℕ) (fits : IsAutomorphism g f back) wher
   all-lines t u each =
       list_all-not_any t (lines_of g) ∙ ap not (any-lines (λ line. not (t line)) (λ line. not (u line)) (λ line is. ap not (each line is))) ∙ sym (list_all-not_any u (lines_of g))
 
--- ---- a position and its image
+  -- ---- a position and its image
 
   -- two points with one image are one
   pub one_to_one : (v q : ℕ) → v < point_count g → q < point_count g → f v ≡ f q → v ≡ q
@@ -118,7 +116,7 @@ module _ (g : Game) (f back : ℕ → ℕ) (fits : IsAutomorphism g f back) wher
         by (OnGraph board) e =
             let count : point_count g ≡ length board.ends = ap field_points e in
             joins_same (first_end board.ends) (second_end board.ends) image set (length board.ends) board.s board.t
-              (λ v lt. ap image (sym (fits.edges board e v)) ∙ same v (subst (λ n. v < n) (sym count) lt))
+            (λ v lt. ap image (sym (fits.edges board e v)) ∙ same v (subst (λ n. v < n) (sym count) lt))
 
     pub over-image : is_over g q ≡ is_over g p
     unfolding is_over
@@ -165,19 +163,19 @@ module _ (g : Game) (f back : ℕ → ℕ) (fits : IsAutomorphism g f back) wher
   Keeps-mirrored side goal = record {
     ends = λ q h over. ap (reaches side goal) (outcome-image h.original q h.image) ∙ ended h.original (sym (over-image h.original q h.image) ∙ over) h.forced;
     own = λ q h going mine.
-      let p = h.original in
-      let move = Forces-move-from g p side goal (sym (over-image p q h.image) ∙ going) (sym h.image.turn ∙ mine) h.forced in
-      (f move.0, fits.points.range move.0 move.1, free-image p q h.image move.0 move.1 ∙ move.2, record { original = after g p move.0; image = IsImage-after p q h.image move.0 move.1; forced = move.3 });
+        let p = h.original in
+        let move = Forces-move-from g p side goal (sym (over-image p q h.image) ∙ going) (sym h.image.turn ∙ mine) h.forced in
+        (f move.0, fits.points.range move.0 move.1, free-image p q h.image move.0 move.1 ∙ move.2, record { original = after g p move.0; image = IsImage-after p q h.image move.0 move.1; forced = move.3 });
     theirs = λ q h going yours v within free.
-      let p = h.original in
-      let was = fits.points.back_range v within in
-      let same = fits.points.redone v within in
-      record {
-        original = after g p (back v);
-        image = subst (λ (u : ℕ). IsImage g f (after g p (back v)) (after g q u)) same (IsImage-after p q h.image (back v) was);
-        forced = Forces-all-from g p side goal (sym (over-image p q h.image) ∙ going) (sym h.image.turn ∙ yours) h.forced (back v) was
-          (sym (free-image p q h.image (back v) was) ∙ ap (is_free q) same ∙ free);
-      };
+        let p = h.original in
+        let was = fits.points.back_range v within in
+        let same = fits.points.redone v within in
+        record {
+          original = after g p (back v);
+          image = subst (λ (u : ℕ). IsImage g f (after g p (back v)) (after g q u)) same (IsImage-after p q h.image (back v) was);
+          forced = Forces-all-from g p side goal (sym (over-image p q h.image) ∙ going) (sym h.image.turn ∙ yours) h.forced (back v) was
+              (sym (free-image p q h.image (back v) was) ∙ ap (is_free q) same ∙ free);
+        };
   }
     where
       ended : (p : Position) → is_over g p ≡ true → Forces g p side goal → reaches side goal (outcome g p) ≡ true

@@ -1,26 +1,23 @@
 -- A map that fits a game keeps threat lines and pairs.
-use Rattle.std.proofs.Common.{◌≡◌, ◌≢◌, ℕ, zero, suc, ◌+◌, ◌<◌, ◌≤◌, Bool, true, false, not, ◌&&◌, ◌||◌, List, [], ◌∷◌, length, get_or, map, cond, refl, sym, ap, ap₂, ◌∙◌, subst, subst₂, inl, inr, arith, eqb, eq-eqb, eqb-true, ne_eqb}
-use Rattle.std.proofs.lemmas.Bool.{cases_Bool, cases_eq, both_ways, false≢true, and_from, and_parts}
+use Rattle.std.proofs.Common.{◌≡◌, ◌≢◌, ℕ, suc, ◌<◌, Bool, true, not, ◌&&◌, ◌||◌, List, [], ◌∷◌, length, get_or, map, cond, sym, ap, ap₂, ◌∙◌, subst, arith, eqb, eqb-true}
+use Rattle.std.proofs.lemmas.Bool.{and_parts}
 use Rattle.std.proofs.lemmas.List.Elements.{All-weaker, All-head, All-tail, All-cons, All-contains}
 use Rattle.std.proofs.lemmas.List.Sums.{length-filter}
 use Rattle.std.proofs.lemmas.List.Kept.{AllPairs-cons}
-use Rattle.std.proofs.lemmas.List.Sorted.{sum_by-IsPermutation, Contains-permutation, All-permutation, IsPermutation-sym}
-use Rattle.std.specs.List.{All, AllPairs, Any, Contains, filter, count_by, list_any, list_all}
-use Rattle.std.specs.FinSet.{FinSet, contains}
+use Rattle.std.proofs.lemmas.List.Sorted.{sum_by-IsPermutation, Contains-permutation, All-permutation}
+use Rattle.std.specs.List.{All, AllPairs, Any, list_any}
+use Rattle.std.specs.FinSet.{contains}
 use Rattle.pg_base.specs.Side.{other}
-use Rattle.pg_base.specs.declared.kind.Kind.{Kind}
-use Rattle.pg_base.specs.declared.kind.Kind.TheVariants.{MakerMaker, AvoiderEnforcer}
 use Rattle.pg_base.specs.declared.pair.Pair.{Pair}
 use Rattle.pg_base.specs.declared.side.Side.{Side}
-use Rattle.pg_base.specs.declared.side.Side.TheVariants.{X, Y}
 use Rattle.pg_game.specs.declared.game.Game.{Game}
 use Rattle.pg_game.specs.declared.position.Position.{Position}
 use Rattle.pg_game.specs.Fit.{IsLineOf}
 use Rattle.pg_game.specs.Position.{is_free, points_of}
-use Rattle.pg_game.specs.Game.{point_count, lines_of, free_points, after, is_touched, has_filled}
+use Rattle.pg_game.specs.Game.{point_count, lines_of, free_points, after}
 use Rattle.pg_game.specs.Potential.{is_on}
 use Rattle.pg_game.specs.Threat.{is_near, threatens, has_threat, IsAttack, Forcing, Filling, LeadsToLine, IsThreatLine}
-use Rattle.pg_game.specs.Pairs.{is_open, has_point, is_paired, IsInGame, SharesNone, HoldsPair, breaker_of, IsSafe, HoldLines, unpaired, unpaired_due, PairsLeaveNone, AreOpenPairs, PairsHold}
+use Rattle.pg_game.specs.Pairs.{is_open, has_point, is_paired, IsInGame, SharesNone, HoldsPair, breaker_of, IsSafe, HoldLines, unpaired, unpaired_due, AreOpenPairs, PairsHold}
 use Rattle.pg_game.proofs.Limits.{lines-fit}
 use Rattle.pg_game.proofs.Greatest.{member-within}
 use Rattle.pg_game.proofs.Members.{All-from_members, member-from_any}
@@ -36,7 +33,7 @@ module _ (g : Game) (f back : ℕ → ℕ) (fits : IsAutomorphism g f back) wher
   near-image p q h side line u is range =
       let on = any-image g f back fits (λ v. eqb v (f u)) (λ v. eqb v u) line is (λ v lt. eqb-image g f back fits u v range lt) in
       let rest = all-image g f back fits (λ v. eqb v (f u) || contains (points_of q side) v) (λ v. eqb v u || contains (points_of p side) v) line is
-        (λ v lt. ap₂ (λ a b. a || b) (eqb-image g f back fits u v range lt) (has-image g f back fits p q h side v lt)) in
+      (λ v lt. ap₂ (λ a b. a || b) (eqb-image g f back fits u v range lt) (has-image g f back fits p q h side v lt)) in
       ap₂ (λ a b. a && b) (free-image g f back fits p q h u range) (ap₂ (λ a b. a && b) on rest)
 
   threatens-image : (p q : Position) (h : IsImage g f p q) (side : Side) (u : ℕ) → u < point_count g → threatens g q side (f u) ≡ threatens g p side u
@@ -44,7 +41,7 @@ module _ (g : Game) (f back : ℕ → ℕ) (fits : IsAutomorphism g f back) wher
 
   has_threat-image : (p q : Position) (h : IsImage g f p q) (side : Side) → has_threat g q side ≡ has_threat g p side
   has_threat-image p q h side = any-lines g f back fits (λ line. list_any (is_near q side line) line) (λ line. list_any (is_near p side line) line)
-    (λ line is. any-image g f back fits (is_near q side (image_line f (point_count g) line)) (is_near p side line) line is (λ u lt. near-image p q h side line u is lt))
+      (λ line is. any-image g f back fits (is_near q side (image_line f (point_count g) line)) (is_near p side line) line is (λ u lt. near-image p q h side line u is lt))
 
   attack-image : (p q : Position) (h : IsImage g f p q) (v : ℕ) → IsAttack g p v → IsAttack g q (f v)
   attack-image p q h v a = record { range = fits.points.range v a.range; free = free-image g f back fits p q h v a.range ∙ a.free }
@@ -102,8 +99,8 @@ module _ (g : Game) (f back : ℕ → ℕ) (fits : IsAutomorphism g f back) wher
       let others = All-tail Q x xs each in
       let here = All-head Q x xs each in
       AllPairs-cons S (t x) (map t xs)
-        (All-mapped t (S (t x)) xs (λ k d h. step x (get_or xs k d) here (others k d h) (pairs 0 (suc k) d (omega arith) (omega arith))))
-        (AllPairs-mapped t Q R S step xs others (λ i j d before inside. pairs (suc i) (suc j) d (omega arith) (omega arith)))
+      (All-mapped t (S (t x)) xs (λ k d h. step x (get_or xs k d) here (others k d h) (pairs 0 (suc k) d (omega arith) (omega arith))))
+      (AllPairs-mapped t Q R S step xs others (λ i j d before inside. pairs (suc i) (suc j) d (omega arith) (omega arith)))
 
   Any-mapped : {A B : Type 0} (t : A → B) (P : A → Type 0) (S : B → Type 0) → ((x : A) → P x → S (t x)) → (xs : List A) → Any P xs → Any S (map t xs)
   Any-mapped t P S step xs any =
@@ -122,9 +119,10 @@ module _ (g : Game) (f back : ℕ → ℕ) (fits : IsAutomorphism g f back) wher
   }
 
   holds-image : (line : List ℕ) (s : Pair) → IsLineOf (point_count g) g.bias line → HoldsPair line s → HoldsPair (image_line f (point_count g) line) (image_pair f s)
-  holds-image line s is held =
-      (Contains-permutation (map f line) (image_line f (point_count g) line) (f s.a) (permuted g f back fits line is) (Contains-map f line s.a held.0),
-      Contains-permutation (map f line) (image_line f (point_count g) line) (f s.b) (permuted g f back fits line is) (Contains-map f line s.b held.1))
+  holds-image line s is held = (
+    Contains-permutation (map f line) (image_line f (point_count g) line) (f s.a) (permuted g f back fits line is) (Contains-map f line s.a held.0),
+    Contains-permutation (map f line) (image_line f (point_count g) line) (f s.b) (permuted g f back fits line is) (Contains-map f line s.b held.1),
+  )
 
   module _ (p q : Position) (h : IsImage g f p q) where
     held-image : (side : Side) (pairs : List Pair) → HoldLines g p side pairs → HoldLines g q side (map (image_pair f) pairs)
@@ -167,12 +165,12 @@ module _ (g : Game) (f back : ℕ → ℕ) (fits : IsAutomorphism g f back) wher
         apart = record {
           range = All-mapped (image_pair f) (IsInGame g) pairs (All-weaker (IsInGame g) (λ s. IsInGame g (image_pair f s)) (λ s is. (fits.points.range s.a is.0, fits.points.range s.b is.1)) pairs held.apart.range);
           free = All-mapped (image_pair f) (λ s. is_open q s ≡ true) pairs (λ k d lt.
-            let s = get_or pairs k d in
-            let is : IsInGame g s = held.apart.range k d lt in
-            ap₂ (λ a b. a && b) (free-image g f back fits p q h s.a is.0) (free-image g f back fits p q h s.b is.1) ∙ held.apart.free k d lt);
+              let s = get_or pairs k d in
+              let is : IsInGame g s = held.apart.range k d lt in
+              ap₂ (λ a b. a && b) (free-image g f back fits p q h s.a is.0) (free-image g f back fits p q h s.b is.1) ∙ held.apart.free k d lt);
           different = All-mapped (image_pair f) (λ s. s.a ≢ s.b) pairs (λ k d lt.
-            let s = get_or pairs k d in
-            let is : IsInGame g s = held.apart.range k d lt in
-            apart-image s.a s.b is.0 is.1 (held.apart.different k d lt));
+              let s = get_or pairs k d in
+              let is : IsInGame g s = held.apart.range k d lt in
+              apart-image s.a s.b is.0 is.1 (held.apart.different k d lt));
           disjoint = AllPairs-mapped (image_pair f) (IsInGame g) SharesNone SharesNone (λ s t sr tr none. shares-image s t sr tr none) pairs held.apart.range held.apart.disjoint;
         }

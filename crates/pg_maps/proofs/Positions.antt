@@ -1,17 +1,14 @@
 -- The image of a position, of all replies, and of a position that is no worse.
-use Rattle.std.proofs.Common.{◌≡◌, ℕ, zero, suc, ◌+◌, ◌<◌, ◌≤◌, Bool, true, false, ◌&&◌, List, [], ◌∷◌, map, refl, sym, ap, ap₂, ◌∙◌, subst, subst₂, inl, inr, arith, eqb, eqb-true, eq-eqb, lt-ltb, nat_lt}
-use Rattle.std.proofs.lemmas.Bool.{cases_Bool, and_from, and_parts, both_ways, false≢true}
+use Rattle.std.proofs.Common.{◌≡◌, ℕ, ◌+◌, ◌<◌, true, List, map, refl, sym, ap, ◌∙◌, subst, inl, inr, arith, eqb, eqb-true, eq-eqb}
+use Rattle.std.proofs.lemmas.Bool.{cases_Bool, both_ways}
 use Rattle.std.proofs.lemmas.List.Elements.{All-weaker, filter_agree}
-use Rattle.std.proofs.lemmas.List.FromFn.{length-range_with_len, get_or-range_with_len}
-use Rattle.std.proofs.lemmas.List.Kept.{AllPairs-filter}
 use Rattle.std.proofs.lemmas.List.Sorted.{list_any-IsPermutation, IsPermutation-trans, IsPermutation-sym, All-permutation}
-use Rattle.std.specs.List.{All, AllPairs, Contains, filter, list_any, range_with_len}
+use Rattle.std.specs.List.{All, AllPairs, range_with_len}
 use Rattle.std.specs.List.Sorted.{IsPermutation}
-use Rattle.std.specs.FinSet.{FinSet, contains, from_list, contains-from_list_nat}
+use Rattle.std.specs.FinSet.{FinSet, contains}
 use Rattle.std.specs.Ordering.{nat_cmp}
 use Rattle.pg_base.specs.Points.{AreBelow, AreWithin, members}
 use Rattle.pg_base.specs.WordLemmas.{same_points}
-use Rattle.pg_base.proofs.MemberLemmas.{has-points_below}
 use Rattle.pg_base.specs.Side.{other}
 use Rattle.pg_base.specs.declared.side.Side.{Side}
 use Rattle.pg_base.specs.declared.side.Side.TheVariants.{X, Y}
@@ -22,9 +19,9 @@ use Rattle.pg_game.specs.Game.{point_count, free_points, IsPosition}
 use Rattle.pg_game.proofs.Limits.{point_count-le}
 use Rattle.pg_game.proofs.Greatest.{member-within}
 use Rattle.pg_game.proofs.Members.{list_any-one, member-from_any, All-from_members}
-use Rattle.pg_maps.specs.Images.{AreInverse, IsAutomorphism, IsImage, image_set, image_position}
+use Rattle.pg_maps.specs.Images.{IsAutomorphism, IsImage, image_set, image_position}
 use Rattle.pg_weaker.specs.Weaker.{IsNoWorse}
-use Rattle.pg_maps.proofs.ImageLines.{is_in, filter-rising, rising_range, list_any-through}
+use Rattle.pg_maps.proofs.ImageLines.{is_in, filter-rising, rising_range}
 use Rattle.pg_maps.proofs.SetImages.{member_of, of_member, in_image}
 use Rattle.pg_maps.proofs.Imaging.{has-image}
 use Rattle.pg_maps.proofs.Criteria.{Contains-map, Contains-map-from, free_points-image}
@@ -82,11 +79,11 @@ module _ (g : Game) (f back : ℕ → ℕ) (fits : IsAutomorphism g f back) wher
     x_range = image_set-below p.x is.x_range;
     y_range = image_set-below p.y is.y_range;
     disjoint = λ w on.
-      let range = image_set-below p.x is.x_range w on in
-      let was = fits.points.back_range w range in
-      let there = fits.points.redone w range in
-      let x = sym (image_set-has p.x (back w) is.x_range was) ∙ ap (contains (image_set f p.x)) there ∙ on in
-      ap (contains (image_set f p.y)) (sym there) ∙ image_set-has p.y (back w) is.y_range was ∙ is.disjoint (back w) x;
+        let range = image_set-below p.x is.x_range w on in
+        let was = fits.points.back_range w range in
+        let there = fits.points.redone w range in
+        let x = sym (image_set-has p.x (back w) is.x_range was) ∙ ap (contains (image_set f p.x)) there ∙ on in
+        ap (contains (image_set f p.y)) (sym there) ∙ image_set-has p.y (back w) is.y_range was ∙ is.disjoint (back w) x;
     some_left = is.some_left;
     few_left = is.few_left;
   }
@@ -138,3 +135,28 @@ module _ (g : Game) (f back : ℕ → ℕ) (fits : IsAutomorphism g f back) wher
       let turn = h.turn ∙ sym k.turn in
       let left = h.left ∙ sym k.left in
       λ i. record { x = x i; y = y i; turn = turn i; left = left i }
+
+  -- ---- images of images
+
+  pub IsImage-further : (h : ℕ → ℕ) (p q r : Position) → IsImage g f p q → IsImage g h q r → IsImage g (λ v. h (f v)) p r
+  IsImage-further h p q r first second = record {
+    x = λ v lt. second.x (f v) (fits.points.range v lt) ∙ first.x v lt;
+    y = λ v lt. second.y (f v) (fits.points.range v lt) ∙ first.y v lt;
+    turn = second.turn ∙ first.turn;
+    left = second.left ∙ first.left;
+  }
+
+  pub IsImage-undone : (p q : Position) → IsImage g f p q → IsImage g back q p
+  IsImage-undone p q h = record {
+    x = λ w lt. sym (h.x (back w) (fits.points.back_range w lt)) ∙ ap (contains q.x) (fits.points.redone w lt);
+    y = λ w lt. sym (h.y (back w) (fits.points.back_range w lt)) ∙ ap (contains q.y) (fits.points.redone w lt);
+    turn = sym h.turn;
+    left = sym h.left;
+  }
+
+  -- where every point stays so does the position
+  pub image_position-stays : (p : Position) → ((v : ℕ) → f v ≡ v) → IsPosition g p → image_position f p ≡ p
+  image_position-stays p stays is =
+      IsImage-unique p (image_position f p) p (IsImage-position p is)
+      (record { x = λ v lt. ap (contains p.x) (stays v); y = λ v lt. ap (contains p.y) (stays v); turn = refl; left = refl })
+      (IsPosition-image p is) is

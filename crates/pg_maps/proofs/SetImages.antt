@@ -1,8 +1,8 @@
 -- The image of a set of points.
-use Rattle.std.proofs.Common.{◌≡◌, ℕ, ◌<◌, Bool, true, false, ◌&&◌, List, map, refl, sym, ap, ◌∙◌, subst, inl, inr, eqb, eqb-true, eq-eqb, lt-ltb}
+use Rattle.std.proofs.Common.{◌≡◌, ℕ, ◌<◌, true, map, refl, sym, ◌∙◌, subst, inl, inr, eqb, eqb-true, eq-eqb, lt-ltb}
 use Rattle.std.proofs.lemmas.Bool.{cases_Bool, and_from, and_parts, both_ways}
-use Rattle.std.specs.List.{Contains, list_any}
-use Rattle.std.specs.FinSet.{FinSet, contains, from_list, contains-from_list_nat}
+use Rattle.std.specs.List.{Contains}
+use Rattle.std.specs.FinSet.{FinSet, contains, contains-from_list_nat}
 use Rattle.std.specs.Ordering.{nat_cmp}
 use Rattle.pg_base.specs.Points.{AreBelow, members}
 use Rattle.pg_base.specs.WordLemmas.{same_points}

@@ -75,15 +75,13 @@ impl GridMap {
     pub fn reverse(self) -> GridMap
         ensures { result ≡ reverse_of self }
     {
-        let (rows, columns) = if self.exchange {
-            (self.columns, self.rows)
-        } else {
-            (self.rows, self.columns)
-        };
+        if !self.exchange {
+            return self;
+        }
         GridMap {
-            exchange: self.exchange,
-            rows,
-            columns,
+            exchange: true,
+            rows: self.columns,
+            columns: self.rows,
         }
     }
 

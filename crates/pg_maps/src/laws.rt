@@ -52,12 +52,16 @@ pub fn fitting_maps_are_automorphisms()
     ensures { (g : Game) → (m : GridMap) → Fits g m → IsAutomorphism g (image_on (board_of g.field) m) (image_on (board_of g.field) (reverse_of m)) }
 {}
 
-/// The image of a position of the game is a position of the game, and its only image; and where a point is taken in both
-/// the next positions are images too.
+/// The image of a position of the game is a position of the game, and its only image; where a point is taken in both the
+/// next positions are images too; an image of an image is one by the one map and then the other, and is undone as the map
+/// is; and where every point stays so does the position.
 pub fn images_are_positions()
     ensures image { (g : Game) → (f : ℕ → ℕ) → (back : ℕ → ℕ) → (p : Position) → IsAutomorphism g f back → IsPosition g p → IsImage g f p (image_position f p) × IsPosition g (image_position f p) }
     ensures unique { (g : Game) → (f : ℕ → ℕ) → (back : ℕ → ℕ) → (p : Position) → (q : Position) → (r : Position) → IsAutomorphism g f back → IsImage g f p q → IsImage g f p r → IsPosition g q → IsPosition g r → q ≡ r }
     ensures after { (g : Game) → (f : ℕ → ℕ) → (back : ℕ → ℕ) → (p : Position) → (q : Position) → (v : ℕ) → IsAutomorphism g f back → IsImage g f p q → v < point_count g → IsImage g f (after g p v) (after g q (f v)) }
+    ensures further { (g : Game) → (f : ℕ → ℕ) → (back : ℕ → ℕ) → (h : ℕ → ℕ) → (p : Position) → (q : Position) → (r : Position) → IsAutomorphism g f back → IsImage g f p q → IsImage g h q r → IsImage g (λ v. h (f v)) p r }
+    ensures undone { (g : Game) → (f : ℕ → ℕ) → (back : ℕ → ℕ) → (p : Position) → (q : Position) → IsAutomorphism g f back → IsImage g f p q → IsImage g back q p }
+    ensures stays { (g : Game) → (f : ℕ → ℕ) → (back : ℕ → ℕ) → (p : Position) → IsAutomorphism g f back → ((v : ℕ) → f v ≡ v) → IsPosition g p → image_position f p ≡ p }
 {}
 
 /// An automorphism keeps whether the game is over, its outcome, its value, and what each side forces: in games of all

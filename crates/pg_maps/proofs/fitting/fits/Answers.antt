@@ -1,4 +1,4 @@
-use Rattle.std.proofs.Common.{◌≡◌, ◌≤◌, ◌*◌, ℕ, IsTrue, List, Option, Some, None, map, length, refl, sym, ap, ◌∙◌, subst, subst₂, arith, eqb-true, eq-eqb}
+use Rattle.std.proofs.Common.{◌≡◌, ℕ, List, Some, None, map, length, refl, sym, ap, ◌∙◌, subst, subst₂, arith, eqb-true, eq-eqb}
 use Rattle.std.proofs.lemmas.List.FromFn.{length-map-range_with_len}
 use Rattle.std.specs.List.{All, range_with_len}
 use Rattle.std.specs.List.Sorted.{IsPermutation}
@@ -43,7 +43,8 @@ returns c =
       inverse = subst (λ (n : ℕ). AreInverse n f (image_of (reverse_of m) grid)) (cells g grid has ∙ sym count) (AreInverse-map grid m is_map);
     } in
     let images : points_of_rows c.in_ok-images.images.items ≡ map (image_line f (point_count g)) (lines_of g) =
-      c.in_ok-images.ensures f (image_of (reverse_of m) grid) table ∙ (λ i. map (image_line f (count i)) (c.lines.ensures.lines i)) in
-    let own : points_of_rows c.in_ok-rows.rows.items ≡ lines_of g = c.in_ok-rows.ensures ∙ c.lines-2.ensures.lines in
-    (λ on. Fits-some g grid m has is_map (subst₂ (λ (a b : List (List ℕ)). IsPermutation a b) images own (c.are_reordered.ensures.0 on)),
-    λ h. c.are_reordered.ensures.1 (subst₂ (λ (a b : List (List ℕ)). IsPermutation a b) (sym images) (sym own) (some-Fits g grid m has h)))
+    c.in_ok-images.ensures f (image_of (reverse_of m) grid) table ∙ (λ i. map (image_line f (count i)) (c.lines.ensures.lines i)) in
+    let own : points_of_rows c.in_ok-rows.rows.items ≡ lines_of g = c.in_ok-rows.ensures ∙ c.lines-2.ensures.lines in (
+      λ on. Fits-some g grid m has is_map (subst₂ (λ (a b : List (List ℕ)). IsPermutation a b) images own (c.are_reordered.ensures.0 on)),
+      λ h. c.are_reordered.ensures.1 (subst₂ (λ (a b : List (List ℕ)). IsPermutation a b) (sym images) (sym own) (some-Fits g grid m has h)),
+    )

@@ -1,4 +1,4 @@
-use Rattle.std.proofs.Common.{ℕ, List, [], length, sym, subst}
+use Rattle.std.proofs.Common.{[], length, sym, subst}
 use Rattle.std.proofs.lemmas.List.{get_or_read}
 use Rattle.pg_maps.specs.Rows.{IsRow}
 use Rattle.pg_maps.proofs.fitting.image_rows.Goals as goal

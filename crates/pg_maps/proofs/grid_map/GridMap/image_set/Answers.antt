@@ -1,4 +1,4 @@
-use Rattle.std.proofs.Common.{◌≡◌, ◌<◌, ◌≤◌, ℕ, ◌||◌, true, false, sym, ap, ◌∙◌, inl, inr, arith, eqb, eq-eqb, eqb-true}
+use Rattle.std.proofs.Common.{◌≡◌, ◌<◌, ◌≤◌, ℕ, ◌||◌, sym, ap, ◌∙◌, inl, inr, arith, eqb, eq-eqb, eqb-true}
 use Rattle.std.proofs.lemmas.Bool.{cases_eq, cases_lt, both_ways, or_cases, or_left, or_right}
 use Rattle.std.specs.FinSet.{FinSet, contains, contains-empty}
 use Rattle.std.specs.Ordering.{nat_cmp}
