@@ -1,0 +1,5 @@
+pub mod Adding
+pub mod FirstFault
+pub mod Allowed
+pub mod PrintedLines
+pub mod ReadBack

@@ -1,0 +1,10 @@
+use Rattle.std.proofs.Common.{◌≡◌, ◌∷◌, length, arith, ap}
+use Rattle.pg_text.specs.Text.{lines}
+use Rattle.pg_text.proofs.Reading.{lines_few}
+use Rattle.pg_record_files.proofs.reading.read_record.Goals as goal
+
+pub read_events-requires : goal.read_events-requires
+read_events-requires c =
+    let rest : c.of-lines.result ≡ c.in-Some.first.now ∷ c.next.new.self = c.in-Some.ensures.steps in
+    let whole : c.of-lines.result ≡ lines c.args.bytes.now = c.of-lines.ensures in
+    omega (arith, ap length rest, ap length whole, lines_few c.args.bytes.now, c.if-bytes-gt-MAX_RECORD_BYTES.false)

@@ -1,0 +1,3 @@
+pub mod RecordFile
+pub mod Faults
+pub mod Views
