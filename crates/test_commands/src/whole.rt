@@ -1,6 +1,6 @@
 //! What a run leaves, as text.
 use pg_cli::run;
-use pg_io::{Console, Entry, Failed, Files, MemConsole, MemFiles, Text};
+use pg_io::{Entry, Failed, Files, MemConsole, MemFiles, Text};
 use pg_pns::Work;
 use std::alloc::{AllocError, Global};
 
@@ -14,7 +14,7 @@ fn shown(alloc: Global, bytes: &[u8]) -> Result<String, AllocError> {
 }
 
 /// The file of this name, and `-` where it isn't held.
-pub(crate) fn held(alloc: Global, files: &MemFiles, name: &str) -> Result<String, AllocError> {
+fn held(alloc: Global, files: &MemFiles, name: &str) -> Result<String, AllocError> {
     match files.bytes_of(name) {
         Some(bytes) => shown(alloc, bytes),
         None => String::from_str(alloc, "-"),
@@ -113,26 +113,6 @@ pub(crate) fn stopped_by_files(
     text.push('#')?;
     text.push_str(held(alloc, &files, "C")?.as_str())?;
     if files.open("G") != Err(Failed) {
-        text.push_str("#called")?;
-    }
-    Ok(text)
-}
-
-/// The status of a run where the console fails at the call with this number, and what was said; and `called` where a
-/// further call was made.
-pub(crate) fn stopped_by_console(
-    alloc: Global,
-    words: &str,
-    files: &mut MemFiles,
-    call: u64,
-) -> Result<String, AllocError> {
-    let words = split(alloc, words)?;
-    let failing = two_calls(alloc, call)?;
-    let mut console = MemConsole::new(alloc, Text::from_vec(Vec::new(alloc)), failing);
-    let mut work = Work::new(alloc);
-    let status = run(alloc, &words, files, &mut console, &mut work);
-    let mut text = told(alloc, status, &console)?;
-    if console.say(b"more") != Err(Failed) {
         text.push_str("#called")?;
     }
     Ok(text)

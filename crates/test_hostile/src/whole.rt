@@ -17,13 +17,7 @@ pub(crate) struct Given<'a> {
 #[derive(Drop)]
 pub(crate) struct Left {
     pub(crate) status: u8,
-    pub(crate) files: MemFiles,
     pub(crate) console: MemConsole,
-}
-
-/// The part of a row that has this number, from 0, and no text where it has fewer.
-pub(crate) fn part(row: &str, number: usize) -> &str {
-    row.split('=').nth(number).unwrap_or("")
 }
 
 /// These bytes as a text.
@@ -31,8 +25,8 @@ fn text(alloc: Global, bytes: &str) -> Option<Text> {
     Some(Text::from_vec(bytes.as_bytes().to_vec(alloc).ok()?))
 }
 
-/// Files that hold the game as G and the certificate as C, and of whose calls these fail.
-fn holding(alloc: Global, given: &Given, failing: Vec<u64>) -> Option<MemFiles> {
+/// Files that hold the game as G and the certificate as C.
+fn holding(alloc: Global, given: &Given) -> Option<MemFiles> {
     let mut files = Vec::new(alloc);
     files
         .push((text(alloc, "G")?, text(alloc, given.game)?))
@@ -40,7 +34,7 @@ fn holding(alloc: Global, given: &Given, failing: Vec<u64>) -> Option<MemFiles> 
     files
         .push((text(alloc, "C")?, text(alloc, given.certificate)?))
         .ok()?;
-    Some(MemFiles::new(alloc, files, failing))
+    Some(MemFiles::new(alloc, files, Vec::new(alloc)))
 }
 
 /// The words, which are split at spaces.
@@ -52,23 +46,14 @@ fn split(alloc: Global, words: &str) -> Option<Vec<String>> {
     Some(list)
 }
 
-/// What a run leaves where these calls on the files and these on the console fail.
-pub(crate) fn ran(
-    alloc: Global,
-    given: &Given,
-    files_fail: Vec<u64>,
-    console_fails: Vec<u64>,
-) -> Option<Left> {
+/// What a run leaves.
+pub(crate) fn ran(alloc: Global, given: &Given) -> Option<Left> {
     let words = split(alloc, given.words)?;
-    let mut files = holding(alloc, given, files_fail)?;
-    let mut console = MemConsole::new(alloc, text(alloc, given.input)?, console_fails);
+    let mut files = holding(alloc, given)?;
+    let mut console = MemConsole::new(alloc, text(alloc, given.input)?, Vec::new(alloc));
     let mut work = Work::new(alloc);
     let status = run(alloc, &words, &mut files, &mut console, &mut work);
-    Some(Left {
-        status,
-        files,
-        console,
-    })
+    Some(Left { status, console })
 }
 
 /// Adds each byte as a sign.
@@ -96,8 +81,8 @@ pub(crate) fn log(alloc: Global, console: &MemConsole) -> Option<String> {
     Some(text)
 }
 
-/// Whether a run where no call fails ends with this status and this log.
+/// Whether a run ends with this status and this log.
 pub(crate) fn ends_so(alloc: Global, given: &Given, status: u8, due: &str) -> Option<bool> {
-    let left = ran(alloc, given, Vec::new(alloc), Vec::new(alloc))?;
+    let left = ran(alloc, given)?;
     Some(left.status == status && log(alloc, &left.console)?.as_str() == due)
 }

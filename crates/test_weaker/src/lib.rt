@@ -4,6 +4,4 @@
 #[cfg(test)]
 mod plays;
 #[cfg(test)]
-mod rows;
-#[cfg(test)]
 mod small_games;
