@@ -58,7 +58,9 @@ fn has_images(alloc: Global, row: &str) -> Option<bool> {
     let (grid, m) = (board(head)?, map_at(head, 2)?);
     let mut images = Vec::new(alloc);
     for (point, _) in part(row, 1).split_whitespace().enumerate() {
-        images.push(image(m, grid, point as u16)?).ok()?;
+        images
+            .push(image(m, grid, u16::try_from(point).ok()?)?)
+            .ok()?;
     }
     let same = images == numbers(alloc, part(row, 1))?;
     Some(same && Some(u16::from(m.number())) == number_at(head, 2))
