@@ -200,7 +200,7 @@ def measured(program, classes, text, board, folder):
         (f"dearest of {len(play[1])} moves", max(play[1], default=0) / 1e6, MOVE, "million"),
         ("memory", memory, MEMORY, "KB"),
     ]
-    line = ", ".join([said] + [f"{what} {figure:.3f} {unit} (limit {limit})" for what, figure, limit, unit in figures])
+    line = ", ".join([said] + [f"{what} {figure:.4g} {unit} (limit {limit})" for what, figure, limit, unit in figures])
     faults += [f"MORE THAN {limit} {unit}" for _, figure, limit, unit in figures if figure > limit]
     faults += [] if said.endswith(" valid") else ["NOT VALID"]
     if board and classes:
