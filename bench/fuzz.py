@@ -12,6 +12,8 @@ files are made from those of examples/ and from what the program solves of them,
 - words that have a meaning and are refused, or the other way round, by a reading of its own;
 - check, report and play that answer otherwise on the same files, and a certificate that is stored and not accepted.
 
+Connectivity games and games on vectors are tried so too, by their own commands.
+
 What it finds is printed with the number of its case: `--seed S --first K --runs 1` repeats that case and shows its words and files. The status is 1
 where it finds something.
 """
@@ -48,7 +50,25 @@ FORM_FAULT = r"certificate C[1-6] line \d+\n"
 REFUSED = r"refused: (not a number|no such point|taken)\n"
 TURNS = rf"claim [xy] (win|draw)\n(move \d+\n|{REFUSED})*"
 READING = {3: GAME_FAULT, 4: rf"{FORM_FAULT}|{REJECTED}", 5: ""}
+WON = r"(accepted [xy] [xy] win\n){1,8}"
+FLAWS = {"span": r"rejected S[1-3] claim \d+\n", "vec": r"rejected V[1-5] claim \d+ node 0\n"}
+WINNERS = {"span": "(maker|breaker)", "vec": "(short|cut)"}
+
+
+def family_dues(family):
+    """What the commands of a family may say at each status."""
+    reading = {3: GAME_FAULT, 4: rf"{FORM_FAULT}|{FLAWS[family]}", 5: ""}
+    winner = WINNERS[family]
+    return {
+        f"{family} check": {0: WON, **reading},
+        f"{family} solve": {0: rf"class ({winner}|first-mover)\n", 3: GAME_FAULT, 5: "", 6: ""},
+        f"{family} play": {0: rf"{TURNS}result {winner}\n", 2: r"words: no claim for side [xy]\n", **reading, 8: TURNS, 9: TURNS},
+    }
+
+
 DUE = {
+    **family_dues("span"),
+    **family_dues("vec"),
     "check": {0: ACCEPTED, **READING},
     "report": {0: REPORT, **READING, 4: rf"{FORM_FAULT}|{REJECTION}"},
     "solve": {0: rf"{RESULT}|{CLASS}", 1: UNKNOWN, 3: GAME_FAULT, 5: "", 6: ""},
@@ -58,9 +78,11 @@ DUE = {
 }
 KEYS = "posgame kind points grid bias vertices terminals line shape edge x y turn maker-breaker maker-maker avoider-enforcer switching 110/011 1 11 # 256 257 1000".split()
 SIGNS = "claim nodes over move all pairs potential trees cuts threat weaker y2 y7 e / | || |||| x y win draw posgame-cert 0:0 1:5 0-1 2-5 1023 1024 99999 100000".split()
+FAMILY_KEYS = "posgame-span posgame-vectors 1 vertices edge rows target vector x y turn kind 0 2 3 128 129 500 501 1000 01 10 11 110 # 2".split()
+FAMILY_SIGNS = "posgame-span-cert posgame-cert claim trees parts cuts first e / | x y win nodes 999 1000".split()
 NUMBERS = "0 1 2 3 4 5 8 9 16 22 23 256 257 2147483647 2147483648 999999999 1000000000 09 -1 1.0 x".split()
 NAMES = ["G", "C", "O", "missing", "folder", "folder/new", "no folder/new", ".", "", "-", "--", "-G", "ä", "x" * 300]
-WORDS = ["solve", "check", "play", "gen", "report", "rows", "bridge", "scatter", "--positions", "--positions=5", "--positions=", "--side", "--side=x", "--side=y", "--help", "-h", "--version", "x", "y"]
+WORDS = ["solve", "check", "play", "gen", "report", "rows", "bridge", "scatter", "--positions", "--positions=5", "--positions=", "--side", "--side=x", "--side=y", "--help", "-h", "--version", "span", "vec", "x", "y"]
 
 
 class Program:
@@ -178,14 +200,18 @@ def meaning(words):
     if command == "gen" and not options:
         names = made(others)
         return none if names is None else ("gen", names, [])
-    if command not in ("solve", "check", "play", "report") or len(others) != 2:
+    family = command if command in ("span", "vec") and others else None
+    if family:
+        command, *others = others
+    if command not in ("solve", "check", "play", *([] if family else ["report"])) or len(others) != 2:
         return none
-    allowed = {"solve": {"--positions"}, "play": {"--side"}}.get(command, set())
+    allowed = {"solve": set() if family else {"--positions"}, "play": {"--side"}}.get(command, set())
     if not set(values) <= allowed or not is_within(values.get("--positions", "1"), 1, 100_000):
         return none
     if command == "play" and values.get("--side") not in ("x", "y"):
         return none
-    return (command, others[1:], others[:1]) if command == "solve" else (command, [], others)
+    said = f"{family} {command}" if family else command
+    return (said, others[1:], others[:1]) if command == "solve" else (said, [], others)
 
 
 def wrongs(program, words, typed=b""):
@@ -309,7 +335,7 @@ def write(folder, files):
 
 def certificate_case(draw, program, pairs):
     """Check, report and play of one pair of files, which must agree."""
-    game, certificate = draw.choice(pairs)
+    game, certificate = draw.choice(pairs[None])
     if draw.randrange(4) == 0:
         game = mutated(draw, game, KEYS)
     certificate = mutated(draw, certificate, SIGNS)
@@ -333,12 +359,34 @@ def certificate_case(draw, program, pairs):
 
 def solve_case(draw, program, pairs):
     """A game that is solved, and what was stored then."""
-    game = mutated(draw, draw.choice(pairs)[0], KEYS)
+    game = mutated(draw, draw.choice(pairs[None])[0], KEYS)
     write(program.folder, {"G": game, "C": b"old", "O": b"other"})
     words = ["solve", "G", "C", "--positions", str(draw.choice((1, 2, 10, 100, 1_000)))]
     found, status, _ = wrongs(program, words if draw.randrange(3) else words[:3])
     if status == 0:
         wrong, checked, said = wrongs(program, ["check", "G", "C"])
+        found += wrong + ([f"stored, and then {said!r}"] if checked else [])
+    return found
+
+
+def family_case(draw, program, pairs):
+    """Check and play of one pair of files of a family, which must agree; and the game solved, and what was stored then."""
+    family = draw.choice(("span", "vec"))
+    game, certificate = draw.choice(pairs[family])
+    if draw.randrange(3) == 0:
+        game = mutated(draw, game, FAMILY_KEYS)
+    write(program.folder, {"G": game, "C": mutated(draw, certificate, FAMILY_SIGNS), "O": b"other"})
+    found, checked, text = wrongs(program, [family, "check", "G", "C"])
+    wrong, played, log = wrongs(program, [family, "play", "G", "C", "--side", draw.choice("xy")], typed_lines(draw))
+    found += wrong
+    if checked == 0 and played not in (0, 2, 8, 9):
+        found.append(f"accepted, but {played}")
+    if checked != 0 and (played, log) != (checked, text):
+        found.append(f"refused by {checked}, but {played}")
+    wrong, status, _ = wrongs(program, [family, "solve", "G", "O"])
+    found += wrong
+    if status == 0:
+        wrong, checked, said = wrongs(program, [family, "check", "G", "O"])
         found += wrong + ([f"stored, and then {said!r}"] if checked else [])
     return found
 
@@ -357,9 +405,9 @@ def gen_case(draw, program, _):
 
 def words_case(draw, program, pairs):
     """Words of any kind."""
-    game, certificate = draw.choice(pairs)
+    game, certificate = draw.choice(pairs[draw.choice((None, None, "span", "vec"))])
     write(program.folder, {"G": game, "C": certificate, "O": b"other", "-G": game, "ä": certificate})
-    words = draw.choice((["solve", "G", "C"], ["check", "G", "C"], ["play", "G", "C", "--side", "x"], ["report", "G", "C"], ["gen", "rows", "3", "O"], ["gen", "bridge", "2", "O", "C"], ["gen", "scatter", "1", "5", "2", "2", "O"], []))
+    words = draw.choice((["solve", "G", "C"], ["check", "G", "C"], ["play", "G", "C", "--side", "x"], ["report", "G", "C"], ["gen", "rows", "3", "O"], ["gen", "bridge", "2", "O", "C"], ["gen", "scatter", "1", "5", "2", "2", "O"], ["span", "solve", "G", "C"], ["vec", "check", "G", "C"], ["span", "play", "G", "C", "--side", "x"], []))
     words = list(words)
     for _ in range(draw.choice((0, 1, 1, 2, 4))):
         place = draw.randrange(len(words) + 1)
@@ -370,26 +418,36 @@ def words_case(draw, program, pairs):
     return [f"{words[:12]}: {it}" for it in found]
 
 
-CASES = [certificate_case] * 6 + [solve_case, gen_case] + [words_case] * 2
+CASES = [certificate_case] * 6 + [solve_case, gen_case] + [words_case, family_case] * 2
+
+
+def family_of(game):
+    """The further family of which the file is a game, or None."""
+    for line in game.split(b"\n"):
+        if line.strip() and not line.startswith(b"#"):
+            return {b"posgame-span 1": "span", b"posgame-vectors 1": "vec"}.get(line)
+    return None
 
 
 def pairs_of_examples(program):
-    """The games of examples/ with each certificate there that is valid or rejected for them, and with what the program solves of them."""
+    """By family, the games of examples/ with each certificate there that is valid or rejected for them, and with what the program solves of them."""
     games = [path.read_bytes() for path in sorted(EXAMPLES.glob("*.game"))]
     certificates = [path.read_bytes() for path in sorted(EXAMPLES.glob("*.cert"))]
-    accepted, rejected = [], []
+    accepted, rejected = collections.defaultdict(list), collections.defaultdict(list)
     for game in games:
+        family = family_of(game)
+        prefix = [family] if family else []
         write(program.folder, {"G": game})
-        if program.run(["solve", "G", "S"])[0] == 0:
-            accepted.append((game, pathlib.Path(program.folder, "S").read_bytes()))
+        if program.run([*prefix, "solve", "G", "S"])[0] == 0:
+            accepted[family].append((game, pathlib.Path(program.folder, "S").read_bytes()))
         for certificate in certificates:
             pathlib.Path(program.folder, "C").write_bytes(certificate)
-            status, said, *_ = program.run(["check", "G", "C"])
+            status, said, *_ = program.run([*prefix, "check", "G", "C"])
             if status == 0:
-                accepted.append((game, certificate))
-            elif not said.startswith(("rejected J11", "rejected J12", "rejected J2 ")):
-                rejected.append((game, certificate))
-    return accepted * 6 + rejected
+                accepted[family].append((game, certificate))
+            elif said.startswith("rejected") and not said.startswith(("rejected J11", "rejected J12", "rejected J2 ")):
+                rejected[family].append((game, certificate))
+    return {family: pairs * 6 + rejected[family] for family, pairs in accepted.items()}
 
 
 def shown(program):
