@@ -44,7 +44,10 @@ fn play(
 
 /// Goes on to the next list of replies behind all that begin so; false where there is none.
 fn raise(replies: &mut Vec<u16>, points: u16) -> Result<bool, AllocError> {
-    while let Some(last) = replies.pop() {
+    for _reply in 0..replies.len() {
+        let Some(last) = replies.pop() else {
+            return Ok(false);
+        };
         let next = last.saturating_add(1);
         if next < points {
             replies.push(next)?;
