@@ -39,7 +39,8 @@ use Rattle.pg_families.specs.Family.{ActsInFamily, AreForcedInFamily, IsForcedIn
 use Rattle.pg_families.proofs.Announced.{AllOther, AreOther, IsOther, accepted_forced, apart, delivers_other, first_or_later, held_there, none_of, one_of, one_other, others_forced, play_forced, said_is, stays_other, unsaid}
 use Rattle.pg_cli.specs.Forced.{SaysGame, IsForcedFrom, IsForced, AreForced, AreForcedInGame, AnnouncesForced}
 use Rattle.pg_cli.specs.Playing.{IsPlayedBy, PlaysOn, claimer}
-use Rattle.pg_cli.specs.Reading.{game_held, both_held, IsSaidBy}
+use Rattle.pg_cli.specs.Reading.{both_held}
+use Rattle.pg_opening.specs.Opening.{game_held, IsSaidBy}
 use Rattle.pg_talk.specs.Reading.{certificate_held, both}
 use Rattle.pg_cli.specs.Reporting.{Accounts, Reports}
 use Rattle.pg_cli.specs.Generating.{StoresGame, game_file, size_text, size_texts}

@@ -1,5 +1,4 @@
-pub mod Openings
-pub mod Tasks
+pub pub mod Tasks
 pub mod Runs
 pub mod Plays
 pub mod Forced

@@ -13,7 +13,7 @@ use Rattle.pg_texts.specs.declared.refusal.Refusal.{Refusal}
 use Rattle.pg_texts.specs.declared.refusal.Refusal.TheVariants.{Rejected}
 use Rattle.pg_talk.specs.Done.{End}
 use Rattle.pg_talk.specs.Saying.{SaysAll}
-use Rattle.pg_cli.specs.Reading.{IsSaidBy}
+use Rattle.pg_opening.specs.Opening.{IsSaidBy}
 use Rattle.pg_talk.specs.declared.halt.Halt.{Halt}
 use Rattle.pg_talk.specs.declared.halt.Halt.TheVariants.{Refused}
 

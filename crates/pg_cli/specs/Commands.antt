@@ -9,7 +9,8 @@ use Rattle.pg_texts.specs.declared.statuses.TheConstants.{DONE, UNKNOWN, NO_MEAN
 use Rattle.pg_words.specs.Words.{Command, Solve, Check, Play, Gen, Report, OfFamily, meaning_of}
 use Rattle.pg_cli.specs.Generating.{TellsSize, has_source, names_of, searches}
 use Rattle.pg_talk.specs.Halts.{IsGameHalt, IsReadHalt, IsPlayHalt, IsPlayEnd, IsWriteHalt}
-use Rattle.pg_cli.specs.Reading.{both_held, game_held}
+use Rattle.pg_cli.specs.Reading.{both_held}
+use Rattle.pg_opening.specs.Opening.{game_held}
 use Rattle.pg_cli.specs.Reporting.{IsReportEnd}
 use Rattle.pg_cli.specs.Solving.{LeavesSearch, positions_for}
 use Rattle.pg_cli.specs.declared.solving.TheConstants.{DEFAULT_POSITIONS}

@@ -15,7 +15,7 @@ use Rattle.pg_cli.specs.Checking.{Rejects}
 use Rattle.pg_talk.specs.Contender.{Contender, contender_of}
 use Rattle.pg_talk.specs.Done.{End}
 use Rattle.pg_talk.specs.Playing.{IsPlay}
-use Rattle.pg_cli.specs.Reading.{IsSaidBy}
+use Rattle.pg_opening.specs.Opening.{IsSaidBy}
 use Rattle.pg_talk.specs.declared.halt.Halt.{Halt}
 use Rattle.pg_talk.specs.declared.halt.Halt.TheVariants.{Refused}
 

@@ -12,7 +12,7 @@ use Rattle.pg_report.specs.Report.{report_text, rejection_text}
 use Rattle.pg_texts.specs.declared.refusal.Refusal.{Refusal}
 use Rattle.pg_texts.specs.declared.statuses.TheConstants.{DONE, REFUSED}
 use Rattle.pg_talk.specs.Done.{End, Finished, Failed, Starved}
-use Rattle.pg_cli.specs.Reading.{IsSaidBy}
+use Rattle.pg_opening.specs.Opening.{IsSaidBy}
 use Rattle.pg_talk.specs.declared.halt.Halt.{Halt}
 use Rattle.pg_talk.specs.declared.halt.Halt.TheVariants.{Refused}
 

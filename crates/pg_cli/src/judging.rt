@@ -5,7 +5,7 @@ ghost use Rattle.pg_talk.specs.Halts.{HaltCauses, IsReadHalt};
 ghost use Rattle.pg_cli.specs.Reading.{AreLacking};
 ghost use Rattle.pg_cli.specs.Verdicts.{JudgesBoth, JudgesCertificate};
 
-use crate::reading::open_game;
+use pg_opening::open_game;
 use crate::verdict::Verdict;
 use pg_cert_files::MAX_CERT_BYTES;
 use pg_game::Game;

@@ -13,12 +13,12 @@ ghost use Rattle.pg_words.specs.Words.{Solve};
 ghost use Rattle.pg_cli.specs.Commands.{Gives, LeavesWork, Quiets};
 ghost use Rattle.pg_talk.specs.Done.{Does};
 ghost use Rattle.pg_talk.specs.Halts.{BothCauses, IsWriteHalt, MuteAtMemory};
-ghost use Rattle.pg_cli.specs.Reading.{IsGameLacking};
+ghost use Rattle.pg_opening.specs.Opening.{IsGameLacking};
 ghost use Rattle.pg_cli.specs.Run.{Carries};
 ghost use Rattle.pg_cli.specs.Solving.{IsFound, IsSolveEnd, SolvesGame, class_text, positions_for, result_alone};
 ghost use Rattle.pg_talk.specs.Storing.{Delivers, StoresAt, texts_of};
 
-use crate::reading::open_game;
+use pg_opening::open_game;
 use pg_base::Memory;
 use pg_cert::{Cert, print_cert};
 use pg_game::Game;

@@ -1,0 +1,2 @@
+pub mod Openings
+mod opening
