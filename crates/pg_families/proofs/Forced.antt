@@ -28,7 +28,7 @@ use Rattle.pg_gf2.specs.Check.{IsVecClaimValid, IsVecValid}
 use Rattle.pg_gf2.specs.Classes.{at_turn, vector_rules}
 use Rattle.pg_gf2.specs.declared.flaw.VecFlaw.TheVariants as flaws
 use Rattle.pg_gf2.specs.declared.game.VecGame.{VecGame}
-use Rattle.pg_gf2.proofs.Opening as vector_opening
+use Rattle.pg_vec_player.proofs.Opening as vector_opening
 use Rattle.pg_family_files.specs.FamilyFile.{span_game, vector_game}
 use Rattle.pg_family_files.specs.SpanCertPrint.{printed_span}
 use Rattle.pg_family_files.specs.Views.{span_entry, vector_entry}

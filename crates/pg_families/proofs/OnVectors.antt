@@ -7,7 +7,7 @@ use Rattle.pg_game.specs.declared.position.Illegal.{Illegal}
 use Rattle.pg_game.specs.declared.position.Position.{Position}
 use Rattle.std.specs.Prelude.{IfOk}
 use Rattle.pg_gf2.specs.Check.{IsFirstVecFault, IsVecValid, flaw_number}
-use Rattle.pg_gf2.specs.Player.{VecPlay, MakesVecMove, TakesVecReply, AnswersOnVectors, MovesOnVectors, chosen_vec_claim, plan_of_claim, vec_start}
+use Rattle.pg_vec_player.specs.Player.{VecPlay, MakesVecMove, TakesVecReply, AnswersOnVectors, MovesOnVectors, chosen_vec_claim, plan_of_claim, vec_start}
 use Rattle.pg_cert.specs.declared.cert.Cert.{Cert}
 use Rattle.pg_cert.specs.declared.cert.Claim.{Claim}
 use Rattle.pg_gf2.specs.declared.flaw.VecFlaw.{VecFlaw}

@@ -17,7 +17,7 @@ use Rattle.pg_lehman.specs.Sets.{named}
 use Rattle.pg_lehman.specs.declared.class.Class.{Class}
 use Rattle.pg_lehman.specs.declared.class.Class.TheVariants.{Short, Cut, First}
 use Rattle.pg_gf2.specs.Classes.{at_turn, vector_class, vector_rules}
-use Rattle.pg_gf2.specs.Player.{VecPlay, chosen_vec_claim, vec_start}
+use Rattle.pg_vec_player.specs.Player.{VecPlay, chosen_vec_claim, vec_start}
 use Rattle.pg_gf2.specs.declared.flaw.VecFlaw.{VecFlaw}
 use Rattle.pg_gf2.specs.declared.game.VecGame.{VecGame}
 use Rattle.pg_family_files.specs.FamilyFile.{VectorEntry, vector_game}

@@ -1,8 +1,8 @@
 //! Players of families' games, as dialogues take them.
 use pg_base::{Goal, Kind, Score, Side};
 use pg_game::Illegal;
-use pg_gf2::VecPlayer;
 use pg_talk::Contestant;
+use pg_vec_player::VecPlayer;
 
 /// A player of a game on vectors.
 #[derive(Drop)]

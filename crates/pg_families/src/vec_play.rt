@@ -13,10 +13,11 @@ use crate::opening::open_vectors_both;
 use crate::vec_contending::VecContestant;
 use pg_base::Side;
 use pg_cert::Cert;
-use pg_gf2::{VecChecked, VecFault, VecGame, VecOpen, VecPlayer};
+use pg_gf2::{VecChecked, VecFault, VecGame};
 use pg_io::{Console, Files, Stop};
 use pg_talk::{Halt, play_claim};
 use pg_texts::Refusal;
+use pg_vec_player::{VecOpen, VecPlayer};
 use std::alloc::Global;
 
 /// Plays a side of the game over a console by the claim for it.

@@ -8,8 +8,3 @@ pub mod VectorConditions
 pub mod ClaimLemmas
 pub mod LawLemmas
 pub mod Lowest
-pub mod VecSteps
-pub mod Keeping
-pub mod Opening
-pub mod JudgeLemmas
-pub mod MoveLemmas

@@ -6,5 +6,3 @@ pub mod GroundLaws
 pub mod Classes
 pub mod Check
 pub mod Answers
-pub mod Judge
-pub mod Player

@@ -54,7 +54,7 @@ fn fill(rows: &mut Vec<Row>, vectors: &[u128], set: &PointSet) -> PointSet
 }
 
 /// Whether vector f is the sum of some vectors of the set.
-pub(crate) fn spans(rows: &mut Vec<Row>, vectors: &[u128], set: &PointSet, f: u16) -> bool
+pub fn spans(rows: &mut Vec<Row>, vectors: &[u128], set: &PointSet, f: u16) -> bool
     requires few { length vectors.now ≤ MAX_VECTORS + 1 }
     requires room { length vectors.now ≤ vec_capacity rows.old }
     requires vector { f < length vectors.now }
@@ -67,7 +67,7 @@ pub(crate) fn spans(rows: &mut Vec<Row>, vectors: &[u128], set: &PointSet, f: u1
 }
 
 /// The lowest candidate among the first n vectors that the set doesn't span.
-pub(crate) fn lowest_unspanned(
+pub fn lowest_unspanned(
     rows: &mut Vec<Row>,
     vectors: &[u128],
     n: u16,
@@ -176,7 +176,7 @@ fn lowest_parting(
 ///
 /// Halving finds where to look. Where candidates bridge the set, as those of cuts do, the first from there on is the one
 /// that is sought. So there are three eliminations of the set, and at most ten of as many vectors as two bases have.
-pub(crate) fn lowest_needed(
+pub fn lowest_needed(
     rows: &mut Vec<Row>,
     vectors: &[u128],
     n: u16,

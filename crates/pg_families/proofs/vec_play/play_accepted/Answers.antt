@@ -1,5 +1,5 @@
 use Rattle.std.proofs.Common.{Err, ap}
-use Rattle.pg_gf2.specs.declared.player.VecOpen.{VecOpen}
+use Rattle.pg_vec_player.specs.declared.player.VecOpen.{VecOpen}
 use Rattle.pg_gf2.specs.Check.{IsVecValid}
 use Rattle.pg_family_files.specs.Views.{vector_entry}
 use Rattle.pg_families.specs.Vectors.{HasVecClaim, LacksVecClaim, RejectsVectors, vec_contender}

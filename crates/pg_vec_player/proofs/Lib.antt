@@ -1,0 +1,5 @@
+pub mod VecSteps
+pub mod Keeping
+pub mod Opening
+pub mod JudgeLemmas
+pub mod MoveLemmas

@@ -1,0 +1,68 @@
+//! A player's own moves on vectors.
+ghost use Rattle.std.specs.Prelude.{◌≡◌, ◌<◌, ◌≤◌, ℕ, Option, length};
+ghost use Rattle.std.specs.FinSet.{remove};
+ghost use Rattle.pg_gf2.specs.Answers.{lost_vector, vec_move};
+ghost use Rattle.pg_gf2.specs.Classes.{with_target};
+ghost use Rattle.pg_vec_player.specs.Judge.{IsVecJudgeOf};
+ghost use Rattle.pg_gf2.specs.Vectors.{vector_spans};
+
+use crate::judge::VecJudge;
+use pg_base::{MAX_MEMBERS, PointSet, Side};
+use pg_game::Position;
+use pg_gf2::{VecGame, VecPlan};
+
+/// An own move, and the plan that is left.
+#[derive(Clone, Copy, Debug)]
+pub(crate) struct Made {
+    /// The vector.
+    pub(crate) vector: u16,
+    /// What is left of the plan.
+    pub(crate) plan: VecPlan,
+}
+
+/// What is lost: the last reply, else the target.
+fn lost_vector(g: &VecGame, last: Option<u16>) -> u16
+    ensures { result ≡ lost_vector (length g.now.vectors) last }
+{
+    match last {
+        Some(x) => x,
+        None => g.vectors.as_slice().len() as u16,
+    }
+}
+
+/// The set without the lost and the claimed vector.
+fn without_both(set: &PointSet, lost: u16, claimed: u16) -> PointSet
+    requires lost { lost < MAX_MEMBERS }
+    requires claimed { claimed < MAX_MEMBERS }
+    ensures { result ≡ remove (remove set.now lost) claimed }
+{
+    let mut others = *set;
+    others.take(lost);
+    others.take(claimed);
+    others
+}
+
+/// The own move after the last reply by the plan. It takes no memory.
+pub(crate) fn own_move(
+    judge: &mut VecJudge,
+    g: &VecGame,
+    side: Side,
+    p: &Position,
+    plan: &VecPlan,
+    last: Option<u16>,
+) -> Made
+    requires made { IsVecJudgeOf judge.old g.now }
+    requires last { lost_vector (length g.now.vectors) last ≤ length g.now.vectors }
+    ensures own { vec_move (vector_spans (with_target g.now)) (length g.now.vectors) side p.now plan.now last ≡ record { vector = result.vector; plan = result.plan } }
+    ensures kept { IsVecJudgeOf judge.new g.now }
+{
+    let x = lost_vector(g, last);
+    let vector = judge.answer(g, side, p, plan, x);
+    Made {
+        vector,
+        plan: VecPlan {
+            first: without_both(&plan.first, x, vector),
+            second: without_both(&plan.second, x, vector),
+        },
+    }
+}
