@@ -1,10 +1,10 @@
 use Rattle.std.proofs.Common.{◌≡◌, IfSome, true, subst}
 use Rattle.pg_base.specs.declared.goal.Goal.TheVariants.{Win}
 use Rattle.pg_game.specs.Rules.{reaches}
-use Rattle.pg_gf2.specs.Player.{VecPlay}
+use Rattle.pg_vec_player.specs.Player.{VecPlay}
 use Rattle.pg_gf2.specs.Classes.{vector_rules}
-use Rattle.pg_gf2.proofs.Keeping.{outcome-reached}
-use Rattle.pg_gf2.proofs.player.VecPlayer.outcome.Goals as goal
+use Rattle.pg_vec_player.proofs.Keeping.{outcome-reached}
+use Rattle.pg_vec_player.proofs.player.VecPlayer.outcome.Goals as goal
 
 pub returns-clause-reached : goal.returns-clause-reached
 returns-clause-reached c =
