@@ -67,7 +67,7 @@ fn console_of(
 }
 
 /// The words, which are split at spaces; `<>` is the empty word.
-fn words_of(alloc: Global, words: &str) -> Result<Vec<String>, AllocError> {
+pub(crate) fn words_of(alloc: Global, words: &str) -> Result<Vec<String>, AllocError> {
     let mut list = Vec::new(alloc);
     for word in words.split_whitespace() {
         let word = if word == "<>" { "" } else { word };

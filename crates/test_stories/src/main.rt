@@ -1,4 +1,7 @@
-//! Carries out the runs that its input tells, in memory, and says of each row whether they leave what is due.
+//! Plays a game over the console of the system; then carries out the runs that the rest of the input tells, on the files of the system
+//! or in memory, and says of each row in memory whether its runs leave what is due.
+//!
+//! With a number as its word it makes so many allocations first, and carries out the rows in memory alone.
 #![tactic(auto)]
 
 mod calls;
@@ -7,17 +10,56 @@ mod due;
 mod entries;
 mod replies;
 mod rows;
+mod system;
 mod texts;
 
-use std::io;
+use std::alloc::Global;
+use std::{env, io};
 
-fn main(rt: HostRuntime) -> io::Result<()> {
+/// The words by which Breaker is played on the console of the system.
+const PLAY: &str = "play noughts-and-crosses.game breaker-in-the-centre.cert --side y";
+
+/// The number that the words of the command line say, if they say one.
+fn number(rt: &HostRuntime) -> io::Result<Option<u64>> {
+    match env::args(rt)?.nth(1) {
+        Some(word) => Ok(word.parse::<u64>().ok()),
+        None => Ok(None),
+    }
+}
+
+/// Makes so many allocations.
+fn allocate(alloc: Global, count: u64) {
+    for _ in 0..count {
+        let _ = b"room".to_vec(alloc);
+    }
+}
+
+/// The script, of which each line is an entry. Unless the rows in memory are wanted alone, the runs on the system are carried out.
+fn script(rt: &HostRuntime, rows_alone: bool) -> io::Result<String> {
+    if !rows_alone {
+        system::carry_out(rt, PLAY)?;
+    }
     let script = io::read_to_string(rt.alloc(), rt.reader())?;
     let script = texts::folded(rt.alloc(), script.as_str())?;
-    let texts = texts::texts_of(rt.alloc(), script.as_str())?;
+    if !rows_alone {
+        system::carry_out_all(rt, script.as_str())?;
+    }
+    Ok(script)
+}
+
+/// Says of each row whether its runs leave what is due.
+fn answer(rt: &HostRuntime, script: &str) -> io::Result<()> {
+    let texts = texts::texts_of(rt.alloc(), script)?;
     for row in script.split("\nrow ").skip(1) {
         let answer = rows::answer(rt.alloc(), &texts, row)?;
         rt.println(answer.as_str())?;
     }
     Ok(())
+}
+
+fn main(rt: HostRuntime) -> io::Result<()> {
+    let count = number(&rt)?;
+    allocate(rt.alloc(), count.unwrap_or(0));
+    let script = script(&rt, count.is_some())?;
+    answer(&rt, script.as_str())
 }

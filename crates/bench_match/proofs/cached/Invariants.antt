@@ -1,5 +1,0 @@
-use Rattle.pg_match.specs.Cache.{Fits}
-use Rattle.bench_match.proofs.cached.Given as goal
-
-abbrev pub invariant-loop-ask : goal.invariant-loop-ask
-invariant-loop-ask l = Fits l.cache l.lines

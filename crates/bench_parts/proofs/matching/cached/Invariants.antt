@@ -1,0 +1,5 @@
+use Rattle.pg_match.specs.Cache.{Fits}
+use Rattle.bench_parts.proofs.matching.cached.Given as goal
+
+abbrev pub invariant-loop-ask : goal.invariant-loop-ask
+invariant-loop-ask l = Fits l.cache l.lines

@@ -1,5 +1,0 @@
-use Rattle.std.proofs.Common.{◌≡◌}
-use Rattle.bench_threat.proofs.stand_still.Given as goal
-
-abbrev pub invariant-loop : goal.invariant-loop
-invariant-loop l = l.b.game ≡ l.g
