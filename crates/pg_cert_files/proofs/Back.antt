@@ -79,17 +79,17 @@ claim_back sides.Y sides.X goals.Draw = (refl, refl)
 claim_back sides.Y sides.Y goals.Win = (refl, refl)
 claim_back sides.Y sides.Y goals.Draw = (refl, refl)
 
-goal_is_word : (goal : Goal) → IsWord (goal_word goal)
+pub goal_is_word : (goal : Goal) → IsWord (goal_word goal)
 goal_is_word goals.Win = ((lit< tt, lit< tt), ((lit< tt, lit< tt), ((lit< tt, lit< tt), tt)))
 goal_is_word goals.Draw = ((lit< tt, lit< tt), ((lit< tt, lit< tt), ((lit< tt, lit< tt), ((lit< tt, lit< tt), tt))))
 
-five_word : IsWord (codes "claim")
+pub five_word : IsWord (codes "claim")
 five_word = ((lit< tt, lit< tt), ((lit< tt, lit< tt), ((lit< tt, lit< tt), ((lit< tt, lit< tt), ((lit< tt, lit< tt), tt)))))
 
-nodes_word : IsWord (codes "nodes")
+pub nodes_word : IsWord (codes "nodes")
 nodes_word = ((lit< tt, lit< tt), ((lit< tt, lit< tt), ((lit< tt, lit< tt), ((lit< tt, lit< tt), ((lit< tt, lit< tt), tt)))))
 
-claim_step_back : (p : Progress) (c : Claim) → p.due ≡ due.Claim → p.claims < 8 → step p (spaced (claim_words c)) ≡ Ok (record p { due = due.Count (head_is c); claims = p.claims + 1 }, None)
+pub claim_step_back : (p : Progress) (c : Claim) → p.due ≡ due.Claim → p.claims < 8 → step p (spaced (claim_words c)) ≡ Ok (record p { due = due.Count (head_is c); claims = p.claims + 1 }, None)
 unfolding step
 claim_step_back p c e few =
     let back = claim_back c.turn c.side c.goal in
@@ -106,7 +106,7 @@ count_back n small =
     let two : two_parts 32 (spaced (count_words n)) ≡ Some (codes "nodes", decimal n) = just_two 32 (spaced (count_words n)) (codes "nodes") (decimal n) line (lacks_space (codes "nodes") nodes_word) (lacks_space (decimal n) (decimal_is_word n wide)) in
     ap count_of_two two
 
-count_step_back : (p : Progress) (head : Head) (n : ℕ) → p.due ≡ due.Count head → 0 < n → n ≤ 100000 → p.nodes + n ≤ 200000 → step p (spaced (count_words n)) ≡ Ok (record p { due = due.Node (n - 1); nodes = p.nodes + n }, Some (parts.Claim head.turn head.side head.goal n))
+pub count_step_back : (p : Progress) (head : Head) (n : ℕ) → p.due ≡ due.Count head → 0 < n → n ≤ 100000 → p.nodes + n ≤ 200000 → step p (spaced (count_words n)) ≡ Ok (record p { due = due.Node (n - 1); nodes = p.nodes + n }, Some (parts.Claim head.turn head.side head.goal n))
 unfolding step
 count_step_back p head n e some few room =
     let word = count_back n (omega arith) in
@@ -118,11 +118,11 @@ count_step_back p head n e some few room =
 
 -- ---- node lines
 
-node_step_back : (p : Progress) (others : ℕ) (n : Node) → p.due ≡ due.Node others → IsRead p.version n → step p (node_line_text n) ≡ Ok (record p { due = behind others }, Some (parts.Node n))
+pub node_step_back : (p : Progress) (others : ℕ) (n : Node) → p.due ≡ due.Node others → IsRead p.version n → step p (node_line_text n) ≡ Ok (record p { due = behind others }, Some (parts.Node n))
 unfolding step
 node_step_back p others n e h = let back = node_back p.version n h in rw (e, back) refl
 
-node_text_is : (n : Node) → node_text n ≡ node_line_text n ++ 10 ∷ []
+pub node_text_is : (n : Node) → node_text n ≡ node_line_text n ++ 10 ∷ []
 unfolding node_text
 node_text_is n = simp append_assoc
 

@@ -67,10 +67,10 @@ abbrev pub Next : Type 0
 Next = Progress × Option Part
 
 -- what was gathered with the part of a line fits what is due after it
-abbrev IsKept : Gathered → Next → Type 0
+abbrev pub IsKept : Gathered → Next → Type 0
 IsKept g next = IsSound next.0.due next.0 (fold with_part g (listed next.1))
 
-sound_headed : (p : Progress) (g : Gathered) (version : Option Version) (next : Next) → IsSound due.Header p g → headed p version ≡ Ok next → IsKept g next
+pub sound_headed : (p : Progress) (g : Gathered) (version : Option Version) (next : Next) → IsSound due.Header p g → headed p version ≡ Ok next → IsKept g next
 sound_headed p g None next sound e = absurd cc
 sound_headed p g (Some version) next sound e =
     let made : Next = (record p { due = due.Claim; version = version }, None) in
@@ -130,7 +130,7 @@ push_each P [] a h f = (f, tt)
 push_each P (b ∷ bs) a h f = (h.0, push_each P bs a h.1 f)
 
 -- one node more, where others come
-node_comes : (others : ℕ) (p : Progress) (d : Due) (g : Gathered) (node : Node) → AreComing (suc others) p g → IsRead p.version node → AreComing others (record p { due = d }) (record g { nodes = g.nodes ++ node ∷ [] })
+pub node_comes : (others : ℕ) (p : Progress) (d : Due) (g : Gathered) (node : Node) → AreComing (suc others) p g → IsRead p.version node → AreComing others (record p { due = d }) (record g { nodes = g.nodes ++ node ∷ [] })
 node_comes others p d g node h fits =
     let len = length-append g.nodes (node ∷ []) in
     record {
@@ -152,7 +152,7 @@ abbrev pub claim_with : Head → List Node → Claim
 claim_with head nodes = record { turn = head.turn; side = head.side; goal = head.goal; nodes = nodes }
 
 -- the last node of a claim
-node_ends : (p : Progress) (g : Gathered) (node : Node) → AreComing 0 p g → IsRead p.version node → AreTold p.version p.claims p.nodes (closed (record g { nodes = g.nodes ++ node ∷ [] }))
+pub node_ends : (p : Progress) (g : Gathered) (node : Node) → AreComing 0 p g → IsRead p.version node → AreTold p.version p.claims p.nodes (closed (record g { nodes = g.nodes ++ node ∷ [] }))
 node_ends p g node h fits =
     let len = length-append g.nodes (node ∷ []) in
     let all = g.nodes ++ node ∷ [] in
@@ -224,7 +224,7 @@ sound_seen ls = sound_lines ls nothing (gathered_none, refl, refl)
 
 -- ---- the end
 
-end_of : (d : Due) (p : Progress) (g : Gathered) → IsSound d p g → end_fault p d ≡ None → AreTold p.version p.claims p.nodes (closed g) × (0 < p.claims)
+pub end_of : (d : Due) (p : Progress) (g : Gathered) → IsSound d p g → end_fault p d ≡ None → AreTold p.version p.claims p.nodes (closed g) × (0 < p.claims)
 end_of due.Header p g sound e = absurd cc
 end_of due.Claim p g sound e = elim (chosen (p.claims == 0) (Some faults.Form) None None e) [
   | inl h ↦ absurd (cc h.1)

@@ -9,7 +9,6 @@ use Rattle.pg_text.specs.Text.{ascend_from}
 use Rattle.pg_cert.specs.declared.cert.Version.{Version}
 use Rattle.pg_cert.specs.declared.node.Body.{Body}
 use Rattle.pg_cert.specs.declared.node.Body.TheVariants as bodies
-use Rattle.pg_cert.specs.declared.node.Node.{Node}
 use Rattle.pg_cert_files.specs.Form.{has_bar, only_word, Shape, shape_of}
 use Rattle.pg_cert_files.specs.NodeLine.{below, point_of, child_of, both_of, if_ascending, ascending_of, field_words, reply_of, points_pair, move_of, weaker_of, word_reply, word_pair, replies_of, begins_with_e, after_e, before_slash, after_slash, edges_with, edges_of, body_of, meets, node_with, node_of, formed, node_line}
 use Rattle.pg_cert_files.specs.Lines.{version_of, head_of, count_of}
@@ -32,7 +31,7 @@ abbrev pub OnlyNumber : {A : Type 0} → Result A Fault → Type 0
 OnlyNumber (Ok a) = Unit {0}
 OnlyNumber (Err fault) = fault ≡ faults.Number
 
-only_then : {A B : Type 0} (r : Result A Fault) (next : A → Result B Fault) → OnlyNumber r → ((a : A) → OnlyNumber (next a)) → OnlyNumber (and_then r next)
+pub only_then : {A B : Type 0} (r : Result A Fault) (next : A → Result B Fault) → OnlyNumber r → ((a : A) → OnlyNumber (next a)) → OnlyNumber (and_then r next)
 only_then (Ok a) next h hs = hs a
 only_then (Err fault) next h hs = h
 
@@ -100,7 +99,7 @@ only_node_with : (shape : Shape) (x y : List ℕ) (body : Result Body Fault) →
 only_node_with shape x y (Err fault) h = h
 only_node_with shape x y (Ok body) h = elim (cases_Bool (meets (from_list x) y)) [ inl on ↦ rw on refl | inr off ↦ rw off tt ]
 
-only_node : (shape : Shape) → OnlyNumber (node_of shape)
+pub only_node : (shape : Shape) → OnlyNumber (node_of shape)
 only_node shape = only_then (ascending_of (field_words shape.x)) _ (only_points (field_words shape.x)) (λ x. only_then (ascending_of (field_words shape.y)) _ (only_points (field_words shape.y)) (λ y. only_node_with shape x y (body_of shape.form shape.words) (only_body shape.form shape.words)))
 
 -- ---- each line
@@ -108,7 +107,7 @@ only_node shape = only_then (ascending_of (field_words shape.x)) _ (only_points 
 abbrev applies : Fault → Option Fault
 applies fault = Some fault
 
-same : {A : Type 0} (f g : Fault) → ◌≡◌ {A = Result A Fault} (Err f) (Err g) → applies f ≡ applies g
+pub same : {A : Type 0} (f g : Fault) → ◌≡◌ {A = Result A Fault} (Err f) (Err g) → applies f ≡ applies g
 same f g e = let is : f ≡ g = cc in ap applies is
 
 headed_first : (p : Progress) (version : Option Version) (fault : Fault) → headed p version ≡ Err fault → least ((faults.Header, is_none version) ∷ []) ≡ Some fault
@@ -142,11 +141,11 @@ counted_first : (head : Head) (p : Progress) (word : Option Bytes) (fault : Faul
 counted_first head p None fault e = same faults.Form fault e
 counted_first head p (Some word) fault e = numbered_first head p (number word) fault e
 
-node_first : (r : Result Node Fault) (fault : Fault) → OnlyNumber r → r ≡ Err fault → least ((faults.Number, is_err r) ∷ []) ≡ Some fault
-node_first (Ok node) fault only e = absurd (cc e)
+pub node_first : {A : Type 0} (r : Result A Fault) (fault : Fault) → OnlyNumber r → r ≡ Err fault → least ((faults.Number, is_err r) ∷ []) ≡ Some fault
+node_first (Ok a) fault only e = absurd (cc e)
 node_first (Err found) fault only e = ap applies (sym only) ∙ same found fault e
 
-formed_first : (shape : Option Shape) (fault : Fault) → formed shape ≡ Err fault → least ((faults.Form, is_none shape) ∷ (faults.Number, has_wrong_number shape) ∷ []) ≡ Some fault
+pub formed_first : (shape : Option Shape) (fault : Fault) → formed shape ≡ Err fault → least ((faults.Form, is_none shape) ∷ (faults.Number, has_wrong_number shape) ∷ []) ≡ Some fault
 formed_first None fault e = same faults.Form fault e
 formed_first (Some shape) fault e = node_first (node_of shape) fault (only_node shape) e
 
@@ -157,7 +156,7 @@ node_line_first p others line fault e = elim (chosen (not (has_bar line)) (Err f
   | inr h ↦ rw h.0 (formed_first (shape_of p.version line) fault h.1)
 ]
 
-then_err : {A B : Type 0} (r : Result A Fault) (next : A → Result B Fault) (fault : Fault) → ((a : A) → is_err (next a) ≡ false) → and_then r next ≡ Err fault → r ≡ Err fault
+pub then_err : {A B : Type 0} (r : Result A Fault) (next : A → Result B Fault) (fault : Fault) → ((a : A) → is_err (next a) ≡ false) → and_then r next ≡ Err fault → r ≡ Err fault
 then_err (Ok a) next fault works e = let on : is_err (next a) ≡ true = ap is_err e in absurd (cc (works a))
 then_err (Err found) next fault works e = let is : found ≡ fault = cc in ap (λ (k : Fault). Err k) is
 

@@ -135,7 +135,7 @@ form_back version body has =
 plain_at : (b : ℕ) → 32 < b → b < 124 → IsPlain b
 plain_at b low high = (low, high)
 
-name_is_word : (body : Body) → IsWord (body_name body)
+pub name_is_word : (body : Body) → IsWord (body_name body)
 name_is_word bodies.Over = ((lit< tt, lit< tt), ((lit< tt, lit< tt), ((lit< tt, lit< tt), ((lit< tt, lit< tt), tt))))
 name_is_word (bodies.Move v j) = ((lit< tt, lit< tt), ((lit< tt, lit< tt), ((lit< tt, lit< tt), ((lit< tt, lit< tt), tt))))
 name_is_word (bodies.All rs) = ((lit< tt, lit< tt), ((lit< tt, lit< tt), ((lit< tt, lit< tt), tt)))
@@ -156,7 +156,7 @@ edges_are_words : (e : Bool) (a b : FinSet nat_cmp) → AllByRecursion IsWord (e
 edges_are_words true a b = (((lit< tt, lit< tt), tt), all_append IsWord (set_words a) (codes "/" ∷ set_words b) (set_are_words a) (((lit< tt, lit< tt), tt), set_are_words b))
 edges_are_words false a b = all_append IsWord (set_words a) (codes "/" ∷ set_words b) (set_are_words a) (((lit< tt, lit< tt), tt), set_are_words b)
 
-body_are_words : (body : Body) → IsBody body → AllByRecursion IsWord (body_words body)
+pub body_are_words : (body : Body) → IsBody body → AllByRecursion IsWord (body_words body)
 body_are_words bodies.Over h = tt
 body_are_words (bodies.Move v j) h = (decimal_is_word v (omega (arith, h.0)), (decimal_is_word j (omega (arith, h.1)), tt))
 body_are_words (bodies.All rs) h = all_map reply_word IsReply IsWord reply_is_word rs (recursion_from_All IsReply rs h.0)
@@ -301,7 +301,7 @@ unfolding turn_word
 turn_is_word sides.X left h = subst (λ (n : ℕ). IsWord (turn_word sides.X n)) (sym h) ((lit< tt, lit< tt), tt)
 turn_is_word sides.Y left h = ((lit< tt, lit< tt), elim (cases_Bool (nat_lt 1 left)) [ inl more ↦ rw more (decimal_is_word left (omega (arith, h.1))) | inr one ↦ rw one tt ])
 
-turn_back : (side : Side) (left : ℕ) → IsTurn side left → turn_of (turn_word side left) ≡ Some (record { side = side; left = left })
+pub turn_back : (side : Side) (left : ℕ) → IsTurn side left → turn_of (turn_word side left) ≡ Some (record { side = side; left = left })
 unfolding turn_word
 turn_back sides.X left h = subst (λ (n : ℕ). turn_of (turn_word sides.X n) ≡ Some (record { side = sides.X; left = n })) (sym h) refl
 turn_back sides.Y zero h = absurd (omega (arith, h.0))
@@ -315,18 +315,23 @@ turn_back sides.Y (suc (suc n)) h =
     let same : 48 + left - 48 ≡ left = omega arith in
     rw (more, digit, low, high, same) refl
 
-body_quiet : (body : Body) → IsBody body → AllByRecursion IsQuiet (body_text body)
+pub body_quiet : (body : Body) → IsBody body → AllByRecursion IsQuiet (body_text body)
 body_quiet body h = spaced_quiet (body_name body ∷ body_words body) (name_is_word body, body_are_words body h)
 
-abbrev shape_is : Node → Shape
+abbrev pub shape_is : Node → Shape
 shape_is n = record { x = spaced (set_words n.x); y = spaced (set_words n.y); turn = record { side = n.turn; left = n.left }; form = form_is n.body; words = body_words n.body }
 
-four_is : (n : Node) → IsTurn n.turn n.left → IsBody n.body → four_parts 124 (node_line_text n) ≡ Some (record { first = spaced (set_words n.x); second = spaced (set_words n.y); third = turn_word n.turn n.left; fourth = body_text n.body })
-four_is n told h =
-    let last = turn_word n.turn n.left ++ 124 ∷ body_text n.body in
-    let others = spaced (set_words n.y) ++ 124 ∷ last in
-    let two = just_two 124 last (turn_word n.turn n.left) (body_text n.body) refl (lacks_bar (turn_word n.turn n.left) (word_quiet (turn_word n.turn n.left) (turn_is_word n.turn n.left told))) (lacks_bar (body_text n.body) (body_quiet n.body h)) in
-    four_three 124 (node_line_text n) (spaced (set_words n.x)) others (spaced (set_words n.y)) last (turn_word n.turn n.left) (body_text n.body) refl (lacks_bar _ (spaced_quiet (set_words n.x) (set_are_words n.x))) refl (lacks_bar _ (spaced_quiet (set_words n.y) (set_are_words n.y))) two
+-- three fields with a body behind them, as a line
+abbrev pub line_with : FinSet nat_cmp → FinSet nat_cmp → Side → ℕ → Bytes → Bytes
+line_with x y turn left body = spaced (set_words x) ++ 124 ∷ (spaced (set_words y) ++ 124 ∷ (turn_word turn left ++ 124 ∷ body))
+
+-- it is cut at its bars
+pub line_cut : (x y : FinSet nat_cmp) (turn : Side) (left : ℕ) (body : Bytes) → IsTurn turn left → AllByRecursion IsQuiet body → four_parts 124 (line_with x y turn left body) ≡ Some (record { first = spaced (set_words x); second = spaced (set_words y); third = turn_word turn left; fourth = body })
+line_cut x y turn left body told quiet =
+    let last = turn_word turn left ++ 124 ∷ body in
+    let others = spaced (set_words y) ++ 124 ∷ last in
+    let two = just_two 124 last (turn_word turn left) body refl (lacks_bar (turn_word turn left) (word_quiet (turn_word turn left) (turn_is_word turn left told))) (lacks_bar body quiet) in
+    four_three 124 (line_with x y turn left body) (spaced (set_words x)) others (spaced (set_words y)) last (turn_word turn left) body refl (lacks_bar _ (spaced_quiet (set_words x) (set_are_words x))) refl (lacks_bar _ (spaced_quiet (set_words y) (set_are_words y))) two
 
 shape_back : (version : Version) (n : Node) → IsTurn n.turn n.left → IsBody n.body → has_body version n.body ≡ true → shape_of version (node_line_text n) ≡ Some (shape_is n)
 unfolding shape_of
@@ -335,13 +340,13 @@ shape_back version n told h has =
     let words = words_spaced (body_name n.body) (body_words n.body) (name_is_word n.body) (body_are_words n.body h) in
     let form = form_back version n.body has in
     let fit = body_fits n.body h in
-    ap (with_fields version) (four_is n told h) ∙ rw (turn, words, form, fit) refl
+    ap (with_fields version) (line_cut n.x n.y n.turn n.left (body_text n.body) told (body_quiet n.body h)) ∙ rw (turn, words, form, fit) refl
 
 bar_behind : (front : Bytes) (others : Bytes) → list_any (λ b. b == 124) (front ++ 124 ∷ others) ≡ true
 bar_behind [] others = refl
 bar_behind (b ∷ bs) others = rw (bar_behind bs others) (or_right (b == 124) true refl)
 
-node_is_back : (n : Node) → IsNode n → node_of (shape_is n) ≡ Ok n
+pub node_is_back : (n : Node) → IsNode n → node_of (shape_is n) ≡ Ok n
 node_is_back n h =
     let x = field_back n.x in
     let y = field_back n.y in
@@ -359,16 +364,19 @@ node_back version n h =
     let shape = shape_back version n h.0.turn h.0.body h.1 in
     rw (bar, shape) (node_is_back n h.0)
 
--- no line feed stands in it
-pub node_lacks_feed : (n : Node) → IsNode n → Lacks 10 (node_line_text n)
-node_lacks_feed n h =
+-- no line feed stands in a line of three fields and a body
+pub line_lacks_feed : (x y : FinSet nat_cmp) (turn : Side) (left : ℕ) (body : Bytes) → IsTurn turn left → AllByRecursion IsQuiet body → Lacks 10 (line_with x y turn left body)
+line_lacks_feed x y turn left body told quiet =
     let P = λ (b : ℕ). (b == 10) ≡ false in
-    All-from_recursion P (node_line_text n)
-    (all_append P (spaced (set_words n.x)) _ (quiet_text _ (spaced_quiet (set_words n.x) (set_are_words n.x))) (
+    All-from_recursion P (line_with x y turn left body)
+    (all_append P (spaced (set_words x)) _ (quiet_text _ (spaced_quiet (set_words x) (set_are_words x))) (
       refl,
-      all_append P (spaced (set_words n.y)) _ (quiet_text _ (spaced_quiet (set_words n.y) (set_are_words n.y))) (
+      all_append P (spaced (set_words y)) _ (quiet_text _ (spaced_quiet (set_words y) (set_are_words y))) (
         refl,
-        all_append P (turn_word n.turn n.left) _ (quiet_text _ (word_quiet (turn_word n.turn n.left) (turn_is_word n.turn n.left h.turn)))
-            (refl, quiet_text (body_text n.body) (body_quiet n.body h.body)),
+        all_append P (turn_word turn left) _ (quiet_text _ (word_quiet (turn_word turn left) (turn_is_word turn left told)))
+            (refl, quiet_text body quiet),
       ),
     ))
+
+pub node_lacks_feed : (n : Node) → IsNode n → Lacks 10 (node_line_text n)
+node_lacks_feed n h = line_lacks_feed n.x n.y n.turn n.left (body_text n.body) h.turn (body_quiet n.body h.body)

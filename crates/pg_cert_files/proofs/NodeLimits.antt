@@ -241,7 +241,7 @@ some_is a b e = cc
 
 -- ---- turns
 
-abbrev IsTold : Turn → Type 0
+abbrev pub IsTold : Turn → Type 0
 IsTold turn = IsTurn turn.side turn.left
 
 several_ok : (word : Bytes) (turn : Turn) → several_of word ≡ Some turn → IsTold turn
@@ -258,7 +258,7 @@ several_ok (sign ∷ digit ∷ []) turn e =
     ]
 several_ok (sign ∷ digit ∷ other ∷ others) turn e = absurd cc
 
-turn_ok : (word : Bytes) (turn : Turn) → turn_of word ≡ Some turn → IsTold turn
+pub turn_ok : (word : Bytes) (turn : Turn) → turn_of word ≡ Some turn → IsTold turn
 turn_ok word turn e =
     let x : Turn = record { side = sides.X; left = 1 } in
     let y : Turn = record { side = sides.Y; left = 1 } in
@@ -271,7 +271,7 @@ turn_ok word turn e =
     ]
 
 -- a shape's words fit its body, a file can say its turn, and the version has its body
-abbrev IsFit : Version → Shape → Type 0
+abbrev pub IsFit : Version → Shape → Type 0
 IsFit version shape = (fits shape.form shape.words ≡ true) × IsTold shape.turn × (has_form version shape.form ≡ true)
 
 form_ok : (version : Version) (o : Option Form) (form : Form) → of_version version o ≡ Some form → has_form version form ≡ true
@@ -281,7 +281,7 @@ form_ok version (Some named) form e = elim (chosen (has_form version named) (Som
   | inr h ↦ absurd (cc h.1)
 ]
 
-with_form_ok : (version : Version) (x y : Bytes) (turn : Turn) (form : Option Form) (ws : List Bytes) (shape : Shape) → IsTold turn → ((f : Form) → form ≡ Some f → has_form version f ≡ true) → with_form x y turn form ws ≡ Some shape → IsFit version shape
+pub with_form_ok : (version : Version) (x y : Bytes) (turn : Turn) (form : Option Form) (ws : List Bytes) (shape : Shape) → IsTold turn → ((f : Form) → form ≡ Some f → has_form version f ≡ true) → with_form x y turn form ws ≡ Some shape → IsFit version shape
 with_form_ok version x y turn None ws shape told has e = absurd cc
 with_form_ok version x y turn (Some form) ws shape told has e =
     let made : Shape = record { x = x; y = y; turn = turn; form = form; words = ws } in
@@ -322,7 +322,7 @@ node_of_ok version shape node fit e =
     let b = then_ok (ascending_of (field_words shape.y)) (λ y. node_with shape a.0 y (body_of shape.form shape.words)) node a.2 in
     with_ok version shape a.0 b.0 (body_of shape.form shape.words) node fit.1 (ascending_ok _ a.0 a.1) (ascending_ok _ b.0 b.1) (λ body f. (body_ok shape.form shape.words body fit.0 f, body_has version shape.form shape.words body fit.2 f)) b.2
 
-formed_ok : (version : Version) (o : Option Shape) (node : Node) → ((shape : Shape) → o ≡ Some shape → IsFit version shape) → formed o ≡ Ok node → IsRead version node
+pub formed_ok : (version : Version) (o : Option Shape) (node : Node) → ((shape : Shape) → o ≡ Some shape → IsFit version shape) → formed o ≡ Ok node → IsRead version node
 formed_ok version None node h e = absurd cc
 formed_ok version (Some shape) node h e = node_of_ok version shape node (h shape refl) e
 

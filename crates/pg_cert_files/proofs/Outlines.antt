@@ -51,7 +51,7 @@ body_first : (shape : Shape) (body : Result Body Fault) → OnlyNumber body
 body_first shape (Ok body) only = fields_are shape body
 body_first shape (Err fault) only = number_first shape fault (ascending_of (field_words shape.x)) (ascending_of (field_words shape.y)) only (only_points (field_words shape.x)) (only_points (field_words shape.y))
 
-node_formed : (x y : Bytes) (turn : Turn) (form : Option Form) (ws : List Bytes) → read_outline (outline_form x y turn form ws) ≡ formed (with_form x y turn form ws)
+pub node_formed : (x y : Bytes) (turn : Turn) (form : Option Form) (ws : List Bytes) → read_outline (outline_form x y turn form ws) ≡ formed (with_form x y turn form ws)
 node_formed x y turn None ws = refl
 node_formed x y turn (Some form) ws = elim (cases_Bool (fits form ws)) [
   | inl on ↦ let shape : Shape = record { x = x; y = y; turn = turn; form = form; words = ws } in rw on (body_first shape (body_of form ws) (only_body form ws))

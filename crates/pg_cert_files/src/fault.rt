@@ -7,7 +7,7 @@ use pg_text::Numbered;
 
 /// What is wrong with a line, in the order of the faults' numbers.
 #[derive(Clone, Copy, Debug, PartialEq, Eq)]
-pub(crate) enum Fault {
+pub enum Fault {
     /// C1: the file is too large.
     Size,
     /// C2: the first line isn't the header.

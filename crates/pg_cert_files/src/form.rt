@@ -12,7 +12,7 @@ use pg_text::{Words, first_word, four_parts, two_parts};
 
 /// The nine bodies of a node line.
 #[derive(Clone, Copy, Debug, PartialEq, Eq)]
-pub(crate) enum Form {
+pub enum Form {
     /// `over`.
     Over,
     /// `move`: a point and a child.
@@ -35,17 +35,17 @@ pub(crate) enum Form {
 
 /// A node line, cut where its signs stand.
 #[derive(Drop)]
-pub(crate) struct Outline<'a> {
+pub struct Outline<'a> {
     /// The field of X's points.
-    pub(crate) x: &'a [u8],
+    pub x: &'a [u8],
     /// The field of Y's points.
-    pub(crate) y: &'a [u8],
+    pub y: &'a [u8],
     /// The side to move, and how many points it still claims.
-    pub(crate) turn: Turn,
+    pub turn: Turn,
     /// Which body it has.
-    pub(crate) form: Form,
+    pub form: Form,
     /// The text of the words behind the first of the body, if there are any.
-    pub(crate) words: Option<&'a [u8]>,
+    pub words: Option<&'a [u8]>,
 }
 
 /// The body that a word begins.

@@ -4,11 +4,11 @@ use pg_base::{Goal, Side};
 
 /// What a claim line says.
 #[derive(Clone, Copy, Debug, PartialEq, Eq)]
-pub(crate) struct Head {
+pub struct Head {
     /// The side to move first.
-    pub(crate) turn: Side,
+    pub turn: Side,
     /// The side that reaches the goal.
-    pub(crate) side: Side,
+    pub side: Side,
     /// What it reaches.
-    pub(crate) goal: Goal,
+    pub goal: Goal,
 }

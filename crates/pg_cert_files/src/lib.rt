@@ -18,8 +18,14 @@ mod turn;
 mod values;
 
 pub use cert_state::CertReader;
+pub use fault::Fault;
 pub use fed::Fed;
+pub use form::{Form, Outline};
+pub use head::Head;
 pub use laws::{names_the_first_fault, reads_back, reads_within_limits};
 pub use limits::MAX_CERT_BYTES;
+pub use line::read_node;
 pub use pg_text::FileError as CertFault;
+pub use progress::{Due, Progress};
 pub use reading::read_cert;
+pub use turn::{Turn, turn_of};

@@ -158,7 +158,7 @@ fn body_of(alloc: Global, form: Form, text: Option<&[u8]>) -> Result<Body, LineE
 }
 
 /// The node of a line's outline: the body first, and then each point of its fields straight into a set.
-fn read_node(alloc: Global, outline: Outline) -> Result<Option<Part>, LineError<Fault>>
+pub fn read_node(alloc: Global, outline: Outline) -> Result<Option<Part>, LineError<Fault>>
     ensures { Gives (λ p. p) result (node_part (read_node (record { x = outline.entry.x.now; y = outline.entry.y.now; turn = outline.entry.turn; form = outline.entry.form; words = words_of (option_map (λ w. w.now) outline.entry.words) }))) }
 {
     let body = body_of(alloc, outline.form, outline.words)?;

@@ -13,7 +13,7 @@ use std::alloc::Global;
 
 /// The line that is due.
 #[derive(Clone, Copy, Debug, PartialEq, Eq)]
-pub(crate) enum Due {
+pub enum Due {
     /// The first line.
     Header,
     /// A claim line, or the end.
@@ -26,20 +26,20 @@ pub(crate) enum Due {
 
 /// Which line is due, the version, and how many claims and nodes have been told.
 #[derive(Clone, Copy, Debug)]
-pub(crate) struct Progress {
+pub struct Progress {
     /// The line that is due.
-    pub(crate) due: Due,
+    pub due: Due,
     /// The version that the first line named; version 1 before it.
-    pub(crate) version: Version,
+    pub version: Version,
     /// How many claims have begun.
-    pub(crate) claims: u32,
+    pub claims: u32,
     /// How many nodes their `nodes` lines promise together.
-    pub(crate) nodes: u32,
+    pub nodes: u32,
 }
 
 impl Progress {
     /// Before the first line.
-    pub(crate) fn new() -> Progress
+    pub fn new() -> Progress
         ensures { result ≡ start }
     {
         Progress {
@@ -127,11 +127,7 @@ impl Progress {
 
     /// Reads the next line.
     #[tactic(auto, unfolding(crate::specs::CertFile::step))]
-    pub(crate) fn read(
-        &mut self,
-        alloc: Global,
-        line: &[u8],
-    ) -> Result<Option<Part>, LineError<Fault>>
+    pub fn read(&mut self, alloc: Global, line: &[u8]) -> Result<Option<Part>, LineError<Fault>>
         ensures { Steps result self.new (step self.old line.now) }
     {
         match self.due {
@@ -143,7 +139,7 @@ impl Progress {
     }
 
     /// The fault of a file that ends here.
-    pub(crate) fn end_fault(&self) -> Option<Fault>
+    pub fn end_fault(&self) -> Option<Fault>
         ensures { result ≡ end_fault self.now self.now.due }
     {
         match self.due {

@@ -7,15 +7,15 @@ use pg_base::Side;
 
 /// The side to move, and how many points it still claims.
 #[derive(Clone, Copy, Debug, PartialEq, Eq)]
-pub(crate) struct Turn {
+pub struct Turn {
     /// The side to move.
-    pub(crate) side: Side,
+    pub side: Side,
     /// How many points it still claims in this turn: 1, and for Y up to 7.
-    pub(crate) left: u8,
+    pub left: u8,
 }
 
 /// The turn that a word names: `x` or `y` for one point, `y2` to `y7` for several points of Y.
-pub(crate) fn turn_of(word: &[u8]) -> Option<Turn>
+pub fn turn_of(word: &[u8]) -> Option<Turn>
     ensures { result ≡ turn_of word.now }
 {
     match word {

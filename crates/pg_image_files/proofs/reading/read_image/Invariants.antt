@@ -1,0 +1,12 @@
+use Rattle.std.proofs.Common.{◌≡◌, ◌+◌, length}
+use Rattle.pg_text.specs.Text.{lines}
+use Rattle.pg_text.specs.Faults.{reading}
+use Rattle.pg_image_files.specs.ImageFile.{nothing, after}
+use Rattle.pg_image_files.specs.Views.{view}
+use Rattle.pg_image_files.proofs.reading.read_image.Given as goal
+
+abbrev pub invariant-loop-line : goal.invariant-loop-line
+invariant-loop-line l = record {
+  so_far : reading after l.number (view l.draft) l.line-iterator ≡ reading after 1 nothing (lines l.bytes);
+  count : l.number + length l.line-iterator ≡ length (lines l.bytes) + 1;
+}

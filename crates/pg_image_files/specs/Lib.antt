@@ -1,0 +1,4 @@
+pub mod ImageLine
+pub mod ImageFile
+pub mod FirstFault
+pub mod Views
