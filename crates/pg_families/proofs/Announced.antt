@@ -16,7 +16,7 @@ use Rattle.pg_io.specs.declared.entry.Entry.{Entry}
 use Rattle.pg_io.specs.declared.entry.Entry.TheVariants.{Said}
 use Rattle.pg_texts.specs.Texts.{accepted_text, claim_text, reply_text}
 use Rattle.pg_texts.specs.declared.message.ReplyFault.{ReplyFault}
-use Rattle.pg_texts.specs.declared.message.ReplyFault.TheVariants.{NoNumber, NoPoint, Taken}
+use Rattle.pg_texts.specs.declared.message.ReplyFault.TheVariants.{NoNumber, NoPoint, Taken, Over as GameOver, NothingToTakeBack}
 use Rattle.pg_talk.specs.Contender.{Contender}
 use Rattle.pg_talk.specs.Contest.{Contest}
 use Rattle.pg_talk.specs.Dialogue.{Stage, At, Owes, Over, Steps, Leads}
@@ -50,6 +50,8 @@ reply_other : (fault : ReplyFault) → IsOther (reply_text fault)
 reply_other NoNumber = (apart _ 97 refl, apart _ 109 refl)
 reply_other NoPoint = (apart _ 97 refl, apart _ 109 refl)
 reply_other Taken = (apart _ 97 refl, apart _ 109 refl)
+reply_other GameOver = (apart _ 97 refl, apart _ 109 refl)
+reply_other NothingToTakeBack = (apart _ 97 refl, apart _ 109 refl)
 
 -- what is said next in a dialogue is another text
 step_other : (c : Contest) (side : Side) (s m : Stage) (text : Bytes) → Steps c side s (Said text) m → IsOther text

@@ -9,11 +9,11 @@ use Rattle.pg_base.specs.declared.score.Score.{Score}
 use Rattle.pg_base.specs.declared.score.Score.TheVariants.{XWins, YWins, Draw as Drawn}
 use Rattle.pg_base.specs.declared.side.Side.{Side}
 use Rattle.pg_texts.specs.declared.message.Message.{Message}
-use Rattle.pg_texts.specs.declared.message.Message.TheVariants.{Refused, Accepted, Claim, Move, NoReply, Result, ClassShort, ClassCut, ClassMaker, ClassBreaker, ClassFirstMover, Unknown, LineGame, SwitchingGame, Expanded}
+use Rattle.pg_texts.specs.declared.message.Message.TheVariants.{Refused, Accepted, Claim, Move, NoReply, Result, ClassShort, ClassCut, ClassMaker, ClassBreaker, ClassFirstMover, Unknown, LineGame, SwitchingGame, Expanded, Standing, Recorded, Lost, Reviewed, UnknownAt}
 use Rattle.pg_texts.specs.declared.message.ReplyFault.{ReplyFault}
-use Rattle.pg_texts.specs.declared.message.ReplyFault.TheVariants.{NoNumber, NoPoint, Taken}
+use Rattle.pg_texts.specs.declared.message.ReplyFault.TheVariants.{NoNumber, NoPoint, Taken, Over, NothingToTakeBack}
 use Rattle.pg_texts.specs.declared.refusal.Refusal.{Refusal}
-use Rattle.pg_texts.specs.declared.refusal.Refusal.TheVariants.{NoMeaning, NoClaim, Game, Certificate, Rejected, RejectedSpan, RejectedVectors}
+use Rattle.pg_texts.specs.declared.refusal.Refusal.TheVariants.{NoMeaning, NoClaim, Game, Certificate, Rejected, RejectedSpan, RejectedVectors, RejectedImage, Record}
 
 -- ---- refusals
 
@@ -57,6 +57,14 @@ rejected_span_text claim why = faulty_claim_text (codes "rejected S") claim why
 abbrev pub rejected_vectors_text : ℕ → ℕ → ℕ → List ℕ
 rejected_vectors_text claim node why = faulty_node_text (codes "rejected V") claim node why
 
+-- one with nodes that stand for turned or reflected ones
+abbrev pub rejected_image_text : ℕ → ℕ → ℕ → List ℕ
+rejected_image_text claim node why = faulty_node_text (codes "rejected I") claim node why
+
+-- a fault of the record file: its number, and that of its line
+abbrev pub record_text : ℕ → ℕ → List ℕ
+record_text number line = file_fault_text (codes "record F") number line
+
 abbrev pub refusal_text : Refusal → List ℕ
 refusal_text NoMeaning = no_meaning_text
 refusal_text (NoClaim side) = no_claim_text side
@@ -65,6 +73,8 @@ refusal_text (Certificate number line) = certificate_text number line
 refusal_text (Rejected claim node why) = rejected_text claim node why
 refusal_text (RejectedSpan claim why) = rejected_span_text claim why
 refusal_text (RejectedVectors claim node why) = rejected_vectors_text claim node why
+refusal_text (RejectedImage claim node why) = rejected_image_text claim node why
+refusal_text (Record number line) = record_text number line
 
 -- ---- claims, moves and outcomes
 
@@ -80,11 +90,14 @@ claim_text side goal = codes "claim " ++ (side_word side ++ (codes " " ++ (goal_
 abbrev pub move_text : ℕ → List ℕ
 move_text v = codes "move " ++ (decimal v ++ codes "\n")
 
--- a reply that is no number or is too long, that isn't below the number of points, and that names a point that isn't free
+-- a reply that is no number or is too long, that isn't below the number of points, that names a point that isn't free,
+-- that comes after the end of the game, and that takes back where no move stands
 abbrev pub reply_text : ReplyFault → List ℕ
 reply_text NoNumber = codes "refused: not a number\n"
 reply_text NoPoint = codes "refused: no such point\n"
 reply_text Taken = codes "refused: taken\n"
+reply_text Over = codes "refused: over\n"
+reply_text NothingToTakeBack = codes "refused: nothing to take back\n"
 
 -- the word for the outcome of a game of the kind: the name of the side that wins, or `draw`
 abbrev pub outcome_word : Kind → Score → List ℕ
@@ -120,9 +133,13 @@ class_breaker_text = codes "class breaker\n"
 abbrev pub class_first_mover_text : List ℕ
 class_first_mover_text = codes "class first-mover\n"
 
+-- a number between words
+abbrev pub count_text : List ℕ → ℕ → List ℕ → List ℕ
+count_text first count last = first ++ (decimal count ++ last)
+
 -- so many positions were expanded, and the question is open
 abbrev pub unknown_text : ℕ → List ℕ
-unknown_text positions = codes "unknown after " ++ (decimal positions ++ codes " positions\n")
+unknown_text positions = count_text (codes "unknown after ") positions (codes " positions\n")
 
 -- two numbers, each between words
 abbrev pub counts_text : List ℕ → ℕ → List ℕ → ℕ → List ℕ → List ℕ
@@ -139,6 +156,29 @@ switching_game_text vertices edges = counts_text (codes "game ") vertices (codes
 -- a game was solved: how many positions were expanded for the question asked last, and how many nodes the certificate has
 abbrev pub expanded_text : ℕ → ℕ → List ℕ
 expanded_text positions nodes = counts_text (codes "expanded ") positions (codes " nodes ") nodes (codes "\n")
+
+-- ---- recorded games
+
+-- so many moves stand, after a move or after one was taken back
+abbrev pub standing_text : ℕ → List ℕ
+standing_text moves = count_text (codes "standing ") moves (codes "\n")
+
+-- the game was stored, with so many standing moves
+abbrev pub recorded_text : ℕ → List ℕ
+recorded_text moves = count_text (codes "recorded ") moves (codes "\n")
+
+-- a move that lost value: its number among those that stand, its point, and the outcomes that best play gives before and after it
+abbrev pub lost_text : ℕ → ℕ → Kind → Score → Score → List ℕ
+lost_text number point kind before after =
+    codes "lost " ++ (decimal number ++ (codes " " ++ (decimal point ++ (codes " " ++ (outcome_word kind before ++ (codes " " ++ (outcome_word kind after ++ codes "\n")))))))
+
+-- the game was reviewed, with so many standing moves
+abbrev pub reviewed_text : ℕ → List ℕ
+reviewed_text moves = count_text (codes "reviewed ") moves (codes "\n")
+
+-- the position after so many moves stays open after so many positions
+abbrev pub unknown_at_text : ℕ → ℕ → List ℕ
+unknown_at_text moves positions = counts_text (codes "unknown at ") moves (codes " after ") positions (codes " positions\n")
 
 -- ---- all of them
 
@@ -158,3 +198,8 @@ message_text (Unknown positions) = unknown_text positions
 message_text (LineGame points lines) = line_game_text points lines
 message_text (SwitchingGame vertices edges) = switching_game_text vertices edges
 message_text (Expanded positions nodes) = expanded_text positions nodes
+message_text (Standing moves) = standing_text moves
+message_text (Recorded moves) = recorded_text moves
+message_text (Lost number point kind before after) = lost_text number point kind before after
+message_text (Reviewed moves) = reviewed_text moves
+message_text (UnknownAt moves positions) = unknown_at_text moves positions

@@ -1,7 +1,7 @@
 //! The messages, each with its text.
 ghost use Rattle.std.specs.Prelude.{◌≡◌, ◌+◌, ◌≤◌, length};
 ghost use Rattle.pg_texts.specs.declared.line.TheConstants.{ROOM};
-ghost use Rattle.pg_texts.specs.Texts.{accepted_text, claim_text, counts_text, message_text, move_text, outcome_word, reply_text, result_text, unknown_text};
+ghost use Rattle.pg_texts.specs.Texts.{accepted_text, claim_text, count_text, counts_text, lost_text, message_text, move_text, outcome_word, reply_text, result_text};
 
 use crate::line::{Line, push_number};
 use crate::refusal::Refusal;
@@ -16,6 +16,10 @@ pub enum ReplyFault {
     NoPoint,
     /// The point isn't free.
     Taken,
+    /// The game has ended.
+    Over,
+    /// No move stands that could be taken back.
+    NothingToTakeBack,
 }
 
 /// What the program says, a line at a time.
@@ -83,6 +87,32 @@ pub enum Message {
         /// How many nodes the certificate has.
         nodes: u32,
     },
+    /// So many moves of a recorded game stand.
+    Standing(u32),
+    /// A recorded game with so many standing moves was stored.
+    Recorded(u32),
+    /// A move of a recorded game lost value.
+    Lost {
+        /// The number of the move among those that stand, counted from 0.
+        number: u32,
+        /// Its point.
+        point: u16,
+        /// The kind of the game.
+        kind: Kind,
+        /// The value of the position before the move.
+        before: Score,
+        /// The value of the position after it.
+        after: Score,
+    },
+    /// A recorded game with so many standing moves was reviewed.
+    Reviewed(u32),
+    /// A position of a recorded game stays open.
+    UnknownAt {
+        /// How many moves were made before it.
+        moves: u32,
+        /// How many positions were expanded.
+        positions: u32,
+    },
 }
 
 /// The text of one word that ends with its line feed.
@@ -142,6 +172,8 @@ fn reply_text(fault: ReplyFault) -> Line
         ReplyFault::NoNumber => text_of("refused: not a number\n"),
         ReplyFault::NoPoint => text_of("refused: no such point\n"),
         ReplyFault::Taken => text_of("refused: taken\n"),
+        ReplyFault::Over => text_of("refused: over\n"),
+        ReplyFault::NothingToTakeBack => text_of("refused: nothing to take back\n"),
     }
 }
 
@@ -187,14 +219,32 @@ fn counts_text(first: &str, one: u32, second: &str, other: u32, last: &str) -> L
     text
 }
 
-/// The text of a question that is open after so many positions.
-fn unknown_text(positions: u32) -> Line
-    ensures { result.bytes ≡ unknown_text positions }
+/// The text of a number between words.
+fn count_text(first: &str, count: u32, last: &str) -> Line
+    requires { length first.now + length last.now ≤ 50 }
+    ensures { result.bytes ≡ count_text first.now count last.now }
 {
     let mut text = Line::new();
-    text.push_str("unknown after ");
-    push_number(&mut text, positions);
-    text.push_str(" positions\n");
+    text.push_str(first);
+    push_number(&mut text, count);
+    text.push_str(last);
+    text
+}
+
+/// The text of a move that lost value.
+fn lost_text(number: u32, point: u16, kind: Kind, before: Score, after: Score) -> Line
+    ensures { result.bytes ≡ lost_text number point kind before after }
+{
+    let mut text = Line::new();
+    text.push_str("lost ");
+    push_number(&mut text, number);
+    text.push_str(" ");
+    push_number(&mut text, u32::from(point));
+    text.push_str(" ");
+    text.push_str(outcome_word(kind, before));
+    text.push_str(" ");
+    text.push_str(outcome_word(kind, after));
+    text.push_str("\n");
     text
 }
 
@@ -215,7 +265,7 @@ impl Message {
             Message::ClassMaker => text_of("class maker\n"),
             Message::ClassBreaker => text_of("class breaker\n"),
             Message::ClassFirstMover => text_of("class first-mover\n"),
-            Message::Unknown(positions) => unknown_text(positions),
+            Message::Unknown(positions) => count_text("unknown after ", positions, " positions\n"),
             Message::LineGame { points, lines } => {
                 counts_text("game ", points, " points ", lines, " lines\n")
             }
@@ -224,6 +274,19 @@ impl Message {
             }
             Message::Expanded { positions, nodes } => {
                 counts_text("expanded ", positions, " nodes ", nodes, "\n")
+            }
+            Message::Standing(moves) => count_text("standing ", moves, "\n"),
+            Message::Recorded(moves) => count_text("recorded ", moves, "\n"),
+            Message::Lost {
+                number,
+                point,
+                kind,
+                before,
+                after,
+            } => lost_text(number, point, kind, before, after),
+            Message::Reviewed(moves) => count_text("reviewed ", moves, "\n"),
+            Message::UnknownAt { moves, positions } => {
+                counts_text("unknown at ", moves, " after ", positions, " positions\n")
             }
         }
     }

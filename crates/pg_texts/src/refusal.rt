@@ -4,7 +4,7 @@ ghost use Rattle.pg_texts.specs.Texts.{faulty_claim_text, faulty_node_text, file
 ghost use Rattle.pg_texts.specs.Statuses.{refusal_status};
 
 use crate::line::{Line, push_number};
-use crate::statuses::{FAULTY_GAME, NO_MEANING, REFUSED};
+use crate::statuses::{FAULTY_GAME, FAULTY_RECORD, NO_MEANING, REFUSED};
 use pg_base::Side;
 
 /// Why a command isn't carried out.
@@ -55,6 +55,22 @@ pub enum Refusal {
         node: u32,
         /// The least number of the node's faults.
         why: u8,
+    },
+    /// The certificate has a node that can't be unfolded for the game.
+    RejectedImage {
+        /// The number of the first faulty claim.
+        claim: u32,
+        /// The number of its first faulty node.
+        node: u32,
+        /// The least number of the node's faults.
+        why: u8,
+    },
+    /// The record file has a fault.
+    Record {
+        /// The number of the fault.
+        number: u8,
+        /// The number of its line, 0 for the whole file.
+        line: u32,
     },
 }
 
@@ -134,6 +150,10 @@ impl Refusal {
             Refusal::RejectedVectors { claim, node, why } => {
                 faulty_node_text("rejected V", claim, node, why)
             }
+            Refusal::RejectedImage { claim, node, why } => {
+                faulty_node_text("rejected I", claim, node, why)
+            }
+            Refusal::Record { number, line } => fault_text("record F", number, line),
         }
     }
 
@@ -147,7 +167,9 @@ impl Refusal {
             Refusal::Certificate { .. }
             | Refusal::Rejected { .. }
             | Refusal::RejectedSpan { .. }
-            | Refusal::RejectedVectors { .. } => REFUSED,
+            | Refusal::RejectedVectors { .. }
+            | Refusal::RejectedImage { .. } => REFUSED,
+            Refusal::Record { .. } => FAULTY_RECORD,
         }
     }
 }

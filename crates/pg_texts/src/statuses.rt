@@ -30,5 +30,8 @@ pub const INPUT_ENDED: u8 = 8;
 /// So many replies were refused that no more are heard.
 pub const OUT_OF_REPLIES: u8 = 9;
 
+/// The record file has a fault.
+pub const FAULTY_RECORD: u8 = 10;
+
 /// The system refuses the words of the command line, for another cause than memory.
 pub const NO_WORDS: u8 = 11;

@@ -1,5 +1,5 @@
 -- What the words of a command line mean.
-use Rattle.std.specs.Prelude.{◌*◌, min, nat_le, ℕ, List, [], ◌∷◌, codes, Option, Some, None, option_map, option_and_then, if◌then◌else◌}
+use Rattle.std.specs.Prelude.{◌*◌, min, nat_le, ℕ, Bool, false, List, [], ◌∷◌, codes, Option, Some, None, option_map, option_and_then, if◌then◌else◌}
 use Rattle.std.specs.Str.{bytes_eq}
 use Rattle.pg_base.specs.Side.{side_of}
 use Rattle.pg_base.specs.declared.side.Side.{Side}
@@ -16,8 +16,8 @@ use Rattle.pg_words.specs.declared.source.Source.TheVariants.{Rows, Bridge, Scat
 
 -- what the program is asked to do, with the names of files
 pub data Command : Type 0 where
-  -- solve a game, by so many positions where it is said
-  Solve : (game certificate : Bytes) (positions : Option ℕ) → Command
+  -- solve a game, by so many positions where it is said, perhaps with a certificate that names positions as images of others
+  Solve : (game certificate : Bytes) (positions : Option ℕ) (images : Bool) → Command
   -- check a certificate for a game
   Check : (game certificate : Bytes) → Command
   -- play a side of a game by a certificate
@@ -28,15 +28,19 @@ pub data Command : Type 0 where
   Report : (game certificate : Bytes) → Command
   -- do this with a game of a further family
   OfFamily : (family : Family) (task : FamilyTask) (game certificate : Bytes) → Command
+  -- record a game that is told move by move
+  Record : (game name : Bytes) → Command
+  -- review a recorded game, each position by so many positions where it is said
+  Review : (game name : Bytes) (positions : Option ℕ) → Command
 
 -- a number of positions, where one is given
 abbrev pub limit_of : Option Bytes → Option (Option ℕ)
 limit_of None = Some None
 limit_of (Some word) = option_map (λ n. Some n) (number_in 1 100000 word)
 
-abbrev pub solve : List Bytes → Option Bytes → Option Bytes → Option Command
-solve (game ∷ certificate ∷ []) positions None = option_map (Solve game certificate) (limit_of positions)
-solve _ _ _ = None
+abbrev pub solve : List Bytes → Option Bytes → Option Bytes → Bool → Option Command
+solve (game ∷ certificate ∷ []) positions None images = option_map (λ limit. Solve game certificate limit images) (limit_of positions)
+solve _ _ _ _ = None
 
 abbrev pub check : List Bytes → Option Bytes → Option Bytes → Option Command
 check (game ∷ certificate ∷ []) None None = Some (Check game certificate)
@@ -49,6 +53,14 @@ play _ _ _ = None
 abbrev pub report : List Bytes → Option Bytes → Option Bytes → Option Command
 report (game ∷ certificate ∷ []) None None = Some (Report game certificate)
 report _ _ _ = None
+
+abbrev pub recorded : List Bytes → Option Bytes → Option Bytes → Option Command
+recorded (game ∷ name ∷ []) None None = Some (Record game name)
+recorded _ _ _ = None
+
+abbrev pub reviewed : List Bytes → Option Bytes → Option Bytes → Option Command
+reviewed (game ∷ name ∷ []) positions None = option_map (Review game name) (limit_of positions)
+reviewed _ _ _ = None
 
 -- a game and, where wanted, a certificate, under these names
 abbrev pub made : List Bytes → Source → Option Command
@@ -96,21 +108,29 @@ abbrev pub of_family : Family → List Bytes → Option Bytes → Option Bytes �
 of_family family (name ∷ game ∷ certificate ∷ []) None side = option_map (λ task. OfFamily family task game certificate) (task_of name side)
 of_family family _ _ _ = None
 
--- what positionals and options ask for
-abbrev pub asked_by : List Bytes → Option Bytes → Option Bytes → Option Command
-asked_by [] positions side = None
-asked_by (name ∷ others) positions side =
-    if bytes_eq name (codes "solve") then solve others positions side
-    else if bytes_eq name (codes "check") then check others positions side
+-- what the first positional, the others and the options ask for, without a flag
+abbrev pub plain : Bytes → List Bytes → Option Bytes → Option Bytes → Option Command
+plain name others positions side =
+    if bytes_eq name (codes "check") then check others positions side
     else if bytes_eq name (codes "play") then play others positions side
     else if bytes_eq name (codes "gen") then generate others positions side
     else if bytes_eq name (codes "report") then report others positions side
     else if bytes_eq name (codes "span") then of_family Connectivity others positions side
     else if bytes_eq name (codes "vec") then of_family Vectors others positions side
+    else if bytes_eq name (codes "record") then recorded others positions side
+    else if bytes_eq name (codes "review") then reviewed others positions side
     else None
 
+-- what positionals and options ask for: `solve` alone takes the flag
+abbrev pub asked_by : List Bytes → Option Bytes → Option Bytes → Bool → Option Command
+asked_by [] positions side images = None
+asked_by (name ∷ others) positions side images =
+    if bytes_eq name (codes "solve") then solve others positions side images
+    else if images then None
+    else plain name others positions side
+
 abbrev pub asked : Given → Option Command
-asked g = asked_by g.positionals g.positions g.side
+asked g = asked_by g.positionals g.positions g.side g.images
 
 -- the meaning of the words, none where they have none
 abbrev pub meaning_of : List Bytes → Option Command

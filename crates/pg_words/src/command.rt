@@ -14,6 +14,8 @@ pub enum Command {
         certificate: String,
         /// How many positions the search may expand, 1 to 100,000, where it is said.
         positions: Option<u32>,
+        /// Whether the certificate may name a position as the image of another.
+        images: bool,
     },
     /// Check a certificate for a game.
     Check {
@@ -57,5 +59,21 @@ pub enum Command {
         game: String,
         /// The name of the certificate.
         certificate: String,
+    },
+    /// Record a game that is told move by move.
+    Record {
+        /// The name of the game.
+        game: String,
+        /// The name of the record.
+        record: String,
+    },
+    /// Review a recorded game: tell the moves that lost value.
+    Review {
+        /// The name of the game.
+        game: String,
+        /// The name of the record.
+        record: String,
+        /// How many positions the search may expand for each position, 1 to 100,000, where it is said.
+        positions: Option<u32>,
     },
 }

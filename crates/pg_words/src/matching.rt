@@ -3,8 +3,9 @@ ghost use Rattle.std.specs.Prelude.{◌≡◌, false, IfOk, map, option_map, str
 ghost use Rattle.clap.specs.Words.{app_of, rule_of};
 ghost use Rattle.pg_words.specs.Given.{given};
 ghost use Rattle.pg_words.specs.Line.{Line, in_order};
-ghost use Rattle.pg_words.specs.Matched.{given_in};
-ghost use Rattle.pg_words.specs.Command.{command_app, option_rule};
+ghost use Rattle.pg_words.specs.Matched.{given_in, is_set};
+ghost use Rattle.pg_words.specs.Ordered.{text};
+ghost use Rattle.pg_words.specs.Command.{command_app, flag_rule, option_rule};
 
 use clap::error::ErrorKind;
 use clap::{Arg, ArgAction, ArgMatches, Command};
@@ -19,7 +20,15 @@ fn option<'a>(alloc: Global, name: &'a str) -> Arg<'a>
     Arg::new(alloc, name).long(name).action(ArgAction::Set)
 }
 
-/// The command that reads words in order: both options, and any number of positionals.
+/// A flag, at most once.
+fn flag<'a>(alloc: Global, name: &'a str) -> Arg<'a>
+    ensures rule { rule_of result ≡ flag_rule name.entry.now }
+    ensures local { result.global ≡ false }
+{
+    Arg::new(alloc, name).long(name).action(ArgAction::SetTrue)
+}
+
+/// The command that reads words in order: both options, the flag, and any number of positionals.
 fn command<'a>(alloc: Global) -> Result<Command<'a>, Memory>
     ensures { IfOk result (λ c. app_of c ≡ command_app) }
 {
@@ -29,11 +38,19 @@ fn command<'a>(alloc: Global) -> Result<Command<'a>, Memory>
         .disable_help_flag(true)
         .arg(option(alloc, "positions"))?
         .arg(option(alloc, "side"))?
+        .arg(flag(alloc, "images"))?
         .arg(words)?;
     Ok(command)
 }
 
-/// What the words in order give; none where an option stands twice.
+/// Whether a flag stands, by its value.
+pub(crate) fn is_set(value: Option<&str>) -> bool
+    ensures { result ≡ is_set (text value.entry) }
+{
+    matches!(value, Some("true"))
+}
+
+/// What the words in order give; none where an option or the flag stands twice.
 pub fn matches<'a>(alloc: Global, ordered: &'a [String]) -> Result<Option<ArgMatches<'a>>, Memory>
     ensures { (line : Line) → map string_bytes ordered.now ≡ in_order line → IfOk result (λ found. option_map given_in found ≡ given line) }
 {

@@ -4,7 +4,7 @@ ghost use Rattle.pg_words.specs.Ordered.{ordered};
 ghost use Rattle.pg_words.specs.Words.{meaning_of};
 
 use crate::command::Command;
-use crate::matching::matches;
+use crate::matching::{is_set, matches};
 use crate::order::in_order;
 use crate::table::asked;
 use pg_base::Memory;
@@ -12,7 +12,7 @@ use std::alloc::Global;
 
 /// The meaning of the words that follow the program's name; none where they have none.
 ///
-/// They are put in order, each option as one word, and read by one `clap` command; the README of this crate has the rules and the table.
+/// They are put in order, each option as one word, a flag among them, and read by one `clap` command; the README of this crate has the rules and the table.
 ///
 /// # Errors
 ///
@@ -32,5 +32,6 @@ pub fn meaning(alloc: Global, words: &[String]) -> Result<Option<Command>, Memor
         positionals,
         found.get_str("positions"),
         found.get_str("side"),
+        is_set(found.get_str("images")),
     )
 }

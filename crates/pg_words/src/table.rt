@@ -1,7 +1,7 @@
 //! The commands, by their positionals and options.
 ghost use Rattle.std.specs.Prelude.{◌≡◌, IfOk, option_map, string_bytes};
 ghost use Rattle.pg_words.specs.Ordered.{ordered, text, texts};
-ghost use Rattle.pg_words.specs.Words.{asked_by, bridge, check, generate, made, of_family, play, report, rows, scatter, scatter_of, solve, task_of};
+ghost use Rattle.pg_words.specs.Words.{asked_by, bridge, check, generate, limit_of, made, of_family, play, plain, recorded, report, reviewed, rows, scatter, scatter_of, solve, task_of};
 
 use crate::command::Command;
 use crate::family::{Family, FamilyTask};
@@ -17,28 +17,79 @@ fn named(alloc: Global, name: &str) -> Result<String, Memory>
     Ok(String::from_str(alloc, name)?)
 }
 
-/// `solve`, a game and a certificate, perhaps with `--positions`.
+/// A number of positions, where one is given.
+fn limit(positions: Option<&str>) -> Option<Option<u32>>
+    ensures { result ≡ limit_of (text positions.entry) }
+{
+    match positions {
+        None => Some(None),
+        Some(word) => match number_in(1, 100_000, word) {
+            None => None,
+            Some(n) => Some(Some(n)),
+        },
+    }
+}
+
+/// `solve`, a game and a certificate, perhaps with `--positions` and the flag.
 fn solve(
     alloc: Global,
     others: &[&str],
     positions: Option<&str>,
     side: Option<&str>,
+    images: bool,
 ) -> Result<Option<Command>, Memory>
-    ensures { IfOk result (λ c. option_map ordered c ≡ solve (texts others.now) (text positions.entry) (text side.entry)) }
+    ensures { IfOk result (λ c. option_map ordered c ≡ solve (texts others.now) (text positions.entry) (text side.entry) images) }
 {
     let ([game, certificate], None) = (others, side) else {
         return Ok(None);
     };
-    let positions = match positions {
-        None => None,
-        Some(word) => match number_in(1, 100_000, word) {
-            None => return Ok(None),
-            Some(n) => Some(n),
-        },
+    let Some(positions) = limit(positions) else {
+        return Ok(None);
     };
     Ok(Some(Command::Solve {
         game: named(alloc, game)?,
         certificate: named(alloc, certificate)?,
+        positions,
+        images,
+    }))
+}
+
+/// `record`, a game and a record.
+fn record(
+    alloc: Global,
+    others: &[&str],
+    positions: Option<&str>,
+    side: Option<&str>,
+) -> Result<Option<Command>, Memory>
+    ensures { IfOk result (λ c. option_map ordered c ≡ recorded (texts others.now) (text positions.entry) (text side.entry)) }
+{
+    let ([game, record], None, None) = (others, positions, side) else {
+        return Ok(None);
+    };
+    Ok(Some(Command::Record {
+        game: named(alloc, game)?,
+        record: named(alloc, record)?,
+    }))
+}
+
+/// `review`, a game and a record, perhaps with `--positions`.
+fn review(
+    alloc: Global,
+    others: &[&str],
+    positions: Option<&str>,
+    side: Option<&str>,
+) -> Result<Option<Command>, Memory>
+    ensures { IfOk result (λ c. option_map ordered c ≡ reviewed (texts others.now) (text positions.entry) (text side.entry)) }
+{
+    let ([game, record], None) = (others, side) else {
+        return Ok(None);
+    };
+    let Some(positions) = limit(positions) else {
+        return Ok(None);
+    };
+    Ok(Some(Command::Review {
+        game: named(alloc, game)?,
+        record: named(alloc, record)?,
         positions,
     }))
 }
@@ -238,26 +289,47 @@ fn of_family(
     }))
 }
 
-/// What positionals and options ask for.
-pub(crate) fn asked(
+/// What the first positional, the others and the options ask for, without a flag.
+fn plain(
     alloc: Global,
-    positionals: &[&str],
+    name: &str,
+    others: &[&str],
     positions: Option<&str>,
     side: Option<&str>,
 ) -> Result<Option<Command>, Memory>
-    ensures { IfOk result (λ c. option_map ordered c ≡ asked_by (texts positionals.now) (text positions.entry) (text side.entry)) }
+    ensures { IfOk result (λ c. option_map ordered c ≡ plain name.now (texts others.now) (text positions.entry) (text side.entry)) }
 {
-    let [name, others @ ..] = positionals else {
-        return Ok(None);
-    };
-    match *name {
-        "solve" => solve(alloc, others, positions, side),
+    match name {
         "check" => check(alloc, others, positions, side),
         "play" => play(alloc, others, positions, side),
         "gen" => generate(alloc, others, positions, side),
         "report" => report(alloc, others, positions, side),
         "span" => of_family(alloc, Family::Connectivity, others, positions, side),
         "vec" => of_family(alloc, Family::Vectors, others, positions, side),
+        "record" => record(alloc, others, positions, side),
+        "review" => review(alloc, others, positions, side),
         _ => Ok(None),
     }
+}
+
+/// What positionals and options ask for: `solve` alone takes the flag.
+pub(crate) fn asked(
+    alloc: Global,
+    positionals: &[&str],
+    positions: Option<&str>,
+    side: Option<&str>,
+    images: bool,
+) -> Result<Option<Command>, Memory>
+    ensures { IfOk result (λ c. option_map ordered c ≡ asked_by (texts positionals.now) (text positions.entry) (text side.entry) images) }
+{
+    let [name, others @ ..] = positionals else {
+        return Ok(None);
+    };
+    if *name == "solve" {
+        return solve(alloc, others, positions, side, images);
+    }
+    if images {
+        return Ok(None);
+    }
+    plain(alloc, name, others, positions, side)
 }

@@ -35,7 +35,14 @@ solve G C --positions 18446744073709551621 => none;\
 solve G C --positions= => none;\
 solve G C --positions==5 => none;\
 solve G C --positions => none;\
-solve G C --positions - => none";
+solve G C --positions - => none;\
+review G R --positions 1 => review <G> <R> 1;\
+review G R --positions=100000 => review <G> <R> 100000;\
+review G R --positions 0 => none;\
+review G R --positions=100001 => none;\
+review G R --positions 05 => none;\
+review G R --positions= => none;\
+review G R --positions => none";
 
 /// Places of `--positions`, and words that are like it.
 const PLACES: &str = "\
@@ -75,7 +82,12 @@ solve G C --positions:5 => none;\
 solve G C ---positions 5 => none;\
 solve G C positions 5 => none;\
 solve G C positions=5 => none;\
-solve G positions=5 => solve <G> <positions=5>";
+solve G positions=5 => solve <G> <positions=5>;\
+--positions 5 review G R => review <G> <R> 5;\
+review --positions=5 G R => review <G> <R> 5;\
+review G --positions 5 R => review <G> <R> 5;\
+review -- G --positions=5 => review <G> <--positions=5>;\
+review G R -- --positions=5 => none";
 
 /// Values and places of `--side`.
 const SIDE: &str = "\
@@ -135,6 +147,7 @@ solve G C --positions 5 --positions=6 => none;\
 solve G C --positions --positions 5 => none;\
 --positions 5 solve G C --positions 5 => none;\
 solve --positions=5 G --positions=5 C => none;\
+review G R --positions 5 --positions=5 => none;\
 play --side x -- --side x => play <--side> <x> x";
 
 /// Options of other commands.
@@ -163,7 +176,54 @@ gen --positions 5 rows 3 G => none;\
 gen rows --side 3 G => none;\
 gen bridge 2 G C --side=y => none;\
 gen scatter 1 5 2 2 G --positions 5 => none;\
-report G C --images => none";
+record G R --positions 5 => none;\
+record G R --side x => none;\
+--positions=5 record G R => none;\
+review G R --side x => none;\
+review --side=y G R => none;\
+review G R --positions 5 --side x => none";
+
+/// The flag `--images`, and words that are like it.
+const IMAGES: &str = "\
+solve G C --images => solve <G> <C> images;\
+--images solve G C => solve <G> <C> images;\
+solve --images G C => solve <G> <C> images;\
+solve G --images C --positions 5 => solve <G> <C> 5 images;\
+solve G C --positions=5 --images => solve <G> <C> 5 images;\
+--images --positions=5 -- solve G C => solve <G> <C> 5 images;\
+--images -- solve G C => solve <G> <C> images;\
+solve G C --images --images => none;\
+--images solve G C --images => none;\
+solve G C --images=true => none;\
+solve G C --images= => none;\
+solve G C --images 5 => none;\
+solve G C --image => none;\
+solve G C --imagess => none;\
+solve G C --Images => none;\
+solve G C -images => none;\
+solve G C -i => none;\
+solve G C images => none;\
+solve G images => solve <G> <images>;\
+solve -- G --images => solve <G> <--images>;\
+solve G C -- --images => none;\
+solve G --images => none;\
+solve G C D --images => none;\
+solve G C --side x --images => none;\
+solve G C --positions 0 --images => none;\
+solve G C --positions --images 5 => none;\
+solve G C --positions --images => none;\
+check G C --images => none;\
+check -- --images C => check <--images> <C>;\
+play G C --side x --images => none;\
+play G C --side --images => none;\
+report G C --images => none;\
+gen rows 3 G C --images => none;\
+--images gen rows 3 G => none;\
+span solve G C --images => none;\
+vec solve --images G C => none;\
+record G R --images => none;\
+review G R --images => none;\
+--images => none";
 
 #[test]
 fn positions(rt: HostRuntime) -> Result<(), Fail> {
@@ -186,6 +246,12 @@ fn sides(rt: HostRuntime) -> Result<(), Fail> {
 #[test]
 fn options_twice(rt: HostRuntime) -> Result<(), Fail> {
     assert_eq!(rt; wrong_rows(rt.alloc(), TWICE)?.as_str(), "");
+    Ok(())
+}
+
+#[test]
+fn flag(rt: HostRuntime) -> Result<(), Fail> {
+    assert_eq!(rt; wrong_rows(rt.alloc(), IMAGES)?.as_str(), "");
     Ok(())
 }
 

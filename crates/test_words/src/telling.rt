@@ -72,12 +72,26 @@ fn command_text(alloc: Global, command: &Command) -> Result<String, Fail> {
             game,
             certificate,
             positions: None,
+            images: false,
         } => format!(in alloc; "solve <{game}> <{certificate}>")?,
         Command::Solve {
             game,
             certificate,
             positions: Some(n),
+            images: false,
         } => format!(in alloc; "solve <{game}> <{certificate}> {n}")?,
+        Command::Solve {
+            game,
+            certificate,
+            positions: None,
+            images: true,
+        } => format!(in alloc; "solve <{game}> <{certificate}> images")?,
+        Command::Solve {
+            game,
+            certificate,
+            positions: Some(n),
+            images: true,
+        } => format!(in alloc; "solve <{game}> <{certificate}> {n} images")?,
         Command::Check { game, certificate } => {
             format!(in alloc; "check <{game}> <{certificate}>")?
         }
@@ -100,6 +114,17 @@ fn command_text(alloc: Global, command: &Command) -> Result<String, Fail> {
             game,
             certificate,
         } => family_text(alloc, *family, *task, game, certificate)?,
+        Command::Record { game, record } => format!(in alloc; "record <{game}> <{record}>")?,
+        Command::Review {
+            game,
+            record,
+            positions: None,
+        } => format!(in alloc; "review <{game}> <{record}>")?,
+        Command::Review {
+            game,
+            record,
+            positions: Some(n),
+        } => format!(in alloc; "review <{game}> <{record}> {n}")?,
     })
 }
 
