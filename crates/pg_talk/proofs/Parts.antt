@@ -24,7 +24,7 @@ keeps_then : (held mid : Holding) (first more : List Making) (after : Option Hol
 keeps_then held mid first more None before now = absurd now
 keeps_then held mid first more (Some after) before now = λ name. now name ∙ held_twice held mid first more before name
 
-hears_then : (status : ℕ) (end : End) (a b c : Option Bytes) (xs ys : List Entry) → Hears (Finished status) a xs b → Hears end b ys c → Hears end a (xs ++ ys) c
+pub hears_then : (status : ℕ) (end : End) (a b c : Option Bytes) (xs ys : List Entry) → Hears (Finished status) a xs b → Hears end b ys c → Hears end a (xs ++ ys) c
 hears_then status (Finished last) a b c xs ys first second = Hearing-then a b c xs ys first second
 hears_then status Failed a b c xs ys first (unread, second) = (unread, Hearing-then a b unread xs ys first second)
 hears_then status Starved a b c xs ys first second = Hearing-then a b c xs ys first second

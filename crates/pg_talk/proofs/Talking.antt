@@ -34,7 +34,7 @@ Hearing-then (Some l) (Some m) (Some n) xs ys h k = InOrder-then l m n xs ys h k
 
 -- ---- one entry
 
-Hearing-nothing : (a : Option Bytes) → Hearing a [] a
+pub Hearing-nothing : (a : Option Bytes) → Hearing a [] a
 Hearing-nothing None = tt
 Hearing-nothing (Some left) = refl
 
@@ -54,7 +54,7 @@ heard_one left (Heard text) unsaid is = (is, refl)
 heard_one left (Skipped text) unsaid is = (is, refl)
 heard_one left Ended unsaid is = (is, refl)
 
-Hearing-heard : (a b : Option Bytes) (entry : Entry) → ((text : Bytes) → entry ≢ Said text) → Consumes a b MAX_REPLY entry → Hearing a (entry ∷ []) b
+pub Hearing-heard : (a b : Option Bytes) (entry : Entry) → ((text : Bytes) → entry ≢ Said text) → Consumes a b MAX_REPLY entry → Hearing a (entry ∷ []) b
 Hearing-heard None b entry unsaid h = tt
 Hearing-heard (Some left) None entry unsaid h = absurd (cc h.1)
 Hearing-heard (Some left) (Some rest) entry unsaid h =

@@ -7,7 +7,7 @@ use Rattle.pg_io.specs.Stop.{StopCauses}
 use Rattle.pg_io.specs.declared.stop.Stop.{Stop}
 use Rattle.pg_io.specs.declared.stop.Stop.TheVariants.{Read, Write, Memory}
 use Rattle.pg_texts.specs.Statuses.{refusal_status}
-use Rattle.pg_texts.specs.declared.refusal.Refusal.TheVariants.{NoMeaning, NoClaim, Game}
+use Rattle.pg_texts.specs.declared.refusal.Refusal.TheVariants.{NoMeaning, NoClaim, Game, Record}
 use Rattle.pg_texts.specs.declared.statuses.TheConstants.{DONE, READ_FAILED, WRITE_FAILED, NO_MEMORY, INPUT_ENDED, OUT_OF_REPLIES}
 use Rattle.pg_talk.specs.declared.halt.Halt.{Halt}
 use Rattle.pg_talk.specs.declared.halt.Halt.TheVariants.{Refused, Stopped}
@@ -54,11 +54,13 @@ IsGameHalt (Stopped stop) = ⊤
 abbrev pub IsReadHalt : Halt → Type 0
 IsReadHalt (Refused NoMeaning) = ⊥
 IsReadHalt (Refused (NoClaim side)) = ⊥
+IsReadHalt (Refused (Record number line)) = ⊥
 IsReadHalt _ = ⊤
 
 -- what can end a play early
 abbrev pub IsPlayHalt : Halt → Type 0
 IsPlayHalt (Refused NoMeaning) = ⊥
+IsPlayHalt (Refused (Record number line)) = ⊥
 IsPlayHalt _ = ⊤
 
 -- with which status a play ends

@@ -22,9 +22,13 @@ trimmed_start (b ∷ others) = if is_blank b then trimmed_start others else b �
 abbrev pub trimmed_end : Bytes → Bytes
 trimmed_end text = reverse (trimmed_start (reverse text))
 
--- the number that a line says, none where it says none: the line without the blank bytes at both ends is one to nine decimal digits, the first of several not 0
+-- the text of a line: without the blank bytes at both ends
+abbrev pub trimmed : Bytes → Bytes
+trimmed line = trimmed_end (trimmed_start line)
+
+-- the number that a line says, none where it says none: its text is one to nine decimal digits, the first of several not 0
 abbrev pub said_number : Bytes → Option ℕ
-said_number line = number (trimmed_end (trimmed_start line))
+said_number line = number (trimmed line)
 
 -- the free point that the number is, or why it is refused
 abbrev pub point_or_refusal : Rules → Position → Option ℕ → Result ℕ ReplyFault

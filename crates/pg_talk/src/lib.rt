@@ -16,5 +16,5 @@ pub use dialogue::{MAX_REFUSALS, MAX_REPLY, Turn, play_claim, play_to_the_end};
 pub use halt::Halt;
 pub use laws::{dialogues_are_legal_plays, dialogues_end, little_is_heard, own_moves_come_first};
 pub use reading::open_certificate;
-pub use reply::said_number;
+pub use reply::{said_number, trimmed};
 pub use saying::{say, say_both, say_text};

@@ -1,6 +1,6 @@
 //! What a line that was heard says.
 ghost use Rattle.std.specs.Prelude.{◌≡◌};
-ghost use Rattle.pg_talk.specs.Reply.{is_blank, trimmed_start, trimmed_end, said_number};
+ghost use Rattle.pg_talk.specs.Reply.{is_blank, trimmed, trimmed_start, trimmed_end, said_number};
 
 use pg_base::SPACE;
 use pg_text::number;
@@ -32,9 +32,16 @@ fn trimmed_end(text: &[u8]) -> &[u8]
     }
 }
 
+/// The text of a line: its bytes without the blank ones at both ends.
+pub fn trimmed(line: &[u8]) -> &[u8]
+    ensures { result.now ≡ trimmed line.now }
+{
+    trimmed_end(trimmed_start(line))
+}
+
 /// The number that a line says, without blank bytes around it; none where it says none.
 pub fn said_number(line: &[u8]) -> Option<u32>
     ensures { result ≡ said_number line.now }
 {
-    number(trimmed_end(trimmed_start(line)))
+    number(trimmed(line))
 }
