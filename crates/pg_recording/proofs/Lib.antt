@@ -1,0 +1,4 @@
+pub mod Courses
+pub mod SessionLogs
+pub mod Sessions
+pub mod Records

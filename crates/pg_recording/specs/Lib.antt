@@ -1,0 +1,5 @@
+pub mod Course
+pub mod Request
+pub mod SessionLog
+pub mod Turns
+pub mod Recording

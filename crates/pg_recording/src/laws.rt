@@ -1,0 +1,25 @@
+//! What the log of a session tells. Each function is empty: what it promises is a law of the rules of logs alone.
+ghost use Rattle.std.specs.Prelude.{◌≡◌, ℕ, Ok, List};
+ghost use Rattle.pg_game.specs.declared.game.Game.{Game};
+ghost use Rattle.pg_io.specs.declared.entry.Entry.{Entry};
+ghost use Rattle.pg_record.specs.Print.{printed_record};
+ghost use Rattle.pg_record.specs.Replay.{IsRecord};
+ghost use Rattle.pg_record.specs.declared.event.Event.{Event};
+ghost use Rattle.pg_record_files.specs.RecordFile.{record_of};
+ghost use Rattle.pg_recording.specs.SessionLog.{IsLogTo, Stage, events_at};
+
+/// The log alone tells which session it is of, and where it stands.
+pub fn logs_tell_their_session()
+    ensures { (g : Game) (entries : List Entry) (s t : Stage) → IsLogTo g entries s → IsLogTo g entries t → s ≡ t }
+{}
+
+/// The session that a log gives is a record of the game: each event may follow those before it, and there aren't too many.
+pub fn logged_sessions_are_records()
+    ensures { (g : Game) (entries : List Entry) (stage : Stage) → IsLogTo g entries stage → IsRecord g (events_at stage) }
+{}
+
+/// What is printed of the session that a log gives is read back as this session.
+pub fn logged_sessions_are_read_back()
+    ensures { (g : Game) (entries : List Entry) (stage : Stage) → IsLogTo g entries stage
+        → record_of g (printed_record (events_at stage)) ≡ Ok (events_at stage) }
+{}

@@ -1,0 +1,5 @@
+pub mod LossLaws
+pub mod Nodes
+pub mod Values
+pub mod Standing
+pub mod SaidSoFar

@@ -1,0 +1,4 @@
+pub mod Losses
+pub mod Known
+pub mod Review
+pub mod Saying
