@@ -1,4 +1,5 @@
 pub mod Courses
 pub mod SessionLogs
+pub mod Refusals
 pub mod Sessions
 pub mod Records

@@ -1,5 +1,6 @@
 -- THE LOG OF A RECORDED SESSION: each entry heard is followed by the one text due to it, and the session is then the one after it. It is asked neither how the session is kept nor what keeps it.
-use Rattle.std.specs.Prelude.{◌≡◌, ℕ, ◌+◌, ◌==◌, nat_lt, List, [], ◌∷◌, ◌++◌, length, Result, Ok, Err, if◌then◌else◌, ⊤}
+use Rattle.std.specs.Prelude.{◌≡◌, ◌⊎◌, ℕ, ◌+◌, ◌<◌, ◌==◌, nat_lt, Bool, false, List, [], ◌∷◌, ◌++◌, length, take, Result, Ok, Err, codes, if◌then◌else◌, ⊤}
+use Rattle.std.specs.Str.{bytes_eq}
 use Rattle.pg_io.specs.declared.entry.Entry.{Entry}
 use Rattle.pg_io.specs.declared.entry.Entry.TheVariants.{Said, Heard, Skipped, Ended}
 use Rattle.pg_game.specs.Judge.{judged_move}
@@ -113,3 +114,16 @@ IsClosingLog g entries events = IsLogTo g entries (Closes events)
 -- the entries are the beginning of a log that isn't at its end
 abbrev pub IsOpenLog : Game → List Entry → Type 0
 IsOpenLog g entries = (stage : Stage) × IsOpen stage × IsLogTo g entries stage
+
+-- ---- refusals in a log
+
+-- whether the entry refuses a line
+abbrev pub is_refusal : Entry → Bool
+is_refusal (Said text) = bytes_eq (take 8 text) (codes "refused:")
+is_refusal (Heard line) = false
+is_refusal (Skipped line) = false
+is_refusal Ended = false
+
+-- a log with so many refusals ends with this status: by as many as are allowed, or otherwise, with fewer
+abbrev pub EndsWith : ℕ → ℕ → Type 0
+EndsWith refused status = ((status ≡ DONE) × (refused < MAX_REFUSALS)) ⊎ ((status ≡ OUT_OF_REPLIES) × (refused ≡ MAX_REFUSALS))

@@ -1,12 +1,12 @@
 //! What the log of a session tells. Each function is empty: what it promises is a law of the rules of logs alone.
-ghost use Rattle.std.specs.Prelude.{◌≡◌, ℕ, Ok, List};
+ghost use Rattle.std.specs.Prelude.{◌≡◌, ℕ, Ok, List, count_by};
 ghost use Rattle.pg_game.specs.declared.game.Game.{Game};
 ghost use Rattle.pg_io.specs.declared.entry.Entry.{Entry};
 ghost use Rattle.pg_record.specs.Print.{printed_record};
 ghost use Rattle.pg_record.specs.Replay.{IsRecord};
 ghost use Rattle.pg_record.specs.declared.event.Event.{Event};
 ghost use Rattle.pg_record_files.specs.RecordFile.{record_of};
-ghost use Rattle.pg_recording.specs.SessionLog.{IsLogTo, Stage, events_at};
+ghost use Rattle.pg_recording.specs.SessionLog.{EndsWith, IsLogTo, IsWholeLog, Stage, events_at, is_refusal};
 
 /// The log alone tells which session it is of, and where it stands.
 pub fn logs_tell_their_session()
@@ -22,4 +22,10 @@ pub fn logged_sessions_are_records()
 pub fn logged_sessions_are_read_back()
     ensures { (g : Game) (entries : List Entry) (stage : Stage) → IsLogTo g entries stage
         → record_of g (printed_record (events_at stage)) ≡ Ok (events_at stage) }
+{}
+
+/// A log ends with 9 where as many lines were refused as may be; otherwise it ends with 0, and fewer were.
+pub fn refusals_end_sessions()
+    ensures { (g : Game) (entries : List Entry) (events : List Event) (status : ℕ) → IsWholeLog g entries events status
+        → EndsWith (count_by is_refusal entries) status }
 {}

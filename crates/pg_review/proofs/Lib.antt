@@ -3,3 +3,4 @@ pub mod Nodes
 pub mod Values
 pub mod Standing
 pub mod SaidSoFar
+pub mod Opened

@@ -5,6 +5,7 @@ use Rattle.pg_base.specs.declared.kind.Kind.TheVariants.{Switching}
 use Rattle.pg_io.specs.Files.{Bytes, Holding}
 use Rattle.pg_io.specs.declared.entry.Entry.{Entry}
 use Rattle.pg_io.specs.declared.entry.Entry.TheVariants.{Said}
+use Rattle.pg_io.specs.declared.stop.Stop.TheVariants.{Memory}
 use Rattle.pg_game.specs.Fit.{is_switching}
 use Rattle.pg_game.specs.Game.{start, IsGameOf}
 use Rattle.pg_game.specs.declared.game.Game.{Game}
@@ -91,10 +92,14 @@ ReviewsMoves g moves positions work entries Failed = SaysFirst (loss_texts g mov
 ReviewsMoves g moves positions work entries Starved = SaysFirst (loss_texts g moves) entries
 
 -- the same of the moves that stand in the record of the game
+abbrev pub ReviewsRecord : Game → Option Bytes → ℕ → Expanded → List Entry → End → Type 0
+ReviewsRecord g record_bytes positions work entries end = (moves : List ℕ) × (moves_held g record_bytes ≡ Ok moves) × ReviewsMoves g moves positions work entries end
+
+-- the same of the game that was read
 abbrev pub ReviewsRead : Result GameEntry Halt → Option Bytes → ℕ → Expanded → List Entry → End → Type 0
 ReviewsRead (Err halt) record_bytes positions work entries end = ⊥
 ReviewsRead (Ok e) record_bytes positions work entries end =
-    (g : Game) × IsSaidBy e g × (moves : List ℕ) × (moves_held g record_bytes ≡ Ok moves) × ReviewsMoves g moves positions work entries end
+    (g : Game) × IsSaidBy e g × ReviewsRecord g record_bytes positions work entries end
 
 -- what a review does with the game and the record that two names hold
 abbrev pub Reviews : Option Bytes → Option Bytes → ℕ → Expanded → Done → End → Type 0
@@ -112,6 +117,13 @@ IsReviewHalt (Refused (FaultyGame number line)) = ⊤
 IsReviewHalt (Refused (FaultyRecord number line)) = ⊤
 IsReviewHalt (Refused _) = ⊥
 IsReviewHalt (Stopped stop) = ⊤
+
+-- what can end the reading of a record's text early
+abbrev pub IsTextHalt : Halt → Type 0
+IsTextHalt (Refused (FaultyRecord number line)) = ⊤
+IsTextHalt (Refused _) = ⊥
+IsTextHalt (Stopped Memory) = ⊤
+IsTextHalt (Stopped _) = ⊥
 
 -- with which status a review ends
 abbrev pub IsReviewEnd : ℕ → Type 0

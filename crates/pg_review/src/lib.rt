@@ -1,6 +1,7 @@
 //! Reviewing a recorded game: which of its moves lost value.
 #![tactic(auto)]
 
+mod command;
 mod deciding;
 mod known;
 mod laws;
@@ -9,6 +10,7 @@ mod opening;
 mod playing;
 mod reviewing;
 
+pub use command::review;
 pub use deciding::decide;
 pub use known::Known;
 pub use laws::losses_are_told;
