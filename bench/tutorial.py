@@ -2,7 +2,7 @@
 """Runs the walk of docs/TUTORIAL.md again, and tells whether the program still prints what stands there.
 
 Usage: tutorial.py [PROGRAM]
-A block of indented lines behind a name of a game or a certificate shows that file; a block that begins with `$ ./posgame`
+A block of indented lines behind a name of a game, a certificate or a record shows that file; a block that begins with `$ ./posgame`
 shows a run. The lines of a run that begin with none of the program's own words were typed, and are handed in as its input.
 The runs, in their order, write into a folder of their own, which has the examples too.
 """
@@ -15,7 +15,8 @@ import tempfile
 
 TOP = pathlib.Path(__file__).resolve().parent.parent
 COMMAND = "$ ./posgame "
-SAID = ("accepted ", "rejected ", "claim ", "move ", "refused: ", "result ", "class ", "unknown ", "words: ", "game ", "certificate ", "expanded ")
+SAID = ("accepted ", "rejected ", "claim ", "move ", "refused: ", "result ", "class ", "unknown ", "words: ", "game ", "certificate ", "expanded ",
+        "standing ", "recorded ", "lost ", "reviewed ", "record ")
 
 
 def blocks(text):

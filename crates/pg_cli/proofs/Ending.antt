@@ -12,9 +12,9 @@ use Rattle.pg_io.specs.declared.stop.Stop.TheVariants.{Read, Write, Memory}
 use Rattle.pg_texts.specs.Statuses.{refusal_status}
 use Rattle.pg_texts.specs.Texts.{refusal_text}
 use Rattle.pg_texts.specs.declared.refusal.Refusal.{Refusal}
-use Rattle.pg_texts.specs.declared.refusal.Refusal.TheVariants.{NoMeaning, NoClaim, Game, Certificate, Rejected, RejectedSpan, RejectedVectors}
-use Rattle.pg_texts.specs.declared.statuses.TheConstants.{DONE, UNKNOWN, REFUSED, NO_MEANING, READ_FAILED, WRITE_FAILED, NO_MEMORY}
-use Rattle.pg_words.specs.Words.{Command, Solve, Check, Play, Gen, Report, OfFamily}
+use Rattle.pg_texts.specs.declared.refusal.Refusal.TheVariants.{NoMeaning, NoClaim, Game, Certificate, Rejected, RejectedSpan, RejectedVectors, RejectedImage, Record as FaultyRecord}
+use Rattle.pg_texts.specs.declared.statuses.TheConstants.{DONE, UNKNOWN, REFUSED, NO_MEANING, READ_FAILED, WRITE_FAILED, NO_MEMORY, OUT_OF_REPLIES}
+use Rattle.pg_words.specs.Words.{Command, Solve, Check, Play, Gen, Report, OfFamily, Record, Review}
 use Rattle.pg_words.specs.declared.family.FamilyTask.TheVariants as tasks
 use Rattle.pg_words.specs.declared.source.Source.{Source}
 use Rattle.pg_cli.specs.Generating.{searches}
@@ -35,8 +35,8 @@ use Rattle.pg_cli.proofs.Tasks.{at_place, task_done, task_finishes, task_refuses
 -- a command that is done has a status of its own
 pub finishes : (command : Option Command) (status : ℕ) → Gives command (Ok status) → ending status ≡ Finished status
 finishes None status gives = absurd gives
-finishes (Some (Solve g c positions)) status (inl is) = subst (λ (s : ℕ). ending s ≡ Finished s) (sym is) refl
-finishes (Some (Solve g c positions)) status (inr is) = subst (λ (s : ℕ). ending s ≡ Finished s) (sym is) refl
+finishes (Some (Solve g c positions images)) status (inl is) = subst (λ (s : ℕ). ending s ≡ Finished s) (sym is) refl
+finishes (Some (Solve g c positions images)) status (inr is) = subst (λ (s : ℕ). ending s ≡ Finished s) (sym is) refl
 finishes (Some (Check g c)) status gives = task_finishes tasks.Check status gives
 finishes (Some (Play g c side)) status gives = task_finishes (tasks.Play side) status gives
 finishes (Some (Gen which g c)) status (inl is) = subst (λ (s : ℕ). ending s ≡ Finished s) (sym is) refl
@@ -44,6 +44,10 @@ finishes (Some (Gen which g c)) status (inr (searched, is)) = subst (λ (s : ℕ
 finishes (Some (Report g c)) status (inl is) = subst (λ (s : ℕ). ending s ≡ Finished s) (sym is) refl
 finishes (Some (Report g c)) status (inr is) = subst (λ (s : ℕ). ending s ≡ Finished s) (sym is) refl
 finishes (Some (OfFamily family task g c)) status gives = task_finishes task status gives
+finishes (Some (Record g r)) status (inl is) = subst (λ (s : ℕ). ending s ≡ Finished s) (sym is) refl
+finishes (Some (Record g r)) status (inr is) = subst (λ (s : ℕ). ending s ≡ Finished s) (sym is) refl
+finishes (Some (Review g r positions)) status (inl is) = subst (λ (s : ℕ). ending s ≡ Finished s) (sym is) refl
+finishes (Some (Review g r positions)) status (inr is) = subst (λ (s : ℕ). ending s ≡ Finished s) (sym is) refl
 
 refusal_finishes : (refusal : Refusal) → ending (refusal_status refusal) ≡ Finished (refusal_status refusal)
 refusal_finishes NoMeaning = refl
@@ -53,6 +57,8 @@ refusal_finishes (Certificate number line) = refl
 refusal_finishes (Rejected claim node why) = refl
 refusal_finishes (RejectedSpan claim why) = refl
 refusal_finishes (RejectedVectors claim node why) = refl
+refusal_finishes (RejectedImage claim node why) = refl
+refusal_finishes (FaultyRecord number line) = refl
 
 stop_ends : (stop : Stop) → ending (stop_status stop) ≡ stop_end stop
 stop_ends Read = refl
@@ -149,8 +155,8 @@ gen_status which c P more fewer = go (searches which c) refl where
 
 pub status_done : (command : Option Command) (status : ℕ) → Gives command (Ok status) → Contains (statuses_of command) status
 status_done None status gives = absurd gives
-status_done (Some (Solve g c positions)) status (inl is) = at_place (statuses_of (Some (Solve g c positions))) status DONE is (0, omega arith, refl)
-status_done (Some (Solve g c positions)) status (inr is) = at_place (statuses_of (Some (Solve g c positions))) status UNKNOWN is (1, omega arith, refl)
+status_done (Some (Solve g c positions images)) status (inl is) = at_place (statuses_of (Some (Solve g c positions images))) status DONE is (0, omega arith, refl)
+status_done (Some (Solve g c positions images)) status (inr is) = at_place (statuses_of (Some (Solve g c positions images))) status UNKNOWN is (1, omega arith, refl)
 status_done (Some (Check g c)) status gives = task_done tasks.Check status gives
 status_done (Some (Play g c side)) status gives = task_done (tasks.Play side) status gives
 status_done (Some (Gen which g c)) status (inl is) = gen_status which c (λ l. Contains l status) (λ _. at_place (gen_statuses true) status DONE is (0, omega arith, refl)) (λ _. at_place (gen_statuses false) status DONE is (0, omega arith, refl))
@@ -159,29 +165,55 @@ status_done (Some (Gen which g c)) status (inr (searched, is)) = gen_status whic
 status_done (Some (Report g c)) status (inl is) = at_place (statuses_of (Some (Report g c))) status DONE is (0, omega arith, refl)
 status_done (Some (Report g c)) status (inr is) = at_place (statuses_of (Some (Report g c))) status REFUSED is (2, omega arith, refl)
 status_done (Some (OfFamily family task g c)) status gives = task_done task status gives
+status_done (Some (Record g r)) status (inl is) = at_place (statuses_of (Some (Record g r))) status DONE is (0, omega arith, refl)
+status_done (Some (Record g r)) status (inr is) = at_place (statuses_of (Some (Record g r))) status OUT_OF_REPLIES is (5, omega arith, refl)
+status_done (Some (Review g r positions)) status (inl is) = at_place (statuses_of (Some (Review g r positions))) status DONE is (0, omega arith, refl)
+status_done (Some (Review g r positions)) status (inr is) = at_place (statuses_of (Some (Review g r positions))) status UNKNOWN is (1, omega arith, refl)
 
 -- a write that fails ends every command
 write_fails : (command : Option Command) → Contains (statuses_of command) WRITE_FAILED
 write_fails None = (1, omega arith, refl)
-write_fails (Some (Solve g c positions)) = (4, omega arith, refl)
+write_fails (Some (Solve g c positions images)) = (4, omega arith, refl)
 write_fails (Some (Check g c)) = task_stops tasks.Check Write
 write_fails (Some (Play g c side)) = task_stops (tasks.Play side) Write
 write_fails (Some (Gen which g c)) = gen_status which c (λ l. Contains l WRITE_FAILED) (λ _. (2, omega arith, refl)) (λ _. (1, omega arith, refl))
 write_fails (Some (Report g c)) = task_stops tasks.Check Write
 write_fails (Some (OfFamily family task g c)) = task_stops task Write
+write_fails (Some (Record g r)) = (3, omega arith, refl)
+write_fails (Some (Review g r positions)) = (4, omega arith, refl)
 
 refuses : (command : Option Command) (refusal : Refusal) → Gives command (Err (Refused refusal)) → Contains (statuses_of command) (refusal_status refusal)
 refuses (Some (Check g c)) refusal gives = task_refuses tasks.Check refusal gives
 refuses (Some (Play g c side)) refusal gives = task_refuses (tasks.Play side) refusal gives
 refuses None refusal (inl is) = let e : refusal ≡ NoMeaning = cc is in subst (λ (r : Refusal). Contains (statuses_of None) (refusal_status r)) (sym e) (0, omega arith, refl)
 refuses None refusal (inr is) = absurd (cc is)
-refuses (Some (Solve g c positions)) NoMeaning gives = absurd gives
-refuses (Some (Solve g c positions)) (NoClaim side) gives = absurd gives
-refuses (Some (Solve g c positions)) (Game number line) gives = (2, omega arith, refl)
-refuses (Some (Solve g c positions)) (Certificate number line) gives = absurd gives
-refuses (Some (Solve g c positions)) (Rejected claim node why) gives = absurd gives
-refuses (Some (Solve g c positions)) (RejectedSpan claim why) gives = absurd gives
-refuses (Some (Solve g c positions)) (RejectedVectors claim node why) gives = absurd gives
+refuses (Some (Solve g c positions images)) NoMeaning gives = absurd gives
+refuses (Some (Solve g c positions images)) (NoClaim side) gives = absurd gives
+refuses (Some (Solve g c positions images)) (Game number line) gives = (2, omega arith, refl)
+refuses (Some (Solve g c positions images)) (Certificate number line) gives = absurd gives
+refuses (Some (Solve g c positions images)) (Rejected claim node why) gives = absurd gives
+refuses (Some (Solve g c positions images)) (RejectedSpan claim why) gives = absurd gives
+refuses (Some (Solve g c positions images)) (RejectedVectors claim node why) gives = absurd gives
+refuses (Some (Solve g c positions images)) (RejectedImage claim node why) gives = absurd gives
+refuses (Some (Solve g c positions images)) (FaultyRecord number line) gives = absurd gives
+refuses (Some (Record g r)) NoMeaning gives = absurd gives
+refuses (Some (Record g r)) (NoClaim side) gives = absurd gives
+refuses (Some (Record g r)) (Game number line) gives = (1, omega arith, refl)
+refuses (Some (Record g r)) (Certificate number line) gives = absurd gives
+refuses (Some (Record g r)) (Rejected claim node why) gives = absurd gives
+refuses (Some (Record g r)) (RejectedSpan claim why) gives = absurd gives
+refuses (Some (Record g r)) (RejectedVectors claim node why) gives = absurd gives
+refuses (Some (Record g r)) (RejectedImage claim node why) gives = absurd gives
+refuses (Some (Record g r)) (FaultyRecord number line) gives = absurd gives
+refuses (Some (Review g r positions)) NoMeaning gives = absurd gives
+refuses (Some (Review g r positions)) (NoClaim side) gives = absurd gives
+refuses (Some (Review g r positions)) (Game number line) gives = (2, omega arith, refl)
+refuses (Some (Review g r positions)) (Certificate number line) gives = absurd gives
+refuses (Some (Review g r positions)) (Rejected claim node why) gives = absurd gives
+refuses (Some (Review g r positions)) (RejectedSpan claim why) gives = absurd gives
+refuses (Some (Review g r positions)) (RejectedVectors claim node why) gives = absurd gives
+refuses (Some (Review g r positions)) (RejectedImage claim node why) gives = absurd gives
+refuses (Some (Review g r positions)) (FaultyRecord number line) gives = (6, omega arith, refl)
 refuses (Some (Gen which g c)) refusal gives = absurd gives
 refuses (Some (Report g c)) refusal gives = task_refuses tasks.Check refusal gives
 refuses (Some (OfFamily family task g c)) refusal gives = task_refuses task refusal gives
@@ -191,14 +223,20 @@ stops (Some (Check g c)) stop gives = task_stops tasks.Check stop
 stops (Some (Play g c side)) stop gives = task_stops (tasks.Play side) stop
 stops None stop (inl is) = absurd (cc is)
 stops None stop (inr is) = let e : stop ≡ Memory = cc is in subst (λ (s : Stop). Contains (statuses_of None) (stop_status s)) (sym e) (2, omega arith, refl)
-stops (Some (Solve g c positions)) Read gives = (3, omega arith, refl)
-stops (Some (Solve g c positions)) Write gives = (4, omega arith, refl)
-stops (Some (Solve g c positions)) Memory gives = (5, omega arith, refl)
+stops (Some (Solve g c positions images)) Read gives = (3, omega arith, refl)
+stops (Some (Solve g c positions images)) Write gives = (4, omega arith, refl)
+stops (Some (Solve g c positions images)) Memory gives = (5, omega arith, refl)
 stops (Some (Gen which g c)) Read gives = absurd gives
 stops (Some (Gen which g c)) Write gives = write_fails (Some (Gen which g c))
 stops (Some (Gen which g c)) Memory gives = gen_status which c (λ l. Contains l NO_MEMORY) (λ _. (3, omega arith, refl)) (λ _. (2, omega arith, refl))
 stops (Some (Report g c)) stop gives = task_stops tasks.Check stop
 stops (Some (OfFamily family task g c)) stop gives = task_stops task stop
+stops (Some (Record g r)) Read gives = (2, omega arith, refl)
+stops (Some (Record g r)) Write gives = (3, omega arith, refl)
+stops (Some (Record g r)) Memory gives = (4, omega arith, refl)
+stops (Some (Review g r positions)) Read gives = (3, omega arith, refl)
+stops (Some (Review g r positions)) Write gives = (4, omega arith, refl)
+stops (Some (Review g r positions)) Memory gives = (5, omega arith, refl)
 
 pub status_early : (command : Option Command) (before after : ConsoleTold) (halt : Halt) (status : ℕ) → Gives command (Err halt) → Ends halt before after status → Contains (statuses_of command) status
 status_early command before after (Refused refusal) status gives (inl ends) = at_place (statuses_of command) status (refusal_status refusal) ends.0 (refuses command refusal gives)

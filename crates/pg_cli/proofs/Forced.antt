@@ -29,7 +29,7 @@ use Rattle.pg_player.specs.Player.{is_win, is_claim_of, is_win_of, chosen_claim}
 use Rattle.pg_texts.specs.Texts.{refusal_text, unknown_text, expanded_text}
 use Rattle.pg_texts.specs.declared.refusal.Refusal.{Refusal}
 use Rattle.pg_texts.specs.declared.refusal.Refusal.TheVariants as refusals
-use Rattle.pg_words.specs.Words.{Command, Solve, Check, Play, Gen, Report, OfFamily}
+use Rattle.pg_words.specs.Words.{Command, Solve, Check, Play, Gen, Report, OfFamily, Record, Review}
 use Rattle.pg_words.specs.declared.family.Family.{Family}
 use Rattle.pg_words.specs.declared.family.FamilyTask.{FamilyTask}
 use Rattle.pg_cli.specs.Checking.{AcceptsAll}
@@ -52,6 +52,7 @@ use Rattle.pg_solve.specs.Solved.{certificate_of}
 use Rattle.pg_solve.specs.declared.solution.Class.TheVariants.{Short, Cut, First}
 use Rattle.pg_solve.specs.declared.solution.Solution.{Solution}
 use Rattle.pg_solve.specs.declared.solution.Solution.TheVariants.{Value, Class as ForClass, Unknown}
+use Rattle.pg_cli.proofs.Recorded.{records_other, reviews_other}
 use Rattle.pg_cli.specs.Run.{Allows, Acts, Declines, RanOn, Ran}
 use Rattle.pg_pns.specs.Expanded.{Expanded}
 use Rattle.pg_talk.specs.declared.halt.Halt.{Halt}
@@ -66,6 +67,8 @@ refusal_other (refusals.Certificate number line) = (apart _ 97 refl, apart _ 109
 refusal_other (refusals.Rejected claim node why) = (apart _ 97 refl, apart _ 109 refl)
 refusal_other (refusals.RejectedSpan claim why) = (apart _ 97 refl, apart _ 109 refl)
 refusal_other (refusals.RejectedVectors claim node why) = (apart _ 97 refl, apart _ 109 refl)
+refusal_other (refusals.RejectedImage claim node why) = (apart _ 97 refl, apart _ 109 refl)
+refusal_other (refusals.Record number line) = (apart _ 97 refl, apart _ 109 refl)
 
 two_other : (first second : Bytes) → IsOther first → IsOther second → AreOther (first ∷ second ∷ [])
 two_other first second one two said among = elim (first_or_later first (second ∷ []) said among) as (λ _. IsOther said) [
@@ -259,23 +262,29 @@ module _ (limits : ReadsWithinLimits) (valid_forced : ValidClaimsAreForced) (fam
 
   acts_forced : (held : Holding) (command : Option Command) (work : Expanded) (done : Done) (end : End) → Acts held command work done end → AreForced command (game_read held command) done.entries
   acts_forced held None work done end acts = absurd acts
-  acts_forced held (Some (Solve g c None)) work done end acts = absurd acts
-  acts_forced held (Some (Solve g c (Some positions))) work done end acts = solves_forced (held g) (game_held (held g)) c positions work done end acts
+  acts_forced held (Some (Solve g c None images)) work done end acts = absurd acts
+  acts_forced held (Some (Solve g c (Some positions) images)) work done end acts = solves_forced (held g) (game_held (held g)) c positions work done end acts
   acts_forced held (Some (Check g c)) work done end acts = check_forced (held g) (held c) done.entries end acts.0
   acts_forced held (Some (Play g c side)) work done end acts = plays_forced (held g) (held c) side done.entries end acts.0
   acts_forced held (Some (Gen which g c)) work done end (made, is, stores) = others_forced (IsForcedFrom None) (IsForced None) done.entries (stores_other made g c work done end stores)
   acts_forced held (Some (Report g c)) work done end acts = reports_forced (held g) (both_held (held g) (held c)) done.entries end acts.0
   acts_forced held (Some (OfFamily family task g c)) work done end acts = family_forced family task (held g) (held c) c done end acts
+  acts_forced held (Some (Record g r)) work done end acts = others_forced (IsForcedFrom (held g)) (IsForced (held g)) done.entries (records_other (game_held (held g)) r done end acts)
+  acts_forced held (Some (Review g r None)) work done end acts = absurd acts
+  acts_forced held (Some (Review g r (Some positions))) work done end acts =
+      others_forced (IsForcedFrom (held g)) (IsForced (held g)) done.entries (reviews_other (game_held (held g)) (held r) positions work done.entries end acts.0)
 
   -- where other texts alone were said, whatever the command
   nothing_announced : (command : Option Command) (bytes : Option Bytes) (entries : List Entry) → AllOther entries → AreForced command bytes entries
   nothing_announced None bytes entries others = others_forced (IsForcedFrom bytes) (IsForced bytes) entries others
-  nothing_announced (Some (Solve g c positions)) bytes entries others = others_forced (IsForcedFrom bytes) (IsForced bytes) entries others
+  nothing_announced (Some (Solve g c positions images)) bytes entries others = others_forced (IsForcedFrom bytes) (IsForced bytes) entries others
   nothing_announced (Some (Check g c)) bytes entries others = others_forced (IsForcedFrom bytes) (IsForced bytes) entries others
   nothing_announced (Some (Play g c side)) bytes entries others = others_forced (IsForcedFrom bytes) (IsForced bytes) entries others
   nothing_announced (Some (Gen which g c)) bytes entries others = others_forced (IsForcedFrom bytes) (IsForced bytes) entries others
   nothing_announced (Some (Report g c)) bytes entries others = others_forced (IsForcedFrom bytes) (IsForced bytes) entries others
   nothing_announced (Some (OfFamily family task g c)) bytes entries others = others_forced (IsForcedInFamilyFrom family bytes) (IsForcedInFamily family bytes) entries others
+  nothing_announced (Some (Record g r)) bytes entries others = others_forced (IsForcedFrom bytes) (IsForced bytes) entries others
+  nothing_announced (Some (Review g r positions)) bytes entries others = others_forced (IsForcedFrom bytes) (IsForced bytes) entries others
 
   declines_forced : (held : Holding) (command : Option Command) (done : Done) (end : End) → Declines held command done end → AreForced command (game_read held command) done.entries
   declines_forced held command done (Finished status) (refusal, refuses, says, stored, is) = nothing_announced command (game_read held command) done.entries

@@ -1,6 +1,7 @@
-pub pub mod Tasks
+pub mod Tasks
 pub mod Runs
 pub mod Plays
+pub mod Recorded
 pub mod Forced
 pub mod Ending
 pub mod Accepting

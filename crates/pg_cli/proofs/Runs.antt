@@ -8,7 +8,7 @@ use Rattle.pg_game.specs.declared.game.Game.{Game}
 use Rattle.pg_files.specs.GameFile.{Entry as GameEntry}
 use Rattle.pg_cert.specs.declared.cert.Cert.{Cert}
 use Rattle.pg_texts.specs.declared.refusal.Refusal.{Refusal}
-use Rattle.pg_words.specs.Words.{Command, Solve, Check, Play, Gen, Report, OfFamily}
+use Rattle.pg_words.specs.Words.{Command, Solve, Check, Play, Gen, Report, OfFamily, Record, Review}
 use Rattle.pg_cli.specs.Checking.{RefusesCheck, AcceptsAll}
 use Rattle.pg_cli.specs.Commands.{Gives, LeavesFiles, LeavesWork, Quiets}
 use Rattle.pg_cli.specs.Playing.{RefusesPlay, PlaysOn}
@@ -74,19 +74,23 @@ quiet_halt command console (Refused refusal) = Grows-nothing console.log
 quiet_halt (Some (Play g c side)) console (Stopped Read) = tt
 quiet_halt None console (Stopped Read) = Grows-nothing console.log
 quiet_halt (Some (Check g c)) console (Stopped Read) = Grows-nothing console.log
-quiet_halt (Some (Solve g c positions)) console (Stopped Read) = Grows-nothing console.log
+quiet_halt (Some (Solve g c positions images)) console (Stopped Read) = Grows-nothing console.log
 quiet_halt (Some (Gen which g c)) console (Stopped Read) = Grows-nothing console.log
 quiet_halt (Some (Report g c)) console (Stopped Read) = Grows-nothing console.log
 quiet_halt (Some (OfFamily family task g c)) console (Stopped Read) = task_quiet task console
+quiet_halt (Some (Record g r)) console (Stopped Read) = tt
+quiet_halt (Some (Review g r positions)) console (Stopped Read) = Grows-nothing console.log
 quiet_halt command console (Stopped Write) = tt
 quiet_halt None console (Stopped Memory) = Grows-nothing console.log
-quiet_halt (Some (Solve g c positions)) console (Stopped Memory) = Grows-nothing console.log
+quiet_halt (Some (Solve g c positions images)) console (Stopped Memory) = Grows-nothing console.log
 quiet_halt (Some (Check g c)) console (Stopped Memory) = Grows-nothing console.log
 quiet_halt (Some (Play g c side)) console (Stopped Memory) = Grows-nothing console.log
 quiet_halt (Some (Gen which g None)) console (Stopped Memory) = Grows-nothing console.log
 quiet_halt (Some (Gen which g (Some c))) console (Stopped Memory) = inl (Grows-nothing console.log)
 quiet_halt (Some (Report g c)) console (Stopped Memory) = Grows-nothing console.log
 quiet_halt (Some (OfFamily family task g c)) console (Stopped Memory) = Grows-nothing console.log
+quiet_halt (Some (Record g r)) console (Stopped Memory) = tt
+quiet_halt (Some (Review g r positions)) console (Stopped Memory) = tt
 
 -- ---- words
 
@@ -102,32 +106,39 @@ module _ (command : Option Command) where
 
     go : (command : Option Command) → LeavesFiles command files files
     go None = reads
-    go (Some (Solve g c positions)) = inl reads
+    go (Some (Solve g c positions images)) = inl reads
     go (Some (Check g c)) = reads
     go (Some (Play g c side)) = reads
     go (Some (Gen which g c)) = inl reads
     go (Some (Report g c)) = reads
     go (Some (OfFamily family task g c)) = task_leaves task c files reads
+    go (Some (Record g r)) = inl reads
+    go (Some (Review g r positions)) = reads
 
   pub leaves_work : (work : Expanded) → LeavesWork command work work
   leaves_work work = go command where
     go : (command : Option Command) → LeavesWork command work work
     go None = refl
-    go (Some (Solve g c None)) = inl refl
-    go (Some (Solve g c (Some positions))) = inl refl
+    go (Some (Solve g c None images)) = inl refl
+    go (Some (Solve g c (Some positions) images)) = inl refl
     go (Some (Check g c)) = refl
     go (Some (Play g c side)) = refl
     go (Some (Gen which g c)) = ((λ none. refl), inl refl)
     go (Some (Report g c)) = refl
     go (Some (OfFamily family task g c)) = refl
+    go (Some (Record g r)) = refl
+    go (Some (Review g r None)) = inl refl
+    go (Some (Review g r (Some positions))) = inl refl
 
   pub gives_memory : Gives command (Err (Stopped Memory))
   gives_memory = go command where
     go : (command : Option Command) → Gives command (Err (Stopped Memory))
     go None = inr refl
-    go (Some (Solve g c positions)) = tt
+    go (Some (Solve g c positions images)) = tt
     go (Some (Check g c)) = tt
     go (Some (Play g c side)) = tt
     go (Some (Gen which g c)) = tt
     go (Some (Report g c)) = tt
     go (Some (OfFamily family task g c)) = task_memory task
+    go (Some (Record g r)) = tt
+    go (Some (Review g r positions)) = tt

@@ -96,7 +96,7 @@ stays_open told g name positions work said files files' before after lines left_
 -- ---- after the game was read
 
 pub carries_solve : (g c : Bytes) (positions : ℕ) (played : Game) (work : Expanded) (files mid files' : FilesTold) (before after : ConsoleTold) (r : Result ℕ Halt) → mid.held ≡ files.held → OpensGame files.held g (Ok played)
-    → Does (SolvesGame (result_alone played) played c positions work) mid files' before after r → Carries (Some (Solve g c (Some positions))) work files files' before after r
+    → Does (SolvesGame (result_alone played) played c positions work) mid files' before after r → Carries (Some (Solve g c (Some positions) false)) work files files' before after r
 carries_solve g c positions played work files mid files' before after r same opens h =
     go files.held opens r (subst (λ (b : Option Holding). IfSome b (λ held. Follows (λ _. ⊥) (SolvesGame (result_alone played) played c positions work) held files' before after r)) same h)
   where
@@ -104,7 +104,7 @@ carries_solve g c positions played work files mid files' before after r same ope
     act held opens done end solves = subst (λ (read : Result GameEntry Halt). Solves read c positions work done end) (sym opens) (played, refl, solves)
 
     go : (b : Option Holding) → OpensGame b g (Ok played) → (r : Result ℕ Halt) → IfSome b (λ held. Follows (λ _. ⊥) (SolvesGame (result_alone played) played c positions work) held files' before after r)
-        → IfSome b (λ held. CarriesOn held (Some (Solve g c (Some positions))) work files' before after r)
+        → IfSome b (λ held. CarriesOn held (Some (Solve g c (Some positions) false)) work files' before after r)
     go None opens r h = tt
     go (Some held) opens (Ok status) (done, solves, changes) = (done, act held opens done (Finished status) solves, changes)
     go (Some held) opens (Err (Refused refusal)) (none, changes) = absurd none
@@ -112,9 +112,9 @@ carries_solve g c positions played work files mid files' before after r same ope
     go (Some held) opens (Err (Stopped stop)) (done, inr solves, changes) = (done, inr (act held opens done (stop_end stop) solves), changes)
 
 pub halted_solve : (g c : Bytes) (positions : ℕ) (work : Expanded) (files files' : FilesTold) (console : ConsoleTold) (halt : Halt) → files'.held ≡ files.held → OpensGame files.held g (Err halt)
-    → Carries (Some (Solve g c (Some positions))) work files files' console console (Err halt)
-halted_solve g c positions work files files' console halt same opens = carries_halt files files' console same (Some (Solve g c (Some positions))) work halt against where
-  against : (held : Holding) (refusal : Refusal) → files.held ≡ Some held → halt ≡ Refused refusal → Refuses held (Some (Solve g c (Some positions))) refusal
+    → Carries (Some (Solve g c (Some positions) false)) work files files' console console (Err halt)
+halted_solve g c positions work files files' console halt same opens = carries_halt files files' console same (Some (Solve g c (Some positions) false)) work halt against where
+  against : (held : Holding) (refusal : Refusal) → files.held ≡ Some held → halt ≡ Refused refusal → Refuses held (Some (Solve g c (Some positions) false)) refusal
   against held refusal is this = subst (λ (k : Halt). OpensGame (Some held) g (Err k)) this (subst (λ (b : Option Holding). OpensGame b g (Err halt)) is opens)
 
 -- ---- files and causes

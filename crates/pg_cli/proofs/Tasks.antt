@@ -7,7 +7,7 @@ use Rattle.pg_io.specs.declared.stop.Stop.{Stop}
 use Rattle.pg_io.specs.declared.stop.Stop.TheVariants.{Read, Write, Memory}
 use Rattle.pg_texts.specs.Statuses.{refusal_status}
 use Rattle.pg_texts.specs.declared.refusal.Refusal.{Refusal}
-use Rattle.pg_texts.specs.declared.refusal.Refusal.TheVariants.{NoMeaning, NoClaim, Game, Certificate, Rejected, RejectedSpan, RejectedVectors}
+use Rattle.pg_texts.specs.declared.refusal.Refusal.TheVariants.{NoMeaning, NoClaim, Game, Certificate, Rejected, RejectedSpan, RejectedVectors, RejectedImage, Record}
 use Rattle.pg_texts.specs.declared.statuses.TheConstants.{DONE, INPUT_ENDED, OUT_OF_REPLIES}
 use Rattle.pg_words.specs.declared.family.FamilyTask.{FamilyTask}
 use Rattle.pg_words.specs.declared.family.FamilyTask.TheVariants.{Solve, Check, Play}
@@ -58,6 +58,8 @@ task_refuses Solve (Certificate number line) gives = absurd gives
 task_refuses Solve (Rejected claim node why) gives = absurd gives
 task_refuses Solve (RejectedSpan claim why) gives = absurd gives
 task_refuses Solve (RejectedVectors claim node why) gives = absurd gives
+task_refuses Solve (RejectedImage claim node why) gives = absurd gives
+task_refuses Solve (Record number line) gives = absurd gives
 task_refuses Check NoMeaning gives = absurd gives
 task_refuses Check (NoClaim side) gives = absurd gives
 task_refuses Check (Game number line) gives = (1, omega arith, refl)
@@ -65,6 +67,8 @@ task_refuses Check (Certificate number line) gives = (2, omega arith, refl)
 task_refuses Check (Rejected claim node why) gives = (2, omega arith, refl)
 task_refuses Check (RejectedSpan claim why) gives = (2, omega arith, refl)
 task_refuses Check (RejectedVectors claim node why) gives = (2, omega arith, refl)
+task_refuses Check (RejectedImage claim node why) gives = (2, omega arith, refl)
+task_refuses Check (Record number line) gives = absurd gives
 task_refuses (Play side) NoMeaning gives = absurd gives
 task_refuses (Play side) (NoClaim other) gives = (1, omega arith, refl)
 task_refuses (Play side) (Game number line) gives = (2, omega arith, refl)
@@ -72,6 +76,8 @@ task_refuses (Play side) (Certificate number line) gives = (3, omega arith, refl
 task_refuses (Play side) (Rejected claim node why) gives = (3, omega arith, refl)
 task_refuses (Play side) (RejectedSpan claim why) gives = (3, omega arith, refl)
 task_refuses (Play side) (RejectedVectors claim node why) gives = (3, omega arith, refl)
+task_refuses (Play side) (RejectedImage claim node why) gives = (3, omega arith, refl)
+task_refuses (Play side) (Record number line) gives = absurd gives
 
 -- ---- where memory for the words is wanting
 

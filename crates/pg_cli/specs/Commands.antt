@@ -5,8 +5,8 @@ use Rattle.pg_io.specs.Files.{Bytes, Holding, FilesTold, ReadsOnly}
 use Rattle.pg_io.specs.declared.entry.Entry.TheVariants.{Said}
 use Rattle.pg_texts.specs.Texts.{no_meaning_text}
 use Rattle.pg_texts.specs.declared.refusal.Refusal.TheVariants.{NoMeaning}
-use Rattle.pg_texts.specs.declared.statuses.TheConstants.{DONE, UNKNOWN, NO_MEANING, FAULTY_GAME, REFUSED, READ_FAILED, WRITE_FAILED, NO_MEMORY, INPUT_ENDED, OUT_OF_REPLIES}
-use Rattle.pg_words.specs.Words.{Command, Solve, Check, Play, Gen, Report, OfFamily, meaning_of}
+use Rattle.pg_texts.specs.declared.statuses.TheConstants.{DONE, UNKNOWN, NO_MEANING, FAULTY_GAME, REFUSED, READ_FAILED, WRITE_FAILED, NO_MEMORY, INPUT_ENDED, OUT_OF_REPLIES, FAULTY_RECORD}
+use Rattle.pg_words.specs.Words.{Command, Solve, Check, Play, Gen, Report, OfFamily, Record, Review, meaning_of}
 use Rattle.pg_cli.specs.Generating.{TellsSize, has_source, names_of, searches}
 use Rattle.pg_talk.specs.Halts.{IsGameHalt, IsReadHalt, IsPlayHalt, IsPlayEnd, IsWriteHalt}
 use Rattle.pg_cli.specs.Reading.{both_held}
@@ -18,19 +18,24 @@ use Rattle.pg_talk.specs.Reading.{lacking}
 use Rattle.pg_talk.specs.Runs.{QuietsBy}
 use Rattle.pg_talk.specs.Storing.{StoresAt}
 use Rattle.pg_families.specs.Family.{GivesInFamily, LacksInFamily, LeavesFamilyFiles, QuietAtReadInFamily, statuses_in_family}
+use Rattle.pg_recording.specs.Recording.{GivesRecord}
+use Rattle.pg_review.specs.Review.{GivesReview, LeavesReview, StandsAgainst}
 use Rattle.pg_pns.specs.Expanded.{Expanded}
 use Rattle.pg_io.specs.declared.stop.Stop.TheVariants.{Memory}
 use Rattle.pg_talk.specs.declared.halt.Halt.{Halt}
 use Rattle.pg_talk.specs.declared.halt.Halt.TheVariants.{Refused, Stopped}
 
--- a command whose numbers are within their ranges; any other has no meaning
+-- a command whose numbers are within their ranges, and that asks for no certificate which isn't made; any other has no meaning
 abbrev pub built : Command → Option Command
-built (Solve g c positions) = option_map (λ n. Solve g c (Some n)) (positions_for positions)
+built (Solve g c positions false) = option_map (λ n. Solve g c (Some n) false) (positions_for positions)
+built (Solve g c positions true) = None
 built (Check g c) = Some (Check g c)
 built (Play g c side) = Some (Play g c side)
 built (Gen which g c) = if has_source which then Some (Gen which g c) else None
 built (Report g c) = Some (Report g c)
 built (OfFamily family task g c) = Some (OfFamily family task g c)
+built (Record g r) = Some (Record g r)
+built (Review g r positions) = option_map (λ n. Review g r (Some n)) (positions_for positions)
 
 -- what words ask for
 abbrev pub asked : List Bytes → Option Command
@@ -38,23 +43,28 @@ asked words = option_and_then built (meaning_of words)
 
 -- the statuses with which a command may end
 abbrev pub statuses_of : Option Command → List ℕ
-statuses_of (Some (Solve g c positions)) = DONE ∷ UNKNOWN ∷ FAULTY_GAME ∷ READ_FAILED ∷ WRITE_FAILED ∷ NO_MEMORY ∷ []
+statuses_of (Some (Solve g c positions images)) = DONE ∷ UNKNOWN ∷ FAULTY_GAME ∷ READ_FAILED ∷ WRITE_FAILED ∷ NO_MEMORY ∷ []
 statuses_of (Some (Check g c)) = DONE ∷ FAULTY_GAME ∷ REFUSED ∷ READ_FAILED ∷ WRITE_FAILED ∷ NO_MEMORY ∷ []
 statuses_of (Some (Play g c side)) = DONE ∷ NO_MEANING ∷ FAULTY_GAME ∷ REFUSED ∷ READ_FAILED ∷ WRITE_FAILED ∷ NO_MEMORY ∷ INPUT_ENDED ∷ OUT_OF_REPLIES ∷ []
 statuses_of (Some (Report g c)) = DONE ∷ FAULTY_GAME ∷ REFUSED ∷ READ_FAILED ∷ WRITE_FAILED ∷ NO_MEMORY ∷ []
 statuses_of (Some (OfFamily family task g c)) = statuses_in_family task
 statuses_of (Some (Gen which g c)) = if searches which c then DONE ∷ UNKNOWN ∷ WRITE_FAILED ∷ NO_MEMORY ∷ [] else DONE ∷ WRITE_FAILED ∷ NO_MEMORY ∷ []
+statuses_of (Some (Record g r)) = DONE ∷ FAULTY_GAME ∷ READ_FAILED ∷ WRITE_FAILED ∷ NO_MEMORY ∷ OUT_OF_REPLIES ∷ []
+statuses_of (Some (Review g r positions)) = DONE ∷ UNKNOWN ∷ FAULTY_GAME ∷ READ_FAILED ∷ WRITE_FAILED ∷ NO_MEMORY ∷ FAULTY_RECORD ∷ []
 statuses_of None = NO_MEANING ∷ WRITE_FAILED ∷ NO_MEMORY ∷ []
 
--- what is said where a read has failed: nothing, but in play
+-- what is said where a read has failed: nothing, but in play, and in a session that is recorded
 abbrev pub QuietAtRead : Option Command → ConsoleTold → ConsoleTold → Type 0
 QuietAtRead (Some (Play g c side)) before after = ⊤
+QuietAtRead (Some (Record g r)) before after = ⊤
 QuietAtRead (Some (OfFamily family task g c)) before after = QuietAtReadInFamily task before after
 QuietAtRead _ before after = Grows before.log after.log []
 
--- what is said where memory is wanting: nothing, so it isn't wanting once a claim was accepted or is played; of a game that is made and to be solved, perhaps its size
+-- what is said where memory is wanting: nothing, so it isn't wanting once a claim was accepted or is played; of a game that is made and to be solved, perhaps its size; of a session that is recorded, and of a review, what came before
 abbrev pub QuietAtMemory : Option Command → ConsoleTold → ConsoleTold → Type 0
 QuietAtMemory (Some (Gen which g c)) before after = TellsSize which c before after
+QuietAtMemory (Some (Record g r)) before after = ⊤
+QuietAtMemory (Some (Review g r positions)) before after = ⊤
 QuietAtMemory _ before after = Grows before.log after.log []
 
 -- what is said by a command before what stands against it is said, and where it was stopped
@@ -63,8 +73,8 @@ Quiets command before after result = QuietsBy (QuietAtRead command before after)
 
 -- where a command is done or ends early, so it may end
 abbrev pub Gives : Option Command → Result ℕ Halt → Type 0
-Gives (Some (Solve g c positions)) (Ok status) = (status ≡ DONE) ⊎ (status ≡ UNKNOWN)
-Gives (Some (Solve g c positions)) (Err halt) = IsGameHalt halt
+Gives (Some (Solve g c positions images)) (Ok status) = (status ≡ DONE) ⊎ (status ≡ UNKNOWN)
+Gives (Some (Solve g c positions images)) (Err halt) = IsGameHalt halt
 Gives (Some (Check g c)) (Ok status) = status ≡ DONE
 Gives (Some (Check g c)) (Err halt) = IsReadHalt halt
 Gives (Some (Play g c side)) (Ok status) = IsPlayEnd status
@@ -74,6 +84,8 @@ Gives (Some (Gen which g c)) (Err halt) = IsWriteHalt halt
 Gives (Some (Report g c)) (Ok status) = IsReportEnd status
 Gives (Some (Report g c)) (Err halt) = IsReadHalt halt
 Gives (Some (OfFamily family task g c)) result = GivesInFamily task result
+Gives (Some (Record g r)) result = GivesRecord result
+Gives (Some (Review g r positions)) result = GivesReview result
 Gives None (Ok status) = ⊥
 Gives None (Err halt) = (halt ≡ Refused NoMeaning) ⊎ (halt ≡ Stopped Memory)
 
@@ -89,25 +101,30 @@ pub record SaysNoMeaning (before after : ConsoleTold) (status : ℕ) : Type 0 wh
 
 -- what a command leaves of the files: it only reads, or stores under its own names alone
 abbrev pub LeavesFiles : Option Command → FilesTold → FilesTold → Type 0
-LeavesFiles (Some (Solve g c positions)) before after = StoresAt (c ∷ []) before after
+LeavesFiles (Some (Solve g c positions images)) before after = StoresAt (c ∷ []) before after
 LeavesFiles (Some (Gen which g c)) before after = StoresAt (names_of g c) before after
 LeavesFiles (Some (OfFamily family task g c)) before after = LeavesFamilyFiles task c before after
+LeavesFiles (Some (Record g r)) before after = StoresAt (r ∷ []) before after
 LeavesFiles _ before after = ReadsOnly before after
 
 -- what a command leaves of the work of a search: all, unless it searches; then at every status what a search may leave
 abbrev pub LeavesWork : Option Command → Expanded → Expanded → Type 0
-LeavesWork (Some (Solve g c None)) before after = LeavesSearch DEFAULT_POSITIONS before after
-LeavesWork (Some (Solve g c (Some positions))) before after = LeavesSearch positions before after
+LeavesWork (Some (Solve g c None images)) before after = LeavesSearch DEFAULT_POSITIONS before after
+LeavesWork (Some (Solve g c (Some positions) images)) before after = LeavesSearch positions before after
 LeavesWork (Some (Gen which g c)) before after = (searches which c ≡ false → after ≡ before) × LeavesSearch DEFAULT_POSITIONS before after
+LeavesWork (Some (Review g r None)) before after = LeavesReview DEFAULT_POSITIONS before after
+LeavesWork (Some (Review g r (Some positions))) before after = LeavesReview positions before after
 LeavesWork _ before after = after ≡ before
 
 -- a name that the command reads, in the order of its work, isn't held
 abbrev pub Lacks : Holding → Option Command → Type 0
-Lacks held (Some (Solve g c positions)) = game_held (held g) ≡ Err lacking
+Lacks held (Some (Solve g c positions images)) = game_held (held g) ≡ Err lacking
 Lacks held (Some (Check g c)) = both_held (held g) (held c) ≡ Err lacking
 Lacks held (Some (Play g c side)) = both_held (held g) (held c) ≡ Err lacking
 Lacks held (Some (Report g c)) = both_held (held g) (held c) ≡ Err lacking
 Lacks held (Some (OfFamily family task g c)) = LacksInFamily family task (held g) (held c)
+Lacks held (Some (Record g r)) = game_held (held g) ≡ Err lacking
+Lacks held (Some (Review g r positions)) = StandsAgainst (game_held (held g)) (held r) lacking
 Lacks held _ = ⊥
 
 -- the same where it is told what the names hold
@@ -117,9 +134,11 @@ IsLacking (Some held) command = Lacks held command
 
 -- the bytes of the game that the command reads
 abbrev pub game_read : Holding → Option Command → Option Bytes
-game_read held (Some (Solve g c positions)) = held g
+game_read held (Some (Solve g c positions images)) = held g
 game_read held (Some (Check g c)) = held g
 game_read held (Some (Play g c side)) = held g
 game_read held (Some (Report g c)) = held g
 game_read held (Some (OfFamily family task g c)) = held g
+game_read held (Some (Record g r)) = held g
+game_read held (Some (Review g r positions)) = held g
 game_read held _ = None

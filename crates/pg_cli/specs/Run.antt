@@ -9,7 +9,7 @@ use Rattle.pg_texts.specs.Texts.{refusal_text}
 use Rattle.pg_texts.specs.declared.refusal.Refusal.{Refusal}
 use Rattle.pg_texts.specs.declared.refusal.Refusal.TheVariants.{NoMeaning}
 use Rattle.pg_texts.specs.declared.statuses.TheConstants.{READ_FAILED, WRITE_FAILED}
-use Rattle.pg_words.specs.Words.{Command, Solve, Check, Play, Gen, Report, OfFamily}
+use Rattle.pg_words.specs.Words.{Command, Solve, Check, Play, Gen, Report, OfFamily, Record, Review}
 use Rattle.pg_cli.specs.Checking.{RefusesCheck, AcceptsAll}
 use Rattle.pg_talk.specs.Done.{Done, End, Finished, Failed, Starved, Changes, Follows, IsNothing, ending}
 use Rattle.pg_cli.specs.Generating.{Generates}
@@ -21,28 +21,34 @@ use Rattle.pg_cli.specs.Reporting.{RefusesReport, Reports}
 use Rattle.pg_cli.specs.Solving.{Solves}
 use Rattle.pg_talk.specs.Runs.{Runs}
 use Rattle.pg_families.specs.Family.{ActsInFamily, RefusesFamily}
+use Rattle.pg_recording.specs.Recording.{Records}
+use Rattle.pg_review.specs.Review.{RefusesReview, Reviews}
 use Rattle.pg_pns.specs.Expanded.{Expanded}
 use Rattle.pg_talk.specs.declared.halt.Halt.{Halt}
 use Rattle.pg_talk.specs.declared.halt.Halt.TheVariants.{Refused, Stopped}
 
 -- this stands against the command, where the names hold these bytes
 abbrev pub Refuses : Holding → Option Command → Refusal → Type 0
-Refuses held (Some (Solve g c positions)) refusal = game_held (held g) ≡ Err (Refused refusal)
+Refuses held (Some (Solve g c positions images)) refusal = game_held (held g) ≡ Err (Refused refusal)
 Refuses held (Some (Check g c)) refusal = RefusesCheck (both_held (held g) (held c)) refusal
 Refuses held (Some (Play g c side)) refusal = RefusesPlay side (both_held (held g) (held c)) refusal
 Refuses held (Some (Report g c)) refusal = RefusesReport (both_held (held g) (held c)) refusal
 Refuses held (Some (Gen which g c)) refusal = ⊥
 Refuses held (Some (OfFamily family task g c)) refusal = RefusesFamily family task (held g) (held c) refusal
+Refuses held (Some (Record g r)) refusal = game_held (held g) ≡ Err (Refused refusal)
+Refuses held (Some (Review g r positions)) refusal = RefusesReview (held g) (held r) refusal
 Refuses held None refusal = refusal ≡ NoMeaning
 
 -- the command does what it is there for, and ends so
 abbrev pub Acts : Holding → Option Command → Expanded → Done → End → Type 0
-Acts held (Some (Solve g c (Some positions))) work done end = Solves (game_held (held g)) c positions work done end
+Acts held (Some (Solve g c (Some positions) images)) work done end = Solves (game_held (held g)) c positions work done end
 Acts held (Some (Check g c)) work done end = AcceptsAll (both_held (held g) (held c)) done.entries end × (done.stored ≡ [])
 Acts held (Some (Play g c side)) work done end = PlaysOn side (both_held (held g) (held c)) done.entries end × (done.stored ≡ [])
 Acts held (Some (Gen which g c)) work done end = Generates which g c work done end
 Acts held (Some (Report g c)) work done end = Reports (both_held (held g) (held c)) done.entries end × (done.stored ≡ [])
 Acts held (Some (OfFamily family task g c)) work done end = ActsInFamily family task (held g) (held c) c done end
+Acts held (Some (Record g r)) work done end = Records (game_held (held g)) r done end
+Acts held (Some (Review g r (Some positions))) work done end = Reviews (held g) (held r) positions work done end × (done.stored ≡ [])
 Acts held _ work done end = ⊥
 
 -- the command isn't carried out: what stands against it is said, with its status; where the run was stopped, nothing was done

@@ -5,12 +5,12 @@ ghost use Rattle.pg_talk.specs.Halts.{HaltCauses, IsReadHalt};
 ghost use Rattle.pg_cli.specs.Reading.{AreLacking};
 ghost use Rattle.pg_cli.specs.Verdicts.{JudgesBoth, JudgesCertificate};
 
-use pg_opening::open_game;
 use crate::verdict::Verdict;
 use pg_cert_files::MAX_CERT_BYTES;
 use pg_game::Game;
 use pg_io::{Files, Stop, pour};
 use pg_judge::{JudgeFault, Judging};
+use pg_opening::open_game;
 use pg_talk::Halt;
 use pg_texts::Refusal;
 use std::alloc::Global;

@@ -16,6 +16,8 @@ use crate::solving::{positions_for, solve};
 use pg_families::carry_out_in_family;
 use pg_io::{Console, Files, Stop};
 use pg_pns::Work;
+use pg_recording::record;
+use pg_review::review;
 use pg_talk::{Halt, say};
 use pg_texts::{Message, NO_MEMORY, READ_FAILED, Refusal, WRITE_FAILED};
 use pg_words::{Command, meaning};
@@ -48,9 +50,10 @@ fn carry_out<F: Files, C: Console>(
             game,
             certificate,
             positions,
-        } => match positions_for(positions) {
-            Some(most) => solve(alloc, &game, &certificate, most, files, console, work),
-            None => Err(Halt::Refused(Refusal::NoMeaning)),
+            images,
+        } => match (positions_for(positions), images) {
+            (Some(most), false) => solve(alloc, &game, &certificate, most, files, console, work),
+            _ => Err(Halt::Refused(Refusal::NoMeaning)),
         },
         Command::Check { game, certificate } => check(alloc, &game, &certificate, files, console),
         Command::Play {
@@ -73,6 +76,15 @@ fn carry_out<F: Files, C: Console>(
             game,
             certificate,
         } => carry_out_in_family(alloc, family, task, &game, &certificate, files, console),
+        Command::Record { game, record: name } => record(alloc, &game, &name, files, console),
+        Command::Review {
+            game,
+            record: name,
+            positions,
+        } => match positions_for(positions) {
+            Some(most) => review(alloc, &game, &name, most, files, console, work),
+            None => Err(Halt::Refused(Refusal::NoMeaning)),
+        },
     }
 }
 

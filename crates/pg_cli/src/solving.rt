@@ -1,5 +1,5 @@
 //! Solving a game, and storing what shows it.
-ghost use Rattle.std.specs.Prelude.{◌≡◌, ◌≢◌, ◌≤◌, [], ◌∷◌, length, map, IfErr, IfOk, IfSome, Some};
+ghost use Rattle.std.specs.Prelude.{◌≡◌, ◌≢◌, ◌≤◌, [], ◌∷◌, false, length, map, IfErr, IfOk, IfSome, Some};
 ghost use Rattle.pg_io.specs.Console.{Grows};
 ghost use Rattle.pg_io.specs.declared.entry.Entry.TheVariants.{Said};
 ghost use Rattle.pg_cert.specs.Limits.{IsWithinLimits};
@@ -18,11 +18,11 @@ ghost use Rattle.pg_cli.specs.Run.{Carries};
 ghost use Rattle.pg_cli.specs.Solving.{IsFound, IsSolveEnd, SolvesGame, class_text, positions_for, result_alone};
 ghost use Rattle.pg_talk.specs.Storing.{Delivers, StoresAt, texts_of};
 
-use pg_opening::open_game;
 use pg_base::Memory;
 use pg_cert::{Cert, print_cert};
 use pg_game::Game;
 use pg_io::{Console, Files};
+use pg_opening::open_game;
 use pg_pns::{Work, budget_of};
 use pg_solve::{Class, LEAST_POSITIONS, MOST_POSITIONS, Solution};
 use pg_talk::{Halt, deliver, say};
@@ -153,15 +153,15 @@ pub fn solve<F: Files, C: Console>(
 ) -> Result<u8, Halt>
     requires some { LEAST_POSITIONS ≤ positions }
     requires most { positions ≤ MOST_POSITIONS }
-    ensures ran { Carries (Some (Solve game.now certificate.now (Some positions))) work.new
+    ensures ran { Carries (Some (Solve game.now certificate.now (Some positions) false)) work.new
         (F.told files.old) (F.told files.new) (C.told console.old) (C.told console.new) result }
     ensures causes { BothCauses (IsGameLacking (F.told files.old).held game.now)
         (F.told files.old) (F.told files.new) (C.told console.old) (C.told console.new) result }
-    ensures quiet { Quiets (Some (Solve game.now certificate.now (Some positions)))
+    ensures quiet { Quiets (Some (Solve game.now certificate.now (Some positions) false))
         (C.told console.old) (C.told console.new) result }
     ensures files { StoresAt (certificate.now ∷ []) (F.told files.old) (F.told files.new) }
-    ensures work { LeavesWork (Some (Solve game.now certificate.now (Some positions))) work.old work.new }
-    ensures gives { Gives (Some (Solve game.now certificate.now (Some positions))) result }
+    ensures work { LeavesWork (Some (Solve game.now certificate.now (Some positions) false)) work.old work.new }
+    ensures gives { Gives (Some (Solve game.now certificate.now (Some positions) false)) result }
 {
     let game = open_game(alloc, files, game)?;
     solve_game(alloc, &game, certificate, positions, files, console, work)

@@ -8,7 +8,6 @@ use Rattle.pg_cert.specs.declared.cert.Claim.{Claim}
 use Rattle.pg_cert.specs.declared.node.Node.{Node}
 use Rattle.pg_game.specs.declared.position.Position.{Position}
 use Rattle.pg_solve.specs.Due.{Heading, heading}
-use Rattle.pg_review.specs.Known.{HasNode}
 
 -- a member that is read with itself as the default
 pub read-at : {A : Type 0} (xs : List A) (k : ℕ) (x : A) → k < length xs → x ≡ get_or xs k x → slice_get xs k ≡ Some x

@@ -1,15 +1,13 @@
 -- What names hold, and runs by what was read of them.
-use Rattle.std.proofs.Common.{◌≡◌, ◌∙◌, ℕ, ◌+◌, Bool, true, false, List, [], take, Option, Some, None, Result, Ok, Err, IfErr, refl, sym, ap, subst, inl, inr}
+use Rattle.std.proofs.Common.{◌≡◌, ◌∙◌, ℕ, ◌+◌, false, List, [], take, Option, Some, None, Result, Ok, Err, IfErr, refl, sym, ap, subst, inl, inr}
 use Rattle.std.specs.Prelude.{IfSome, IsErrAnd, nat_lt}
 use Rattle.pg_files.specs.Views.{entry}
-use Rattle.pg_game.specs.Play.{IsLegalPlay}
 use Rattle.pg_game.specs.declared.game.Game.{Game}
 use Rattle.pg_io.specs.Causes.{Faults, Rose}
 use Rattle.pg_io.specs.Console.{ConsoleTold}
 use Rattle.pg_io.specs.Files.{Bytes, Holding, FilesTold}
 use Rattle.pg_io.specs.Reading.{IsFile}
 use Rattle.pg_io.specs.declared.entry.Entry.{Entry}
-use Rattle.pg_io.specs.declared.stop.Stop.{Stop}
 use Rattle.pg_io.specs.declared.stop.Stop.TheVariants.{Read, Write, Memory}
 use Rattle.pg_opening.specs.Opening.{OpensGame, game_held}
 use Rattle.pg_pns.specs.Expanded.{Expanded}

@@ -1,6 +1,6 @@
 -- What a review has said, move by move.
-use Rattle.std.proofs.Common.{◌≡◌, ◌∙◌, ℕ, ◌+◌, ◌-◌, ◌<◌, ◌≤◌, Bool, true, false, List, [], ◌∷◌, ◌++◌, length, take, drop, get_or, map, Option, Result, Ok, Err, refl, sym, ap, subst, inl, inr, arith, if◌then◌else◌}
-use Rattle.std.proofs.lemmas.List.{append-nil, length-take-le, map-append, take-append-drop, take_all, take_more}
+use Rattle.std.proofs.Common.{◌≡◌, ◌∙◌, ℕ, ◌+◌, ◌-◌, ◌<◌, ◌≤◌, Bool, true, false, List, [], ◌∷◌, ◌++◌, length, take, drop, get_or, map, Option, Ok, Err, refl, sym, ap, subst, inl, inr, arith, if◌then◌else◌}
+use Rattle.std.proofs.lemmas.List.{length-take-le, map-append, take-append-drop, take_all, take_more}
 use Rattle.pg_base.specs.declared.kind.Kind.{Kind}
 use Rattle.pg_base.specs.declared.score.Score.{Score}
 use Rattle.pg_base.specs.declared.side.Side.{Side}
@@ -8,7 +8,7 @@ use Rattle.pg_game.proofs.Moves.{IsPosition-played, IsPosition-start}
 use Rattle.pg_game.specs.Fit.{is_switching}
 use Rattle.pg_game.specs.Field.{field_points}
 use Rattle.pg_game.specs.Game.{after, point_count, start, IsPosition}
-use Rattle.pg_game.specs.Play.{IsLegalPlay, played}
+use Rattle.pg_game.specs.Play.{IsLegalPlay}
 use Rattle.pg_game.specs.Position.{is_free}
 use Rattle.pg_game.specs.Value.{value}
 use Rattle.pg_game.specs.declared.field.Field.{Field}
@@ -31,12 +31,10 @@ use Rattle.pg_talk.specs.declared.halt.Halt.TheVariants.{Stopped}
 use Rattle.pg_texts.specs.Texts.{lost_text, reviewed_text, unknown_at_text}
 use Rattle.pg_texts.specs.declared.statuses.TheConstants.{DONE, UNKNOWN}
 use Rattle.pg_review.proofs.LossLaws.{told_append, told_more}
-use Rattle.pg_review.proofs.Standing.{at-after, known-value, legal-at, start-at}
-use Rattle.pg_review.specs.Known.{IsKnown}
-use Rattle.pg_review.specs.Losses.{Loss, is_worse, loses_value, loss_at, losses, losses_from}
+use Rattle.pg_review.proofs.Standing.{at-after, legal-at, start-at}
+use Rattle.pg_review.specs.Losses.{Loss, loses_value, loss_at, losses, losses_from}
 use Rattle.pg_review.specs.Review.{IsGameAt, ReviewsMoves, loss_texts}
 use Rattle.pg_review.specs.Saying.{move_texts}
-use Rattle.pg_review.specs.declared.known.Known.{Known}
 
 -- the texts of one loss, or of none
 once-told : (kind : Kind) (b : Bool) (l : Loss) → map (λ (l : Loss). lost_text l.number l.point kind l.before l.after) (if b then l ∷ [] else []) ≡ (if b then lost_text l.number l.point kind l.before l.after ∷ [] else [])
@@ -98,8 +96,7 @@ module _ (g : Game) (moves : List ℕ) (legal : IsLegalPlay g (start g) moves) w
         let texts = loss_texts g (take k moves) ++ unknown_at_text made count ∷ [] in
         let due = loss_texts g (take (made - 1) moves) ++ unknown_at_text made (budget here positions) ∷ [] in
         let same : texts ≡ due = ap (λ (n : ℕ). loss_texts g (take n moves) ++ unknown_at_text made count ∷ []) one ∙ ap (λ (n : ℕ). loss_texts g (take (made - 1) moves) ++ unknown_at_text made n ∷ []) few in
-        let said : Grows before.log after.log (map Said due) = subst (λ (ts : List Bytes). Grows before.log after.log (map Said ts)) same (and-then k (unknown_at_text made count) mid first last) in
-        (
+        let said : Grows before.log after.log (map Said due) = subst (λ (ts : List Bytes). Grows before.log after.log (map Said ts)) same (and-then k (unknown_at_text made count) mid first last) in (
           map Said due,
           inr (record {
             on_lines = ap is_switching (sym stands.same_kind) ∙ lines;
@@ -148,8 +145,7 @@ module _ (g : Game) (moves : List ℕ) (legal : IsLegalPlay g (start g) moves) w
   -- the move may be played where the game stands
   pub may-play : (k : ℕ) (here : Game) → k < length moves → g.bias ≡ 1 → IsGameAt g (there k) here → (get_or moves k 0 < point_count here) × (is_free (start here) (get_or moves k 0) ≡ true)
   may-play k here low one stands =
-      let may = legal-at g (start g) moves k legal low in
-      (
+      let may = legal-at g (start g) moves k legal low in (
         subst (λ (f : Field). get_or moves k 0 < field_points f) (sym stands.same_field) may.0,
         subst (λ (p : Position). is_free p (get_or moves k 0) ≡ true) (sym (start-at g here (there k) stands (position-there k) one)) may.1,
       )

@@ -1,5 +1,5 @@
 -- What is known of a game's values, by what solving tells.
-use Rattle.std.proofs.Common.{◌≡◌, ◌∙◌, ℕ, zero, suc, List, [], ◌∷◌, Some, None, slice_get, map, refl, sym, ap, subst, IfSome}
+use Rattle.std.proofs.Common.{◌≡◌, ◌∙◌, ℕ, zero, suc, List, [], ◌∷◌, Some, slice_get, map, refl, sym, ap, subst, IfSome}
 use Rattle.std.proofs.lemmas.Option.{none-some}
 use Rattle.pg_base.specs.declared.score.Score.{Score}
 use Rattle.pg_base.specs.declared.score.Score.TheVariants.{XWins, Draw, YWins}
@@ -12,15 +12,14 @@ use Rattle.pg_cert.specs.declared.cert.Cert.{Cert}
 use Rattle.pg_cert.specs.declared.cert.Claim.{Claim}
 use Rattle.pg_cert.specs.declared.node.Node.{Node}
 use Rattle.pg_check.proofs.ForcedNodes.{Forces-node, claim_limits}
-use Rattle.pg_game.specs.Class.{Class as Named, class_by, class_of}
-use Rattle.pg_game.specs.Class.Class.{Short as ForShort, Cut as ForCut, First as ForFirst}
+use Rattle.pg_game.specs.Class.{class_by, class_of}
 use Rattle.pg_game.specs.Game.{start, with_turn}
 use Rattle.pg_game.specs.Value.{value, Forces}
 use Rattle.pg_game.specs.declared.game.Game.{Game}
 use Rattle.pg_game.specs.declared.position.Position.{Position}
 use Rattle.pg_solve.proofs.Values.{both-draw, x-wins, y-wins}
 use Rattle.pg_solve.specs.Due.{Heading, due_for_value, heading, winner}
-use Rattle.pg_solve.specs.EdgeClaims.{AreClassClaims, IsEdgeClaim, named}
+use Rattle.pg_solve.specs.EdgeClaims.{AreClassClaims, named}
 use Rattle.pg_solve.specs.Solved.{IsShown, IsTrueOf, certificate_of, due}
 use Rattle.pg_solve.specs.declared.solution.Class.{Class}
 use Rattle.pg_solve.specs.declared.solution.Class.TheVariants.{Short, Cut, First}

@@ -12,7 +12,6 @@ use Rattle.pg_game.specs.Value.{value}
 use Rattle.pg_game.specs.declared.game.Game.{Game}
 use Rattle.pg_game.specs.declared.position.Position.{Position}
 use Rattle.pg_solve.specs.Due.{winner}
-use Rattle.pg_solve.specs.declared.solution.Class.{Class}
 use Rattle.pg_solve.specs.declared.solution.Solution.{Solution}
 use Rattle.pg_solve.specs.declared.solution.Solution.TheVariants.{Value, Class as ForClass, Unknown}
 use Rattle.pg_review.specs.declared.known.Known.{Known}

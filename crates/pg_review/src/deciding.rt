@@ -30,7 +30,7 @@ fn confirm(alloc: Global, game: &Game, certificate: &Cert) -> Result<(), Memory>
     }
 }
 
-/// The value of the game's position, as `solve` finds it, with the claims that show it, which are checked. None exactly
+/// The value of the game's position, as `solve` finds it, with the claims that show it, which are checked. None only
 /// where the question that was asked last of a game on lines stays open after as many positions as are allowed.
 ///
 /// # Errors

@@ -74,7 +74,13 @@ pub(crate) fn review_moves<C: Console>(
 {
     let Some(mut known) = decide(alloc, game, positions, work)? else {
         let positions = budget_of(game, positions);
-        say(console, Message::UnknownAt { moves: 0, positions })?;
+        say(
+            console,
+            Message::UnknownAt {
+                moves: 0,
+                positions,
+            },
+        )?;
         return Ok(UNKNOWN);
     };
     let mut number = 0;

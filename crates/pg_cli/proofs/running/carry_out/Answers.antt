@@ -34,8 +34,8 @@ returns-in_err-command-clause-gives g c =
     let p = err_from_is_err_and c.from_residual.result c.from_residual.ensures.1 in
     rw (p.1, p.2) (gives_memory (asked (map string_bytes c.args.words.now)))
 
-pub returns-clause-ran : goal.returns-clause-ran
-returns-clause-ran g c =
+pub returns-in-OfFamily-clause-ran : goal.returns-in-OfFamily-clause-ran
+returns-in-OfFamily-clause-ran g c =
     let words = map string_bytes c.args.words.now in
     let family = c.in-OfFamily.family in
     let task = c.in-OfFamily.task in

@@ -1,4 +1,4 @@
-use Rattle.std.proofs.Common.{◌≡◌, ◌∙◌, Global, List, Vec, ℕ, subst}
+use Rattle.std.proofs.Common.{Global, List, Vec, ℕ, subst}
 use Rattle.std.proofs.lemmas.Result.{err_from_is_err_and}
 use Rattle.pg_talk.specs.Done.{Performs}
 use Rattle.pg_review.proofs.Opened.{halts_moves, runs_moves}

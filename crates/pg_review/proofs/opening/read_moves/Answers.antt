@@ -1,4 +1,4 @@
-use Rattle.std.proofs.Common.{◌≤◌, ◌∙◌, List, ℕ, Err, length, ap, ap₂, sym, subst, arith}
+use Rattle.std.proofs.Common.{◌∙◌, List, ℕ, Err, length, ap, ap₂, sym, subst, arith}
 use Rattle.pg_game.specs.Game.{start}
 use Rattle.pg_game.specs.Play.{IsLegalPlay}
 use Rattle.pg_record.proofs.Standing.{few-standing, legal-standing}

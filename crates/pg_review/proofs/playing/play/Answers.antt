@@ -1,11 +1,8 @@
-use Rattle.std.proofs.Common.{◌≡◌, arith, subst, sym}
+use Rattle.std.proofs.Common.{arith, subst, sym}
 use Rattle.pg_game.proofs.Limits.{point_count-le}
 use Rattle.pg_game.proofs.Moves.{IsPosition-after, IsPosition-start}
-use Rattle.pg_game.specs.Game.{after, start, IsPosition}
-use Rattle.pg_game.specs.declared.position.Position.{Position}
+use Rattle.pg_game.specs.Game.{start, IsPosition}
 use Rattle.pg_review.proofs.Standing.{known-kept, leaves-one, next-at}
-use Rattle.pg_review.specs.Known.{HaveNodes}
-use Rattle.pg_review.specs.Review.{IsGameAt}
 use Rattle.pg_review.proofs.playing.play.Goals as goal
 
 pub after-next-requires : goal.after-next-requires

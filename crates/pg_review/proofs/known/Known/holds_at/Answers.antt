@@ -1,4 +1,4 @@
-use Rattle.std.proofs.Common.{◌≡◌, ◌∙◌, ◌<◌, false, List, length, get_or, take, take_all, refl, sym, ap, subst, arith, rules}
+use Rattle.std.proofs.Common.{◌≡◌, ◌∙◌, ◌<◌, false, List, length, get_or, take_all, refl, sym, ap, subst, arith, rules}
 use Rattle.std.specs.List.{All}
 use Rattle.std.proofs.lemmas.Bool.{false≢true}
 use Rattle.std.proofs.lemmas.List.Elements.{All-more}
@@ -29,8 +29,7 @@ loop-claim-preserved c =
 
 pub returns : goal.returns
 returns c =
-    let claims = c.args.self.now.certificate.claims in
-    (
+    let claims = c.args.self.now.certificate.claims in (
       λ _. subst (λ (cs : List Claim). All (HasNode c.args.position.now) cs) (take_all c.loop-claim.claim-index claims (omega (arith, ap length c.as_slice-claim-items.ensures))) c.loop-claim.invariant,
       λ _. refl,
     )
