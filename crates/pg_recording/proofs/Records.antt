@@ -1,5 +1,5 @@
 -- A session and its record, put together.
-use Rattle.std.proofs.Common.{◌≡◌, ◌≢◌, ℕ, List, [], ◌∷◌, ◌++◌, map, Option, Some, None, Result, Ok, Err, refl, sym, ◌∙◌, ap, subst, inl, inr, IfOk}
+use Rattle.std.proofs.Common.{◌≡◌, ◌≢◌, ℕ, List, [], ◌∷◌, ◌++◌, Option, Some, None, Result, Ok, Err, refl, sym, ◌∙◌, ap, subst, inl, inr, IfOk}
 use Rattle.std.specs.Prelude.{IfErr, IfSome, ⊤}
 use Rattle.pg_io.specs.Console.{ConsoleTold}
 use Rattle.pg_io.specs.Files.{Bytes, Holding, FilesTold}
@@ -12,8 +12,8 @@ use Rattle.pg_files.specs.Views.{entry}
 use Rattle.pg_game.specs.declared.game.Game.{Game}
 use Rattle.pg_opening.specs.Opening.{OpensGame, game_held}
 use Rattle.pg_record.specs.declared.event.Event.{Event}
-use Rattle.pg_talk.specs.Done.{Done, End, Finished, Failed, Starved, Changes, Does, Follows, IsNothing, Stops, stop_end, talk}
-use Rattle.pg_talk.specs.Halts.{IsGameHalt, IsWriteHalt}
+use Rattle.pg_talk.specs.Done.{Done, End, Finished, Failed, Starved, Changes, Does, Follows, Stops, stop_end, talk}
+use Rattle.pg_talk.specs.Halts.{IsWriteHalt}
 use Rattle.pg_talk.specs.Runs.{QuietsBy, Runs}
 use Rattle.pg_talk.specs.Storing.{Delivers, IsCutShort, delivered}
 use Rattle.pg_talk.specs.declared.halt.Halt.{Halt}
@@ -27,7 +27,7 @@ use Rattle.pg_texts.specs.declared.refusal.Refusal.{Refusal}
 use Rattle.pg_texts.specs.declared.statuses.TheConstants.{DONE, OUT_OF_REPLIES}
 use Rattle.pg_recording.specs.Course.{LeadsBy, Course, BreaksOff}
 use Rattle.pg_recording.specs.Recording.{GivesRecord, GivesSession, Records, RecordsGame, record_file}
-use Rattle.pg_recording.specs.SessionLog.{Stage, Listens, Closes, Over, Steps, IsOpen, IsClosingLog, standing_count}
+use Rattle.pg_recording.specs.SessionLog.{Listens, Closes, Over, Steps, IsOpen, IsClosingLog, standing_count}
 use Rattle.pg_recording.proofs.Courses.{leads_then}
 
 -- ---- a session that has ended, and then its record

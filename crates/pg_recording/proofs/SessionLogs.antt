@@ -7,7 +7,7 @@ use Rattle.pg_game.specs.Judge.{judged_move}
 use Rattle.pg_game.specs.declared.game.Game.{Game}
 use Rattle.pg_game.specs.declared.position.Illegal.{Illegal}
 use Rattle.pg_game.specs.declared.position.Position.{Position}
-use Rattle.pg_record.specs.Replay.{IsRecord, replay, standing}
+use Rattle.pg_record.specs.Replay.{IsRecord, replay}
 use Rattle.pg_record.specs.declared.event.Event.{Event}
 use Rattle.pg_record.specs.declared.event.Event.TheVariants.{Play, Back}
 use Rattle.pg_record.specs.declared.event.TheConstants.{MAX_EVENTS}
