@@ -2,7 +2,7 @@
 """Measures what an ask for private pairs costs, by callgrind, on 256 points with 60 to 120 wanted lines of ten points.
 
 Usage: asking.py PROGRAM
-PROGRAM is that of crates/bench_match. Families are drawn with lines near their own pair of points, far from it, or
+PROGRAM is crates/bench_parts/out/bench_parts (`rt run` in crates/bench_parts builds it). Families are drawn with lines near their own pair of points, far from it, or
 anywhere, and some are short at their last line; of each kind the one is taken for which a matcher of this script goes
 over the most points, and the worst of all is then made harder by small changes.
 """
@@ -96,7 +96,7 @@ def families():
 
 
 def instructions(program, *words):
-    command = ["valgrind", "--tool=callgrind", "--callgrind-out-file=/dev/null", program, *map(str, words)]
+    command = ["valgrind", "--tool=callgrind", "--callgrind-out-file=/dev/null", program, "match", *map(str, words)]
     done = subprocess.run(command, capture_output=True, text=True, check=True)
     return int(re.search(r"Collected : (\d+)", done.stderr).group(1)), done.stdout.strip()
 

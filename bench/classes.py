@@ -1,10 +1,9 @@
 #!/usr/bin/env python3
 """Measures what it takes to class large switching games: instructions, seconds and memory.
 
-Usage: classes.py PROGRAM [CHECKER]
-PROGRAM is that of the crate bench_classes; it runs once under valgrind's callgrind, which counts the instructions of
-`classify` and of the whole run, and once by itself. CHECKER, where it is given, is posgame's own program: each
-certificate that was printed has to pass its check.
+Usage: classes.py PROGRAM
+PROGRAM is posgame's own. It solves each game once under valgrind's callgrind, which counts the instructions of
+`classify` and of the whole run, and once by itself; the certificate that it stores has to pass its check.
 """
 import os
 import random
@@ -83,7 +82,7 @@ def instructions(program, game, folder):
     """Of `classify` with all that it calls, and of the whole run."""
     counts = os.path.join(folder, "counts")
     subprocess.run(
-        ["valgrind", "--tool=callgrind", f"--callgrind-out-file={counts}", program, game],
+        ["valgrind", "--tool=callgrind", f"--callgrind-out-file={counts}", program, "solve", game, os.path.join(folder, "certificate")],
         check=True, stdout=subprocess.DEVNULL, stderr=subprocess.DEVNULL,
     )
     listing = subprocess.run(
@@ -99,40 +98,34 @@ def number(found):
     return int(found.group(1).replace(",", "")) if found else None
 
 
-def run(program, game):
-    """What the program prints, its seconds, and its peak memory in kilobytes."""
+def run(program, game, folder):
+    """What the program says, its seconds, and its peak memory in kilobytes."""
     begin = time.monotonic()
-    done = subprocess.run(["/usr/bin/time", "-f", "%M", program, game], check=True, capture_output=True)
-    return done.stdout, time.monotonic() - begin, int(done.stderr)
+    words = ["/usr/bin/time", "-f", "%M", program, "solve", game, os.path.join(folder, "certificate")]
+    done = subprocess.run(words, check=True, capture_output=True, text=True)
+    return done.stdout.strip(), time.monotonic() - begin, int(done.stderr)
 
 
-def class_of(said):
-    """The class by the sides of the two claims that were printed."""
-    sides = [line.split()[2] for line in said.splitlines() if line.startswith("claim ")]
-    return {"x x": "short", "y y": "cut", "x y": "first-mover"}.get(" ".join(sides), said.strip())
-
-
-def checked(checker, game, said, folder):
+def checked(program, game, folder):
     certificate = os.path.join(folder, "certificate")
-    with open(certificate, "wb") as file:
-        file.write(said)
-    return subprocess.run([checker, "check", game, certificate], capture_output=True).returncode == 0
+    return subprocess.run([program, "check", game, certificate], capture_output=True).returncode == 0
 
 
 def main():
-    if len(sys.argv) not in (2, 3):
+    if len(sys.argv) != 2:
         sys.exit(__doc__)
-    program, missed = sys.argv[1], 0
+    program, missed = os.path.abspath(sys.argv[1]), 0
     for name, board, terminals in BOARDS:
         with tempfile.TemporaryDirectory() as folder:
             game = os.path.join(folder, "game")
             write_game(game, board, terminals)
             inner, whole = instructions(program, game, folder)
-            said, seconds, memory = run(program, game)
+            said, seconds, memory = run(program, game, folder)
             line = f"{name}: {len(board[1])} edges, classify {inner or whole:,} instructions, whole run {whole:,}, "
-            line += f"{seconds:.3f} s, {memory} KB, {class_of(said.decode())}"
-            if len(sys.argv) == 3:
-                line += ", certificate valid" if checked(sys.argv[2], game, said, folder) else ", CERTIFICATE REFUSED"
+            line += f"{seconds:.3f} s, {memory} KB, {said}"
+            if not checked(program, game, folder):
+                missed += 1
+                line += ", CERTIFICATE REFUSED"
             if (inner or whole) > LIMIT:
                 missed += 1
                 line += f", MORE THAN {LIMIT:,}"

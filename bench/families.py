@@ -1,12 +1,10 @@
 #!/usr/bin/env python3
 """Measures solving, checking and playing connectivity games and games on vectors: instructions, seconds and memory.
 
-Usage: families.py PROGRAM [CLASSES]
-PROGRAM is that of the crate bench_families. For each game it runs under valgrind's callgrind to read it, to solve it, to check
-what shows the class too, and to play the side that wins against two hundred tries of a reply; the instructions of each part
-are the difference of two runs, and of the player's moves, each with the reply before it, the dearest is told. Then it runs by
-itself. CLASSES, where it is given, is
-the program of the crate bench_classes: the vectors of a Bridg-it board must have the class of the board.
+Usage: families.py PROGRAM
+PROGRAM is posgame's own. For each game it runs under valgrind's callgrind to solve it, to check what it stored, and to play the side that
+wins against tries of a reply; what reading the game takes, counted by a check of an empty certificate, is taken off, and of the player's moves, each with
+the reply before it, the dearest is told. Then it runs by itself. The vectors of a Bridg-it board must have the class of the board.
 """
 import os
 import random
@@ -144,14 +142,14 @@ GAMES = [
 ]
 
 
-def counted(program, game, folder, *words):
-    """The instructions of a whole run, and those from each move of a player to its next one."""
+def counted(folder, given, program, *words):
+    """The instructions of a whole run on this input, and those from each move of a player to its next one."""
     counts = os.path.join(folder, "counts")
     for name in os.listdir(folder):
         if name.startswith("counts"):
             os.remove(os.path.join(folder, name))
-    command = ["valgrind", "--tool=callgrind", f"--callgrind-out-file={counts}", "--dump-before=*Player::make_move*", program, game, *words]
-    subprocess.run(command, check=True, capture_output=True)
+    command = ["valgrind", "--tool=callgrind", f"--callgrind-out-file={counts}", "--dump-before=*Player::make_move*", program, *words]
+    subprocess.run(command, input=given, capture_output=True, text=True)
     parts = sorted(part_of(os.path.join(folder, name)) for name in os.listdir(folder) if name.startswith("counts"))
     return sum(total for _, total in parts), [total for number, total in parts if number > 1]
 
@@ -164,62 +162,73 @@ def part_of(path):
     return int(number.group(1)) if number else 1, int(re.search(r"^summary: (\d+)", text, re.MULTILINE).group(1))
 
 
-def run(program, game, *words):
-    """What the program prints, its seconds (the least of five runs), and its peak memory in kilobytes."""
+def run(program, *words):
+    """What the program says, its seconds (the least of five runs), and its peak memory in kilobytes."""
     seconds = []
     for _ in range(5):
         begin = time.monotonic()
-        done = subprocess.run(["/usr/bin/time", "-f", "%M", program, game, *words], check=True, capture_output=True, text=True)
+        done = subprocess.run(["/usr/bin/time", "-q", "-f", "%M", program, *words], capture_output=True, text=True)
         seconds.append(time.monotonic() - begin)
     return done.stdout.strip(), min(seconds), int(done.stderr)
 
 
-def class_of_board(classes, board, folder):
-    """The class of the switching game, by the sides of the two claims that the program prints."""
+def class_of_board(program, board, folder):
+    """What the program says of the switching game."""
     game = os.path.join(folder, "switching")
     with open(game, "w", encoding="ascii") as file:
         file.write(switching_text(*board))
-    said = subprocess.run([classes, game], check=True, capture_output=True, text=True).stdout
-    sides = " ".join(line.split()[2] for line in said.splitlines() if line.startswith("claim "))
-    return {"x x": "short", "y y": "cut", "x y": "first-mover"}.get(sides, said.strip())
+    return run(program, "solve", game, os.path.join(folder, "other"))[0]
 
 
-def measured(program, classes, text, board, folder):
+def winner(said, turn):
+    """The side that wins, by the class and the side to move."""
+    return {"class maker": "x", "class short": "x", "class breaker": "y", "class cut": "y"}.get(said, turn)
+
+
+def tries(points):
+    """Replies that go round all points."""
+    return "".join(f"{step * 617 % points}\n" for step in range(200))
+
+
+def measured(program, text, board, folder):
     """The figures of a game, and what is wrong with them."""
-    game, faults = os.path.join(folder, "game"), []
+    game, certificate, faults = os.path.join(folder, "game"), os.path.join(folder, "certificate"), []
     with open(game, "w", encoding="ascii") as file:
         file.write(text)
-    read, solve, check, play = (counted(program, game, folder, *words) for words in WORDS)
-    said, _, memory = run(program, game, "check")
-    reads, solves, checks = (run(program, game, word)[1] for word in ("read", "solve", "check"))
+    family = "span" if text.startswith("posgame-span") else "vec"
+    points = sum(line.startswith(("edge", "vector")) for line in text.splitlines())
+    said, solves, memory = run(program, family, "solve", game, certificate)
+    checked, checks, _ = run(program, family, "check", game, certificate)
+    _, reads, _ = run(program, family, "check", game, "/dev/null")
+    read, _ = counted(folder, "", program, family, "check", game, "/dev/null")
+    solve, _ = counted(folder, "", program, family, "solve", game, certificate)
+    check, _ = counted(folder, "", program, family, "check", game, certificate)
+    side = winner(said, text.split()[-1])
+    _, moves = counted(folder, tries(points), program, family, "play", game, certificate, "--side", side)
     figures = [
-        ("solved by", (solve[0] - read[0]) / 1e6, SOLVE[0], "million instructions"),
+        ("solved by", (solve - read) / 1e6, SOLVE[0], "million instructions"),
         ("in", max(solves - reads, 0), SOLVE[1], "s"),
-        ("checked by", (check[0] - solve[0]) / 1e6, CHECK[0], "million"),
-        ("in", max(checks - solves, 0), CHECK[1], "s"),
-        (f"dearest of {len(play[1])} moves", max(play[1], default=0) / 1e6, MOVE, "million"),
+        ("checked by", (check - read) / 1e6, CHECK[0], "million"),
+        ("in", max(checks - reads, 0), CHECK[1], "s"),
+        (f"dearest of {len(moves)} moves", max(moves, default=0) / 1e6, MOVE, "million"),
         ("memory", memory, MEMORY, "KB"),
     ]
     line = ", ".join([said] + [f"{what} {figure:.4g} {unit} (limit {limit})" for what, figure, limit, unit in figures])
     faults += [f"MORE THAN {limit} {unit}" for _, figure, limit, unit in figures if figure > limit]
-    faults += [] if said.endswith(" valid") else ["NOT VALID"]
-    if board and classes:
-        due = class_of_board(classes, board, folder)
-        faults += [] if said.startswith(due) else [f"NOT {due}"]
+    faults += [] if checked.startswith("accepted") else ["NOT VALID"]
+    if board:
+        due = class_of_board(program, board, folder)
+        faults += [] if said == due else [f"NOT {due}"]
     return line, faults
 
 
-WORDS = [("read",), ("solve",), ("check",), ("play", "200")]
-
-
 def main():
-    if len(sys.argv) not in (2, 3):
+    if len(sys.argv) != 2:
         sys.exit(__doc__)
     program, missed = os.path.abspath(sys.argv[1]), 0
-    classes = os.path.abspath(sys.argv[2]) if len(sys.argv) == 3 else None
     for name, text, board in GAMES:
         with tempfile.TemporaryDirectory() as folder:
-            line, faults = measured(program, classes, text, board, folder)
+            line, faults = measured(program, text, board, folder)
             missed += bool(faults)
             print(f"{name}: {', '.join([line] + faults)}", flush=True)
     sys.exit(1 if missed else 0)

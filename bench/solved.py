@@ -1,13 +1,14 @@
 #!/usr/bin/env python3
-"""Makes the small games of crates/test_solve, crates/test_bias and crates/test_weaker, and tells their values and how many there are of each.
+"""Makes the small games of crates/test_stories, with their values.
 
-Usage: solved.py [COUNT [BIAS]]    those of crates/test_solve/src/small_games.rt
-       solved.py several [COUNT]   those of crates/test_bias/src/small_games.rt, where Y takes two or three points a turn
-       solved.py weaker [COUNT]    the pairs of positions of crates/test_weaker/src/small_games.rt
+Usage: solved.py            prints the lines `value` and `pair` of crates/test_stories/stdin
+       solved.py counts     tells how many games there are of each value
 A game is drawn by the linear congruential generator that the standard of C prints as an example, from its number as the
 seed. Its value is found by trying all plays. Nothing is shared with the program: one letter a game, m and b for Maker
 and Breaker, a and e for Avoider and Enforcer, x, y and d for a race and its draw. Of a pair of positions it is m or b
 where the first is no worse for the winner of the second, and else that winner, x or y.
+There are 300 games with a point a turn, the first 120 of them with two points for Y but in races, 200 with two or three
+points for Y and without marks, and 200 pairs of positions.
 """
 import collections
 import functools
@@ -47,8 +48,8 @@ def biased_game(number):
     return ["mb", "ae"][number % 2], points, lines, [None] * points, turn, 2 + number // 2 % 2
 
 
-def pair(number):
-    """The letter of a pair of positions of a Maker-Breaker game."""
+def drawn_pair(number):
+    """A Maker-Breaker game's points, lines and Y's points a turn, the marks and the turn of a position, and those of another."""
     draws = Draws(number)
     points = draws.below(3) + 4
     lines = []
@@ -62,12 +63,18 @@ def pair(number):
         side = worse if drawn < 8 else "xy".replace(worse, "") if drawn == 23 else None
         second.append(mark if side is None else None if mark == side else "xy".replace(side, ""))
     other_turn = "xy".replace(turn, "") if draws.below(12) == 0 else turn
-    winner = "xy"["mb".index(value("mb", points, lines, second, other_turn, 1 + number % 3))]
+    return points, lines, 1 + number % 3, first, turn, second, other_turn
+
+
+def pair(number):
+    """The letter of a pair of positions of a Maker-Breaker game."""
+    points, lines, bias, first, turn, second, other_turn = drawn_pair(number)
+    winner = "xy"["mb".index(value("mb", points, lines, second, other_turn, bias))]
     is_no_worse = turn == other_turn and all(
         mark == other or mark == winner or other not in (None, winner) and mark is None for mark, other in zip(first, second))
     if not is_no_worse:
         return winner
-    letter = value("mb", points, lines, first, turn, 1 + number % 3)
+    letter = value("mb", points, lines, first, turn, bias)
     assert letter == "mb"["xy".index(winner)]
     return letter
 
@@ -112,21 +119,50 @@ def value(kind, points, lines, marks, turn, bias):
     return kind[{1: 0, -1: 1, 0: 2}[score]]
 
 
+KINDS = {"mb": "maker-breaker", "ae": "avoider-enforcer", "xyd": "maker-maker"}
+WORDS = {"m": "maker x", "b": "breaker y", "a": "avoider x", "e": "enforcer y", "x": "x x", "y": "y y", "d": "draw -"}
+
+
+def lines_text(lines):
+    return ";".join("line " + " ".join(map(str, sorted(line))) for line in lines)
+
+
+def marks_text(marks, turn):
+    rows = [f"{side} " + " ".join(str(v) for v, mark in enumerate(marks) if mark == side) for side in "xy" if side in marks]
+    return ";".join(rows + [f"turn {turn}"])
+
+
+def value_line(kind, points, lines, marks, turn, bias):
+    """The line of a game."""
+    head = f"kind {KINDS[kind]};points {points};" + (f"bias {bias};" if bias > 1 else "")
+    word = WORDS[value(kind, points, lines, marks, turn, bias)]
+    return f"value {word}={head}{lines_text(lines)};{marks_text(marks, turn)};"
+
+
+def pair_line(number):
+    """The line of a pair of positions."""
+    points, lines, bias, first, turn, second, other_turn = drawn_pair(number)
+    letter = pair(number)
+    word, side = {"m": ("maker", "x"), "b": ("breaker", "y"), "x": ("rejected", "x"), "y": ("rejected", "y")}[letter]
+    field = f"points {points};" + (f"bias {bias};" if bias > 1 else "") + lines_text(lines)
+    listed = ["" if it not in first else " ".join(str(v) for v, mark in enumerate(first) if mark == it) for it in "xy"]
+    left = f"y{bias}" if turn == "y" and bias > 1 else turn
+    root = f"{listed[0]}|{listed[1]}|{left}|"
+    return f"pair {word} {turn} {side} win={field}={marks_text(first, turn)}={marks_text(second, other_turn)}={root}"
+
+
 def main():
-    if sys.argv[1:2] == ["weaker"]:
-        count = int(sys.argv[2]) if len(sys.argv) > 2 else 200
-        letters = "".join(pair(number) for number in range(count))
-    elif sys.argv[1:2] == ["several"]:
-        count = int(sys.argv[2]) if len(sys.argv) > 2 else 200
-        letters = "".join(value(*biased_game(number)) for number in range(count))
-    else:
-        count = int(sys.argv[1]) if len(sys.argv) > 1 else 300
-        bias = int(sys.argv[2]) if len(sys.argv) > 2 else 1
-        letters = "".join(value(*game(number, bias)) for number in range(count))
-    for start in range(0, count, 60):
-        print(letters[start:start + 60])
-    counts = collections.Counter(letters)
-    print(" ".join(f"{letter} {counts[letter]}" for letter in "mbaexyd"))
+    games = [game(number, 1) for number in range(300)] + [game(number, 2) for number in range(120)] + [biased_game(number) for number in range(200)]
+    if sys.argv[1:] == ["counts"]:
+        counts = collections.Counter(value(*it) for it in games)
+        print("games:", " ".join(f"{letter} {counts[letter]}" for letter in "mbaexyd"))
+        counts = collections.Counter(pair(number) for number in range(200))
+        print("pairs:", " ".join(f"{letter} {counts[letter]}" for letter in "mbxy"))
+        return
+    for it in games:
+        print(value_line(*it))
+    for number in range(200):
+        print(pair_line(number))
 
 
 main()

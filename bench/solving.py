@@ -1,9 +1,9 @@
 #!/usr/bin/env python3
-"""Measures searches on five boards, and a switching game where the program solves: instructions, seconds and memory.
+"""Measures searches on five boards: instructions, seconds and memory.
 
 Usage: solving.py PROGRAM
-PROGRAM is that of the crate bench_search, which asks whether X wins. For each board it runs once under valgrind's callgrind,
-where that is installed, and once by itself. A figure that is missed is told with the functions that take most.
+PROGRAM is posgame's own. It solves each board once under valgrind's callgrind, where that is installed, and once by itself; of each one question is asked, whether
+X wins. What reading takes is counted by a check with an empty certificate. A figure that is missed is told with the functions that take most.
 """
 import os
 import re
@@ -58,11 +58,11 @@ def scatter(seed, points, count, size):
 
 
 BOARDS = [
-    ("Maker-Maker, 4 by 4, 100/111", "maker-maker", placements(4, 4, "100/111"), "yes", 250),
-    ("Maker-Breaker, 5 by 5, 1111", "maker-breaker", placements(5, 5, "1111"), "unknown expanded 3999", 300),
-    ("Maker-Breaker, 28 scattered lines of 4", "maker-breaker", scatter(13, 24, 28, 4), "unknown expanded 4166", 760),
-    ("Maker-Breaker, 16 by 16, five in a row", "maker-breaker", in_row(16, 16, 5), "unknown expanded 390", 520),
-    ("Avoider-Enforcer, 3,000 scattered lines of 9", "avoider-enforcer", scatter(33, 100, 3000, 9), "unknown expanded 999", 6300),
+    ("Maker-Maker, 4 by 4, 100/111", "maker-maker", placements(4, 4, "100/111"), "result x", 250),
+    ("Maker-Breaker, 5 by 5, 1111", "maker-breaker", placements(5, 5, "1111"), "unknown after 3999 positions", 300),
+    ("Maker-Breaker, 28 scattered lines of 4", "maker-breaker", scatter(13, 24, 28, 4), "unknown after 4166 positions", 760),
+    ("Maker-Breaker, 16 by 16, five in a row", "maker-breaker", in_row(16, 16, 5), "unknown after 390 positions", 520),
+    ("Avoider-Enforcer, 3,000 scattered lines of 9", "avoider-enforcer", scatter(33, 100, 3000, 9), "unknown after 999 positions", 6300),
 ]
 
 
@@ -73,10 +73,10 @@ def write_game(path, kind, board):
         file.write(f"posgame 1\nkind {kind}\npoints {points}\n{rows}turn x\n")
 
 
-def instructions(program, game, positions, counts):
+def instructions(counts, program, *words):
     """Of a whole run."""
-    command = ["valgrind", "--tool=callgrind", f"--callgrind-out-file={counts}", program, game, str(positions)]
-    done = subprocess.run(command, check=True, capture_output=True, text=True)
+    command = ["valgrind", "--tool=callgrind", f"--callgrind-out-file={counts}", program, *words]
+    done = subprocess.run(command, capture_output=True, text=True)
     return int(re.search(r"Collected : (\d+)", done.stderr).group(1))
 
 
@@ -86,10 +86,10 @@ def functions(counts):
     return "".join(f"    {line}\n" for line in re.findall(r"^ *[\d,]+ \(.*$", listing, re.MULTILINE)[1:13])
 
 
-def run(program, game, positions):
-    """What the program prints, its seconds, and its peak memory in kilobytes."""
+def run(program, *words):
+    """What the program says, its seconds, and its peak memory in kilobytes."""
     begin = time.monotonic()
-    done = subprocess.run(["/usr/bin/time", "-f", "%M", program, game, str(positions)], check=True, capture_output=True, text=True)
+    done = subprocess.run(["/usr/bin/time", "-q", "-f", "%M", program, *words], capture_output=True, text=True)
     return done.stdout.strip(), time.monotonic() - begin, int(done.stderr)
 
 
@@ -101,13 +101,15 @@ def main():
         with tempfile.TemporaryDirectory() as folder:
             game, counts = os.path.join(folder, "game"), os.path.join(folder, "counts")
             write_game(game, kind, board)
-            said, seconds, memory = run(program, game, 20_000)
+            certificate = os.path.join(folder, "certificate")
+            said, seconds, memory = run(program, "solve", game, certificate)
             line = f"{name}: {said}, {seconds:.3f} s, {memory} KB"
             faults = [] if said.startswith(answer) else [f"NOT {answer}"]
             faults += [f"MORE THAN {MEMORY} KB"] if memory > MEMORY else []
             profile = ""
             if shutil.which("valgrind"):
-                read, whole = (instructions(program, game, n, counts) for n in (0, 20_000))
+                read = instructions(counts, program, "check", game, "/dev/null")
+                whole = instructions(counts, program, "solve", game, certificate)
                 line += f", {whole / 1e6:.1f} million instructions, {read / 1e6:.1f} of them to read"
                 if whole > limit * 1_000_000:
                     faults.append(f"MORE THAN {limit} million")

@@ -1,7 +1,5 @@
-//! Words of shapes, and how many placements polyominoes have. Tests alone.
+//! How many placements polyominoes have, and which. Tests alone.
 #![tactic(auto)]
 
 #[cfg(test)]
 mod placing;
-#[cfg(test)]
-mod words;

@@ -8,10 +8,19 @@ mod calls;
 mod came;
 mod due;
 mod entries;
+mod faults;
+mod generator;
+mod legal;
+mod nodes;
+mod pairs;
+mod pieces;
 mod replies;
 mod rows;
+mod runs;
 mod system;
+mod tables;
 mod texts;
+mod values;
 
 use std::alloc::Global;
 use std::{env, io};
@@ -47,9 +56,10 @@ fn script(rt: &HostRuntime, rows_alone: bool) -> io::Result<String> {
     Ok(script)
 }
 
-/// Says of each row whether its runs leave what is due.
+/// Says whether the lines of tables are as they tell, and of each row whether its runs leave what is due.
 fn answer(rt: &HostRuntime, script: &str) -> io::Result<()> {
     let texts = texts::texts_of(rt.alloc(), script)?;
+    tables::answer(rt, &texts, script)?;
     for row in script.split("\nrow ").skip(1) {
         let answer = rows::answer(rt.alloc(), &texts, row)?;
         rt.println(answer.as_str())?;

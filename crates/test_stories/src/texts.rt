@@ -52,7 +52,7 @@ fn define(alloc: Global, texts: &[Named], told: &str) -> Result<Named, AllocErro
 }
 
 /// The lines of the text with this name, without the last line feed: a word that says so where none has it.
-fn lines_of<'a>(texts: &'a [Named], name: &str) -> &'a str {
+pub(crate) fn lines_of<'a>(texts: &'a [Named], name: &str) -> &'a str {
     for text in texts {
         if text.name.as_str() == name {
             let lines = text.text.as_str();
