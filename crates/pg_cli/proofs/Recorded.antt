@@ -85,4 +85,4 @@ review_other g moves positions work entries Starved first = first_other (loss_te
 
 pub reviews_other : (read : Result GameEntry Halt) (record_bytes : Option Bytes) (positions : ℕ) (work : Expanded) (entries : List Entry) (end : End) → ReviewsRead read record_bytes positions work entries end → AllOther entries
 reviews_other (Err halt) record_bytes positions work entries end reviews = absurd reviews
-reviews_other (Ok e) record_bytes positions work entries end (g, said, moves, held, reviews) = review_other g moves positions work entries end reviews
+reviews_other (Ok e) record_bytes positions work entries end (g, said, found) = review_other g found.0 positions work entries end found.2
