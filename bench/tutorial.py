@@ -30,7 +30,7 @@ def blocks(text):
             yield name, block
             name, block = None, []
         if line:
-            found = re.search(r"`([^`]+\.(?:game|cert))`:$", line)
+            found = re.search(r"`([^`]+\.(?:game|cert|record))`:$", line)
             name = found and found.group(1)
 
 
