@@ -65,7 +65,7 @@ class Board:
         seconds = f"{self.seconds:.2f} s"
         if not self.is_settled():
             return f"{self.said.replace(' positions', '')}, {seconds}"
-        size = f"{self.nodes:,} node{'s' if self.nodes != 1 else ''}"
+        size = f"{self.nodes:,} {'claim' if self.family else 'node'}{'s' if self.nodes != 1 else ''}"
         return f"**{RESULTS[self.said]}**, {size}, {seconds}" + ("" if self.is_valid else ", NOT ACCEPTED")
 
 
@@ -156,6 +156,10 @@ def animals_of(kind):
         yield f"{NAMES.get(word, '')} `{word}`", [Board(text) for text in texts]
 
 
+def counted(ends):
+    return f"{len(ends)} edge{'s' if len(ends) != 1 else ''}"
+
+
 def bridge(rows):
     """Rows of `rows - 1` vertices between the two terminals, joined along and then to the next row."""
     columns = rows - 1
@@ -172,7 +176,7 @@ def bridges():
     for rows in range(1, 23):
         vertices, ends = bridge(rows)
         edges = "".join(f"edge {u} {v}\n" for u, v in ends)
-        yield f"{rows}, {len(ends)} edges", [Board(f"posgame 1\nkind switching\nvertices {vertices}\nterminals 0 1\n{edges}turn x\n")]
+        yield f"{rows}, {counted(ends)}", [Board(f"posgame 1\nkind switching\nvertices {vertices}\nterminals 0 1\n{edges}turn x\n")]
 
 
 BIASES = (1, 2, 3)
@@ -192,7 +196,7 @@ def boxes(kind, turn):
 
 def span(name, vertices, ends):
     edges = "".join(f"edge {u} {v}\n" for u, v in ends)
-    return f"{name}, {len(ends)} edges", [Board(f"posgame-span 1\nvertices {vertices}\n{edges}turn x\n", "span")]
+    return f"{name}, {counted(ends)}", [Board(f"posgame-span 1\nvertices {vertices}\n{edges}turn x\n", "span")]
 
 
 def connected():
