@@ -1,0 +1,8 @@
+pub mod Listing
+pub mod Positions
+pub mod Copies
+pub mod BodyImages
+pub mod Staying
+pub mod Steps
+pub mod Originals
+pub mod Limits

@@ -1,0 +1,9 @@
+//! Certificates whose nodes are said as images of others, where they are.
+#![tactic(auto)]
+
+mod copying;
+mod folding;
+pub mod laws;
+mod original;
+
+pub use folding::fold;

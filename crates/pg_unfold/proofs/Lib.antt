@@ -1,0 +1,14 @@
+pub mod Keys
+pub mod Marking
+pub mod Handing
+pub mod MetCopies
+pub mod Placing
+pub mod PlaceSteps
+pub mod Sorting
+pub mod BoardMaps
+pub mod SoundNodes
+pub mod CopySteps
+pub mod CopyLimits
+pub mod ClaimSteps
+pub mod ClaimsGathered
+pub mod Roots

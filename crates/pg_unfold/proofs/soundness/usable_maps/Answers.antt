@@ -1,0 +1,21 @@
+use Rattle.std.proofs.Common.{◌≡◌, ◌↔◌, Option, Some, None, true, sym, ap, ◌∙◌}
+use Rattle.std.specs.Option.{is_some}
+use Rattle.std.specs.Global.{Vec}
+use Rattle.std.specs.List.{Contains}
+use Rattle.std.proofs.lemmas.Bool.{false≢true}
+use Rattle.std.proofs.lemmas.Result.{IfOk-weaker}
+use Rattle.pg_base.specs.declared.grid.Grid.{Grid}
+use Rattle.pg_maps.specs.Images.{Fits, board_of}
+use Rattle.pg_maps.specs.declared.grid_map.GridMap.{GridMap}
+use Rattle.pg_unfold.specs.Flaws.{AreUsable}
+use Rattle.pg_unfold.proofs.SoundNodes.{usable-fitting}
+use Rattle.pg_unfold.proofs.soundness.usable_maps.Goals as goal
+
+there : (o : Option Grid) → is_some o ≡ true → (grid : Grid) × (o ≡ Some grid)
+there None on = absurd (false≢true on)
+there (Some grid) on = (grid, λ i. Some grid)
+
+pub returns : goal.returns
+returns c =
+    let has = there c.board_of.result c.if-is_none.ensures in
+    IfOk-weaker _ _ _ (λ (maps : Vec GridMap) (fit : (m : GridMap) → Contains maps.items m ↔ Fits c.args.g.now m). usable-fitting c.args.g.now has.0 maps.items (sym c.board_of.ensures ∙ has.1) fit) c.fitting_maps.ensures.fit

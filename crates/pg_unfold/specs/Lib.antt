@@ -1,0 +1,6 @@
+pub mod Copies
+pub mod Flaw
+pub mod Flaws
+pub mod Unfolded
+pub mod Marks
+pub mod Gathered
