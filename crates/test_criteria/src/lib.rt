@@ -4,17 +4,15 @@
 //! search reaches the goal; its tests compare the counts with those of a program that shares nothing with this one.
 #![tactic(auto)]
 
+#[cfg(test)]
 mod edge_sets;
+#[cfg(test)]
 mod lines;
+#[cfg(test)]
 mod numbered;
+#[cfg(test)]
 mod pairings;
-mod threats;
-
-pub use edge_sets::{EdgeTally, tally_sets};
-pub use lines::{Tally, tally_claim};
-pub use numbered::{number_count, position_of, sets_of};
-pub use pairings::all_pairings;
-pub use threats::{ThreatTally, tally_threats};
-
 #[cfg(test)]
 mod tests;
+#[cfg(test)]
+mod threats;

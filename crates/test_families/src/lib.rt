@@ -2,18 +2,17 @@
 //! it.
 #![tactic(auto)]
 
+#[cfg(test)]
 mod joining;
+#[cfg(test)]
 mod plain;
-mod small_games;
-mod summing;
-mod told;
-
-pub use joining::Joining;
-pub use plain::{Test, winners};
-pub use small_games::{Tally, tally_connectivity, tally_vectors};
-pub use summing::Summing;
-
 #[cfg(test)]
 mod rows;
 #[cfg(test)]
+mod small_games;
+#[cfg(test)]
+mod summing;
+#[cfg(test)]
 mod tests;
+#[cfg(test)]
+mod told;

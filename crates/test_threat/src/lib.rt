@@ -4,11 +4,9 @@
 //! each whether it is a threat line.
 #![tactic(auto)]
 
+#[cfg(test)]
 mod compared;
+#[cfg(test)]
 mod plain;
-
-pub use compared::{Tally, line_at_start};
-pub use plain::first_line;
-
 #[cfg(test)]
 mod tests;
