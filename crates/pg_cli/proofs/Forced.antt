@@ -19,7 +19,6 @@ use Rattle.pg_game.specs.declared.game.Game.{Game}
 use Rattle.pg_files.specs.GameFile.{game, Entry as GameEntry}
 use Rattle.pg_cert_files.specs.CertFile.{certificate}
 use Rattle.pg_cert.specs.Limits.{IsWithinLimits, node_count}
-use Rattle.pg_cert.specs.Print.{printed_certificate}
 use Rattle.pg_cert.specs.Valid.{IsValid}
 use Rattle.pg_cert.specs.declared.cert.Cert.{Cert}
 use Rattle.pg_cert.specs.declared.cert.Claim.{Claim}
@@ -203,14 +202,14 @@ module _ (limits : ReadsWithinLimits) (valid_forced : ValidClaimsAreForced) (fam
   stops_other Act part end acts (inl none) = λ text among. absurd (none_of (Said text) (subst (λ (l : List Entry). Contains l (Said text)) none.0 among))
   stops_other Act part end acts (inr act) = acts act
 
-  solves_other : (told : Told) (g : Game) (name : Bytes) (positions : ℕ) (work : Expanded) (done : Done) (end : End) → ((solution : Solution) (c : Cert) → certificate_of solution ≡ Some c → AreOther (told solution c))
-      → SolvesGame told g name positions work done end → AllOther done.entries
-  solves_other told g name positions work done (Finished status) others (inl stays) =
+  solves_other : (images : Bool) (told : Told) (g : Game) (name : Bytes) (positions : ℕ) (work : Expanded) (done : Done) (end : End) → ((solution : Solution) (c : Cert) → certificate_of solution ≡ Some c → AreOther (told solution c))
+      → SolvesGame images told g name positions work done end → AllOther done.entries
+  solves_other images told g name positions work done (Finished status) others (inl stays) =
       stays_other done.entries (unknown_text (budget g positions) ∷ []) stays.said (one_other (unknown_text (budget g positions)) (apart _ 97 refl, apart _ 109 refl))
-  solves_other told g name positions work done (Finished status) others (inr (solution, c, shows, left, delivers)) =
-      delivers_other (name, printed_certificate c) (told solution c) done (Finished status) (others solution c shows.own) delivers
-  solves_other told g name positions work done Failed others (solution, c, shows, left, delivers) = delivers_other (name, printed_certificate c) (told solution c) done Failed (others solution c shows.own) delivers
-  solves_other told g name positions work done Starved others none = absurd none
+  solves_other images told g name positions work done (Finished status) others (inr (solution, c, shows, left, text, stored, delivers)) =
+      delivers_other (name, text) (told solution c) done (Finished status) (others solution c shows.own) delivers
+  solves_other images told g name positions work done Failed others (solution, c, shows, left, text, stored, delivers) = delivers_other (name, text) (told solution c) done Failed (others solution c shows.own) delivers
+  solves_other images told g name positions work done Starved others none = absurd none
 
   result_other : (g : Game) (solution : Solution) (c : Cert) → certificate_of solution ≡ Some c → AreOther (result_alone g solution c)
   result_other g solution c own = one_other (solution_text g solution) (solution_other g solution c own)
@@ -218,9 +217,9 @@ module _ (limits : ReadsWithinLimits) (valid_forced : ValidClaimsAreForced) (fam
   counts_other : (g : Game) (work : Expanded) (solution : Solution) (c : Cert) → certificate_of solution ≡ Some c → AreOther (result_and_counts g work solution c)
   counts_other g work solution c own = two_other (solution_text g solution) (expanded_text (length work.positions) (node_count c.claims)) (solution_other g solution c own) (apart _ 97 refl, apart _ 109 refl)
 
-  solves_forced : (bytes : Option Bytes) (read : Result GameEntry Halt) (name : Bytes) (positions : ℕ) (work : Expanded) (done : Done) (end : End) → Solves read name positions work done end → AreForcedInGame bytes done.entries
-  solves_forced bytes (Err halt) name positions work done end solves = absurd solves
-  solves_forced bytes (Ok e) name positions work done end (g, said, solves) = others_forced (IsForcedFrom bytes) (IsForced bytes) done.entries (solves_other (result_alone g) g name positions work done end (result_other g) solves)
+  solves_forced : (images : Bool) (bytes : Option Bytes) (read : Result GameEntry Halt) (name : Bytes) (positions : ℕ) (work : Expanded) (done : Done) (end : End) → Solves images read name positions work done end → AreForcedInGame bytes done.entries
+  solves_forced images bytes (Err halt) name positions work done end solves = absurd solves
+  solves_forced images bytes (Ok e) name positions work done end (g, said, solves) = others_forced (IsForcedFrom bytes) (IsForced bytes) done.entries (solves_other images (result_alone g) g name positions work done end (result_other g) solves)
 
   -- ---- a game that is made
 
@@ -228,8 +227,8 @@ module _ (limits : ReadsWithinLimits) (valid_forced : ValidClaimsAreForced) (fam
   size_other (Lines f) = one_other (size_text (Lines f)) (apart _ 97 refl, apart _ 109 refl)
   size_other (Graph h) = one_other (size_text (Graph h)) (apart _ 97 refl, apart _ 109 refl)
 
-  made_other : (g : Game) (name certificate : Bytes) (work : Expanded) (part : Done) (end : End) → SolvesGame (result_and_counts g work) g certificate DEFAULT_POSITIONS work part end → AllOther part.entries
-  made_other g name certificate work part end solves = solves_other (result_and_counts g work) g certificate DEFAULT_POSITIONS work part end (counts_other g work) solves
+  made_other : (g : Game) (name certificate : Bytes) (work : Expanded) (part : Done) (end : End) → SolvesGame false (result_and_counts g work) g certificate DEFAULT_POSITIONS work part end → AllOther part.entries
+  made_other g name certificate work part end solves = solves_other false (result_and_counts g work) g certificate DEFAULT_POSITIONS work part end (counts_other g work) solves
 
   stores_other : (g : Game) (name : Bytes) (c : Option Bytes) (work : Expanded) (done : Done) (end : End) → StoresGame g name c work done end → AllOther done.entries
   stores_other g name None work done end delivers = delivers_other (game_file name g) (size_texts g) done end (size_other g.field) delivers
@@ -237,9 +236,9 @@ module _ (limits : ReadsWithinLimits) (valid_forced : ValidClaimsAreForced) (fam
       behind_other (game_file name g) (size_texts g) part done is (size_other g.field) (made_other g name c work part (Finished status) act)
   stores_other g name (Some c) work done Failed (inl delivers) = delivers_other (game_file name g) (size_texts g) done Failed (size_other g.field) delivers
   stores_other g name (Some c) work done Failed (inr (part, how, is)) =
-      behind_other (game_file name g) (size_texts g) part done is (size_other g.field) (stops_other (SolvesGame (result_and_counts g work) g c DEFAULT_POSITIONS work) part Failed (made_other g name c work part Failed) how)
+      behind_other (game_file name g) (size_texts g) part done is (size_other g.field) (stops_other (SolvesGame false (result_and_counts g work) g c DEFAULT_POSITIONS work) part Failed (made_other g name c work part Failed) how)
   stores_other g name (Some c) work done Starved (part, how, is) =
-      behind_other (game_file name g) (size_texts g) part done is (size_other g.field) (stops_other (SolvesGame (result_and_counts g work) g c DEFAULT_POSITIONS work) part Starved (made_other g name c work part Starved) how)
+      behind_other (game_file name g) (size_texts g) part done is (size_other g.field) (stops_other (SolvesGame false (result_and_counts g work) g c DEFAULT_POSITIONS work) part Starved (made_other g name c work part Starved) how)
 
   -- ---- a report
 
@@ -263,7 +262,7 @@ module _ (limits : ReadsWithinLimits) (valid_forced : ValidClaimsAreForced) (fam
   acts_forced : (held : Holding) (command : Option Command) (work : Expanded) (done : Done) (end : End) → Acts held command work done end → AreForced command (game_read held command) done.entries
   acts_forced held None work done end acts = absurd acts
   acts_forced held (Some (Solve g c None images)) work done end acts = absurd acts
-  acts_forced held (Some (Solve g c (Some positions) images)) work done end acts = solves_forced (held g) (game_held (held g)) c positions work done end acts
+  acts_forced held (Some (Solve g c (Some positions) images)) work done end acts = solves_forced images (held g) (game_held (held g)) c positions work done end acts
   acts_forced held (Some (Check g c)) work done end acts = check_forced (held g) (held c) done.entries end acts.0
   acts_forced held (Some (Play g c side)) work done end acts = plays_forced (held g) (held c) side done.entries end acts.0
   acts_forced held (Some (Gen which g c)) work done end (made, is, stores) = others_forced (IsForcedFrom None) (IsForced None) done.entries (stores_other made g c work done end stores)

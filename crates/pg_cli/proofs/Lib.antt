@@ -9,3 +9,4 @@ pub mod Reports
 pub mod Solves
 pub mod Making
 pub mod Verdicts
+pub mod Differing

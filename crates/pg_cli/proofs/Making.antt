@@ -82,7 +82,7 @@ module _ (which : Source) (g : Bytes) (c : Option Bytes) where
   stores_halted made work files files' before after halt h = go c where
     go : (c : Option Bytes) → Does (StoresGame made g c work) files files' before after (Err halt)
     go None = h
-    go (Some name) = delivers_first (SolvesGame (result_and_counts made work) made name DEFAULT_POSITIONS work) (game_file g made) (size_texts made) files files' before after halt h
+    go (Some name) = delivers_first (SolvesGame false (result_and_counts made work) made name DEFAULT_POSITIONS work) (game_file g made) (size_texts made) files files' before after halt h
 
 -- behind the game's size nothing was said where memory was wanting
 pub quiet_then : (which : Source) (g c : Bytes) (made : Game) (before mid after : ConsoleTold) (r : Result ℕ Halt) → IsMade which made → Grows before.log mid.log (Said (size_text made.field) ∷ [])

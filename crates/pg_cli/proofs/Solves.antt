@@ -11,7 +11,6 @@ use Rattle.pg_game.specs.Fit.{is_switching}
 use Rattle.pg_game.specs.declared.game.Game.{Game}
 use Rattle.pg_files.specs.GameFile.{Entry as GameEntry}
 use Rattle.pg_cert.specs.Limits.{IsWithinLimits}
-use Rattle.pg_cert.specs.Print.{printed_certificate}
 use Rattle.pg_cert.specs.Valid.{IsValid}
 use Rattle.pg_cert.specs.declared.cert.Cert.{Cert}
 use Rattle.pg_game.specs.Game.{free_points, start}
@@ -29,7 +28,7 @@ use Rattle.pg_words.specs.Words.{Solve}
 use Rattle.pg_talk.specs.Done.{Done, End, Finished, Failed, Starved, Does, Follows, talk, stop_end}
 use Rattle.pg_opening.specs.Opening.{OpensGame, game_held}
 use Rattle.pg_cli.specs.Run.{Refuses, CarriesOn, Carries}
-use Rattle.pg_cli.specs.Solving.{IsFound, IsLeftBehind, LeavesSearch, Shows, SolvesGame, Solves, Told, result_alone, solution_text}
+use Rattle.pg_cli.specs.Solving.{IsFileOf, IsFound, IsLeftBehind, LeavesSearch, Shows, SolvesGame, Solves, Told, result_alone, solution_text}
 use Rattle.pg_talk.specs.Storing.{Delivers}
 use Rattle.pg_talk.specs.declared.halt.Halt.{Halt}
 use Rattle.pg_talk.specs.declared.halt.Halt.TheVariants.{Refused, Stopped}
@@ -69,23 +68,23 @@ found g positions work result solution c message same own kind holds valid limit
 )
 
 -- what delivers the certificate of what was found solves the game
-pub delivers_solution : (told : Told) (g : Game) (name : Bytes) (positions : ℕ) (work : Expanded) (solution : Solution) (c : Cert) (texts : List Bytes) (files files' : FilesTold) (before after : ConsoleTold) (r : Result ℕ Halt)
-    → Shows g solution c → IsLeftBehind g positions work solution → texts ≡ told solution c
-    → Does (Delivers (name, printed_certificate c) texts) files files' before after r → Does (SolvesGame told g name positions work) files files' before after r
-delivers_solution told g name positions work solution c texts files files' before after r shown left is h =
-    follows_more (Delivers (name, printed_certificate c) texts) (SolvesGame told g name positions work) files files' before after r more h
+pub delivers_solution : (images : Bool) (told : Told) (g : Game) (name : Bytes) (positions : ℕ) (work : Expanded) (solution : Solution) (c : Cert) (text : Bytes) (texts : List Bytes) (files files' : FilesTold) (before after : ConsoleTold) (r : Result ℕ Halt)
+    → Shows g solution c → IsLeftBehind g positions work solution → IsFileOf images g c text → texts ≡ told solution c
+    → Does (Delivers (name, text) texts) files files' before after r → Does (SolvesGame images told g name positions work) files files' before after r
+delivers_solution images told g name positions work solution c text texts files files' before after r shown left stored is h =
+    follows_more (Delivers (name, text) texts) (SolvesGame images told g name positions work) files files' before after r more h
   where
-    more : (done : Done) (end : End) → Delivers (name, printed_certificate c) texts done end → SolvesGame told g name positions work done end
-    more done (Finished status) act = inr (solution, c, shown, left, subst (λ (t : List Bytes). Delivers (name, printed_certificate c) t done (Finished status)) is act)
-    more done Failed act = (solution, c, shown, left, subst (λ (t : List Bytes). Delivers (name, printed_certificate c) t done Failed) is act)
+    more : (done : Done) (end : End) → Delivers (name, text) texts done end → SolvesGame images told g name positions work done end
+    more done (Finished status) act = inr (solution, c, shown, left, text, stored, subst (λ (t : List Bytes). Delivers (name, text) t done (Finished status)) is act)
+    more done Failed act = (solution, c, shown, left, text, stored, subst (λ (t : List Bytes). Delivers (name, text) t done Failed) is act)
     more done Starved act = absurd act
 
 -- the question stays open, and that is said
-pub stays_open : (told : Told) (g : Game) (name : Bytes) (positions : ℕ) (work : Expanded) (said : Bytes) (files files' : FilesTold) (before after : ConsoleTold) → is_switching g.kind ≡ false → IsLeftOpen g (budget g positions) work
+pub stays_open : (images : Bool) (told : Told) (g : Game) (name : Bytes) (positions : ℕ) (work : Expanded) (said : Bytes) (files files' : FilesTold) (before after : ConsoleTold) → is_switching g.kind ≡ false → IsLeftOpen g (budget g positions) work
     → said ≡ unknown_text (budget g positions) → files'.held ≡ files.held → Grows before.log after.log (Said said ∷ []) → after.left ≡ before.left
-    → Does (SolvesGame told g name positions work) files files' before after (Ok UNKNOWN)
-stays_open told g name positions work said files files' before after lines left_open is same says left = go files.held same where
-  go : (b : Option Holding) → files'.held ≡ b → IfSome b (λ held. Follows (λ _. ⊥) (SolvesGame told g name positions work) held files' before after (Ok UNKNOWN))
+    → Does (SolvesGame images told g name positions work) files files' before after (Ok UNKNOWN)
+stays_open images told g name positions work said files files' before after lines left_open is same says left = go files.held same where
+  go : (b : Option Holding) → files'.held ≡ b → IfSome b (λ held. Follows (λ _. ⊥) (SolvesGame images told g name positions work) held files' before after (Ok UNKNOWN))
   go None same = tt
   go (Some held) same = (
     talk (Said said ∷ []),
@@ -95,26 +94,26 @@ stays_open told g name positions work said files files' before after lines left_
 
 -- ---- after the game was read
 
-pub carries_solve : (g c : Bytes) (positions : ℕ) (played : Game) (work : Expanded) (files mid files' : FilesTold) (before after : ConsoleTold) (r : Result ℕ Halt) → mid.held ≡ files.held → OpensGame files.held g (Ok played)
-    → Does (SolvesGame (result_alone played) played c positions work) mid files' before after r → Carries (Some (Solve g c (Some positions) false)) work files files' before after r
-carries_solve g c positions played work files mid files' before after r same opens h =
-    go files.held opens r (subst (λ (b : Option Holding). IfSome b (λ held. Follows (λ _. ⊥) (SolvesGame (result_alone played) played c positions work) held files' before after r)) same h)
+pub carries_solve : (images : Bool) (g c : Bytes) (positions : ℕ) (played : Game) (work : Expanded) (files mid files' : FilesTold) (before after : ConsoleTold) (r : Result ℕ Halt) → mid.held ≡ files.held → OpensGame files.held g (Ok played)
+    → Does (SolvesGame images (result_alone played) played c positions work) mid files' before after r → Carries (Some (Solve g c (Some positions) images)) work files files' before after r
+carries_solve images g c positions played work files mid files' before after r same opens h =
+    go files.held opens r (subst (λ (b : Option Holding). IfSome b (λ held. Follows (λ _. ⊥) (SolvesGame images (result_alone played) played c positions work) held files' before after r)) same h)
   where
-    act : (held : Holding) → OpensGame (Some held) g (Ok played) → (done : Done) (end : End) → SolvesGame (result_alone played) played c positions work done end → Solves (game_held (held g)) c positions work done end
-    act held opens done end solves = subst (λ (read : Result GameEntry Halt). Solves read c positions work done end) (sym opens) (played, refl, solves)
+    act : (held : Holding) → OpensGame (Some held) g (Ok played) → (done : Done) (end : End) → SolvesGame images (result_alone played) played c positions work done end → Solves images (game_held (held g)) c positions work done end
+    act held opens done end solves = subst (λ (read : Result GameEntry Halt). Solves images read c positions work done end) (sym opens) (played, refl, solves)
 
-    go : (b : Option Holding) → OpensGame b g (Ok played) → (r : Result ℕ Halt) → IfSome b (λ held. Follows (λ _. ⊥) (SolvesGame (result_alone played) played c positions work) held files' before after r)
-        → IfSome b (λ held. CarriesOn held (Some (Solve g c (Some positions) false)) work files' before after r)
+    go : (b : Option Holding) → OpensGame b g (Ok played) → (r : Result ℕ Halt) → IfSome b (λ held. Follows (λ _. ⊥) (SolvesGame images (result_alone played) played c positions work) held files' before after r)
+        → IfSome b (λ held. CarriesOn held (Some (Solve g c (Some positions) images)) work files' before after r)
     go None opens r h = tt
     go (Some held) opens (Ok status) (done, solves, changes) = (done, act held opens done (Finished status) solves, changes)
     go (Some held) opens (Err (Refused refusal)) (none, changes) = absurd none
     go (Some held) opens (Err (Stopped stop)) (done, inl none, changes) = (done, inl none, changes)
     go (Some held) opens (Err (Stopped stop)) (done, inr solves, changes) = (done, inr (act held opens done (stop_end stop) solves), changes)
 
-pub halted_solve : (g c : Bytes) (positions : ℕ) (work : Expanded) (files files' : FilesTold) (console : ConsoleTold) (halt : Halt) → files'.held ≡ files.held → OpensGame files.held g (Err halt)
-    → Carries (Some (Solve g c (Some positions) false)) work files files' console console (Err halt)
-halted_solve g c positions work files files' console halt same opens = carries_halt files files' console same (Some (Solve g c (Some positions) false)) work halt against where
-  against : (held : Holding) (refusal : Refusal) → files.held ≡ Some held → halt ≡ Refused refusal → Refuses held (Some (Solve g c (Some positions) false)) refusal
+pub halted_solve : (images : Bool) (g c : Bytes) (positions : ℕ) (work : Expanded) (files files' : FilesTold) (console : ConsoleTold) (halt : Halt) → files'.held ≡ files.held → OpensGame files.held g (Err halt)
+    → Carries (Some (Solve g c (Some positions) images)) work files files' console console (Err halt)
+halted_solve images g c positions work files files' console halt same opens = carries_halt files files' console same (Some (Solve g c (Some positions) images)) work halt against where
+  against : (held : Holding) (refusal : Refusal) → files.held ≡ Some held → halt ≡ Refused refusal → Refuses held (Some (Solve g c (Some positions) images)) refusal
   against held refusal is this = subst (λ (k : Halt). OpensGame (Some held) g (Err k)) this (subst (λ (b : Option Holding). OpensGame b g (Err halt)) is opens)
 
 -- ---- files and causes

@@ -25,10 +25,9 @@ use Rattle.pg_io.specs.declared.stop.Stop.TheVariants.{Memory}
 use Rattle.pg_talk.specs.declared.halt.Halt.{Halt}
 use Rattle.pg_talk.specs.declared.halt.Halt.TheVariants.{Refused, Stopped}
 
--- a command whose numbers are within their ranges, and that asks for no certificate which isn't made; any other has no meaning
+-- a command whose numbers are within their ranges; any other has no meaning
 abbrev pub built : Command → Option Command
-built (Solve g c positions false) = option_map (λ n. Solve g c (Some n) false) (positions_for positions)
-built (Solve g c positions true) = None
+built (Solve g c positions images) = option_map (λ n. Solve g c (Some n) images) (positions_for positions)
 built (Check g c) = Some (Check g c)
 built (Play g c side) = Some (Play g c side)
 built (Gen which g c) = if has_source which then Some (Gen which g c) else None

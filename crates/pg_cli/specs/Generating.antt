@@ -49,7 +49,7 @@ size_texts g = size_text g.field ∷ []
 abbrev pub StoresGame : Game → Bytes → Option Bytes → Expanded → Done → End → Type 0
 StoresGame g name None work done end = Delivers (game_file name g) (size_texts g) done end
 StoresGame g name (Some certificate) work done end =
-    DeliversThen (game_file name g) (size_texts g) (SolvesGame (result_and_counts g work) g certificate DEFAULT_POSITIONS work) done end
+    DeliversThen (game_file name g) (size_texts g) (SolvesGame false (result_and_counts g work) g certificate DEFAULT_POSITIONS work) done end
 
 -- what making a game does
 abbrev pub Generates : Source → Bytes → Option Bytes → Expanded → Done → End → Type 0

@@ -9,6 +9,7 @@ use Rattle.pg_cert.specs.Valid.{IsValid, IsFirstFault}
 use Rattle.pg_cert.specs.declared.cert.Cert.{Cert}
 use Rattle.pg_judge.specs.Heads.{heads_of}
 use Rattle.pg_report.specs.Report.{report_text, rejection_text}
+use Rattle.pg_report.specs.declared.code.Code.TheVariants.{Node}
 use Rattle.pg_texts.specs.declared.refusal.Refusal.{Refusal}
 use Rattle.pg_texts.specs.declared.statuses.TheConstants.{DONE, REFUSED}
 use Rattle.pg_talk.specs.Done.{End, Finished, Failed, Starved}
@@ -28,7 +29,7 @@ pub record TellsFault (g : Game) (c : Cert) (text : Bytes) (status : ℕ) : Type
   pub node : ℕ
   pub why : ℕ
   pub first : IsFirstFault g c claim node why
-  pub text_is : text ≡ rejection_text claim node why
+  pub text_is : text ≡ rejection_text claim node (Node why)
   pub status_is : status ≡ REFUSED
 
 -- what there is to say of a certificate for a game, with the status that goes with it

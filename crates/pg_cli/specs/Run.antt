@@ -41,7 +41,7 @@ Refuses held None refusal = refusal ≡ NoMeaning
 
 -- the command does what it is there for, and ends so
 abbrev pub Acts : Holding → Option Command → Expanded → Done → End → Type 0
-Acts held (Some (Solve g c (Some positions) images)) work done end = Solves (game_held (held g)) c positions work done end
+Acts held (Some (Solve g c (Some positions) images)) work done end = Solves images (game_held (held g)) c positions work done end
 Acts held (Some (Check g c)) work done end = AcceptsAll (both_held (held g) (held c)) done.entries end × (done.stored ≡ [])
 Acts held (Some (Play g c side)) work done end = PlaysOn side (both_held (held g) (held c)) done.entries end × (done.stored ≡ [])
 Acts held (Some (Gen which g c)) work done end = Generates which g c work done end

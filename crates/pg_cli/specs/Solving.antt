@@ -1,5 +1,5 @@
 -- What solving stores and says.
-use Rattle.std.specs.Prelude.{◌≡◌, ◌≢◌, ◌⊎◌, ◌&&◌, ℕ, nat_le, false, if◌then◌else◌, List, [], ◌∷◌, length, map, Option, Some, None, Result, Ok, Err}
+use Rattle.std.specs.Prelude.{◌≡◌, ◌≢◌, ◌⊎◌, ◌&&◌, ℕ, nat_le, Bool, true, false, if◌then◌else◌, List, [], ◌∷◌, length, map, Option, Some, None, Result, Ok, Err}
 use Rattle.pg_base.specs.declared.kind.Kind.{Kind}
 use Rattle.pg_base.specs.declared.kind.Kind.TheVariants.{Switching}
 use Rattle.pg_io.specs.Files.{Bytes}
@@ -11,6 +11,13 @@ use Rattle.pg_cert.specs.Limits.{IsWithinLimits, node_count}
 use Rattle.pg_cert.specs.Print.{printed_certificate}
 use Rattle.pg_cert.specs.Valid.{IsValid}
 use Rattle.pg_cert.specs.declared.cert.Cert.{Cert}
+use Rattle.pg_fold.specs.Symmetry.{FoldsWell, IsFoldedWell}
+use Rattle.pg_image.specs.Limits.{IsImageWithinLimits}
+use Rattle.pg_image.specs.Print.{printed_image_certificate}
+use Rattle.pg_image.specs.declared.cert.ImageCert.{ImageCert}
+use Rattle.pg_unfold.specs.Flaws.{IsFaultless}
+use Rattle.pg_unfold.specs.Unfolded.{IsUnfoldedCert}
+use Rattle.pg_unfold.specs.declared.unfolded.Unfolded.{Unfolded}
 use Rattle.pg_pns.specs.Expanded.{Expanded}
 use Rattle.pg_solve.specs.Due.{heading}
 use Rattle.pg_solve.specs.Left.{budget, IsAskedLast, IsLeft, IsLeftOpen}
@@ -56,6 +63,20 @@ pub record Shows (g : Game) (solution : Solution) (c : Cert) : Type 0 where
   -- the claims are those that are due, by turn, side and goal
   pub claims : map heading c.claims ≡ due g.turn solution
 
+-- the certificate folded, which has no fault, and stands for valid certificates alone, with the same claims
+pub record IsFoldedFrom (g : Game) (c : Cert) (folded : ImageCert) : Type 0 where
+  pub well : FoldsWell g c folded
+  pub faultless : IsFaultless g folded
+  pub limits : IsImageWithinLimits folded
+  pub valid : (u : Unfolded) → IsUnfoldedCert g folded u → IsValid g u.cert
+  pub claims : (u : Unfolded) → IsUnfoldedCert g folded u → map heading u.cert.claims ≡ map heading c.claims
+
+-- THE FILE of a certificate: as it is printed; or where images are asked for, as the folded one is printed, unless the game isn't symmetric or the folded one lacks room
+abbrev pub IsFileOf : Bool → Game → Cert → Bytes → Type 0
+IsFileOf false g c text = text ≡ printed_certificate c
+IsFileOf true g c text = ((folded : ImageCert) × IsFoldedFrom g c folded × (text ≡ printed_image_certificate folded))
+    ⊎ (IsFoldedWell g c None × (text ≡ printed_certificate c))
+
 -- what is said of what was found and of the certificate that shows it
 abbrev pub Told : Type 0
 Told = Solution → Cert → List Bytes
@@ -86,21 +107,21 @@ pub record StaysOpen (g : Game) (positions : ℕ) (work : Expanded) (done : Done
   pub stored : done.stored ≡ []
   pub status_is : status ≡ UNKNOWN
 
--- a certificate that shows what was found is stored under the name, and then what was found is said
-abbrev pub DeliversSolution : Told → Game → Bytes → ℕ → Expanded → Done → End → Type 0
-DeliversSolution told g name positions work done end = (solution : Solution) × (c : Cert) × Shows g solution c × IsLeftBehind g positions work solution
-    × Delivers (name, printed_certificate c) (told solution c) done end
+-- a certificate that shows what was found is stored under the name as its file, and then what was found is said
+abbrev pub DeliversSolution : Bool → Told → Game → Bytes → ℕ → Expanded → Done → End → Type 0
+DeliversSolution images told g name positions work done end = (solution : Solution) × (c : Cert) × Shows g solution c × IsLeftBehind g positions work solution
+    × (text : Bytes) × IsFileOf images g c text × Delivers (name, text) (told solution c) done end
 
--- what solving a game does
-abbrev pub SolvesGame : Told → Game → Bytes → ℕ → Expanded → Done → End → Type 0
-SolvesGame told g name positions work done (Finished status) = StaysOpen g positions work done status ⊎ DeliversSolution told g name positions work done (Finished status)
-SolvesGame told g name positions work done Failed = DeliversSolution told g name positions work done Failed
-SolvesGame told g name positions work done Starved = ⊥
+-- what solving a game does, with images or without
+abbrev pub SolvesGame : Bool → Told → Game → Bytes → ℕ → Expanded → Done → End → Type 0
+SolvesGame images told g name positions work done (Finished status) = StaysOpen g positions work done status ⊎ DeliversSolution images told g name positions work done (Finished status)
+SolvesGame images told g name positions work done Failed = DeliversSolution images told g name positions work done Failed
+SolvesGame images told g name positions work done Starved = ⊥
 
 -- the same of what was read
-abbrev pub Solves : Result GameEntry Halt → Bytes → ℕ → Expanded → Done → End → Type 0
-Solves (Err halt) name positions work done end = ⊥
-Solves (Ok e) name positions work done end = (g : Game) × IsSaidBy e g × SolvesGame (result_alone g) g name positions work done end
+abbrev pub Solves : Bool → Result GameEntry Halt → Bytes → ℕ → Expanded → Done → End → Type 0
+Solves images (Err halt) name positions work done end = ⊥
+Solves images (Ok e) name positions work done end = (g : Game) × IsSaidBy e g × SolvesGame images (result_alone g) g name positions work done end
 
 -- ---- the code that solves
 

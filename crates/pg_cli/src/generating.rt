@@ -1,5 +1,5 @@
 //! Making a game from numbers.
-ghost use Rattle.std.specs.Prelude.{◌≡◌, ◌≢◌, ◌≤◌, [], ◌∷◌, map, IfErr, IfOk};
+ghost use Rattle.std.specs.Prelude.{◌≡◌, ◌≢◌, ◌≤◌, [], ◌∷◌, false, map, IfErr, IfOk};
 ghost use Rattle.pg_io.specs.Console.{Grows};
 ghost use Rattle.pg_io.specs.declared.entry.Entry.TheVariants.{Said};
 ghost use Rattle.pg_cert.specs.Limits.{node_count};
@@ -116,7 +116,7 @@ fn solve_made<F: Files, C: Console>(
     work: &mut Work,
 ) -> Result<u8, Halt>
     requires { work.old.positions ≡ [] }
-    ensures solved { Does (SolvesGame (result_and_counts game.now work.new) game.now certificate.now
+    ensures solved { Does (SolvesGame false (result_and_counts game.now work.new) game.now certificate.now
         DEFAULT_POSITIONS work.new)
         (F.told files.old) (F.told files.new) (C.told console.old) (C.told console.new) result }
     ensures files { StoresAt (certificate.now ∷ []) (F.told files.old) (F.told files.new) }

@@ -2,6 +2,7 @@
 #![tactic(auto)]
 
 mod checking;
+mod filing;
 mod generating;
 mod judging;
 mod laws;

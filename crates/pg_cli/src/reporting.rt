@@ -17,6 +17,7 @@ use crate::verdict::Verdict;
 use pg_base::Memory;
 use pg_game::Game;
 use pg_io::{Console, Files, Stop};
+use pg_report::Code;
 use pg_talk::{Halt, say_text};
 use pg_texts::{DONE, REFUSED};
 use std::alloc::Global;
@@ -30,7 +31,7 @@ fn account(alloc: Global, game: &Game, verdict: &Verdict) -> Result<(String, u8)
     match verdict {
         Verdict::Valid(claims) => Ok((pg_report::report(alloc, game, claims)?, DONE)),
         Verdict::Faulty { claim, node, why } => Ok((
-            pg_report::rejection(alloc, *claim, *node, *why)?,
+            pg_report::rejection(alloc, *claim, *node, Code::Node(*why))?,
             REFUSED,
         )),
     }

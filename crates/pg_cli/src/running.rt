@@ -12,7 +12,7 @@ use crate::generating::generate;
 use crate::laws::announced_claims_are_forced;
 use crate::playing::play;
 use crate::reporting::report;
-use crate::solving::{positions_for, solve};
+use crate::solving::{Options, positions_for, solve};
 use pg_families::carry_out_in_family;
 use pg_io::{Console, Files, Stop};
 use pg_pns::Work;
@@ -51,9 +51,12 @@ fn carry_out<F: Files, C: Console>(
             certificate,
             positions,
             images,
-        } => match (positions_for(positions), images) {
-            (Some(most), false) => solve(alloc, &game, &certificate, most, files, console, work),
-            _ => Err(Halt::Refused(Refusal::NoMeaning)),
+        } => match positions_for(positions) {
+            Some(positions) => {
+                let options = Options { positions, images };
+                solve(alloc, &game, &certificate, options, files, console, work)
+            }
+            None => Err(Halt::Refused(Refusal::NoMeaning)),
         },
         Command::Check { game, certificate } => check(alloc, &game, &certificate, files, console),
         Command::Play {

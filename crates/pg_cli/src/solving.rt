@@ -1,5 +1,5 @@
 //! Solving a game, and storing what shows it.
-ghost use Rattle.std.specs.Prelude.{◌≡◌, ◌≢◌, ◌≤◌, [], ◌∷◌, false, length, map, IfErr, IfOk, IfSome, Some};
+ghost use Rattle.std.specs.Prelude.{◌≡◌, ◌≢◌, ◌≤◌, [], ◌∷◌, length, map, IfErr, IfOk, IfSome, Some};
 ghost use Rattle.pg_io.specs.Console.{Grows};
 ghost use Rattle.pg_io.specs.declared.entry.Entry.TheVariants.{Said};
 ghost use Rattle.pg_cert.specs.Limits.{IsWithinLimits};
@@ -18,6 +18,7 @@ ghost use Rattle.pg_cli.specs.Run.{Carries};
 ghost use Rattle.pg_cli.specs.Solving.{IsFound, IsSolveEnd, SolvesGame, class_text, positions_for, result_alone};
 ghost use Rattle.pg_talk.specs.Storing.{Delivers, StoresAt, texts_of};
 
+use crate::filing::print_solution;
 use pg_base::Memory;
 use pg_cert::{Cert, print_cert};
 use pg_game::Game;
@@ -31,6 +32,15 @@ use std::alloc::Global;
 
 /// How many positions may be expanded where the words say none.
 pub const DEFAULT_POSITIONS: u32 = 20_000;
+
+/// How a game is to be solved.
+#[derive(Clone, Copy, Debug)]
+pub struct Options {
+    /// How many positions may be expanded.
+    pub positions: u32,
+    /// Whether the certificate is to be folded: a node that is turned or reflected is said as the image of another.
+    pub images: bool,
+}
 
 /// How many positions may be expanded, where so many are asked for or none are said. The words ask for no
 /// number that isn't allowed.
@@ -112,30 +122,35 @@ fn solve_game<F: Files, C: Console>(
     alloc: Global,
     game: &Game,
     certificate: &str,
-    positions: u32,
+    options: Options,
     files: &mut F,
     console: &mut C,
     work: &mut Work,
 ) -> Result<u8, Halt>
-    requires some { LEAST_POSITIONS ≤ positions }
-    requires most { positions ≤ MOST_POSITIONS }
-    ensures solved { Does (SolvesGame (result_alone game.now) game.now certificate.now positions work.new)
+    requires some { LEAST_POSITIONS ≤ options.positions }
+    requires most { options.positions ≤ MOST_POSITIONS }
+    ensures solved { Does (SolvesGame options.images (result_alone game.now) game.now certificate.now
+        options.positions work.new)
         (F.told files.old) (F.told files.new) (C.told console.old) (C.told console.new) result }
     ensures files { StoresAt (certificate.now ∷ []) (F.told files.old) (F.told files.new) }
     ensures causes { BothCauses ⊥ (F.told files.old) (F.told files.new)
         (C.told console.old) (C.told console.new) result }
     ensures quiet { MuteAtMemory (C.told console.old) (C.told console.new) result }
-    ensures work { game.now.kind ≢ Switching → IsLeft game.now (budget game.now positions) work.new }
+    ensures work { game.now.kind ≢ Switching → IsLeft game.now (budget game.now options.positions) work.new }
     ensures untouched { game.now.kind ≡ Switching → work.new ≡ work.old }
     ensures done { IfOk result (IsSolveEnd game.now.kind) }
     ensures halts { IfErr result IsWriteHalt }
 {
-    match find(alloc, game, positions, work)? {
+    match find(alloc, game, options.positions, work)? {
         Some((message, shown)) => {
-            deliver_solution(alloc, certificate, &shown, message, None, files, console)
+            let text = print_solution(alloc, game, &shown, options.images)?;
+            deliver(certificate, &text, message, None, files, console)
         }
         None => {
-            say(console, Message::Unknown(budget_of(game, positions)))?;
+            say(
+                console,
+                Message::Unknown(budget_of(game, options.positions)),
+            )?;
             Ok(UNKNOWN)
         }
     }
@@ -146,23 +161,23 @@ pub fn solve<F: Files, C: Console>(
     alloc: Global,
     game: &str,
     certificate: &str,
-    positions: u32,
+    options: Options,
     files: &mut F,
     console: &mut C,
     work: &mut Work,
 ) -> Result<u8, Halt>
-    requires some { LEAST_POSITIONS ≤ positions }
-    requires most { positions ≤ MOST_POSITIONS }
-    ensures ran { Carries (Some (Solve game.now certificate.now (Some positions) false)) work.new
+    requires some { LEAST_POSITIONS ≤ options.positions }
+    requires most { options.positions ≤ MOST_POSITIONS }
+    ensures ran { Carries (Some (Solve game.now certificate.now (Some options.positions) options.images)) work.new
         (F.told files.old) (F.told files.new) (C.told console.old) (C.told console.new) result }
     ensures causes { BothCauses (IsGameLacking (F.told files.old).held game.now)
         (F.told files.old) (F.told files.new) (C.told console.old) (C.told console.new) result }
-    ensures quiet { Quiets (Some (Solve game.now certificate.now (Some positions) false))
+    ensures quiet { Quiets (Some (Solve game.now certificate.now (Some options.positions) options.images))
         (C.told console.old) (C.told console.new) result }
     ensures files { StoresAt (certificate.now ∷ []) (F.told files.old) (F.told files.new) }
-    ensures work { LeavesWork (Some (Solve game.now certificate.now (Some positions) false)) work.old work.new }
-    ensures gives { Gives (Some (Solve game.now certificate.now (Some positions) false)) result }
+    ensures work { LeavesWork (Some (Solve game.now certificate.now (Some options.positions) options.images)) work.old work.new }
+    ensures gives { Gives (Some (Solve game.now certificate.now (Some options.positions) options.images)) result }
 {
     let game = open_game(alloc, files, game)?;
-    solve_game(alloc, &game, certificate, positions, files, console, work)
+    solve_game(alloc, &game, certificate, options, files, console, work)
 }

@@ -6,3 +6,4 @@ pub mod Staying
 pub mod Steps
 pub mod Originals
 pub mod Limits
+pub mod Worth

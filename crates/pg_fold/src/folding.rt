@@ -42,7 +42,25 @@ pub fn fold(alloc: Global, g: &Game, c: &Cert) -> Result<ImageCert, Memory>
     ensures limits { IfOk result IsImageWithinLimits }
 {
     let maps = fitting_maps(alloc, g)?;
-    let claims = fold_claims(alloc, g, maps.as_slice(), c.claims.as_slice())?;
+    fold_by(alloc, g, maps.as_slice(), c)
+}
+
+/// The certificate folded, by the maps that fit.
+pub(crate) fn fold_by(
+    alloc: Global,
+    g: &Game,
+    maps: &[GridMap],
+    c: &Cert,
+) -> Result<ImageCert, Memory>
+    requires maps { (m : GridMap) → Contains maps.now m ↔ Fits g.now m }
+    requires ascending { AllPairs (λ a b. number_of a < number_of b) maps.now }
+    requires valid { IsValid g.now c.now }
+    requires limits { IsWithinLimits c.now }
+    requires differ { DifferInPosition c.now }
+    ensures folded { IfOk result (λ d. IsFolded g.now c.now d) }
+    ensures limits { IfOk result IsImageWithinLimits }
+{
+    let claims = fold_claims(alloc, g, maps, c.claims.as_slice())?;
     Ok(ImageCert {
         claims: ImageClaims::from_vec(claims),
     })

@@ -5,5 +5,7 @@ mod copying;
 mod folding;
 pub mod laws;
 mod original;
+mod symmetry;
 
 pub use folding::fold;
+pub use symmetry::fold_by_symmetry;

@@ -2,11 +2,14 @@
 #![tactic(auto)]
 
 ghost use Rattle.std.specs.Prelude.{◌≡◌, IfOk, string_bytes};
-ghost use Rattle.pg_report.specs.Report.{rejection_text, report_text};
-ghost use Rattle.pg_report.specs.Values.{claim_data, claims_data, rejection_data, report_data};
+ghost use Rattle.pg_report.specs.Report.{code_text, rejection_text, report_text};
+ghost use Rattle.pg_report.specs.Values.{IsByte, claim_data, claims_data, rejection_data, report_data};
 ghost use Rattle.serde_json.specs.Data.{array};
 ghost use Rattle.serde_json.specs.View.{view};
 
+mod code;
+
+pub use code::Code;
 use pg_base::Memory;
 use pg_game::{Field, Game};
 use pg_judge::ClaimHead;
@@ -69,24 +72,36 @@ pub fn report(alloc: Global, game: &Game, claims: &[ClaimHead]) -> Result<String
     Ok(text)
 }
 
-/// A certificate that isn't valid.
-fn rejection_value(alloc: Global, claim: u32, node: u32, why: u8) -> Result<Value, AllocError>
-    ensures { IfOk result (λ v. view v ≡ rejection_data claim node why) }
+/// A code: its letter and its number.
+fn code_word(alloc: Global, code: Code) -> Result<String, AllocError>
+    ensures word { IfOk result (λ word. string_bytes word ≡ code_text code) }
+    ensures byte { IfOk result (λ _. IsByte code) }
 {
-    let code = format!(in alloc; "J{why}")?;
-    json!(in alloc; {"claim": claim, "node": node, "reject": code})
+    match code {
+        Code::Node(number) => format!(in alloc; "J{number}"),
+        Code::Image(number) => format!(in alloc; "I{number}"),
+    }
 }
 
-/// What a report says of a certificate that isn't valid, by the numbers of the first faulty claim and node, and of the fault: an object with the keys
-/// `claim`, `node` and `reject`, such as `J6`, as one line of compact JSON with its line feed.
+/// A certificate that isn't valid.
+fn rejection_value(alloc: Global, claim: u32, node: u32, code: Code) -> Result<Value, AllocError>
+    ensures value { IfOk result (λ v. view v ≡ rejection_data claim node code) }
+    ensures byte { IfOk result (λ _. IsByte code) }
+{
+    let word = code_word(alloc, code)?;
+    json!(in alloc; {"claim": claim, "node": node, "reject": word})
+}
+
+/// What a report says of a certificate that isn't valid, by the numbers of the first faulty claim and node, and the code of the fault: an object with the
+/// keys `claim`, `node` and `reject`, such as `J6` or `I3`, as one line of compact JSON with its line feed.
 ///
 /// # Errors
 ///
 /// `Memory` where no memory is found.
-pub fn rejection(alloc: Global, claim: u32, node: u32, why: u8) -> Result<String, Memory>
-    ensures { IfOk result (λ text. string_bytes text ≡ rejection_text claim node why) }
+pub fn rejection(alloc: Global, claim: u32, node: u32, code: Code) -> Result<String, Memory>
+    ensures { IfOk result (λ text. string_bytes text ≡ rejection_text claim node code) }
 {
-    let mut text = rejection_value(alloc, claim, node, why)?.to_string(alloc)?;
+    let mut text = rejection_value(alloc, claim, node, code)?.to_string(alloc)?;
     text.push('\n')?;
     Ok(text)
 }

@@ -12,3 +12,4 @@ pub mod CopyLimits
 pub mod ClaimSteps
 pub mod ClaimsGathered
 pub mod Roots
+pub mod Sizes

@@ -5,10 +5,11 @@ ghost use Rattle.pg_cert.specs.declared.cert.Claim.{Claim};
 ghost use Rattle.pg_cert.specs.declared.node.Node.{Node};
 ghost use Rattle.pg_game.specs.declared.game.Game.{Game};
 ghost use Rattle.pg_image.specs.Limits.{IsImageClaim};
+ghost use Rattle.pg_image.specs.declared.cert.ImageCert.{ImageCert};
 ghost use Rattle.pg_image.specs.declared.cert.ImageClaim.{ImageClaim};
 ghost use Rattle.pg_image.specs.declared.node.ImageNode.TheVariants.{Plain};
 ghost use Rattle.pg_unfold.specs.Copies.{Copy, IsMet};
-ghost use Rattle.pg_unfold.specs.Flaws.{IsSoundClaim};
+ghost use Rattle.pg_unfold.specs.Flaws.{IsFaultless, IsFirstFault, IsSoundClaim};
 ghost use Rattle.pg_unfold.specs.Unfolded.{HasImage, HasRootAt, IsUnfolded};
 
 /// Where a plain node is met under a map, the unfolded claim has a node that came from it, and whose position is the
@@ -20,4 +21,9 @@ pub fn copies_have_images()
 /// Where the last node of a sound claim is plain, the last node of the unfolded claim has its position.
 pub fn roots_stay()
     ensures { (g : Game) → (c : ImageClaim) → (claim : Claim) → (origins : List ℕ) → IsImageClaim c → IsSoundClaim g c → IsUnfolded g c claim origins → (root : Node) → slice_get c.nodes (length c.nodes - 1) ≡ Some (Plain root) → HasRootAt claim (position_of root) }
+{}
+
+/// A certificate with a fault isn't faultless: a claim has just one size unfolded, so one that is too large has no room.
+pub fn faults_exclude_faultless()
+    ensures { (g : Game) → (c : ImageCert) → (claim : ℕ) → (node : ℕ) → (why : ℕ) → IsFirstFault g c claim node why → IsFaultless g c → ⊥ }
 {}

@@ -1,4 +1,4 @@
-use Rattle.std.proofs.Common.{Option, Some, None, Ok, Err, sym, subst}
+use Rattle.std.proofs.Common.{false, Option, Some, None, Ok, Err, sym, subst}
 use Rattle.std.specs.Borrow.{Bor}
 use Rattle.std.proofs.lemmas.Result.{err_from_is_err_and}
 use Rattle.pg_io.specs.Files.{Bytes}
@@ -58,7 +58,7 @@ returns-clause-ran g c =
     let is = subst (λ (o : Option Game). IsMadeOf c.args.which o) c.in-Some.is c.in_ok-made.ensures in
     subst (λ (o : Option (Bor Bytes)). Carries (built (Gen c.args.which c.args.game.now (text o))) work files files' before after c.solve_made.result) (sym c.in-Some-certificate.is)
     (carries_made c.args.which c.args.game.now (Some certificate) made work files files' before after c.solve_made.result is
-    (delivers_then (SolvesGame (result_and_counts made work) made certificate DEFAULT_POSITIONS work) (game_file c.args.game.now made) (size_texts made) files mid files' before between after c.solve_made.result _
+    (delivers_then (SolvesGame false (result_and_counts made work) made certificate DEFAULT_POSITIONS work) (game_file c.args.game.now made) (size_texts made) files mid files' before between after c.solve_made.result _
     c.in_ok-status.ensures.delivered c.solve_made.ensures.solved))
 
 pub returns-clause-quiet : goal.returns-clause-quiet

@@ -1,0 +1,37 @@
+//! The file of a certificate that solving has found.
+ghost use Rattle.std.specs.Prelude.{◌≡◌, ℕ, List, IfOk, Some};
+ghost use Rattle.pg_cert.specs.Limits.{IsWithinLimits};
+ghost use Rattle.pg_cert.specs.Valid.{IsValid};
+ghost use Rattle.pg_cli.specs.Solving.{IsFileOf};
+ghost use Rattle.pg_fold.specs.Folded.{DifferInPosition};
+
+use pg_base::Memory;
+use pg_cert::{Cert, print_cert};
+use pg_fold::fold_by_symmetry;
+use pg_fold::laws::folded_certificates_stay_valid;
+use pg_game::Game;
+use pg_image::print_image;
+use std::alloc::Global;
+
+/// The text of a certificate; where images are asked for, that of the folded one, unless no turn or reflection of the
+/// board fits the game or the folded one has too many nodes unfolded.
+pub fn print_solution(
+    alloc: Global,
+    game: &Game,
+    certificate: &Cert,
+    images: bool,
+) -> Result<Vec<u8>, Memory>
+    requires valid { IsValid game.now certificate.now }
+    requires limits { IsWithinLimits certificate.now }
+    requires differ { DifferInPosition certificate.now }
+    ensures { IfOk result (λ text. IsFileOf images game.now certificate.now text.items) }
+{
+    if !images {
+        return print_cert(alloc, certificate);
+    }
+    folded_certificates_stay_valid();
+    match fold_by_symmetry(alloc, game, certificate)? {
+        Some(folded) => print_image(alloc, &folded),
+        None => print_cert(alloc, certificate),
+    }
+}
