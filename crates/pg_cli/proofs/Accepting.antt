@@ -1,16 +1,16 @@
 -- A check on a console.
-use Rattle.std.proofs.Common.{◌≡◌, ℕ, List, map, Ok, Err, refl, sym, ◌∙◌, ap, subst, inr}
+use Rattle.std.proofs.Common.{◌≡◌, ℕ, List, map, Ok, Err, refl, sym, ◌∙◌, ap, subst, inl, inr}
 use Rattle.pg_io.specs.Console.{ConsoleTold, Grows}
 use Rattle.pg_io.specs.Files.{Bytes}
 use Rattle.pg_io.specs.declared.entry.Entry.TheVariants.{Said}
 use Rattle.pg_io.specs.declared.stop.Stop.{Stop}
 use Rattle.pg_io.specs.declared.stop.Stop.TheVariants.{Write}
 use Rattle.pg_game.specs.declared.game.Game.{Game}
-use Rattle.pg_cert.specs.Valid.{IsValid, IsFirstFault}
-use Rattle.pg_cert.specs.declared.cert.Cert.{Cert}
-use Rattle.pg_judge.specs.Heads.{heads_of}
 use Rattle.pg_judge.specs.declared.claim_head.ClaimHead.{ClaimHead}
-use Rattle.pg_texts.specs.declared.refusal.Refusal.TheVariants.{Rejected}
+use Rattle.pg_evidence.specs.Standing.{HasFault, HasImageFault, ShowsValid}
+use Rattle.pg_evidence.specs.Verdicts.{heads_of_evidence}
+use Rattle.pg_evidence.specs.declared.evidence.Evidence.{Evidence}
+use Rattle.pg_texts.specs.declared.refusal.Refusal.TheVariants.{Rejected, RejectedImage}
 use Rattle.pg_texts.specs.declared.statuses.TheConstants.{DONE}
 use Rattle.pg_cli.specs.Checking.{acceptance, head_acceptance, RefusesCheck, AcceptsAll}
 use Rattle.pg_talk.specs.Saying.{IsCut}
@@ -20,26 +20,31 @@ use Rattle.pg_talk.specs.declared.halt.Halt.TheVariants.{Refused, Stopped}
 use Rattle.pg_talk.proofs.Runs.{silent, talked_texts}
 use Rattle.pg_cli.proofs.Verdicts.{same_acceptances}
 
-module _ (g : Game) (c : Cert) (heads : List ClaimHead) (valid : IsValid g c) (same : heads ≡ heads_of c) where
-  texts : map head_acceptance heads ≡ map acceptance c.claims
-  texts = ap (map head_acceptance) same ∙ same_acceptances c.claims
+module _ (g : Game) (e : Evidence) (heads : List ClaimHead) (shows : ShowsValid g e) (same : heads ≡ heads_of_evidence e) where
+  texts : map head_acceptance heads ≡ map acceptance shows.0.claims
+  texts = ap (map head_acceptance) same ∙ same_acceptances g e shows.0 shows.1
 
   -- the texts that accept all claims of a valid certificate were said
   pub judged_all : (before after : ConsoleTold) → Grows before.log after.log (map Said (map head_acceptance heads)) → after.left ≡ before.left
-      → Performs (RefusesCheck (read_of g c)) (AcceptsAll (read_of g c)) before after (Ok DONE)
+      → Performs (RefusesCheck (read_of g e)) (AcceptsAll (read_of g e)) before after (Ok DONE)
   judged_all before after says left =
       let says_all = subst (λ (l : List Bytes). Grows before.log after.log (map Said l)) texts says in
-      (map Said (map acceptance c.claims), (g, refl, valid, (refl, refl)), talked_texts (Finished DONE) before after (map acceptance c.claims) says_all left)
+      (map Said (map acceptance shows.0.claims), (g, shows.0, refl, shows.1, shows.2, (refl, refl)), talked_texts (Finished DONE) before after (map acceptance shows.0.claims) says_all left)
 
   -- the first of them were said, and then a write has failed
   pub judged_cut : (before after : ConsoleTold) (stop : Stop) → stop ≡ Write → IsCut (map head_acceptance heads) before.log after.log → after.left ≡ before.left
-      → Performs (RefusesCheck (read_of g c)) (AcceptsAll (read_of g c)) before after (Err (Stopped stop))
+      → Performs (RefusesCheck (read_of g e)) (AcceptsAll (read_of g e)) before after (Err (Stopped stop))
   judged_cut before after stop write cut left =
       let (front, rest, whole, says) = subst (λ (l : List Bytes). IsCut l before.log after.log) texts cut in
-      subst (λ (s : Stop). Performs (RefusesCheck (read_of g c)) (AcceptsAll (read_of g c)) before after (Err (Stopped s))) (sym write)
-      (map Said front, inr (g, refl, valid, (front, rest, whole, refl)), talked_texts Failed before after front says left)
+      subst (λ (s : Stop). Performs (RefusesCheck (read_of g e)) (AcceptsAll (read_of g e)) before after (Err (Stopped s))) (sym write)
+      (map Said front, inr (g, shows.0, refl, shows.1, shows.2, (front, rest, whole, refl)), talked_texts Failed before after front says left)
 
--- the certificate is rejected
-pub judged_rejects : (g : Game) (c : Cert) (claim node why : ℕ) (console : ConsoleTold) → IsFirstFault g c claim node why
-    → Performs (RefusesCheck (read_of g c)) (AcceptsAll (read_of g c)) console console (Err (Refused (Rejected claim node why)))
-judged_rejects g c claim node why console fault = ((g, refl, (claim, node, why, fault, refl)), silent Starved console console refl refl)
+-- the certificate for which it stands is rejected
+pub judged_rejects : (g : Game) (e : Evidence) (claim node why : ℕ) (console : ConsoleTold) → HasFault g e claim node why
+    → Performs (RefusesCheck (read_of g e)) (AcceptsAll (read_of g e)) console console (Err (Refused (Rejected claim node why)))
+judged_rejects g e claim node why console fault = ((g, refl, inr (claim, node, why, fault, refl)), silent Starved console console refl refl)
+
+-- it stands for no certificate
+pub judged_unmade : (g : Game) (e : Evidence) (claim node why : ℕ) (console : ConsoleTold) → HasImageFault g e claim node why
+    → Performs (RefusesCheck (read_of g e)) (AcceptsAll (read_of g e)) console console (Err (Refused (RejectedImage claim node why)))
+judged_unmade g e claim node why console fault = ((g, refl, inl (claim, node, why, fault, refl)), silent Starved console console refl refl)

@@ -18,6 +18,11 @@ use Rattle.pg_game.specs.declared.field.Field.TheVariants.{Graph, Lines}
 use Rattle.pg_game.specs.declared.game.Game.{Game}
 use Rattle.pg_files.specs.GameFile.{game, Entry as GameEntry}
 use Rattle.pg_cert_files.specs.CertFile.{certificate}
+use Rattle.pg_evidence.specs.Evidence.{evidence, evidence_held}
+use Rattle.pg_evidence.specs.Standing.{StandsFor}
+use Rattle.pg_evidence.specs.declared.evidence.Evidence.{Evidence}
+use Rattle.pg_evidence.specs.declared.evidence.Evidence.TheVariants.{Plain, Folded}
+use Rattle.pg_evidence.proofs.Judged.{read_plain}
 use Rattle.pg_cert.specs.Limits.{IsWithinLimits, node_count}
 use Rattle.pg_cert.specs.Valid.{IsValid}
 use Rattle.pg_cert.specs.declared.cert.Cert.{Cert}
@@ -40,7 +45,7 @@ use Rattle.pg_cli.specs.Forced.{SaysGame, IsForcedFrom, IsForced, AreForced, Are
 use Rattle.pg_cli.specs.Playing.{IsPlayedBy, PlaysOn, claimer}
 use Rattle.pg_cli.specs.Reading.{both_held}
 use Rattle.pg_opening.specs.Opening.{game_held, IsSaidBy}
-use Rattle.pg_talk.specs.Reading.{certificate_held, both}
+use Rattle.pg_talk.specs.Reading.{both}
 use Rattle.pg_cli.specs.Reporting.{Accounts, Reports}
 use Rattle.pg_cli.specs.Generating.{StoresGame, game_file, size_text, size_texts}
 use Rattle.pg_cli.specs.Solving.{Solves, SolvesGame, Told, result_alone, result_and_counts, solution_text}
@@ -77,10 +82,10 @@ two_other first second one two said among = elim (first_or_later first (second �
 
 -- ---- what both names hold
 
-both_ok : (p : Result GameEntry Halt) (q : Result Cert Halt) (pair : GameEntry × Cert) → both p q ≡ Ok pair → (p ≡ Ok pair.0) × (q ≡ Ok pair.1)
+both_ok : (p : Result GameEntry Halt) (q : Result Evidence Halt) (pair : GameEntry × Evidence) → both p q ≡ Ok pair → (p ≡ Ok pair.0) × (q ≡ Ok pair.1)
 both_ok (Err b) q pair e = absurd (cc e)
 both_ok (Ok x) (Err b) pair e = absurd (cc e)
-both_ok (Ok x) (Ok c) pair e = let same : (x, c) ≡ pair = cc e in (ap (λ (p : GameEntry × Cert). Ok p.0) same, ap (λ (p : GameEntry × Cert). Ok p.1) same)
+both_ok (Ok x) (Ok c) pair e = let same : (x, c) ≡ pair = cc e in (ap (λ (p : GameEntry × Evidence). Ok p.0) same, ap (λ (p : GameEntry × Evidence). Ok p.1) same)
 
 -- what is read of a certificate is within the limits
 abbrev pub ReadsWithinLimits : Type 0
@@ -95,13 +100,19 @@ abbrev pub FamilyClaimsAreForced : Type 0
 FamilyClaimsAreForced = (family : Family) (task : FamilyTask) (game certificate : Option Bytes) (name : Bytes) (done : Done) (end : End) → ActsInFamily family task game certificate name done end
     → AreForcedInFamily family game done.entries
 
--- the game that is read, and a certificate within the limits
-said_game : ReadsWithinLimits → (g c : Option Bytes) (pair : GameEntry × Cert) (played : Game) → both_held g c ≡ Ok pair → IsSaidBy pair.0 played → SaysGame g played × IsWithinLimits pair.1
+-- the certificate for which one that is read stands is within the limits
+within : ReadsWithinLimits → (text : Bytes) (g : Game) (e : Evidence) (cert : Cert) → evidence text ≡ Ok e → StandsFor g e cert → IsWithinLimits cert
+within limits text g (Plain c) cert read stands = subst IsWithinLimits (sym stands) (limits text c (read_plain text c read))
+within limits text g (Folded c) cert read (u, unfolds, is) = subst IsWithinLimits (sym is) unfolds.limits
+
+-- the game that is read, and a certificate that stands for one within the limits
+said_game : ReadsWithinLimits → (g c : Option Bytes) (pair : GameEntry × Evidence) (played : Game) → both_held g c ≡ Ok pair → IsSaidBy pair.0 played
+    → SaysGame g played × ((cert : Cert) → StandsFor played pair.1 cert → IsWithinLimits cert)
 said_game limits g c pair played e said =
-    let parts = both_ok (game_held g) (certificate_held c) pair e in
+    let parts = both_ok (game_held g) (evidence_held c) pair e in
     let first = held_there _ game g pair.0 parts.0 in
-    let second = held_there _ certificate c pair.1 parts.1 in
-    (record { text = first.0; held = first.1; said = first.2 ∙ ap (λ (x : GameEntry). Ok x) (sym said) }, limits second.0 pair.1 second.2)
+    let second = held_there _ evidence c pair.1 parts.1 in
+    (record { text = first.0; held = first.1; said = first.2 ∙ ap (λ (x : GameEntry). Ok x) (sym said) }, λ cert stands. within limits second.0 played pair.1 cert second.2 stands)
 
 -- ---- the claim that is chosen
 
@@ -144,12 +155,12 @@ chosen g c side claim e = go (find (is_win_of side g.turn) c.claims) refl e wher
 module _ (limits : ReadsWithinLimits) (valid_forced : ValidClaimsAreForced) (family_forced : FamilyClaimsAreForced) where
   check_forced : (g c : Option Bytes) (entries : List Entry) (end : End) → AcceptsAll (both_held g c) entries end → AreForcedInGame g entries
   check_forced g c entries end accepts = go (both_held g c) refl accepts where
-    go : (r : Result (GameEntry × Cert) Halt) → both_held g c ≡ r → AcceptsAll r entries end → AreForcedInGame g entries
+    go : (r : Result (GameEntry × Evidence) Halt) → both_held g c ≡ r → AcceptsAll r entries end → AreForcedInGame g entries
     go (Err halt) e accepts = absurd accepts
-    go (Ok pair) e (played, said, valid, says) =
+    go (Ok pair) e (played, cert, said, stands, valid, says) =
         let there = said_game limits g c pair played e said in
-        accepted_forced (IsForcedFrom g) (IsForced g) (λ (k : Claim). k.turn) (λ (k : Claim). k.side) (λ (k : Claim). k.goal) pair.1.claims entries end says
-        (λ i claim at. (played, there.0, valid_forced played pair.1 there.1 valid i claim at))
+        accepted_forced (IsForcedFrom g) (IsForced g) (λ (k : Claim). k.turn) (λ (k : Claim). k.side) (λ (k : Claim). k.goal) cert.claims entries end says
+        (λ i claim at. (played, there.0, valid_forced played cert (there.1 cert stands) valid i claim at))
 
   -- ---- a play
 
@@ -157,12 +168,12 @@ module _ (limits : ReadsWithinLimits) (valid_forced : ValidClaimsAreForced) (fam
   play_claim_forced : (g c : Option Bytes) (side : Side) (played : Game) (claim : Claim) → IsPlayedBy side (both_held g c) played claim → IsForced g claim.side claim.goal
   unfolding IsChosen
   play_claim_forced g c side played claim by = go (both_held g c) refl by where
-    go : (r : Result (GameEntry × Cert) Halt) → both_held g c ≡ r → IsPlayedBy side r played claim → IsForced g claim.side claim.goal
+    go : (r : Result (GameEntry × Evidence) Halt) → both_held g c ≡ r → IsPlayedBy side r played claim → IsForced g claim.side claim.goal
     go (Err halt) e by = absurd by
-    go (Ok pair) e (said, valid, is) =
+    go (Ok pair) e (cert, said, stands, valid, is) =
         let there = said_game limits g c pair played e said in
-        let one = chosen played pair.1 side claim is in
-        let forces = valid_forced played pair.1 there.1 valid one.0 claim one.1 in
+        let one = chosen played cert side claim is in
+        let forces = valid_forced played cert (there.1 cert stands) valid one.0 claim one.1 in
         (played, there.0, subst (λ (turn : Side). Forces played (with_turn played turn) claim.side claim.goal) one.3 forces)
 
   plays_forced : (g c : Option Bytes) (side : Side) (entries : List Entry) (end : End) → PlaysOn side (both_held g c) entries end → AreForcedInGame g entries
@@ -247,11 +258,11 @@ module _ (limits : ReadsWithinLimits) (valid_forced : ValidClaimsAreForced) (fam
   report_other true bias claims = (apart _ 97 refl, apart _ 109 refl)
   report_other false bias claims = (apart _ 97 refl, apart _ 109 refl)
 
-  account_other : (g : Game) (c : Cert) (text : Bytes) (status : ℕ) → Accounts g c text status → IsOther text
-  account_other g c text status (inl tells) = subst (λ (t : Bytes). IsOther t) (sym tells.text_is) (report_other (g.bias == 1) g.bias _)
-  account_other g c text status (inr tells) = subst (λ (t : Bytes). IsOther t) (sym tells.text_is) (apart _ 97 refl, apart _ 109 refl)
+  account_other : (g : Game) (e : Evidence) (text : Bytes) (status : ℕ) → Accounts g e text status → IsOther text
+  account_other g e text status (inl tells) = subst (λ (t : Bytes). IsOther t) (sym tells.text_is) (report_other (g.bias == 1) g.bias _)
+  account_other g e text status (inr tells) = subst (λ (t : Bytes). IsOther t) (sym tells.text_is) (apart _ 97 refl, apart _ 109 refl)
 
-  reports_forced : (bytes : Option Bytes) (read : Result (GameEntry × Cert) Halt) (entries : List Entry) (end : End) → Reports read entries end → AreForcedInGame bytes entries
+  reports_forced : (bytes : Option Bytes) (read : Result (GameEntry × Evidence) Halt) (entries : List Entry) (end : End) → Reports read entries end → AreForcedInGame bytes entries
   reports_forced bytes (Err halt) entries end none = absurd none
   reports_forced bytes (Ok pair) entries (Finished status) (g, said, text, told, is) = others_forced (IsForcedFrom bytes) (IsForced bytes) entries (single_other entries text is (account_other g pair.1 text status told))
   reports_forced bytes (Ok pair) entries Failed none = absurd none

@@ -5,7 +5,7 @@ use Rattle.pg_io.specs.Files.{Bytes}
 use Rattle.pg_io.specs.declared.entry.Entry.TheVariants.{Said}
 use Rattle.pg_io.specs.declared.stop.Stop.{Stop}
 use Rattle.pg_game.specs.declared.game.Game.{Game}
-use Rattle.pg_cert.specs.declared.cert.Cert.{Cert}
+use Rattle.pg_evidence.specs.declared.evidence.Evidence.{Evidence}
 use Rattle.pg_talk.specs.Done.{Finished, Performs, stop_end}
 use Rattle.pg_cli.specs.Reading.{read_of}
 use Rattle.pg_cli.specs.Reporting.{Accounts, RefusesReport, Reports}
@@ -14,12 +14,12 @@ use Rattle.pg_talk.proofs.Runs.{silent, talked_texts}
 
 -- ---- on a console
 
-module _ (g : Game) (c : Cert) (before after : ConsoleTold) where
+module _ (g : Game) (e : Evidence) (before after : ConsoleTold) where
   -- what there is to say was said
-  pub reported : (text : Bytes) (status : ℕ) → Accounts g c text status → Grows before.log after.log (Said text ∷ []) → after.left ≡ before.left
-      → Performs (RefusesReport (read_of g c)) (Reports (read_of g c)) before after (Ok status)
+  pub reported : (text : Bytes) (status : ℕ) → Accounts g e text status → Grows before.log after.log (Said text ∷ []) → after.left ≡ before.left
+      → Performs (RefusesReport (read_of g e)) (Reports (read_of g e)) before after (Ok status)
   reported text status told says left = (Said text ∷ [], (g, refl, text, told, refl), talked_texts (Finished status) before after (text ∷ []) says left)
 
   -- nothing was said
-  pub unreported : (stop : Stop) → after.log ≡ before.log → after.left ≡ before.left → Performs (RefusesReport (read_of g c)) (Reports (read_of g c)) before after (Err (Stopped stop))
+  pub unreported : (stop : Stop) → after.log ≡ before.log → after.left ≡ before.left → Performs (RefusesReport (read_of g e)) (Reports (read_of g e)) before after (Err (Stopped stop))
   unreported stop same left = ([], inl refl, silent (stop_end stop) before after same left)

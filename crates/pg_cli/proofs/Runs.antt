@@ -6,7 +6,7 @@ use Rattle.pg_io.specs.declared.stop.Stop.TheVariants.{Read, Write, Memory}
 use Rattle.pg_base.specs.declared.side.Side.{Side}
 use Rattle.pg_game.specs.declared.game.Game.{Game}
 use Rattle.pg_files.specs.GameFile.{Entry as GameEntry}
-use Rattle.pg_cert.specs.declared.cert.Cert.{Cert}
+use Rattle.pg_evidence.specs.declared.evidence.Evidence.{Evidence}
 use Rattle.pg_texts.specs.declared.refusal.Refusal.{Refusal}
 use Rattle.pg_words.specs.Words.{Command, Solve, Check, Play, Gen, Report, OfFamily, Record, Review}
 use Rattle.pg_cli.specs.Checking.{RefusesCheck, AcceptsAll}
@@ -26,7 +26,7 @@ use Rattle.pg_cli.proofs.Tasks.{task_leaves, task_memory, task_quiet}
 
 -- ---- a game and a certificate that were read, for a check and for a play
 
-module _ (files files' : FilesTold) (g c : Bytes) (pair : Game × Cert) (before after : ConsoleTold) (same : files'.held ≡ files.held)
+module _ (files files' : FilesTold) (g c : Bytes) (pair : Game × Evidence) (before after : ConsoleTold) (same : files'.held ≡ files.held)
     (opens : OpensBoth files.held g c (Ok pair)) where
   read_both : (held : Holding) → files.held ≡ Some held → both_held (held g) (held c) ≡ read_of pair.0 pair.1
   read_both held is = opened_two pair_entry both_held files.held g c held is pair opens
@@ -58,11 +58,11 @@ module _ (files files' : FilesTold) (console : ConsoleTold) (same : files'.held 
 
     pub halted_check : Carries (Some (Check g c)) work files files' console console (Err halt)
     halted_check = carries_halt (Some (Check g c)) work halt
-        (λ held refusal is this. subst (λ (read : Result (GameEntry × Cert) Halt). RefusesCheck read refusal) (sym (read_refusal held refusal is this)) refl)
+        (λ held refusal is this. subst (λ (read : Result (GameEntry × Evidence) Halt). RefusesCheck read refusal) (sym (read_refusal held refusal is this)) refl)
 
     pub halted_play : (side : Side) → Carries (Some (Play g c side)) work files files' console console (Err halt)
     halted_play side = carries_halt (Some (Play g c side)) work halt
-        (λ held refusal is this. subst (λ (read : Result (GameEntry × Cert) Halt). RefusesPlay side read refusal) (sym (read_refusal held refusal is this)) refl)
+        (λ held refusal is this. subst (λ (read : Result (GameEntry × Evidence) Halt). RefusesPlay side read refusal) (sym (read_refusal held refusal is this)) refl)
 
     pub halted_report : Carries (Some (Report g c)) work files files' console console (Err halt)
     halted_report = carries_halt (Some (Report g c)) work halt read_refusal

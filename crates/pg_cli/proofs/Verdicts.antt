@@ -1,45 +1,33 @@
 -- Judging, put together.
-use Rattle.std.proofs.Common.{◌≡◌, ℕ, List, [], ◌∷◌, map, Option, Some, None, Result, Ok, Err, refl, sym, ◌∙◌, ap, subst}
+use Rattle.std.proofs.Common.{◌≡◌, ℕ, List, [], ◌∷◌, map, Option, Some, None, Result, Ok, Err, refl, sym, ◌∙◌, ap, ap₂, subst}
 use Rattle.std.specs.Prelude.{IfSome}
-use Rattle.std.proofs.lemmas.List.{append-nil}
+use Rattle.pg_base.specs.declared.goal.Goal.{Goal}
+use Rattle.pg_base.specs.declared.side.Side.{Side}
 use Rattle.pg_io.specs.Console.{ConsoleTold}
 use Rattle.pg_io.specs.Files.{Bytes, Holding, FilesTold}
-use Rattle.pg_io.specs.Reading.{Pours}
 use Rattle.pg_game.specs.declared.game.Game.{Game}
 use Rattle.pg_cert.specs.declared.cert.Cert.{Cert}
 use Rattle.pg_cert.specs.declared.cert.Claim.{Claim}
-use Rattle.pg_cert_files.specs.declared.limits.TheConstants.{MAX_CERT_BYTES}
+use Rattle.pg_image.specs.declared.cert.ImageClaim.{ImageClaim}
+use Rattle.pg_unfold.specs.Unfolded.{AreUnfolded, IsUnfolded}
 use Rattle.pg_judge.specs.Heads.{head_of}
-use Rattle.pg_judge.specs.Judged.{HasCome, StandsFor}
-use Rattle.pg_judge.specs.declared.judging.Judging.{Judging}
+use Rattle.pg_evidence.specs.Standing.{StandsFor}
+use Rattle.pg_evidence.specs.Verdicts.{IsFound, heads_of_evidence, image_head}
+use Rattle.pg_evidence.specs.declared.evidence.Evidence.{Evidence}
+use Rattle.pg_evidence.specs.declared.evidence.Evidence.TheVariants.{Plain, Folded}
+use Rattle.pg_evidence.specs.declared.verdict.Verdict.{Verdict}
+use Rattle.pg_texts.specs.Texts.{accepted_text}
 use Rattle.pg_words.specs.Words.{Check, Report}
 use Rattle.pg_pns.specs.Expanded.{Expanded}
 use Rattle.pg_cli.specs.Checking.{AcceptsAll, RefusesCheck, acceptance, head_acceptance}
 use Rattle.pg_talk.specs.Done.{Performs}
 use Rattle.pg_cli.specs.Reading.{OpensBoth, read_of}
-use Rattle.pg_talk.specs.Reading.{certificate_held}
 use Rattle.pg_cli.specs.Reporting.{RefusesReport, Reports}
 use Rattle.pg_cli.specs.Run.{Carries, CarriesOn}
-use Rattle.pg_cli.specs.Verdicts.{IsFound, IsJudgedAs, JudgesBoth, JudgesCertificate}
+use Rattle.pg_cli.specs.Verdicts.{JudgesBoth}
 use Rattle.pg_talk.specs.declared.halt.Halt.{Halt}
 use Rattle.pg_talk.specs.declared.halt.Halt.TheVariants.{Refused, Stopped}
-use Rattle.pg_cli.specs.declared.verdict.Verdict.{Verdict}
-use Rattle.pg_talk.proofs.Openings.{whole_certificate}
 use Rattle.pg_cli.proofs.Runs.{carries_check, carries_report}
-
--- ---- a certificate
-
--- what was judged as it came is what the name holds
-pub judged_certificate : (h : Option Holding) (g : Game) (name : Bytes) (before after : Judging) (r : Result Verdict Halt) → before.told.checking.game.now ≡ g → StandsFor before []
-    → Pours h name MAX_CERT_BYTES (λ first now bytes. HasCome first now bytes) before after
-    → ((text : Bytes) → StandsFor after text → IsJudgedAs after.told.checking.game.now (certificate_held (Some text)) r) → JudgesCertificate h g name r
-judged_certificate None g name before after r same stands pours judged = tt
-judged_certificate (Some held) g name before after r same stands (text, whole, goes) judged =
-    let none : HasCome before before [] = record { game = refl; stands = λ (t : Bytes) h. subst (StandsFor before) (sym (append-nil t)) h } in
-    let come : HasCome before after text = goes before [] none in
-    let game : after.told.checking.game.now ≡ g = ap (λ x. x.now) come.game ∙ same in
-    subst (λ (g : Game). IsJudgedAs g (certificate_held (held name)) r) game
-    (subst (λ (read : Result Cert Halt). IsJudgedAs after.told.checking.game.now read r) (sym (whole_certificate (held name) text whole)) (judged text (come.stands [] stands)))
 
 -- ---- both
 
@@ -54,26 +42,47 @@ opens_err (Some held) g c (Stopped stop) judges = tt
 module _ (files files' : FilesTold) (g c : Bytes) (judged : Game × Verdict) (before after : ConsoleTold) (same : files'.held ≡ files.held)
     (judges : JudgesBoth files.held g c (Ok judged)) where
   pub check_carries : (work : Expanded) (r : Result ℕ Halt)
-      → ((played : Game) (cert : Cert) → IsFound played cert judged.1 → Performs (RefusesCheck (read_of played cert)) (AcceptsAll (read_of played cert)) before after r)
+      → ((played : Game) (e : Evidence) → IsFound played e judged.1 → Performs (RefusesCheck (read_of played e)) (AcceptsAll (read_of played e)) before after r)
       → Carries (Some (Check g c)) work files files' before after r
   check_carries work r performs = go files.held refl judges where
     go : (h : Option Holding) → files.held ≡ h → JudgesBoth h g c (Ok judged) → Carries (Some (Check g c)) work files files' before after r
     go None is judges = subst (λ (h : Option Holding). IfSome h (λ held. CarriesOn held (Some (Check g c)) work files' before after r)) (sym is) tt
-    go (Some held) is (cert, read, found) =
-        carries_check files files' g c (judged.0, cert) before after same (subst (λ (h : Option Holding). OpensBoth h g c (Ok (judged.0, cert))) (sym is) read) work r (performs judged.0 cert found)
+    go (Some held) is (e, read, found) =
+        carries_check files files' g c (judged.0, e) before after same (subst (λ (h : Option Holding). OpensBoth h g c (Ok (judged.0, e))) (sym is) read) work r (performs judged.0 e found)
 
   pub report_carries : (work : Expanded) (r : Result ℕ Halt)
-      → ((cert : Cert) → IsFound judged.0 cert judged.1 → Performs (RefusesReport (read_of judged.0 cert)) (Reports (read_of judged.0 cert)) before after r)
+      → ((e : Evidence) → IsFound judged.0 e judged.1 → Performs (RefusesReport (read_of judged.0 e)) (Reports (read_of judged.0 e)) before after r)
       → Carries (Some (Report g c)) work files files' before after r
   report_carries work r performs = go files.held refl judges where
     go : (h : Option Holding) → files.held ≡ h → JudgesBoth h g c (Ok judged) → Carries (Some (Report g c)) work files files' before after r
     go None is judges = subst (λ (h : Option Holding). IfSome h (λ held. CarriesOn held (Some (Report g c)) work files' before after r)) (sym is) tt
-    go (Some held) is (cert, read, found) =
-        carries_report files files' g c (judged.0, cert) before after same (subst (λ (h : Option Holding). OpensBoth h g c (Ok (judged.0, cert))) (sym is) read) work r (performs cert found)
+    go (Some held) is (e, read, found) =
+        carries_report files files' g c (judged.0, e) before after same (subst (λ (h : Option Holding). OpensBoth h g c (Ok (judged.0, e))) (sym is) read) work r (performs e found)
 
 -- ---- texts
 
 -- a claim is accepted by what it says before its nodes
-pub same_acceptances : (claims : List Claim) → map head_acceptance (map head_of claims) ≡ map acceptance claims
-same_acceptances [] = refl
-same_acceptances (claim ∷ claims) = ap (λ (texts : List Bytes). acceptance claim ∷ texts) (same_acceptances claims)
+accept_heads : (claims : List Claim) → map head_acceptance (map head_of claims) ≡ map acceptance claims
+accept_heads [] = refl
+accept_heads (claim ∷ claims) = ap (λ (texts : List Bytes). acceptance claim ∷ texts) (accept_heads claims)
+
+-- an unfolded claim says the same before its nodes
+accept_unfolded : (g : Game) (c : ImageClaim) (claim : Claim) (origins : List ℕ) → IsUnfolded g c claim origins → head_acceptance (image_head c) ≡ acceptance claim
+accept_unfolded g c claim origins u =
+    ap (λ (turn : Side). accepted_text turn c.side c.goal) (sym u.turn) ∙ ap (λ (side : Side). accepted_text claim.turn side c.goal) (sym u.side) ∙ ap (λ (goal : Goal). accepted_text claim.turn claim.side goal) (sym u.goal)
+
+accept_images : (g : Game) (cs : List ImageClaim) (claims : List Claim) (sources : List (List ℕ)) → AreUnfolded g cs claims sources → map head_acceptance (map image_head cs) ≡ map acceptance claims
+accept_images g [] [] [] h = refl
+accept_images g [] [] (o ∷ os) h = absurd h
+accept_images g [] (d ∷ ds) [] h = absurd h
+accept_images g [] (d ∷ ds) (o ∷ os) h = absurd h
+accept_images g (b ∷ bs) [] [] h = absurd h
+accept_images g (b ∷ bs) [] (o ∷ os) h = absurd h
+accept_images g (b ∷ bs) (d ∷ ds) [] h = absurd h
+accept_images g (b ∷ bs) (d ∷ ds) (o ∷ os) h = ap₂ (λ (text : Bytes) (texts : List Bytes). text ∷ texts) (accept_unfolded g b d o h.0) (accept_images g bs ds os h.1)
+
+-- the claims as the file has them are accepted by the same texts as those of the certificate for which they stand
+pub same_acceptances : (g : Game) (e : Evidence) (c : Cert) → StandsFor g e c → map head_acceptance (heads_of_evidence e) ≡ map acceptance c.claims
+same_acceptances g (Plain plain) c stands = accept_heads plain.claims ∙ ap (λ (cert : Cert). map acceptance cert.claims) (sym stands)
+same_acceptances g (Folded folded) c (u, unfolds, is) =
+    accept_images g folded.claims u.cert.claims u.sources unfolds.unfolded.claims ∙ ap (λ (cert : Cert). map acceptance cert.claims) (sym is)

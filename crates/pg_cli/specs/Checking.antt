@@ -1,16 +1,17 @@
 -- What a check says.
-use Rattle.std.specs.Prelude.{◌≡◌, ℕ, List, map, Result, Ok, Err}
+use Rattle.std.specs.Prelude.{◌≡◌, List, map, Result, Ok, Err}
 use Rattle.pg_io.specs.Files.{Bytes}
 use Rattle.pg_io.specs.declared.entry.Entry.{Entry}
 use Rattle.pg_game.specs.declared.game.Game.{Game}
 use Rattle.pg_files.specs.GameFile.{Entry as GameEntry}
-use Rattle.pg_cert.specs.Valid.{IsValid, IsFirstFault}
+use Rattle.pg_cert.specs.Valid.{IsValid}
 use Rattle.pg_cert.specs.declared.cert.Cert.{Cert}
 use Rattle.pg_cert.specs.declared.cert.Claim.{Claim}
 use Rattle.pg_judge.specs.declared.claim_head.ClaimHead.{ClaimHead}
 use Rattle.pg_texts.specs.Texts.{accepted_text}
 use Rattle.pg_texts.specs.declared.refusal.Refusal.{Refusal}
-use Rattle.pg_texts.specs.declared.refusal.Refusal.TheVariants.{Rejected}
+use Rattle.pg_evidence.specs.Standing.{RejectsEvidence, StandsFor}
+use Rattle.pg_evidence.specs.declared.evidence.Evidence.{Evidence}
 use Rattle.pg_talk.specs.Done.{End}
 use Rattle.pg_talk.specs.Saying.{SaysAll}
 use Rattle.pg_opening.specs.Opening.{IsSaidBy}
@@ -25,16 +26,12 @@ acceptance claim = accepted_text claim.turn claim.side claim.goal
 abbrev pub head_acceptance : ClaimHead → Bytes
 head_acceptance head = accepted_text head.turn head.side head.goal
 
--- the certificate is rejected at its first fault
-abbrev pub Rejects : Game → Cert → Refusal → Type 0
-Rejects g c refusal = (claim : ℕ) × (node : ℕ) × (why : ℕ) × IsFirstFault g c claim node why × (refusal ≡ Rejected claim node why)
-
 -- what stands against a check of what was read: a fault of a file, or the certificate is rejected
-abbrev pub RefusesCheck : Result (GameEntry × Cert) Halt → Refusal → Type 0
+abbrev pub RefusesCheck : Result (GameEntry × Evidence) Halt → Refusal → Type 0
 RefusesCheck (Err halt) refusal = halt ≡ Refused refusal
-RefusesCheck (Ok pair) refusal = (g : Game) × IsSaidBy pair.0 g × Rejects g pair.1 refusal
+RefusesCheck (Ok pair) refusal = (g : Game) × IsSaidBy pair.0 g × RejectsEvidence g pair.1 refusal
 
--- the certificate is valid, and each of its claims is accepted in order
-abbrev pub AcceptsAll : Result (GameEntry × Cert) Halt → List Entry → End → Type 0
+-- the certificate for which it stands is valid, and each of its claims is accepted in order
+abbrev pub AcceptsAll : Result (GameEntry × Evidence) Halt → List Entry → End → Type 0
 AcceptsAll (Err halt) entries end = ⊥
-AcceptsAll (Ok pair) entries end = (g : Game) × IsSaidBy pair.0 g × IsValid g pair.1 × SaysAll (map acceptance pair.1.claims) entries end
+AcceptsAll (Ok pair) entries end = (g : Game) × (c : Cert) × IsSaidBy pair.0 g × StandsFor g pair.1 c × IsValid g c × SaysAll (map acceptance c.claims) entries end

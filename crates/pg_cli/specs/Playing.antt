@@ -11,7 +11,8 @@ use Rattle.pg_cert.specs.declared.cert.Claim.{Claim}
 use Rattle.pg_player.specs.Player.{chosen_claim}
 use Rattle.pg_texts.specs.declared.refusal.Refusal.{Refusal}
 use Rattle.pg_texts.specs.declared.refusal.Refusal.TheVariants.{NoClaim}
-use Rattle.pg_cli.specs.Checking.{Rejects}
+use Rattle.pg_evidence.specs.Standing.{RejectsEvidence, StandsFor}
+use Rattle.pg_evidence.specs.declared.evidence.Evidence.{Evidence}
 use Rattle.pg_talk.specs.Contender.{Contender, contender_of}
 use Rattle.pg_talk.specs.Done.{End}
 use Rattle.pg_talk.specs.Playing.{IsPlay}
@@ -19,24 +20,24 @@ use Rattle.pg_opening.specs.Opening.{IsSaidBy}
 use Rattle.pg_talk.specs.declared.halt.Halt.{Halt}
 use Rattle.pg_talk.specs.declared.halt.Halt.TheVariants.{Refused}
 
--- the certificate is valid and has no claim of the side with the game's turn
-abbrev pub LacksClaim : Game → Cert → Side → Refusal → Type 0
-LacksClaim g c side refusal = IsValid g c × (chosen_claim g c side ≡ None) × (refusal ≡ NoClaim side)
+-- the certificate for which it stands is valid and has no claim of the side with the game's turn
+abbrev pub LacksClaim : Game → Evidence → Side → Refusal → Type 0
+LacksClaim g e side refusal = (c : Cert) × StandsFor g e c × IsValid g c × (chosen_claim g c side ≡ None) × (refusal ≡ NoClaim side)
 
 -- what stands against a play by what was read: a fault of a file, or the certificate is rejected, or it has no claim of the side
-abbrev pub RefusesPlay : Side → Result (GameEntry × Cert) Halt → Refusal → Type 0
+abbrev pub RefusesPlay : Side → Result (GameEntry × Evidence) Halt → Refusal → Type 0
 RefusesPlay side (Err halt) refusal = halt ≡ Refused refusal
-RefusesPlay side (Ok pair) refusal = (g : Game) × IsSaidBy pair.0 g × (Rejects g pair.1 refusal ⊎ LacksClaim g pair.1 side refusal)
+RefusesPlay side (Ok pair) refusal = (g : Game) × IsSaidBy pair.0 g × (RejectsEvidence g pair.1 refusal ⊎ LacksClaim g pair.1 side refusal)
 
--- a side is played by this claim on this game, which were read: the certificate is valid
-abbrev pub IsPlayedBy : Side → Result (GameEntry × Cert) Halt → Game → Claim → Type 0
+-- a side is played by this claim on this game, which were read: the certificate for which it stands is valid
+abbrev pub IsPlayedBy : Side → Result (GameEntry × Evidence) Halt → Game → Claim → Type 0
 IsPlayedBy side (Err halt) g claim = ⊥
-IsPlayedBy side (Ok pair) g claim = IsSaidBy pair.0 g × IsValid g pair.1 × (chosen_claim g pair.1 side ≡ Some claim)
+IsPlayedBy side (Ok pair) g claim = (c : Cert) × IsSaidBy pair.0 g × StandsFor g pair.1 c × IsValid g c × (chosen_claim g c side ≡ Some claim)
 
 -- what is seen of the player by the claim, at the game's position
 abbrev pub claimer : Game → Claim → Contender
 claimer g claim = contender_of g claim.side claim.goal (start g)
 
 -- the side is played by a claim of what was read
-abbrev pub PlaysOn : Side → Result (GameEntry × Cert) Halt → List Entry → End → Type 0
+abbrev pub PlaysOn : Side → Result (GameEntry × Evidence) Halt → List Entry → End → Type 0
 PlaysOn side read entries end = (g : Game) × (claim : Claim) × IsPlayedBy side read g claim × IsPlay (claimer g claim) entries end

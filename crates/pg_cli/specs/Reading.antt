@@ -1,30 +1,31 @@
--- What names hold: the game and the certificate that a command reads, or what stands against them.
+-- What names hold: the game and the certificate that a command reads, in either form, or what stands against them.
 use Rattle.std.specs.Prelude.{Option, Result, Ok}
 use Rattle.pg_io.specs.Files.{Bytes, Holding}
 use Rattle.pg_game.specs.declared.game.Game.{Game}
 use Rattle.pg_files.specs.GameFile.{Entry as GameEntry}
 use Rattle.pg_files.specs.Views.{entry}
-use Rattle.pg_cert.specs.declared.cert.Cert.{Cert}
-use Rattle.pg_talk.specs.Reading.{IsLackingTwo, OpensTwo, both, certificate_held}
+use Rattle.pg_evidence.specs.Evidence.{evidence_held}
+use Rattle.pg_evidence.specs.declared.evidence.Evidence.{Evidence}
+use Rattle.pg_talk.specs.Reading.{IsLackingTwo, OpensTwo, both}
 use Rattle.pg_opening.specs.Opening.{game_held}
 use Rattle.pg_talk.specs.declared.halt.Halt.{Halt}
 
 -- the game and the certificate that two names hold, or what stands against the first of them
-abbrev pub both_held : Option Bytes → Option Bytes → Result (GameEntry × Cert) Halt
-both_held game_bytes certificate_bytes = both (game_held game_bytes) (certificate_held certificate_bytes)
+abbrev pub both_held : Option Bytes → Option Bytes → Result (GameEntry × Evidence) Halt
+both_held game_bytes certificate_bytes = both (game_held game_bytes) (evidence_held certificate_bytes)
 
 -- ---- what the code has read
 
 -- a game and a certificate, with the game as its file says it
-abbrev pub pair_entry : Game × Cert → GameEntry × Cert
+abbrev pub pair_entry : Game × Evidence → GameEntry × Evidence
 pair_entry pair = (entry pair.0, pair.1)
 
 -- both were read
-abbrev pub read_of : Game → Cert → Result (GameEntry × Cert) Halt
-read_of g c = Ok (entry g, c)
+abbrev pub read_of : Game → Evidence → Result (GameEntry × Evidence) Halt
+read_of g e = Ok (entry g, e)
 
 -- where it is told what the names hold, this is what they say
-abbrev pub OpensBoth : Option Holding → Bytes → Bytes → Result (Game × Cert) Halt → Type 0
+abbrev pub OpensBoth : Option Holding → Bytes → Bytes → Result (Game × Evidence) Halt → Type 0
 OpensBoth h g c r = OpensTwo pair_entry both_held h g c r
 
 -- it is told that a name that is wanted isn't held

@@ -3,7 +3,8 @@ ghost use Rattle.std.specs.Prelude.{◌≡◌, ◌≢◌, [], map, Err, IfErr, I
 ghost use Rattle.pg_io.specs.Files.{ReadsOnly};
 ghost use Rattle.pg_io.specs.Stop.{Causes};
 ghost use Rattle.pg_game.specs.declared.game.Game.{Game};
-ghost use Rattle.pg_cert.specs.declared.cert.Cert.{Cert};
+ghost use Rattle.pg_evidence.specs.Verdicts.{IsFound};
+ghost use Rattle.pg_evidence.specs.declared.evidence.Evidence.{Evidence};
 ghost use Rattle.pg_texts.specs.declared.statuses.TheConstants.{DONE};
 ghost use Rattle.pg_pns.specs.Expanded.{Expanded};
 ghost use Rattle.pg_words.specs.Words.{Check};
@@ -14,10 +15,9 @@ ghost use Rattle.pg_talk.specs.Done.{Performs};
 ghost use Rattle.pg_talk.specs.Halts.{BothCauses, HaltCauses, IsReadHalt};
 ghost use Rattle.pg_cli.specs.Reading.{AreLacking, read_of};
 ghost use Rattle.pg_cli.specs.Run.{Carries};
-ghost use Rattle.pg_cli.specs.Verdicts.{IsFound};
 
 use crate::judging::judge_both;
-use crate::verdict::Verdict;
+use pg_evidence::Verdict;
 use pg_io::{Console, Files, Stop};
 use pg_judge::ClaimHead;
 use pg_talk::{Halt, say};
@@ -43,10 +43,10 @@ fn accept_all<C: Console>(console: &mut C, claims: &[ClaimHead]) -> Result<(), S
     Ok(())
 }
 
-/// Says that each claim of a certificate is accepted, where it is valid.
+/// Says that each claim of a certificate is accepted, where the one for which it stands is valid.
 fn accept<C: Console>(console: &mut C, verdict: &Verdict) -> Result<u8, Halt>
-    ensures judged { (g : Game) (c : Cert) → IsFound g c verdict.now
-        → Performs (RefusesCheck (read_of g c)) (AcceptsAll (read_of g c))
+    ensures judged { (g : Game) (e : Evidence) → IsFound g e verdict.now
+        → Performs (RefusesCheck (read_of g e)) (AcceptsAll (read_of g e))
         (C.told console.old) (C.told console.new) result }
     ensures quiet { Quiets (Some (Check [] [])) (C.told console.old) (C.told console.new) result }
     ensures causes { HaltCauses ⊥ (C.told console.old).faults (C.told console.new).faults result }
@@ -60,6 +60,11 @@ fn accept<C: Console>(console: &mut C, verdict: &Verdict) -> Result<u8, Halt>
             Ok(DONE)
         }
         Verdict::Faulty { claim, node, why } => Err(Halt::Refused(Refusal::Rejected {
+            claim: *claim,
+            node: *node,
+            why: *why,
+        })),
+        Verdict::FaultyImage { claim, node, why } => Err(Halt::Refused(Refusal::RejectedImage {
             claim: *claim,
             node: *node,
             why: *why,

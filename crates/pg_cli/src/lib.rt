@@ -11,7 +11,6 @@ mod reading;
 mod reporting;
 mod running;
 mod solving;
-mod verdict;
 
 pub use laws::announced_claims_are_forced;
 pub use running::run;

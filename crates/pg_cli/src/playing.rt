@@ -1,7 +1,9 @@
 //! Playing a side of a game by a certificate.
 ghost use Rattle.std.specs.Prelude.{IfErr, IfOk, Some};
 ghost use Rattle.pg_io.specs.Files.{ReadsOnly};
-ghost use Rattle.pg_cert.specs.Limits.{IsWithinLimits};
+ghost use Rattle.pg_evidence.specs.Evidence.{IsWithinItsLimits};
+ghost use Rattle.pg_evidence.specs.Standing.{StandsFor};
+ghost use Rattle.pg_evidence.specs.declared.evidence.Evidence.{Evidence};
 ghost use Rattle.pg_cert.specs.Valid.{IsValid};
 ghost use Rattle.pg_pns.specs.Expanded.{Expanded};
 ghost use Rattle.pg_words.specs.Words.{Play};
@@ -14,8 +16,8 @@ ghost use Rattle.pg_cli.specs.Run.{Carries};
 
 use crate::reading::open_both;
 use pg_base::Side;
-use pg_cert::Cert;
 use pg_check::{CheckFault, Checked};
+use pg_evidence::{Evidence, check_standing, standing_of};
 use pg_game::Game;
 use pg_io::{Console, Files, Stop};
 use pg_player::{OpenFault, Player};
@@ -31,8 +33,9 @@ fn play_checked<C: Console>(
     side: Side,
 ) -> Result<u8, Halt>
     requires { IsValid checked.game.now checked.cert.now }
-    ensures played { Performs (RefusesPlay side (read_of checked.entry.game.now checked.entry.cert.now))
-        (PlaysOn side (read_of checked.entry.game.now checked.entry.cert.now))
+    ensures played { (e : Evidence) → StandsFor checked.entry.game.now e checked.entry.cert.now
+        → Performs (RefusesPlay side (read_of checked.entry.game.now e))
+        (PlaysOn side (read_of checked.entry.game.now e))
         (C.told console.old) (C.told console.new) result }
     ensures causes { HaltCauses ⊥ (C.told console.old).faults (C.told console.new).faults result }
     ensures done { IfOk result IsPlayEnd }
@@ -45,23 +48,24 @@ fn play_checked<C: Console>(
     }
 }
 
-/// Plays a side of the game over a console by the certificate.
+/// Plays a side of the game over a console by the certificate for which this one stands.
 fn play_by<C: Console>(
     alloc: Global,
     console: &mut C,
     game: &Game,
-    certificate: &Cert,
+    evidence: Evidence,
     side: Side,
 ) -> Result<u8, Halt>
-    requires { IsWithinLimits certificate.now }
-    ensures played { Performs (RefusesPlay side (read_of game.now certificate.now))
-        (PlaysOn side (read_of game.now certificate.now))
+    requires { IsWithinItsLimits evidence }
+    ensures played { Performs (RefusesPlay side (read_of game.now evidence))
+        (PlaysOn side (read_of game.now evidence))
         (C.told console.old) (C.told console.new) result }
     ensures causes { HaltCauses ⊥ (C.told console.old).faults (C.told console.new).faults result }
     ensures done { IfOk result IsPlayEnd }
     ensures halts { IfErr result IsPlayHalt }
 {
-    match pg_check::check(alloc, game, certificate) {
+    let standing = standing_of(alloc, game, evidence)?;
+    match check_standing(alloc, game, &standing) {
         Ok(checked) => play_checked(alloc, console, checked, side),
         Err(CheckFault::Reject { claim, node, why }) => {
             Err(Halt::Refused(Refusal::Rejected { claim, node, why }))
@@ -89,6 +93,6 @@ pub fn play<F: Files, C: Console>(
     ensures done { IfOk result IsPlayEnd }
     ensures halts { IfErr result IsPlayHalt }
 {
-    let both = open_both(alloc, files, game, certificate)?;
-    play_by(alloc, console, &both.0, &both.1, side)
+    let (game, evidence) = open_both(alloc, files, game, certificate)?;
+    play_by(alloc, console, &game, evidence, side)
 }

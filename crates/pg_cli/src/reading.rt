@@ -1,15 +1,15 @@
-//! Reading a game and a certificate.
+//! Reading a game and a certificate of either form.
 ghost use Rattle.std.specs.Prelude.{IfErr, IfOk};
 ghost use Rattle.pg_io.specs.Files.{ReadsOnly};
-ghost use Rattle.pg_cert.specs.Limits.{IsWithinLimits};
+ghost use Rattle.pg_evidence.specs.Evidence.{IsWithinItsLimits};
 ghost use Rattle.pg_talk.specs.Halts.{HaltCauses, IsReadHalt};
 ghost use Rattle.pg_cli.specs.Reading.{OpensBoth, AreLacking};
 
-use pg_cert::Cert;
+use pg_evidence::{Evidence, open_evidence};
 use pg_game::Game;
 use pg_io::Files;
 use pg_opening::open_game;
-use pg_talk::{Halt, open_certificate};
+use pg_talk::Halt;
 use std::alloc::Global;
 
 /// The game and the certificate under these names. The certificate is opened only where the game is taken.
@@ -18,15 +18,15 @@ pub fn open_both<F: Files>(
     files: &mut F,
     game: &str,
     certificate: &str,
-) -> Result<(Game, Cert), Halt>
+) -> Result<(Game, Evidence), Halt>
     ensures opened { OpensBoth (F.told files.old).held game.now certificate.now result }
-    ensures limits { IfOk result (λ both. IsWithinLimits both.1) }
+    ensures limits { IfOk result (λ both. IsWithinItsLimits both.1) }
     ensures halts { IfErr result IsReadHalt }
     ensures causes { HaltCauses (AreLacking (F.told files.old).held game.now certificate.now)
         (F.told files.old).faults (F.told files.new).faults result }
     ensures kept { ReadsOnly (F.told files.old) (F.told files.new) }
 {
     let game = open_game(alloc, files, game)?;
-    let certificate = open_certificate(alloc, files, certificate)?;
-    Ok((game, certificate))
+    let evidence = open_evidence(alloc, files, certificate)?;
+    Ok((game, evidence))
 }

@@ -1,7 +1,8 @@
 //! Reporting on a certificate for a game.
 ghost use Rattle.std.specs.Prelude.{◌≢◌, [], string_bytes, Err, IfErr, IfOk, Some};
 ghost use Rattle.pg_io.specs.Files.{ReadsOnly};
-ghost use Rattle.pg_cert.specs.declared.cert.Cert.{Cert};
+ghost use Rattle.pg_evidence.specs.Verdicts.{IsFound};
+ghost use Rattle.pg_evidence.specs.declared.evidence.Evidence.{Evidence};
 ghost use Rattle.pg_pns.specs.Expanded.{Expanded};
 ghost use Rattle.pg_words.specs.Words.{Report};
 ghost use Rattle.pg_cli.specs.Commands.{Quiets};
@@ -10,11 +11,10 @@ ghost use Rattle.pg_talk.specs.Halts.{BothCauses, HaltCauses, IsReadHalt};
 ghost use Rattle.pg_cli.specs.Reading.{AreLacking, read_of};
 ghost use Rattle.pg_cli.specs.Reporting.{Accounts, IsReportEnd, RefusesReport, Reports};
 ghost use Rattle.pg_cli.specs.Run.{Carries};
-ghost use Rattle.pg_cli.specs.Verdicts.{IsFound};
 
 use crate::judging::judge_both;
-use crate::verdict::Verdict;
 use pg_base::Memory;
+use pg_evidence::Verdict;
 use pg_game::Game;
 use pg_io::{Console, Files, Stop};
 use pg_report::Code;
@@ -24,14 +24,18 @@ use std::alloc::Global;
 
 /// What there is to say of a certificate for a game, and the status that goes with it.
 fn account(alloc: Global, game: &Game, verdict: &Verdict) -> Result<(String, u8), Memory>
-    ensures told { IfOk result (λ told. (c : Cert) → IsFound game.now c verdict.now
-        → Accounts game.now c (string_bytes told.0) told.1) }
+    ensures told { IfOk result (λ told. (e : Evidence) → IsFound game.now e verdict.now
+        → Accounts game.now e (string_bytes told.0) told.1) }
     ensures end { IfOk result (λ told. IsReportEnd told.1) }
 {
     match verdict {
         Verdict::Valid(claims) => Ok((pg_report::report(alloc, game, claims)?, DONE)),
         Verdict::Faulty { claim, node, why } => Ok((
             pg_report::rejection(alloc, *claim, *node, Code::Node(*why))?,
+            REFUSED,
+        )),
+        Verdict::FaultyImage { claim, node, why } => Ok((
+            pg_report::rejection(alloc, *claim, *node, Code::Image(*why))?,
             REFUSED,
         )),
     }
@@ -44,8 +48,8 @@ fn report_on<C: Console>(
     game: &Game,
     verdict: &Verdict,
 ) -> Result<u8, Halt>
-    ensures reported { (c : Cert) → IsFound game.now c verdict.now
-        → Performs (RefusesReport (read_of game.now c)) (Reports (read_of game.now c))
+    ensures reported { (e : Evidence) → IsFound game.now e verdict.now
+        → Performs (RefusesReport (read_of game.now e)) (Reports (read_of game.now e))
         (C.told console.old) (C.told console.new) result }
     ensures quiet { Quiets (Some (Report [] [])) (C.told console.old) (C.told console.new) result }
     ensures causes { HaltCauses ⊥ (C.told console.old).faults (C.told console.new).faults result }

@@ -1,0 +1,4 @@
+pub mod FirstLines
+pub mod Coming
+pub mod Tracing
+pub mod Judged

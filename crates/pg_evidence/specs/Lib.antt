@@ -1,0 +1,4 @@
+pub mod Evidence
+pub mod Standing
+pub mod Verdicts
+pub mod Incoming
