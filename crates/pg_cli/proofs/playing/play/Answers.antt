@@ -9,4 +9,4 @@ returns-in_err-game-clause-ran g c =
 
 pub returns-clause-ran : goal.returns-clause-ran
 returns-clause-ran g c =
-    λ work. carries_play (g.F.Files.told c.args.files.now) (g.F.Files.told c.open_both.new.files) c.args.game.now c.args.certificate.now c.in_ok-game.field-0 (g.C.Console.told c.args.console.now) (g.C.Console.told c.play_by.new.console) c.open_both.ensures.kept.held c.in_ok-game.ensures.opened c.args.side work c.play_by.result c.play_by.ensures.played
+    λ work. carries_play (g.F.Files.told c.args.files.now) (g.F.Files.told c.open_both.new.files) c.args.game.now c.args.certificate.now (c.in_ok-game.game, c.in_ok-game.evidence) (g.C.Console.told c.args.console.now) (g.C.Console.told c.play_by.new.console) c.open_both.ensures.kept.held c.in_ok-game.ensures.opened c.args.side work c.play_by.result c.play_by.ensures.played
