@@ -13,6 +13,6 @@ mod running;
 mod solving;
 mod verdict;
 
-pub use laws::announced_claims_are_forced;
+pub use laws::{announced_claims_are_forced, solutions_differ_in_position};
 pub use running::run;
 pub use solving::DEFAULT_POSITIONS;
