@@ -15,7 +15,7 @@ use Rattle.pg_solve.specs.declared.solution.Solution.{Solution}
 use Rattle.pg_solve.specs.declared.solution.Solution.TheVariants.{Value, Class as ForClass, Unknown}
 
 -- all claims at their places
-DifferEach : List Claim → Type 0
+abbrev DifferEach : List Claim → Type 0
 DifferEach claims = (i : ℕ) (claim : Claim) → slice_get claims i ≡ Some claim → HaveDifferentPositions claim.nodes
 
 one_differs : (a : Claim) → HaveDifferentPositions a.nodes → DifferEach (a ∷ [])

@@ -10,3 +10,4 @@ pub mod Solves
 pub mod Making
 pub mod Verdicts
 pub mod Differing
+pub mod FoldedFiles

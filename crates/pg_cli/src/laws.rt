@@ -1,6 +1,12 @@
 //! What the claims that are said tell of the game.
-ghost use Rattle.std.specs.Prelude.{Option};
+ghost use Rattle.std.specs.Prelude.{◌≡◌, ℕ, List, Option, Some};
+ghost use Rattle.pg_cert.specs.declared.cert.Cert.{Cert};
+ghost use Rattle.pg_fold.specs.Folded.{DifferInPosition};
+ghost use Rattle.pg_game.specs.declared.game.Game.{Game};
+ghost use Rattle.pg_game.specs.declared.position.Position.{Position};
 ghost use Rattle.pg_io.specs.Files.{Holding};
+ghost use Rattle.pg_solve.specs.Solved.{IsShown, certificate_of};
+ghost use Rattle.pg_solve.specs.declared.solution.Solution.{Solution};
 ghost use Rattle.pg_words.specs.Words.{Command};
 ghost use Rattle.pg_cli.specs.Commands.{game_read};
 ghost use Rattle.pg_talk.specs.Done.{Done, End};
@@ -22,3 +28,9 @@ pub fn announced_claims_are_forced()
     valid_claims_are_forced();
     announced_family_claims_are_forced();
 }
+
+/// The nodes of each claim that solving finds differ in position, so that its certificate may be folded.
+pub fn solutions_differ_in_position()
+    ensures { (g : Game) → (budget : ℕ) → (table : List Position) → (solution : Solution) → (c : Cert) →
+        IsShown g budget table solution → certificate_of solution ≡ Some c → DifferInPosition c }
+{}

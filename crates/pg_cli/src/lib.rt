@@ -12,6 +12,6 @@ mod reporting;
 mod running;
 mod solving;
 
-pub use laws::announced_claims_are_forced;
+pub use laws::{announced_claims_are_forced, solutions_differ_in_position};
 pub use running::run;
 pub use solving::DEFAULT_POSITIONS;
