@@ -2,7 +2,7 @@
 """Runs every bench, and writes docs/FIGURES.md: instructions, seconds and memory, and beside each the figure that was asked for.
 
 Usage: all.py [--only WORD].. [--out FILE]
-The programs are those that `rt ci` or `rt run` left in crates/posgame/out and crates/bench_parts/out. `--only` runs the benches with such a word in their names
+The programs are those that `rt ci` or `rt run` left in crates/posgame/out, crates/posgame_draw/out and crates/bench_parts/out. `--only` runs the benches with such a word in their names
 and leaves the file alone, unless `--out` names one. A bench whose program or script isn't there, that fails or takes too long is a line of its own. It takes half an
 hour, on a quiet machine; `--long` also hands posgame 20,000 mutated files and words and kills it 200 times.
 """
@@ -20,6 +20,7 @@ import time
 TOP = pathlib.Path(__file__).resolve().parent.parent
 POSGAME = TOP / "crates" / "posgame" / "out" / "posgame"
 PARTS = TOP / "crates" / "bench_parts" / "out" / "bench_parts"
+DRAWS = TOP / "crates" / "posgame_draw" / "out" / "posgame_draw"
 EXAMPLES = TOP / "examples"
 
 # What a bench is called; its script and the words behind it; what was asked for, by how its lines begin; and whether it is one of the long ones.
@@ -40,6 +41,7 @@ BENCHES = [
     ("Plays with their undo on a board", ["board.py", PARTS], [], False),
     ("Threat lines asked for", ["threat.py", PARTS], [], False),
     ("Private pairs asked for", ["asking.py", PARTS], [], False),
+    ("Pictures of examples, and the largest ones", ["pictures.py", DRAWS], [("", "as is due; 2,000,000 bytes, 0.1 s")], False),
     ("The walk of docs/TUTORIAL.md", ["tutorial.py", POSGAME], [("", "as printed there")], False),
     ("Files, names and consoles of the system that fail, and kills", ["real_files.py", POSGAME], [("", "each row as the script says")], True),
     ("Mutated files, words and dialogues", ["fuzz.py", POSGAME, "--runs", "20000"], [("", "no end that none may have")], True),

@@ -1,0 +1,172 @@
+-- Points and vertices lie in the picture.
+use Rattle.std.proofs.Common.{◌≡◌, ℕ, zero, suc, ◌+◌, ◌*◌, ◌-◌, ◌/◌, ◌%◌, ◌<◌, ◌≤◌, List, [], ◌∷◌, inl, inr, arith, subst}
+use Rattle.std.specs.Prelude.{Option, Some, None, fold, max, nat_le, ◌==◌}
+use Rattle.std.proofs.Math.Nat.{div-lt_iff_lt-mul, mul_comm}
+use Rattle.std.proofs.lemmas.Bool.{cases_Bool}
+use Rattle.std.proofs.lemmas.Bool.Decides.{nat_tests}
+use Rattle.std.proofs.lemmas.Nat.{mod_below}
+use Rattle.pg_picture.specs.declared.shape.Place.{Place}
+use Rattle.pg_scene.specs.Limits.{IsBoard, points_on, vertices_on}
+use Rattle.pg_scene.specs.declared.board.Board.{Board}
+use Rattle.pg_scene.specs.declared.board.Board.TheVariants.{Grid, Ring, Graph}
+use Rattle.pg_scene.specs.declared.scene.Scene.{Scene}
+use Rattle.pg_draw.specs.Courses.{farther, place_of_edge}
+use Rattle.pg_draw.specs.Laws.{IsInside, IsUpTo, vertex_place}
+use Rattle.pg_draw.specs.Pictures.{bridge_reach, circle_reach, far_corner, picture_of, reach_by, reach_of, row_reach}
+use Rattle.pg_draw.specs.Places.{at, column_of, columns_of, part_of, place_by, place_on_bridge, place_on_circle, place_on_grid, place_on_ring, radius_of, row_of}
+use Rattle.pg_draw.specs.Shapes.{courses_of, place_of}
+use Rattle.pg_draw.specs.declared.course.Course.{Course}
+use Rattle.pg_draw.specs.declared.measures.TheConstants.{HALF, MARGIN, MOST_ON_RING, ROW, TOP}
+use Rattle.pg_draw.proofs.Circles.{part_fits, place_in}
+
+-- ---- cells
+
+cell_inside : (width height v : ℕ) → 0 < width → v / width < height → IsUpTo (row_reach width height) (place_on_grid width v)
+unfolding place_on_grid row_reach
+cell_inside width height v some low =
+    let whole : max width 1 ≡ width = omega arith in
+    let few = mod_below v width some in
+    rw whole (omega arith, omega arith)
+
+grid_inside : (width height v : ℕ) → v < width * height → IsUpTo (row_reach width height) (place_on_grid width v)
+grid_inside zero height v lt = absurd (omega arith)
+grid_inside (suc width) height v lt =
+    let some : 0 < suc width = omega arith in
+    cell_inside (suc width) height v some ((div-lt_iff_lt-mul {k = suc width} {x = v} {y = height} some).1 (let same = mul_comm (suc width) height in omega arith))
+
+-- ---- circles
+
+quarter_inside : (r q s c : ℕ) → s ≤ r → c ≤ r → ((place_in r q s c).across ≤ 48 + 2 * r) × ((place_in r q s c).down ≤ 72 + 2 * r)
+quarter_inside r q s c sr cr =
+    elim (cases_Bool (q == 0)) [
+      | inl e ↦ rw e (omega arith, omega arith)
+      | inr d ↦ elim (cases_Bool (q == 1)) [
+        | inl e ↦ rw (d, e) (omega arith, omega arith)
+        | inr c ↦ elim (cases_Bool (q == 2)) [
+          | inl e ↦ rw (d, c, e) (omega arith, omega arith)
+          | inr b ↦ rw (d, c, b) (omega arith, omega arith)
+        ]
+      ]
+    ]
+
+circle_inside : (count u : ℕ) → IsUpTo (circle_reach count) (place_on_circle count u)
+unfolding place_on_circle circle_reach
+circle_inside count u =
+    let r = radius_of count in
+    let step = u * 512 / max count 1 in
+    let low = mod_below step 128 (omega arith) in
+    let inside = quarter_inside r (step / 128) (part_of r (step % 128)) (part_of r (128 - step % 128)) (part_fits r (step % 128) (omega arith)) (part_fits r (128 - step % 128) (omega arith)) in
+    let across = inside.0 in
+    let down = inside.1 in
+    (omega (arith, across), omega (arith, down))
+
+ring_inside : (points v : ℕ) → v < points → IsUpTo (reach_of (Ring points)) (place_on_ring points v)
+ring_inside points v lt =
+    elim (cases_Bool (nat_le points MOST_ON_RING)) [
+      | inl few ↦ rw few (circle_inside points v)
+      | inr many ↦ rw many (cell_inside ROW (points / ROW + 1) v (omega arith) (omega arith))
+    ]
+
+-- ---- edges
+
+-- the middle of an edge, where others reach so far
+edge_inside : (courses : List Course) (far : Place) (v : ℕ)
+    → ((place_of_edge courses v).across ≤ max MARGIN (fold farther far courses).across) × ((place_of_edge courses v).down ≤ max TOP (fold farther far courses).down)
+    × (far.across ≤ (fold farther far courses).across) × (far.down ≤ (fold farther far courses).down)
+edge_inside [] far v = (omega arith, omega arith, omega arith, omega arith)
+edge_inside (course ∷ courses) far zero =
+    let rest = edge_inside courses (farther far course) zero in
+    let across = rest.2 in
+    let down = rest.3 in
+    (omega (arith, across), omega (arith, down), omega (arith, across), omega (arith, down))
+edge_inside (course ∷ courses) far (suc v) =
+    let rest = edge_inside courses (farther far course) v in
+    let across = rest.2 in
+    let down = rest.3 in
+    (rest.0, rest.1, omega (arith, across), omega (arith, down))
+
+-- a graph's vertices reach further than a corner
+reach_some : (vertices : ℕ) (bridge : Option ℕ) → (MARGIN + HALF ≤ (reach_by vertices bridge).across) × (TOP + HALF ≤ (reach_by vertices bridge).down)
+unfolding circle_reach bridge_reach
+reach_some vertices None = (omega arith, omega arith)
+reach_some vertices (Some rows) = (omega arith, omega arith)
+
+-- ---- vertices of Bridg-It boards
+
+column_low : (rows u : ℕ) → column_of rows u ≤ columns_of rows + 1
+column_low rows zero = omega arith
+column_low rows (suc zero) = omega arith
+column_low rows (suc (suc k)) =
+    let is : column_of rows (suc (suc k)) ≡ k % columns_of rows + 1 = grind (arith, nat_tests) in
+    let low = mod_below k (columns_of rows) (omega arith) in
+    omega arith
+
+inner_row : (rows k : ℕ) → k < rows * (rows - 1) → k / columns_of rows < rows
+inner_row zero k lt = absurd (omega arith)
+inner_row (suc zero) k lt = absurd (omega arith)
+inner_row (suc (suc r)) k lt =
+    let columns : columns_of (suc (suc r)) ≡ suc r = omega arith in
+    let fewer : suc (suc r) - 1 ≡ suc r = omega arith in
+    let product : k < suc (suc r) * suc r = subst (λ (n : ℕ). k < suc (suc r) * n) fewer lt in
+    rw columns ((div-lt_iff_lt-mul {k = suc r} {x = k} {y = suc (suc r)} (omega arith)).1 product)
+
+row_low : (rows u : ℕ) → u < rows * (rows - 1) + 2 → row_of rows u u ≤ rows
+row_low rows zero lt = omega arith
+row_low rows (suc zero) lt = omega arith
+row_low rows (suc (suc k)) lt =
+    let is : row_of rows (suc (suc k)) (suc (suc k)) ≡ k / columns_of rows = grind (arith, nat_tests) in
+    let low = inner_row rows k (omega arith) in
+    omega arith
+
+bridge_inside : (rows u : ℕ) → u < rows * (rows - 1) + 2 → IsUpTo (bridge_reach rows) (place_on_bridge rows u u)
+unfolding place_on_bridge bridge_reach
+bridge_inside rows u lt =
+    let column = column_low rows u in
+    let row = row_low rows u lt in
+    (omega (arith, column), omega (arith, row))
+
+-- ---- boards
+
+-- what is up to the reach of a board is up to its corner
+further : (board : Board) (courses : List Course) (place : Place) → IsUpTo (reach_of board) place → IsUpTo (far_corner board courses) place
+further board courses place up =
+    let across = up.0 in
+    let down = up.1 in
+    (omega (arith, across), omega (arith, down))
+
+point_inside : (board : Board) (courses : List Course) (v : ℕ) → v < points_on board → IsUpTo (far_corner board courses) (place_of board courses v)
+point_inside (Grid width height) courses v lt = further (Grid width height) courses (place_on_grid width v) (grid_inside width height v lt)
+point_inside (Ring points) courses v lt = further (Ring points) courses (place_on_ring points v) (ring_inside points v lt)
+point_inside (Graph vertices ends terminals bridge) courses v lt =
+    let edge = edge_inside courses (at 0 0) v in
+    let some = reach_some vertices bridge in
+    let across = edge.0 in
+    let down = edge.1 in
+    let left = some.0 in
+    let top = some.1 in
+    (omega (arith, across, left), omega (arith, down, top))
+
+by_inside : (vertices : ℕ) (ends : List (ℕ × ℕ)) (terminals : List ℕ) (bridge : Option ℕ) (u : ℕ) → IsBoard (Graph vertices ends terminals bridge) → u < vertices → IsUpTo (reach_by vertices bridge) (place_by vertices bridge u u)
+by_inside vertices ends terminals None u fits lt = circle_inside vertices u
+by_inside vertices ends terminals (Some rows) u fits lt = let same = fits.is_bridge.same_vertices in bridge_inside rows u (omega (arith, same))
+
+vertex_up : (board : Board) (courses : List Course) (u : ℕ) → IsBoard board → u < vertices_on board → IsUpTo (far_corner board courses) (vertex_place board u)
+vertex_up (Grid width height) courses u fits lt = absurd (omega arith)
+vertex_up (Ring points) courses u fits lt = absurd (omega arith)
+vertex_up (Graph vertices ends terminals bridge) courses u fits lt =
+    further (Graph vertices ends terminals bridge) courses (place_by vertices bridge u u) (by_inside vertices ends terminals bridge u fits lt)
+
+-- ---- pictures
+
+in_picture : (scene : Scene) (place : Place) → IsUpTo (far_corner scene.board (courses_of scene.board)) place → IsInside (picture_of scene) place
+unfolding picture_of
+in_picture scene place up =
+    let across = up.0 in
+    let down = up.1 in
+    (omega (arith, across), omega (arith, down))
+
+pub point_in_picture : (scene : Scene) (v : ℕ) → v < points_on scene.board → IsInside (picture_of scene) (place_of scene.board (courses_of scene.board) v)
+point_in_picture scene v lt = in_picture scene (place_of scene.board (courses_of scene.board) v) (point_inside scene.board (courses_of scene.board) v lt)
+
+pub vertex_in_picture : (scene : Scene) (u : ℕ) → IsBoard scene.board → u < vertices_on scene.board → IsInside (picture_of scene) (vertex_place scene.board u)
+vertex_in_picture scene u fits lt = in_picture scene (vertex_place scene.board u) (vertex_up scene.board (courses_of scene.board) u fits lt)

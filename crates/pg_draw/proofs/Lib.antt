@@ -1,0 +1,4 @@
+mod Apart
+mod Circles
+mod Inside
+mod Order

@@ -1,0 +1,6 @@
+use Rattle.std.proofs.Common.{◌≡◌, ◌<◌, take}
+use Rattle.pg_draw.specs.Pictures.{widest}
+use Rattle.pg_draw.proofs.size.widest.Given as goal
+
+abbrev pub invariant-loop-text : goal.invariant-loop-text
+invariant-loop-text l = (l.width ≡ widest (take l.text-index l.texts)) × (l.width < 200000)

@@ -1,0 +1,43 @@
+-- What the laws say of pictures.
+use Rattle.std.specs.Prelude.{◌≡◌, ℕ, ◌+◌, ◌≤◌, List, ◌∷◌, ◌++◌}
+use Rattle.std.specs.List.{flat_map}
+use Rattle.pg_picture.specs.declared.paint.Paint.TheVariants as paints
+use Rattle.pg_picture.specs.declared.picture.Picture.{Picture}
+use Rattle.pg_picture.specs.declared.shape.Place.{Place}
+use Rattle.pg_picture.specs.declared.shape.Shape.{Shape}
+use Rattle.pg_picture.specs.declared.shape.Shape.TheVariants.{Words}
+use Rattle.pg_scene.specs.declared.board.Board.{Board}
+use Rattle.pg_scene.specs.declared.board.Board.TheVariants.{Grid, Ring, Graph}
+use Rattle.pg_scene.specs.declared.item.Item.{Item}
+use Rattle.pg_scene.specs.declared.scene.Scene.{Scene}
+use Rattle.pg_draw.specs.Pictures.{far_corner, legend_shapes, picture_of}
+use Rattle.pg_draw.specs.Places.{at, place_of_end}
+use Rattle.pg_draw.specs.Shapes.{courses_of, item_shapes, plan_of, vertices_shapes}
+use Rattle.pg_draw.specs.declared.measures.TheConstants.{HALF, MARGIN, TOP}
+
+-- the shapes of items on a scene's board
+abbrev pub shapes_on : Scene → List Item → List Shape
+shapes_on scene items = flat_map (item_shapes scene.board (courses_of scene.board)) items
+
+-- what stands behind all items
+abbrev pub last_shapes : Scene → List Shape
+last_shapes scene = vertices_shapes scene.board ++ legend_shapes (far_corner scene.board (courses_of scene.board)).down scene.legend
+
+-- the item's shapes stand between those of the items before and after it, which stand between the heading and the rest
+abbrev pub IsDrawnBetween : Scene → List Item → Item → List Item → Type 0
+IsDrawnBetween scene before item after =
+    (picture_of scene).shapes ≡ Words (at MARGIN 28) scene.title paints.Heading ∷ shapes_on scene before ++ (item_shapes scene.board (courses_of scene.board) item ++ (shapes_on scene after ++ last_shapes scene))
+
+-- a place is so far from the corner that half a cell is left in both directions
+abbrev pub IsUpTo : Place → Place → Type 0
+IsUpTo corner place = (place.across + HALF ≤ corner.across) × (place.down + HALF ≤ corner.down)
+
+-- a place lies in a picture, with half a cell to its right and below it
+abbrev pub IsInside : Picture → Place → Type 0
+IsInside picture place = IsUpTo (at picture.width picture.height) place
+
+-- where a vertex lies
+abbrev pub vertex_place : Board → ℕ → Place
+vertex_place (Grid width height) vertex = at MARGIN TOP
+vertex_place (Ring points) vertex = at MARGIN TOP
+vertex_place (Graph vertices ends terminals bridge) vertex = place_of_end (plan_of vertices bridge) vertex vertex

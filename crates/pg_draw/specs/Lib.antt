@@ -1,0 +1,5 @@
+pub mod Places
+pub mod Courses
+pub mod Shapes
+pub mod Pictures
+pub mod Laws

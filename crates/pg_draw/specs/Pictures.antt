@@ -1,0 +1,88 @@
+-- The picture of a scene.
+use Rattle.std.specs.Prelude.{ℕ, ◌+◌, ◌*◌, ◌/◌, max, min, nat_le, if◌then◌else◌, List, [], ◌∷◌, ◌++◌, length, Option, Some, None, fold}
+use Rattle.std.specs.List.{flat_map}
+use Rattle.pg_picture.specs.declared.paint.Paint.TheVariants as paints
+use Rattle.pg_picture.specs.declared.picture.Picture.{Picture}
+use Rattle.pg_picture.specs.declared.shape.Place.{Place}
+use Rattle.pg_picture.specs.declared.shape.Shape.{Shape}
+use Rattle.pg_picture.specs.declared.shape.Shape.TheVariants.{Words}
+use Rattle.pg_scene.specs.declared.board.Board.{Board}
+use Rattle.pg_scene.specs.declared.board.Board.TheVariants.{Grid, Ring, Graph}
+use Rattle.pg_scene.specs.declared.scene.Scene.{Scene}
+use Rattle.pg_draw.specs.Courses.{farthest}
+use Rattle.pg_draw.specs.Places.{at, columns_of, radius_of}
+use Rattle.pg_draw.specs.Shapes.{courses_of, item_shapes, plan_of, vertices_shapes}
+use Rattle.pg_draw.specs.declared.course.Course.{Course}
+use Rattle.pg_draw.specs.declared.measures.TheConstants.{APART, CELL, HALF, LEADING, MARGIN, MAX_COUNTED_LETTERS, MOST_ON_RING, ROW, TOP}
+use Rattle.pg_draw.specs.declared.vertices.Plan.{Plan}
+
+-- ---- how far a board reaches
+
+-- a circle on which so many lie
+unfoldable pub circle_reach : ℕ → Place
+circle_reach count = at (MARGIN + CELL + 2 * radius_of count) (TOP + CELL + 2 * radius_of count)
+
+-- the board of Bridg-It of so many rows
+unfoldable pub bridge_reach : ℕ → Place
+bridge_reach rows = at (MARGIN + CELL + APART * (columns_of rows + 1)) (TOP + CELL + APART * rows)
+
+-- so many vertices on a circle, or those of the board of Bridg-It of so many rows
+abbrev pub reach_by : ℕ → Option ℕ → Place
+reach_by vertices None = circle_reach vertices
+reach_by vertices (Some rows) = bridge_reach rows
+
+-- the vertices of a graph
+abbrev pub plan_reach : Plan → Place
+plan_reach plan = reach_by plan.vertices plan.bridge
+
+-- so many columns and rows of cells
+unfoldable pub row_reach : ℕ → ℕ → Place
+row_reach width height = at (MARGIN + CELL * width) (TOP + CELL * height)
+
+-- the cells, discs or vertices of a board
+abbrev pub reach_of : Board → Place
+reach_of (Grid width height) = row_reach width height
+reach_of (Ring points) = if nat_le points MOST_ON_RING then circle_reach points else row_reach ROW (points / ROW + 1)
+reach_of (Graph vertices ends terminals bridge) = plan_reach (plan_of vertices bridge)
+
+-- a board with its edges
+abbrev pub far_corner : Board → List Course → Place
+far_corner board courses = at (max (reach_of board).across ((farthest courses).across + HALF)) (max (reach_of board).down ((farthest courses).down + HALF))
+
+-- ---- words
+
+-- how far words reach whose letters are so wide; of long words the first ones count
+abbrev pub text_width : ℕ → List ℕ → ℕ
+text_width letter words = MARGIN + letter * min (length words) MAX_COUNTED_LETTERS
+
+-- how far the widest line of a legend reaches
+abbrev pub widest : List (List ℕ) → ℕ
+widest texts = fold (λ width words. max width (text_width 8 words)) 0 texts
+
+-- the lines of a legend below a place
+abbrev pub legend_shapes : ℕ → List (List ℕ) → List Shape
+legend_shapes down [] = []
+legend_shapes down (line ∷ lines) = Words (at MARGIN (down + LEADING)) line paints.Legend ∷ legend_shapes (down + LEADING) lines
+
+-- ---- scenes
+
+-- the heading, the shapes of each item in the order of the items, the vertices, and the legend below that place
+abbrev pub shapes_of : Scene → List Course → ℕ → List Shape
+shapes_of scene courses bottom =
+    Words (at MARGIN 28) scene.title paints.Heading ∷ flat_map (item_shapes scene.board courses) scene.items ++ (vertices_shapes scene.board ++ legend_shapes bottom scene.legend)
+
+-- how wide a picture is whose board reaches so far: no less than its title and its legend
+abbrev pub width_of : Scene → ℕ → ℕ
+width_of scene across = MARGIN + max (max across (text_width 11 scene.title)) (widest scene.legend)
+
+-- the picture of a scene
+unfoldable pub picture_of : Scene → Picture
+picture_of scene =
+    let courses = courses_of scene.board in
+    let corner = far_corner scene.board courses in
+    record {
+      width = width_of scene corner.across;
+      height = corner.down + MARGIN + LEADING * length scene.legend;
+      title = scene.title;
+      shapes = shapes_of scene courses corner.down;
+    }

@@ -1,0 +1,196 @@
+//! Scenes as pictures.
+ghost use Rattle.std.specs.Prelude.{◌≡◌, ◌++◌, ◌+◌, ◌≤◌, OnOk, IfOk, length};
+ghost use Rattle.std.specs.List.{flat_map, range_with_len};
+ghost use Rattle.pg_scene.specs.Limits.{IsBoard};
+ghost use Rattle.pg_draw.specs.Places.{IsPlan, IsWithin};
+ghost use Rattle.pg_draw.specs.Shapes.{bar_shapes, vertex_paint, vertex_shapes, vertices_shapes};
+ghost use Rattle.pg_draw.specs.Pictures.{legend_shapes, picture_of, shapes_of, width_of};
+ghost use Rattle.pg_draw.specs.declared.measures.TheConstants.{MAX_LEGEND_LINES};
+
+use crate::boards::courses_of;
+use crate::bridge::place_on_bridge;
+use crate::courses::Courses;
+use crate::items::push_items;
+use crate::measures::{LEADING, MARGIN};
+use crate::size::{far_corner, text_width, widest};
+use crate::vertices::Plan;
+use crate::words::{push_number, push_words, text_of};
+use pg_base::Memory;
+use pg_picture::{Paint, Picture, Place, Shape, Shapes};
+use pg_scene::{Board, Scene, Text};
+use std::alloc::Global;
+
+/// Adds the bar of a terminal of a Bridg-It board, from the first row on.
+fn push_bar(shapes: &mut Vec<Shape>, plan: Plan, vertex: u16) -> Result<(), Memory>
+    requires { IsPlan plan }
+    ensures { OnOk result (shapes.new.items ≡ shapes.old.items ++ bar_shapes plan.bridge vertex) }
+{
+    let Some(rows) = plan.bridge else {
+        return Ok(());
+    };
+    if vertex < 2 {
+        let from = place_on_bridge(rows, vertex, 2);
+        let to = place_on_bridge(rows, vertex, vertex);
+        let paint = Paint::Terminal;
+        shapes.push(Shape::Stroke { from, to, paint })?;
+    }
+    Ok(())
+}
+
+/// The paint of a vertex.
+fn vertex_paint(terminals: &[u16], vertex: u16) -> Paint
+    ensures { result ≡ vertex_paint terminals.now vertex }
+{
+    if terminals.contains(&vertex) {
+        Paint::Terminal
+    } else {
+        Paint::Vertex
+    }
+}
+
+/// Adds a vertex.
+#[tactic(auto, unfolding(crate::specs::Shapes::vertex_shapes))]
+fn push_vertex(
+    alloc: Global,
+    shapes: &mut Vec<Shape>,
+    plan: Plan,
+    terminals: &[u16],
+    vertex: u16,
+) -> Result<(), Memory>
+    requires { IsPlan plan }
+    ensures { OnOk result (shapes.new.items ≡ shapes.old.items ++ vertex_shapes plan terminals.now vertex) }
+{
+    push_bar(shapes, plan, vertex)?;
+    let centre = plan.place_of_end(vertex, vertex);
+    let paint = vertex_paint(terminals, vertex);
+    shapes.push(Shape::Disc {
+        centre,
+        radius: 12,
+        paint,
+    })?;
+    push_number(alloc, shapes, centre, vertex as usize, Paint::Number)
+}
+
+/// Adds so many vertices.
+fn push_each_vertex(
+    alloc: Global,
+    shapes: &mut Vec<Shape>,
+    plan: Plan,
+    terminals: &[u16],
+    count: u16,
+) -> Result<(), Memory>
+    requires { IsPlan plan }
+    ensures { OnOk result (shapes.new.items ≡ shapes.old.items ++ flat_map (vertex_shapes plan terminals.now) (range_with_len 0 count)) }
+{
+    for vertex in 0..count {
+        push_vertex(alloc, shapes, plan, terminals, vertex)?;
+    }
+    Ok(())
+}
+
+/// Adds the vertices of a board.
+fn push_vertices(alloc: Global, shapes: &mut Vec<Shape>, board: &Board) -> Result<(), Memory>
+    requires { IsBoard board.now }
+    ensures { OnOk result (shapes.new.items ≡ shapes.old.items ++ vertices_shapes board.now) }
+{
+    let Board::Graph {
+        vertices,
+        terminals,
+        bridge,
+        ..
+    } = board
+    else {
+        return Ok(());
+    };
+    let plan = Plan {
+        vertices: *vertices,
+        bridge: *bridge,
+    };
+    push_each_vertex(alloc, shapes, plan, terminals.as_slice(), *vertices as u16)
+}
+
+/// Adds the lines of a legend below a place.
+fn push_legend(
+    alloc: Global,
+    shapes: &mut Vec<Shape>,
+    bottom: u32,
+    legend: &[Text],
+) -> Result<(), Memory>
+    requires bottom { bottom ≤ 4400000 }
+    requires few { length legend.now ≤ MAX_LEGEND_LINES }
+    ensures { OnOk result (shapes.new.items ≡ shapes.old.items ++ legend_shapes bottom legend.now) }
+{
+    let mut down = bottom;
+    for line in legend {
+        down += LEADING;
+        let at = Place {
+            across: MARGIN,
+            down,
+        };
+        push_words(alloc, shapes, at, line.as_str(), Paint::Legend)?;
+    }
+    Ok(())
+}
+
+/// The shapes of a scene, where its legend stands below that place.
+fn shapes_of(
+    alloc: Global,
+    scene: &Scene,
+    courses: &Courses,
+    bottom: u32,
+) -> Result<Vec<Shape>, Memory>
+    requires board { IsBoard scene.now.board }
+    requires bottom { bottom ≤ 4400000 }
+    requires few { length scene.now.legend ≤ MAX_LEGEND_LINES }
+    ensures { IfOk result (λ shapes. shapes.items ≡ shapes_of scene.now courses.now bottom) }
+{
+    let mut shapes = Vec::new(alloc);
+    let at = Place {
+        across: MARGIN,
+        down: 28,
+    };
+    push_words(alloc, &mut shapes, at, scene.title.as_str(), Paint::Heading)?;
+    push_items(
+        alloc,
+        &mut shapes,
+        &scene.board,
+        courses,
+        scene.items.as_slice(),
+    )?;
+    push_vertices(alloc, &mut shapes, &scene.board)?;
+    push_legend(alloc, &mut shapes, bottom, scene.legend.as_slice())?;
+    Ok(shapes)
+}
+
+/// How wide the picture of a scene is whose board reaches so far.
+fn width_of(scene: &Scene, across: u32) -> u32
+    requires { across ≤ 4400000 }
+    ensures { result ≡ width_of scene.now across }
+{
+    let title = text_width(11, scene.title.as_str());
+    let legend = widest(scene.legend.as_slice());
+    MARGIN + across.max(title).max(legend)
+}
+
+/// The picture of a scene: its title, the shapes of each item in the order of the items, the vertices of a graph, and the
+/// legend. The board is within the limits of games, and the legend has at most `MAX_LEGEND_LINES` lines. A unit is a pixel.
+///
+/// # Errors
+///
+/// `Memory` where no memory is found.
+#[tactic(auto, unfolding(crate::specs::Pictures::picture_of))]
+pub fn draw(alloc: Global, scene: &Scene) -> Result<Picture, Memory>
+    requires board { IsBoard scene.now.board }
+    requires few { length scene.now.legend ≤ MAX_LEGEND_LINES }
+    ensures { IfOk result (λ picture. picture ≡ picture_of scene.now) }
+{
+    let courses = courses_of(alloc, &scene.board)?;
+    let corner = far_corner(&scene.board, &courses);
+    let shapes = shapes_of(alloc, scene, &courses, corner.down)?;
+    Ok(Picture {
+        width: width_of(scene, corner.across),
+        height: corner.down + MARGIN + LEADING * scene.legend.as_slice().len() as u32,
+        title: text_of(alloc, scene.title.as_str())?,
+        shapes: Shapes::from_vec(shapes),
+    })
+}

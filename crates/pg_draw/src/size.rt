@@ -1,0 +1,129 @@
+//! The size of pictures.
+ghost use Rattle.std.specs.Prelude.{◌≡◌, ◌≤◌, ◌<◌, length};
+ghost use Rattle.pg_scene.specs.Limits.{IsBoard};
+ghost use Rattle.pg_draw.specs.Places.{IsPlan, IsWithin};
+ghost use Rattle.pg_draw.specs.Pictures.{bridge_reach, circle_reach, far_corner, plan_reach, reach_of, row_reach, text_width, widest};
+ghost use Rattle.pg_game.specs.declared.bounds.TheConstants.{MAX_POINTS, MAX_VERTICES};
+ghost use Rattle.pg_draw.specs.declared.measures.TheConstants.{MAX_ROWS};
+
+use crate::bridge::columns_of;
+use crate::circle::radius_of;
+use crate::courses::Courses;
+use crate::measures::{APART, CELL, HALF, MARGIN, MAX_COUNTED_LETTERS, MOST_ON_RING, ROW, TOP};
+use crate::vertices::Plan;
+use pg_picture::Place;
+use pg_scene::{Board, Text};
+
+/// How far a circle reaches on which so many lie.
+#[tactic(auto, unfolding(crate::specs::Pictures::circle_reach))]
+fn circle_reach(count: u32) -> Place
+    requires { count ≤ MAX_VERTICES }
+    ensures place { result ≡ circle_reach count }
+    ensures near { IsWithin 100000 result }
+{
+    let width = CELL + 2 * radius_of(count);
+    Place {
+        across: MARGIN + width,
+        down: TOP + width,
+    }
+}
+
+/// How far a board of Bridg-It reaches.
+#[tactic(auto, unfolding(crate::specs::Pictures::bridge_reach))]
+fn bridge_reach(rows: u32) -> Place
+    requires { rows ≤ MAX_ROWS }
+    ensures place { result ≡ bridge_reach rows }
+    ensures near { IsWithin 100000 result }
+{
+    Place {
+        across: MARGIN + CELL + APART * (columns_of(rows) + 1),
+        down: TOP + CELL + APART * rows,
+    }
+}
+
+/// How far the vertices of a graph reach.
+fn plan_reach(plan: Plan) -> Place
+    requires { IsPlan plan }
+    ensures place { result ≡ plan_reach plan }
+    ensures near { IsWithin 100000 result }
+{
+    match plan.bridge {
+        Some(rows) => bridge_reach(rows),
+        None => circle_reach(plan.vertices),
+    }
+}
+
+/// How far cells reach.
+#[tactic(auto, unfolding(crate::specs::Pictures::row_reach))]
+fn row_reach(width: u32, height: u32) -> Place
+    requires width { width ≤ MAX_POINTS }
+    requires height { height ≤ MAX_POINTS }
+    ensures place { result ≡ row_reach width height }
+    ensures near { IsWithin 100000 result }
+{
+    Place {
+        across: MARGIN + CELL * width,
+        down: TOP + CELL * height,
+    }
+}
+
+/// How far a board's cells, discs or vertices reach.
+fn reach_of(board: &Board) -> Place
+    requires { IsBoard board.now }
+    ensures place { result ≡ reach_of board.now }
+    ensures near { IsWithin 100000 result }
+{
+    match board {
+        Board::Grid { width, height } => row_reach(*width, *height),
+        Board::Ring { points } => {
+            if *points <= MOST_ON_RING {
+                circle_reach(*points)
+            } else {
+                row_reach(ROW, *points / ROW + 1)
+            }
+        }
+        Board::Graph {
+            vertices,
+            bridge,
+            ..
+        } => plan_reach(Plan {
+            vertices: *vertices,
+            bridge: *bridge,
+        }),
+    }
+}
+
+/// How far a board reaches with its edges.
+pub(crate) fn far_corner(board: &Board, courses: &Courses) -> Place
+    requires { IsBoard board.now }
+    ensures place { result ≡ far_corner board.now courses.now }
+    ensures near { IsWithin 4400000 result }
+{
+    let reach = reach_of(board);
+    let far = courses.farthest();
+    Place {
+        across: reach.across.max(far.across + HALF),
+        down: reach.down.max(far.down + HALF),
+    }
+}
+
+/// How far words reach whose letters are so wide.
+pub(crate) fn text_width(letter: u32, words: &str) -> u32
+    requires { letter ≤ 100 }
+    ensures width { result ≡ text_width letter words.now }
+    ensures small { result < 200000 }
+{
+    MARGIN + letter * words.len().min(MAX_COUNTED_LETTERS) as u32
+}
+
+/// How far the widest of these texts reaches.
+pub(crate) fn widest(texts: &[Text]) -> u32
+    ensures width { result ≡ widest texts.now }
+    ensures small { result < 200000 }
+{
+    let mut width = 0;
+    for text in texts {
+        width = width.max(text_width(8, text.as_str()));
+    }
+    width
+}

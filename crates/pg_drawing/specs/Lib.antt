@@ -1,0 +1,3 @@
+pub mod Orders
+pub mod Due
+pub mod Runs

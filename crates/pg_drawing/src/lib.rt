@@ -1,0 +1,12 @@
+//! Drawing a game, or a node of a certificate, as its files say it.
+#![tactic(auto)]
+
+mod name;
+mod opening;
+mod picturing;
+mod running;
+mod telling;
+
+pub use name::{DOT, NodeName};
+pub use picturing::{NO_NODE, Telling};
+pub use running::draw;

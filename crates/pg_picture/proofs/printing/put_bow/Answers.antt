@@ -1,0 +1,8 @@
+use Rattle.std.proofs.Common.{append_assoc}
+use Rattle.std.proofs.lemmas.List.{append-nil}
+use Rattle.pg_picture.specs.Svg.{shape_text}
+use Rattle.pg_picture.proofs.printing.put_bow.Goals as goal
+
+pub returns : goal.returns
+unfolding shape_text
+returns c = rw (c.in_ok-push_str-2.ensures.bytes, c.in_ok-put_path.ensures, c.in_ok-put_paint.ensures, c.in_ok-push_str.ensures.bytes) (simp (append_assoc, append-nil))

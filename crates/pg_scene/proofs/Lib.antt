@@ -1,0 +1,7 @@
+pub mod Growing
+pub mod Lightest
+pub mod Matching
+pub mod Within
+pub mod ReadBack
+pub mod Scaled
+pub mod Named

@@ -1,0 +1,12 @@
+use Rattle.std.proofs.Common.{◌≡◌, ◌≤◌, false, take}
+use Rattle.std.specs.List.{count_by, list_any}
+use Rattle.std.specs.FinSet.{contains}
+use Rattle.pg_game.specs.Position.{is_free}
+use Rattle.pg_scene.proofs.weights.free_on.Given as goal
+
+abbrev pub invariant-loop-v : goal.invariant-loop-v
+invariant-loop-v l = record {
+  untouched : list_any (contains l.own) (take l.v-index l.line) ≡ false;
+  free : l.free ≡ count_by (is_free l.p) (take l.v-index l.line);
+  few : l.free ≤ l.v-index;
+}

@@ -1,0 +1,10 @@
+use Rattle.std.proofs.Common.{◌≡◌, ◌++◌, filter, map}
+use Rattle.std.specs.Fmt.{decimal}
+use Rattle.std.specs.List.{range_with_len}
+use Rattle.pg_game.specs.Position.{is_free}
+use Rattle.pg_scene.specs.Items.{units}
+use Rattle.pg_scene.specs.declared.item.Item.TheVariants.{Weight}
+use Rattle.pg_scene.proofs.weights.put_each.Given as goal
+
+abbrev pub invariant-loop-v : goal.invariant-loop-v
+invariant-loop-v l = l.items.items ≡ l.fn.items.items ++ map (λ v. Weight v (decimal (units l.fn.g l.fn.p l.fn.side v))) (filter (is_free l.p) (range_with_len 0 l.v))

@@ -1,0 +1,131 @@
+-- What is to be seen on a board, of a position, of lines, and of the bodies of nodes.
+use Rattle.std.specs.Prelude.{ℕ, suc, ◌+◌, ◌-◌, ◌^◌, max, nat_lt, nat_le, Bool, true, false, ◌&&◌, List, [], ◌∷◌, ◌++◌, length, map, Option, Some, None, if◌then◌else◌}
+use Rattle.std.specs.FinSet.{FinSet, contains}
+use Rattle.std.specs.Fmt.{decimal}
+use Rattle.std.specs.List.{count_by, flat_map, range_with_len, sum_by}
+use Rattle.std.specs.Ordering.{nat_cmp}
+use Rattle.pg_base.specs.Points.{points_below}
+use Rattle.pg_base.specs.declared.kind.Kind.{Kind}
+use Rattle.pg_base.specs.declared.kind.Kind.TheVariants.{AvoiderEnforcer}
+use Rattle.pg_base.specs.declared.pair.Pair.{Pair}
+use Rattle.pg_base.specs.declared.side.Side.{Side}
+use Rattle.pg_base.specs.declared.side.Side.TheVariants.{X, Y}
+use Rattle.pg_cert.specs.declared.node.Body.{Body}
+use Rattle.pg_cert.specs.declared.node.Body.TheVariants as bodies
+use Rattle.pg_cert.specs.declared.reply.Reply.{Reply}
+use Rattle.pg_game.specs.Fit.{is_graph}
+use Rattle.pg_game.specs.Game.{free_points, is_touched, lines_of, point_count}
+use Rattle.pg_game.specs.Position.{is_free, points_of}
+use Rattle.pg_game.specs.Potential.{greatest_length, is_on, line_weight}
+use Rattle.pg_game.specs.declared.game.Game.{Game}
+use Rattle.pg_game.specs.declared.position.Position.{Position}
+use Rattle.pg_scene.specs.declared.item.Item.{Item}
+use Rattle.pg_scene.specs.declared.item.Item.TheVariants as items
+use Rattle.pg_scene.specs.declared.item.Set.{Set}
+use Rattle.pg_scene.specs.declared.item.Set.TheVariants.{First, Second}
+use Rattle.pg_scene.specs.declared.lines.TheConstants.{MAX_DRAWN_LINES}
+
+-- the item, where the test holds
+abbrev pub seen_if : Bool → Item → List Item
+seen_if true item = item ∷ []
+seen_if false item = []
+
+-- the items of a list's members, which are numbered from k
+abbrev pub numbered : {A : Type 0} → (ℕ → A → List Item) → ℕ → List A → List Item
+numbered item k [] = []
+numbered item k (a ∷ others) = item k a ++ numbered item (suc k) others
+
+-- ---- a game
+
+-- the side that has the point: X where both have it
+abbrev pub mark_of : Position → ℕ → Option Side
+mark_of p v = if contains p.x v then Some X else if contains p.y v then Some Y else None
+
+-- each of so many points with its mark; marks of other points aren't drawn
+abbrev pub point_items : ℕ → Position → List Item
+point_items n p = map (λ v. items.Point v (mark_of p v)) (range_with_len 0 n)
+
+-- whether there are few enough lines to draw them
+abbrev pub are_drawn : List (List ℕ) → Bool
+are_drawn lines = nat_le (length lines) MAX_DRAWN_LINES
+
+-- the lines, where they are few enough
+abbrev pub line_items : List (List ℕ) → List Item
+line_items lines = if are_drawn lines then map items.Line lines else []
+
+-- ---- a potential
+
+-- what a line's weight is multiplied by with each free point that it loses
+abbrev pub base_of : Kind → ℕ → ℕ
+base_of AvoiderEnforcer bias = 2
+base_of _ bias = 1 + bias
+
+-- the points that take a line's weight: Enforcer's, or the claimer's
+abbrev pub own_of : Kind → Position → Side → FinSet nat_cmp
+own_of AvoiderEnforcer p side = p.y
+own_of _ p side = points_of p side
+
+-- how many free points a line has that none of these points takes
+abbrev pub free_on : FinSet nat_cmp → Position → List ℕ → ℕ
+free_on own p line = if is_touched own line then 0 else count_by (is_free p) line
+
+-- the greatest number of them, 0 where there is no such line
+abbrev pub most_free : FinSet nat_cmp → Position → List (List ℕ) → ℕ
+most_free own p [] = 0
+most_free own p (line ∷ lines) = max (free_on own p line) (most_free own p lines)
+
+-- the weight of the lightest of these lines
+unfoldable pub unit_weight : ℕ → Game → FinSet nat_cmp → Position → ℕ
+unit_weight base g own p = base ^ (greatest_length (lines_of g) - most_free own p (lines_of g))
+
+-- the sum of the weights of the lines through a point, in units: a line with the greatest number of free points weighs one
+unfoldable pub units_by : ℕ → Game → FinSet nat_cmp → Position → ℕ → ℕ
+units_by base g own p v = sum_by (λ line. if is_on v line then line_weight base (most_free own p (lines_of g)) own p line else 0) (lines_of g)
+
+-- the same for a claimer
+abbrev pub units : Game → Position → Side → ℕ → ℕ
+units g p side v = units_by (base_of g.kind g.bias) g (own_of g.kind p side) p v
+
+-- the weight of each free point, in a game on lines
+abbrev pub weight_items : Game → Position → Side → List Item
+weight_items g p side = if is_graph g.field then [] else map (λ v. items.Weight v (decimal (units g p side v))) (free_points g p)
+
+-- ---- the bodies of nodes, of which the points of the game alone are drawn
+
+-- a reply
+abbrev pub reply_item : ℕ → Reply → List Item
+reply_item n reply = seen_if (nat_lt reply.point n) (items.Reply reply.point reply.child)
+
+-- a pair, where both its points are the game's
+abbrev pub pair_item : ℕ → ℕ → Pair → List Item
+pair_item n k pair = seen_if (nat_lt pair.a n && nat_lt pair.b n) (items.Pair pair.a pair.b k)
+
+-- a point of a threat line
+abbrev pub step_item : ℕ → ℕ → ℕ → List Item
+step_item n k v = seen_if (nat_lt v n) (items.Step v k)
+
+-- the edges of a set
+abbrev pub member_items : ℕ → Set → FinSet nat_cmp → List Item
+member_items n set edges = map (λ v. items.Member v set) (points_below edges n)
+
+-- the edges of two sets; the further edge between the terminals is drawn on a graph alone
+abbrev pub set_items : Game → Bool → FinSet nat_cmp → FinSet nat_cmp → List Item
+set_items g with_e first second =
+    seen_if (with_e && is_graph g.field) (items.Extra First) ++ (member_items (point_count g) First first ++ member_items (point_count g) Second second)
+
+-- what a body names, where the claimer is that side
+abbrev pub body_items : Game → Position → Side → Body → List Item
+body_items g p side bodies.Over = []
+body_items g p side (bodies.Move v child) = seen_if (nat_lt v (point_count g)) (items.Move v child)
+body_items g p side (bodies.All replies) = flat_map (reply_item (point_count g)) replies
+body_items g p side (bodies.Pairs pairs) = numbered (pair_item (point_count g)) 0 pairs
+body_items g p side bodies.Potential = weight_items g p side
+body_items g p side (bodies.Trees with_e first second) = set_items g with_e first second
+body_items g p side (bodies.Cuts with_e first second) = set_items g with_e first second
+body_items g p side (bodies.Threat points) = numbered (step_item (point_count g)) 1 points
+body_items g p side (bodies.Weaker child) = []
+
+-- that a node is faulty, where it is
+abbrev pub fault_items : Option ℕ → List Item
+fault_items (Some why) = items.Fault ∷ []
+fault_items None = []

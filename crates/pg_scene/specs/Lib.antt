@@ -1,0 +1,5 @@
+pub mod Limits
+pub mod Items
+pub mod Words
+pub mod Scenes
+pub mod Read

@@ -1,0 +1,77 @@
+-- What a picture is laid out from: a board within the limits of games, and items whose points and vertices are the board's.
+use Rattle.std.specs.Prelude.{◌≡◌, ℕ, ◌+◌, ◌*◌, ◌-◌, ◌<◌, ◌≤◌, true, List, [], ◌∷◌, length, Option, IfSome}
+use Rattle.std.specs.List.{All}
+use Rattle.pg_base.specs.declared.limits.TheConstants.{MAX_EDGES}
+use Rattle.pg_game.specs.declared.bounds.TheConstants.{MAX_POINTS, MAX_LINE_POINTS, MAX_VERTICES}
+use Rattle.pg_gen.specs.Bridge.{bridge_ends, has_bridge}
+use Rattle.pg_graph.specs.declared.graph.Graph.{Graph as Multigraph}
+use Rattle.pg_scene.specs.declared.board.Board.{Board}
+use Rattle.pg_scene.specs.declared.board.Board.TheVariants.{Grid, Ring, Graph}
+use Rattle.pg_scene.specs.declared.item.Item.{Item}
+use Rattle.pg_scene.specs.declared.item.Item.TheVariants.{Point, Line, Pair, Weight, Member, Extra, Step, Move, Reply, Part, Fault}
+use Rattle.pg_scene.specs.declared.scene.Scene.{Scene}
+
+-- a graph of as many vertices as the Bridg-It board of so many rows, with its terminals
+abbrev pub IsSized : Multigraph → ℕ → Type 0
+IsSized h rows = (h.vertices ≡ rows * (rows - 1) + 2) × (h.s ≡ 0) × (h.t ≡ 1)
+
+-- the vertices and edges of the Bridg-It board of so many rows, whose terminals are 0 and 1
+pub record IsBridge (vertices : ℕ) (ends : List (ℕ × ℕ)) (terminals : List ℕ) (rows : ℕ) : Type 0 where
+  pub has_rows : has_bridge rows ≡ true
+  pub same_vertices : vertices ≡ rows * (rows - 1) + 2
+  pub same_ends : ends ≡ bridge_ends rows
+  pub same_terminals : terminals ≡ 0 ∷ 1 ∷ []
+
+-- a multigraph within the limits, and the rows of the Bridg-It board that it is, where it is one
+pub record IsGraphBoard (vertices : ℕ) (ends : List (ℕ × ℕ)) (terminals : List ℕ) (bridge : Option ℕ) : Type 0 where
+  pub some_vertices : 2 ≤ vertices
+  pub few_vertices : vertices ≤ MAX_VERTICES
+  pub few_edges : length ends ≤ MAX_EDGES
+  pub on_ends : All (λ e. (e.0 < vertices) × (e.1 < vertices)) ends
+  pub on_terminals : All (λ u. u < vertices) terminals
+  pub few_terminals : length terminals ≤ 2
+  pub is_bridge : IfSome bridge (IsBridge vertices ends terminals)
+
+-- a board within the limits
+abbrev pub IsBoard : Board → Type 0
+IsBoard (Grid width height) = (1 ≤ width * height) × (width * height ≤ MAX_POINTS)
+IsBoard (Ring points) = (1 ≤ points) × (points ≤ MAX_POINTS)
+IsBoard (Graph vertices ends terminals bridge) = IsGraphBoard vertices ends terminals bridge
+
+-- how many points a board has: its cells, the places of its ring, or its edges
+abbrev pub points_on : Board → ℕ
+points_on (Grid width height) = width * height
+points_on (Ring points) = points
+points_on (Graph vertices ends terminals bridge) = length ends
+
+-- how many vertices it has
+abbrev pub vertices_on : Board → ℕ
+vertices_on (Grid width height) = 0
+vertices_on (Ring points) = 0
+vertices_on (Graph vertices ends terminals bridge) = vertices
+
+-- how many terminals
+abbrev pub terminals_on : Board → ℕ
+terminals_on (Grid width height) = 0
+terminals_on (Ring points) = 0
+terminals_on (Graph vertices ends terminals bridge) = length terminals
+
+-- an item that can stand on the board
+abbrev pub IsItemOn : Board → Item → Type 0
+IsItemOn board (Point v mark) = v < points_on board
+IsItemOn board (Line vs) = (1 ≤ length vs) × (length vs ≤ MAX_LINE_POINTS) × All (λ v. v < points_on board) vs
+IsItemOn board (Pair v w number) = (v < points_on board) × (w < points_on board)
+IsItemOn board (Weight v weight) = v < points_on board
+IsItemOn board (Member v set) = v < points_on board
+IsItemOn board (Extra set) = terminals_on board ≡ 2
+IsItemOn board (Step v number) = v < points_on board
+IsItemOn board (Move v child) = v < points_on board
+IsItemOn board (Reply v child) = v < points_on board
+IsItemOn board (Part u part) = u < vertices_on board
+IsItemOn board Fault = Unit {0}
+
+-- a board with items that can stand on it, and a short legend
+pub record IsScene (scene : Scene) : Type 0 where
+  pub board : IsBoard scene.board
+  pub items : All (IsItemOn scene.board) scene.items
+  pub few_lines : length scene.legend ≤ 1000

@@ -1,0 +1,31 @@
+//! What is to be seen of a game, or of a node of a certificate.
+#![tactic(auto)]
+
+mod board;
+mod bodies;
+mod bridge;
+mod item;
+mod laws;
+mod lines;
+mod numbers;
+mod points;
+mod scene;
+mod shown;
+mod text;
+mod weights;
+mod words;
+
+pub use board::Board;
+pub use bodies::put_fault;
+pub use bridge::joining_board;
+pub use item::{Item, Items, Set};
+pub use laws::{
+    edges_are_drawn_once, pairs_are_drawn_once, points_are_drawn_once, replies_are_drawn_once,
+    scenes_can_be_laid_out,
+};
+pub use lines::MAX_DRAWN_LINES;
+pub use points::{put_members, put_points};
+pub use scene::Scene;
+pub use shown::{scene_of_game, scene_of_node};
+pub use text::{Text, Texts};
+pub use words::{graph_title, text_of, turn_line};
