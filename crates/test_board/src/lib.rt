@@ -6,6 +6,14 @@ mod compared;
 #[cfg(test)]
 mod steps;
 #[cfg(test)]
-mod tests;
-#[cfg(test)]
 mod walks;
+
+#[cfg(test)]
+pub use compared::{agrees, games_agree};
+#[cfg(test)]
+pub use steps::{opened, play_some, take_back};
+#[cfg(test)]
+pub use walks::live_digits;
+
+#[cfg(test)]
+mod tests;

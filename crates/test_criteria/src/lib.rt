@@ -13,6 +13,18 @@ mod numbered;
 #[cfg(test)]
 mod pairings;
 #[cfg(test)]
-mod tests;
-#[cfg(test)]
 mod threats;
+
+#[cfg(test)]
+pub use edge_sets::{EdgeTally, tally_sets};
+#[cfg(test)]
+pub use lines::{Tally, tally_claim};
+#[cfg(test)]
+pub use numbered::{number_count, position_of, sets_of};
+#[cfg(test)]
+pub use pairings::all_pairings;
+#[cfg(test)]
+pub use threats::{ThreatTally, tally_threats};
+
+#[cfg(test)]
+mod tests;

@@ -8,5 +8,11 @@
 mod compared;
 #[cfg(test)]
 mod plain;
+
+#[cfg(test)]
+pub use compared::{Tally, line_at_start};
+#[cfg(test)]
+pub use plain::first_line;
+
 #[cfg(test)]
 mod tests;
