@@ -3,11 +3,10 @@ use Rattle.std.proofs.Common.{◌≡◌, ◌∙◌, List, [], ◌∷◌, map, tr
 use Rattle.std.specs.List.{AllZip}
 use Rattle.pg_base.specs.declared.goal.Goal.{Goal}
 use Rattle.pg_base.specs.declared.side.Side.{Side}
-use Rattle.pg_cert.specs.Limits.{IsWithinLimits}
 use Rattle.pg_cert.specs.Valid.{IsValid}
 use Rattle.pg_cert.specs.declared.cert.Cert.{Cert}
 use Rattle.pg_cert.specs.declared.cert.Claim.{Claim}
-use Rattle.pg_fold.specs.Folded.{IsFolded, IsSameClaim}
+use Rattle.pg_fold.specs.Folded.{IsSameClaim}
 use Rattle.pg_fold.specs.Symmetry.{FoldsWell}
 use Rattle.pg_game.specs.declared.game.Game.{Game}
 use Rattle.pg_image.specs.Limits.{IsImageWithinLimits}
@@ -18,7 +17,7 @@ use Rattle.pg_solve.specs.Due.{Heading, heading}
 use Rattle.pg_unfold.specs.Flaws.{AreSound}
 use Rattle.pg_unfold.specs.Unfolded.{IsUnfoldedCert}
 use Rattle.pg_unfold.specs.declared.unfolded.Unfolded.{Unfolded}
-use Rattle.pg_cli.specs.Solving.{IsFileOf, IsFoldedFrom}
+use Rattle.pg_cli.specs.Solving.{IsFileOf}
 
 abbrev headed : Side → Side → Goal → Heading
 headed turn side goal = record { turn = turn; side = side; goal = goal }

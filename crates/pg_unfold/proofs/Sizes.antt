@@ -1,9 +1,9 @@
 -- A claim has one size unfolded, so a claim that is too large has no room.
-use Rattle.std.proofs.Common.{◌≡◌, ◌⊎◌, ℕ, zero, suc, ◌+◌, ◌<◌, ◌≤◌, List, [], ◌∷◌, length, sum, get_or, take, Some, slice_get, refl, sym, ap, ap₂, ◌∙◌, subst, inl, inr, arith}
+use Rattle.std.proofs.Common.{◌≡◌, ◌⊎◌, ℕ, zero, suc, ◌≤◌, List, [], ◌∷◌, length, sum, get_or, take, Some, slice_get, refl, sym, ap, ap₂, ◌∙◌, subst, inl, inr, arith}
 use Rattle.std.specs.List.{All, AllPairs, AllZip, Contains}
 use Rattle.std.proofs.lemmas.List.Sums.{sum_by_more_le}
 use Rattle.std.proofs.lemmas.Option.{slice_get_within, get_or_from_slice_get}
-use Rattle.pg_cert.specs.declared.limits.TheConstants.{MAX_CLAIM_NODES, MAX_NODES}
+use Rattle.pg_cert.specs.declared.limits.TheConstants.{MAX_CLAIM_NODES}
 use Rattle.pg_game.specs.declared.game.Game.{Game}
 use Rattle.pg_image.specs.declared.cert.ImageCert.{ImageCert}
 use Rattle.pg_image.specs.declared.cert.ImageClaim.{ImageClaim}

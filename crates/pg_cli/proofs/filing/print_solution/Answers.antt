@@ -1,11 +1,10 @@
-use Rattle.std.proofs.Common.{◌≡◌, ℕ, Option, Some, sym, subst}
+use Rattle.std.proofs.Common.{ℕ, Option, subst}
 use Rattle.std.specs.Prelude.{IfSome}
 use Rattle.std.specs.Global.{Vec}
 use Rattle.std.proofs.lemmas.Result.{IfOk-weaker}
 use Rattle.pg_fold.specs.Symmetry.{IsFoldedWell}
 use Rattle.pg_image.specs.Limits.{IsImageWithinLimits}
 use Rattle.pg_image.specs.declared.cert.ImageCert.{ImageCert}
-use Rattle.pg_unfold.specs.declared.unfolded.Unfolded.{Unfolded}
 use Rattle.pg_cli.proofs.FoldedFiles.{folded_file}
 use Rattle.pg_cli.proofs.filing.print_solution.Goals as goal
 
