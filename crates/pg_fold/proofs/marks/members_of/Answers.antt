@@ -1,6 +1,6 @@
 use Rattle.std.proofs.Common.{◌++◌, ◌∷◌, [], sym, ap, ◌∙◌, inl, inr, arith}
-use Rattle.pg_base.proofs.MemberLemmas.{points_start}
-use Rattle.pg_fold.proofs.Walking.{below-next, below-to}
+use Rattle.pg_base.proofs.MemberLemmas.{points_start, points_with}
+use Rattle.pg_image.proofs.Walk.{points_end, points_next}
 use Rattle.pg_fold.proofs.marks.members_of.Goals as goal
 
 pub loop-v-init : goal.loop-v-init
@@ -11,8 +11,8 @@ loop-v-preserved c =
     let range = c.in-Some.ensures.range in
     record {
       next = omega (arith, range);
-      list = c.in_ok-push.ensures.items ∙ ap (λ vs. vs ++ c.in-Some.v ∷ []) c.loop-v.invariant.list ∙ sym (below-next c.args.set.now c.loop-v.next c.in-Some.v c.in-Some.ensures.found);
+      list = c.in_ok-push.ensures.items ∙ ap (λ vs. vs ++ c.in-Some.v ∷ []) c.loop-v.invariant.list ∙ sym (points_with c.args.set.now c.in-Some.v c.in-Some.ensures.found.member ∙ ap (λ vs. vs ++ c.in-Some.v ∷ []) (points_next c.args.set.now c.loop-v.next c.in-Some.v c.in-Some.ensures.found));
     }
 
 pub returns : goal.returns
-returns c = c.loop-v.invariant.list ∙ sym (below-to c.args.set.now c.loop-v.next 1024 c.loop-v.invariant.next (λ q low high. c.in_default.ensures.none q low))
+returns c = c.loop-v.invariant.list ∙ sym (points_end c.args.set.now c.loop-v.next c.loop-v.invariant.next c.in_default.ensures.none)
