@@ -85,11 +85,7 @@ fn fold_claim(alloc: Global, tables: &[MapTable], claim: &Claim) -> Result<Image
 }
 
 /// The nodes folded.
-fn fold_nodes(
-    alloc: Global,
-    tables: &[MapTable],
-    nodes: &[Node],
-) -> Result<Vec<ImageNode>, Memory>
+fn fold_nodes(alloc: Global, tables: &[MapTable], nodes: &[Node]) -> Result<Vec<ImageNode>, Memory>
     requires ordered { AreOrdered tables.now }
     requires few { length nodes.now < 2 ^ 32 }
     ensures { IfOk result (λ folded. (g : Game) → AreTables g tables.now → HaveDifferent g nodes.now → AreAllFolded g nodes.now folded.items) }

@@ -1,5 +1,5 @@
 -- What is gathered while claims are unfolded one after the other.
-use Rattle.std.specs.Prelude.{◌≡◌, ℕ, ◌+◌, ◌<◌, ◌≤◌, ◌⊎◌, Bool, true, false, List, [], ◌∷◌, ◌++◌, length, map, sum, Option, Some, None, Result, Ok, Err}
+use Rattle.std.specs.Prelude.{◌≡◌, ℕ, ◌+◌, ◌<◌, ◌≤◌, ◌⊎◌, List, [], ◌∷◌, ◌++◌, length, map, sum, Option, Some, None, Result, Ok, Err}
 use Rattle.std.specs.List.{All, AllZip}
 use Rattle.pg_cert.specs.Limits.{IsClaim}
 use Rattle.pg_cert.specs.declared.cert.Claim.{Claim}

@@ -1,4 +1,4 @@
-use Rattle.std.proofs.Common.{◌++◌, ◌∷◌, [], sym, ap, ◌∙◌, inl, inr, arith}
+use Rattle.std.proofs.Common.{◌++◌, ◌∷◌, [], sym, ap, ◌∙◌, arith}
 use Rattle.pg_base.proofs.MemberLemmas.{points_start, points_with}
 use Rattle.pg_image.proofs.Walk.{points_end, points_next}
 use Rattle.pg_fold.proofs.marks.members_of.Goals as goal

@@ -1,11 +1,8 @@
-use Rattle.std.proofs.Common.{◌≡◌, ◌∙◌, ◌+◌, ◌<◌, ◌≤◌, ℕ, List, length, map, Some, Option, None, sym, ap, get_or, refl, subst, arith, slice_get, rules}
+use Rattle.std.proofs.Common.{◌≡◌, ◌∙◌, ◌<◌, List, length, sym, ap, refl, subst, arith}
 use Rattle.std.proofs.lemmas.List.{length-map, take_all}
-use Rattle.std.proofs.lemmas.List.Elements.{All-nil}
-use Rattle.std.proofs.lemmas.Option.{slice_get-get_or, slice_get_read}
+use Rattle.std.proofs.lemmas.Option.{slice_get_read}
 use Rattle.std.specs.HashMap.{get}
 use Rattle.std.specs.List.{All}
-use Rattle.pg_base.specs.Points.{members}
-use Rattle.pg_base.specs.declared.grid.Grid.{Grid}
 use Rattle.pg_fold.specs.Places.{IsEarliest}
 use Rattle.pg_fold.specs.Tables.{IsTable, maps_of}
 use Rattle.pg_fold.specs.declared.tables.MapTable.{MapTable}

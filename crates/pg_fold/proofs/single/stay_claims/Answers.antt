@@ -1,5 +1,4 @@
-use Rattle.std.proofs.Common.{◌+◌, List, [], length, take, sym, refl, subst}
-use Rattle.std.proofs.lemmas.List.{take_all}
+use Rattle.std.proofs.Common.{◌+◌, List, take, sym, subst}
 use Rattle.std.specs.List.{AllZip}
 use Rattle.pg_cert.specs.declared.cert.Claim.{Claim}
 use Rattle.pg_fold.specs.Places.{Stays}

@@ -1,5 +1,4 @@
-use Rattle.std.proofs.Common.{List, get_or, rules}
-use Rattle.std.proofs.lemmas.Option.{slice_get-get_or}
+use Rattle.std.proofs.Common.{get_or}
 use Rattle.pg_unfold.proofs.ClaimSteps.{AreEarlier-sound}
 use Rattle.pg_fold.proofs.Staying.{certificate-flawless}
 use Rattle.pg_fold.proofs.symmetry.fold_by_symmetry.Goals as goal

@@ -25,8 +25,7 @@ pub returns-then-not-is_few : goal.returns-then-not-is_few
 returns-then-not-is_few c =
     let cs = c.as_slice-claims.result.now in
     let claim : ImageClaim = c.claim-item.result in
-    let at = slice_get_read cs (length cs) c.loop-claim.claim-index claim refl c.loop-claim-test.true c.claim-item.is in
-    (
+    let at = slice_get_read cs (length cs) c.loop-claim.claim-index claim refl c.loop-claim-test.true c.claim-item.is in (
       (λ on. absurd (false≢true on)),
       λ room. absurd (counted-full cs c.loop-claim.claim-index claim c.in_ok-size.size c.loop-claim.room c.loop-claim.invariant at c.in_ok-size.ensures
           (λ both. let on = c.is_few.ensures.1 both in both_ways _ c.if-not-is_few.true on) (subst HaveRoom (sym c.as_slice-claims.ensures) room)),

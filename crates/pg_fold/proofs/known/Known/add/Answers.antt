@@ -1,5 +1,4 @@
-use Rattle.std.proofs.Common.{◌≡◌, ◌<◌, length, refl, ap, sym, ◌∙◌, subst, set, true, rules, arith}
-use Rattle.pg_fold.specs.declared.known.Known.{Known}
+use Rattle.std.proofs.Common.{rules}
 use Rattle.pg_fold.proofs.Coding.{known-more}
 use Rattle.pg_fold.proofs.known.Known.add.Goals as goal
 

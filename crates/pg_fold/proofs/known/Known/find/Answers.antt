@@ -1,4 +1,4 @@
-use Rattle.std.proofs.Common.{length, refl, ap, sym, ◌∙◌, subst, ◌≡◌, Some, slice_get, ℕ, rules, arith}
+use Rattle.std.proofs.Common.{length, refl, sym, rules}
 use Rattle.std.proofs.lemmas.Option.{slice_get_read}
 use Rattle.pg_fold.proofs.Coding.{unmarked}
 use Rattle.pg_fold.proofs.known.Known.find.Goals as goal
