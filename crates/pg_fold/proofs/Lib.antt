@@ -6,4 +6,6 @@ pub mod Staying
 pub mod Steps
 pub mod Originals
 pub mod Limits
-pub mod Worth
+pub mod MapTables
+pub mod Coding
+pub mod Singles

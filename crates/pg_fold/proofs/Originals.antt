@@ -3,13 +3,16 @@ use Rattle.std.proofs.Common.{◌≡◌, ℕ, ◌+◌, ◌<◌, ◌≤◌, ◌�
 use Rattle.std.proofs.lemmas.Bool.{cases_Bool, cases_lt, leb-true, leb-false}
 use Rattle.std.proofs.lemmas.List.{take_more}
 use Rattle.std.proofs.lemmas.Option.{slice_get_within, get_or_from_slice_get}
-use Rattle.std.specs.List.{AllPairs, Contains}
+use Rattle.std.proofs.lemmas.List.Elements.{All-nil}
+use Rattle.std.specs.List.{All, AllPairs, Contains}
 use Rattle.pg_base.proofs.Stands.{contains_push, contains_old, at_contains, at_new, contains_at, from_take, same_some, some≢none}
 use Rattle.pg_base.specs.declared.grid.Grid.{Grid}
 use Rattle.pg_cert.specs.Node.{position_of}
 use Rattle.pg_fold.specs.Folded.{IsImageOf}
 use Rattle.pg_fold.specs.Places.{IsNoEarlier, IsEarliest, ArePlaced, HavePositions, IsFirstOriginal, earlier}
+use Rattle.pg_fold.specs.Tables.{AreTables, IsTable, maps_of}
 use Rattle.pg_fold.specs.declared.original.Original.{Original}
+use Rattle.pg_fold.specs.declared.tables.MapTable.{MapTable}
 use Rattle.pg_fold.proofs.Listing.{pairs_at}
 use Rattle.pg_fold.proofs.Positions.{image_by, image-undone}
 use Rattle.pg_game.specs.Game.{IsPosition}
@@ -172,3 +175,27 @@ module _ (g : Game) (grid : Grid) (has : board_of g.field ≡ Some grid) (maps :
             let same : some.original ≡ o = sym (same_some some.is) in
             subst (λ (q : Original). (q.node < j) ⊎ ((q.node ≡ j) × (number_of q.map ≤ number_of m))) same some.later,
       )
+
+-- ---- by tables
+
+-- among no maps none is found
+none-found : (known : Position → Option ℕ) (back : GridMap → Position) (found : Option Original) → IsEarliest known back [] found → found ≡ None
+none-found known back None earliest = refl
+none-found known back (Some o) earliest = let member = (earliest.is o refl).0 in absurd (omega (arith, member.1))
+
+-- what is found by the tables of the maps that fit a game is the first original
+pub original-by : (g : Game) (tables : List MapTable) → AreTables g tables → (known : Position → Option ℕ) (p : Position) (found : Option Original)
+    → ((grid : Grid) → All (IsTable grid) tables → IsEarliest known (back_by grid p) (maps_of tables) found)
+    → (nodes : List ImageNode) → ArePlaced known nodes → HavePositions g nodes → IsPosition g p → IsFirstOriginal g nodes p found
+original-by g tables are known p found earliest nodes placed positions is = by (board_of g.field) refl
+  where
+    by : (board : Option Grid) → board_of g.field ≡ board → IsFirstOriginal g nodes p found
+    by None none =
+        let empty : tables ≡ [] = are.off none in
+        let grid : Grid = record { width = 0; height = 0 } in
+        let here = earliest grid (subst (All (IsTable grid)) (sym empty) (All-nil (IsTable grid))) in
+        let lost = none-found known (back_by grid p) found (subst (λ (ts : List MapTable). IsEarliest known (back_by grid p) (maps_of ts) found) empty here) in
+        subst (λ (f : Option Original). IsFirstOriginal g nodes p f) (sym lost) (original-off_board g nodes p none)
+    by (Some grid) has =
+        let on = are.on grid has in
+        original-first g grid has (maps_of tables) on.fit known nodes placed positions p is found (earliest grid on.each)

@@ -1,3 +1,5 @@
 pub mod Folded
 pub mod Places
 pub mod Symmetry
+pub mod Tables
+pub mod Codes

@@ -1,13 +1,16 @@
 -- Which plain nodes there are so far, by their positions.
-use Rattle.std.specs.Prelude.{◌≡◌, ℕ, ◌<◌, ◌≤◌, ◌⊎◌, List, length, slice_get, Option, Some, None, nat_le, if◌then◌else◌}
-use Rattle.std.specs.List.{Contains}
+use Rattle.std.specs.Prelude.{◌≡◌, ℕ, ◌<◌, ◌≤◌, ◌⊎◌, List, [], ◌∷◌, length, slice_get, Option, Some, None, nat_le, if◌then◌else◌}
+use Rattle.std.specs.List.{All, Contains}
 use Rattle.pg_cert.specs.Node.{position_of}
+use Rattle.pg_cert.specs.Valid.{IsValidClaim}
+use Rattle.pg_cert.specs.declared.cert.Claim.{Claim}
 use Rattle.pg_cert.specs.declared.node.Node.{Node}
 use Rattle.pg_fold.specs.Folded.{IsImageOf, IsFoldedAt, HaveDifferentPositions}
 use Rattle.pg_fold.specs.declared.original.Original.{Original}
 use Rattle.pg_game.specs.Game.{IsPosition}
 use Rattle.pg_game.specs.declared.game.Game.{Game}
 use Rattle.pg_game.specs.declared.position.Position.{Position}
+use Rattle.pg_image.specs.declared.cert.ImageClaim.{ImageClaim}
 use Rattle.pg_image.specs.declared.node.ImageNode.{ImageNode}
 use Rattle.pg_image.specs.declared.node.ImageNode.TheVariants.{Plain}
 use Rattle.pg_maps.specs.GridMaps.{number_of}
@@ -58,3 +61,21 @@ HavePositions g nodes = (j : ℕ) (node : Node) → slice_get nodes j ≡ Some (
 pub record HaveDifferent (g : Game) (nodes : List Node) : Type 0 where
   pub position : (k : ℕ) (node : Node) → slice_get nodes k ≡ Some node → IsPosition g (position_of node)
   pub different : HaveDifferentPositions nodes
+
+-- the claim is valid, and no two of its nodes have the same position
+pub record IsFoldable (g : Game) (claim : Claim) : Type 0 where
+  pub valid : IsValidClaim g claim
+  pub differ : HaveDifferentPositions claim.nodes
+
+-- so is each of the claims
+abbrev pub AreFoldable : Game → List Claim → Type 0
+AreFoldable g claims = All (IsFoldable g) claims
+
+-- the claim has one node, and that stays as it is
+pub record Stays (claim : Claim) (same : ImageClaim) : Type 0 where
+  pub turn : same.turn ≡ claim.turn
+  pub side : same.side ≡ claim.side
+  pub goal : same.goal ≡ claim.goal
+  pub node : Node
+  pub of : claim.nodes ≡ node ∷ []
+  pub nodes : same.nodes ≡ Plain node ∷ []

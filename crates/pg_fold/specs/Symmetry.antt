@@ -1,22 +1,15 @@
 -- When a certificate is worth folding: the game has a symmetry, and the folded certificate may be unfolded again.
-use Rattle.std.specs.Prelude.{◌≢◌, ◌==◌, ◌⊎◌, Bool, not, Option, Some, None}
+use Rattle.std.specs.Prelude.{◌⊎◌, Option, Some, None}
 use Rattle.pg_cert.specs.declared.cert.Cert.{Cert}
 use Rattle.pg_fold.specs.Folded.{IsFolded}
 use Rattle.pg_game.specs.declared.game.Game.{Game}
 use Rattle.pg_image.specs.declared.cert.ImageCert.{ImageCert}
-use Rattle.pg_maps.specs.GridMaps.{number_of}
-use Rattle.pg_maps.specs.declared.grid_map.GridMap.{GridMap}
-use Rattle.pg_unfold.specs.Flaws.{HaveRoom, IsUsable}
-
--- some turn or reflection of the game's board takes the lines onto the lines: a map other than number 0
-pub record IsSymmetric (g : Game) : Type 0 where
-  pub map : GridMap
-  pub usable : IsUsable g map
-  pub other : number_of map ≢ 0
+use Rattle.pg_maps.specs.Images.{HasSymmetry}
+use Rattle.pg_unfold.specs.Flaws.{HaveRoom}
 
 -- the game is symmetric, and the certificate folded is this one, whose claims have few enough nodes unfolded
 pub record FoldsWell (g : Game) (c : Cert) (d : ImageCert) : Type 0 where
-  pub symmetric : IsSymmetric g
+  pub symmetric : HasSymmetry g
   pub folded : IsFolded g c d
   pub room : HaveRoom d.claims
 
@@ -28,11 +21,5 @@ pub record LacksRoom (g : Game) (c : Cert) : Type 0 where
 
 -- the certificate folded well, or none where the game isn't symmetric or the folded one lacks room
 abbrev pub IsFoldedWell : Game → Cert → Option ImageCert → Type 0
-IsFoldedWell g c None = (IsSymmetric g → ⊥) ⊎ LacksRoom g c
+IsFoldedWell g c None = (HasSymmetry g → ⊥) ⊎ LacksRoom g c
 IsFoldedWell g c (Some d) = FoldsWell g c d
-
--- ---- the code
-
--- the map isn't number 0
-abbrev pub is_other : GridMap → Bool
-is_other m = not (number_of m == 0)

@@ -3,9 +3,13 @@
 
 mod copying;
 mod folding;
+mod known;
 pub mod laws;
+mod marks;
 mod original;
+mod single;
 mod symmetry;
+mod tables;
 
 pub use folding::fold;
 pub use symmetry::fold_by_symmetry;

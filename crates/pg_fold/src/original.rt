@@ -1,18 +1,22 @@
 //! The node of which another is the image.
-ghost use Rattle.std.specs.Prelude.{◌≡◌, ◌<◌, ◌≤◌, ◌*◌};
+ghost use Rattle.std.specs.Prelude.{◌≡◌, IfOk};
 ghost use Rattle.std.specs.HashMap.{get};
-ghost use Rattle.std.specs.List.{AllPairs, Contains};
-ghost use Rattle.pg_base.specs.declared.limits.TheConstants.{MAX_MEMBERS};
+ghost use Rattle.std.specs.List.{All};
+ghost use Rattle.pg_fold.specs.Codes.{IsKnown};
 ghost use Rattle.pg_fold.specs.Places.{IsEarliest, earlier};
+ghost use Rattle.pg_fold.specs.Tables.{AreOrdered, IsTable, maps_of};
+ghost use Rattle.pg_base.specs.declared.grid.Grid.{Grid};
 ghost use Rattle.pg_game.specs.PositionLemmas.{equal_positions};
-ghost use Rattle.pg_maps.specs.GridMaps.{IsMapOf, image_of, number_of, reverse_of};
+ghost use Rattle.pg_maps.specs.GridMaps.{image_of, reverse_of};
 ghost use Rattle.pg_maps.specs.Images.{image_position};
-ghost use Rattle.pg_maps.specs.declared.grid_map.GridMap.{GridMap};
 
-use pg_base::Grid;
+use crate::known::Known;
+use crate::marks::marks_of;
+use crate::tables::MapTable;
+use pg_base::Memory;
 use pg_game::Position;
 use pg_maps::GridMap;
-use std::collections::HashMap;
+use std::alloc::Global;
 
 /// The node of which another is the image, and the map that takes its position to the other's.
 #[derive(Clone, Copy, Debug, PartialEq, Eq)]
@@ -24,33 +28,22 @@ pub(crate) struct Original {
 /// The first of the known nodes of whose position one of the maps makes this one, with the map of the lowest number
 /// that does.
 pub(crate) fn original_of(
-    grid: Grid,
-    maps: &[GridMap],
-    known: &HashMap<Position, u32>,
+    alloc: Global,
+    tables: &[MapTable],
+    known: &Known,
     position: &Position,
-) -> Option<Original>
-    requires maps { (m : GridMap) → Contains maps.now m → IsMapOf grid m }
-    requires ascending { AllPairs (λ a b. number_of a < number_of b) maps.now }
-    requires few { grid.width * grid.height ≤ MAX_MEMBERS }
-    ensures { IsEarliest (get equal_positions known.now) (λ m. image_position (image_of (reverse_of m) grid) position.now) maps.now result }
+) -> Result<Option<Original>, Memory>
+    requires ordered { AreOrdered tables.now }
+    requires known { IsKnown known.now }
+    ensures { IfOk result (λ first. (grid : Grid) → All (IsTable grid) tables.now → IsEarliest (get equal_positions known.now.places) (λ m. image_position (image_of (reverse_of m) grid) position.now) (maps_of tables.now) first) }
 {
+    let marks = marks_of(alloc, position)?;
     let mut first = None;
-    for m in maps {
-        let before = m.reverse().image_position(grid, position);
-        let node = node_at(known, &before);
-        first = earlier(first, node, *m);
+    for table in tables {
+        let node = known.find(&table.source_of(&marks, position));
+        first = earlier(first, node, table.map);
     }
-    first
-}
-
-/// The known node of the position.
-fn node_at(known: &HashMap<Position, u32>, position: &Position) -> Option<u32>
-    ensures { result ≡ get equal_positions known.now position.now }
-{
-    match known.get(position) {
-        Some(node) => Some(*node),
-        None => None,
-    }
+    Ok(first)
 }
 
 /// What was found first, unless the node that was found next, under the map, is earlier.

@@ -3,61 +3,96 @@ ghost use Rattle.std.specs.Prelude.{◌≡◌, ◌++◌, ◌∷◌, [], length, 
 ghost use Rattle.std.specs.List.{All, flat_map};
 ghost use Rattle.pg_base.specs.declared.signs.TheConstants.{LINE_FEED};
 ghost use Rattle.pg_text.specs.Text.{spaced};
-ghost use Rattle.pg_cert.specs.Print.{count_words};
-ghost use Rattle.pg_image.specs.Limits.{IsMarked, IsImageNode, IsImageClaim, IsImageWithinLimits};
+ghost use Rattle.pg_cert.specs.Print.{separated, set_words, turn_word, count_words};
+ghost use Rattle.pg_image.specs.Limits.{IsImageNode, IsImageClaim, IsImageWithinLimits};
 ghost use Rattle.pg_image.specs.Print.{position_fields, image_words, image_node_text, image_claim_words, image_claim_text, printed_image_certificate};
 
 use crate::cert::{ImageCert, ImageClaim};
 use crate::node::ImageNode;
 use pg_base::{Memory, PointSet, Side};
-use pg_cert::{Body, Node, print_node};
+use pg_cert::print_node;
 use pg_maps::GridMap;
 use std::alloc::{AllocError, Global};
 use std::fmt::Write;
 
-/// The number of bytes of the body `over` with its line feed.
-const OVER_BYTES: usize = 5;
+/// Puts a point, behind a space unless it is the first.
+fn put_point(out: &mut String, p: u16, begun: bool) -> Result<(), AllocError>
+    ensures { OnOk result (string_bytes out.new ≡ string_bytes out.old ++ separated begun (p ∷ [])) }
+{
+    if begun {
+        out.push_str(" ")?;
+    }
+    write!(out, "{p}")?;
+    Ok(())
+}
 
-/// The text of a node line up to its body: the three fields of a position, each with a bar behind it.
-fn position_fields(
-    alloc: Global,
+/// Puts the points of a set, with a space between each two.
+fn put_field(out: &mut String, set: &PointSet) -> Result<(), AllocError>
+    ensures { OnOk result (string_bytes out.new ≡ string_bytes out.old ++ spaced (set_words set.now)) }
+{
+    let mut next = 0;
+    while let Some(v) = set.first_from(next) {
+        put_point(out, v, next > 0)?;
+        next = v + 1;
+    }
+    Ok(())
+}
+
+/// Puts a turn: the side, and how many points it still claims, where these are several.
+fn put_turn(out: &mut String, turn: Side, left: u8) -> Result<(), AllocError>
+    ensures { OnOk result (string_bytes out.new ≡ string_bytes out.old ++ turn_word turn left) }
+{
+    out.push_str(turn.word())?;
+    if left > 1 {
+        write!(out, "{left}")?;
+    }
+    Ok(())
+}
+
+/// Puts the three fields of a position, each with a bar behind it.
+#[tactic(auto, unfolding(crate::specs::Print::position_fields))]
+fn put_fields(
+    out: &mut String,
     x: &PointSet,
     y: &PointSet,
     turn: Side,
     left: u8,
-) -> Result<Vec<u8>, Memory>
-    requires { IsMarked x.now y.now turn left }
-    ensures { IfOk result (λ text. text.items ≡ position_fields x.now y.now turn left) }
+) -> Result<(), AllocError>
+    ensures { OnOk result (string_bytes out.new ≡ string_bytes out.old ++ position_fields x.now y.now turn left) }
 {
-    let node = Node {
-        x: *x,
-        y: *y,
-        turn,
-        left,
-        body: Body::Over,
-    };
-    let mut line = print_node(alloc, &node)?;
-    line.truncate(line.len() - OVER_BYTES);
-    Ok(line)
+    put_field(out, x)?;
+    out.push_str("|")?;
+    put_field(out, y)?;
+    out.push_str("|")?;
+    put_turn(out, turn, left)?;
+    out.push_str("|")?;
+    Ok(())
 }
 
-/// The body of an image with its line feed.
-fn image_body(alloc: Global, map: GridMap, child: u32) -> Result<String, AllocError>
-    ensures { IfOk result (λ text. string_bytes text ≡ spaced (image_words map child) ++ LINE_FEED ∷ []) }
+/// Puts the body of an image with its line feed.
+fn put_body(out: &mut String, map: GridMap, child: u32) -> Result<(), AllocError>
+    ensures { OnOk result (string_bytes out.new ≡ string_bytes out.old ++ (spaced (image_words map child) ++ LINE_FEED ∷ [])) }
 {
-    let mut out = String::new(alloc);
     let number = map.number();
     write!(out, "image {number} {child}\n")?;
-    Ok(out)
+    Ok(())
 }
 
-/// The line of a node.
-fn node_line(alloc: Global, node: &ImageNode) -> Result<Vec<u8>, Memory>
+/// Puts the line of a node; that of an image is written on `line` first.
+fn put_node(
+    alloc: Global,
+    out: &mut Vec<u8>,
+    line: &mut String,
+    node: &ImageNode,
+) -> Result<(), Memory>
     requires { IsImageNode node.now }
-    ensures { IfOk result (λ text. text.items ≡ image_node_text node.now) }
+    ensures { OnOk result (out.new.items ≡ out.old.items ++ image_node_text node.now) }
 {
     match node {
-        ImageNode::Plain(node) => print_node(alloc, node),
+        ImageNode::Plain(node) => {
+            let text = print_node(alloc, node)?;
+            out.extend_from_slice(&text)?;
+        }
         ImageNode::Image {
             x,
             y,
@@ -66,12 +101,13 @@ fn node_line(alloc: Global, node: &ImageNode) -> Result<Vec<u8>, Memory>
             map,
             child,
         } => {
-            let mut line = position_fields(alloc, x, y, *turn, *left)?;
-            let body = image_body(alloc, *map, *child)?;
-            line.extend_from_slice(body.as_bytes())?;
-            Ok(line)
+            line.clear();
+            put_fields(line, x, y, *turn, *left)?;
+            put_body(line, *map, *child)?;
+            out.extend_from_slice(line.as_bytes())?;
         }
     }
+    Ok(())
 }
 
 /// Puts node lines.
@@ -79,9 +115,9 @@ fn put_nodes(alloc: Global, out: &mut Vec<u8>, nodes: &[ImageNode]) -> Result<()
     requires { All IsImageNode nodes.now }
     ensures { OnOk result (out.new.items ≡ out.old.items ++ flat_map image_node_text nodes.now) }
 {
+    let mut line = String::new(alloc);
     for node in nodes {
-        let line = node_line(alloc, node)?;
-        out.extend_from_slice(&line)?;
+        put_node(alloc, out, &mut line, node)?;
     }
     Ok(())
 }

@@ -4,6 +4,7 @@ pub mod Numbers
 pub mod Imaging
 pub mod Boards
 pub mod Listing
+pub mod Known
 pub mod SortedRows
 pub mod RowOrders
 pub mod SortedImages

@@ -1,5 +1,5 @@
 -- The maps that fit, gathered by their numbers.
-use Rattle.std.proofs.Common.{◌≡◌, ℕ, zero, suc, ◌+◌, ◌<◌, List, [], ◌∷◌, ◌++◌, sym, ap, ◌∙◌, subst, inl, inr, arith}
+use Rattle.std.proofs.Common.{◌≡◌, ◌↔◌, ℕ, zero, suc, ◌+◌, ◌<◌, List, [], ◌∷◌, ◌++◌, None, refl, sym, ap, ◌∙◌, subst, inl, inr, arith}
 use Rattle.std.proofs.lemmas.Bool.{cases_eq}
 use Rattle.std.proofs.lemmas.List.Elements.{All-append, Contains-append_left, Contains-append_right, Contains-append_cases}
 use Rattle.std.proofs.lemmas.List.Kept.{AllPairs-cons}
@@ -7,9 +7,10 @@ use Rattle.std.specs.List.{All, AllPairs, Contains}
 use Rattle.pg_game.specs.declared.game.Game.{Game}
 use Rattle.pg_game.proofs.Members.{Contains-head, All-from_members}
 use Rattle.pg_maps.specs.declared.grid_map.GridMap.{GridMap}
-use Rattle.pg_maps.specs.GridMaps.{numbered, number_of}
-use Rattle.pg_maps.specs.Images.{Fits, AreFitting}
-use Rattle.pg_maps.proofs.Numbers.{numbered-number}
+use Rattle.pg_maps.specs.GridMaps.{numbered, number_of, identity}
+use Rattle.pg_maps.specs.Images.{Fits, AreFitting, HasSymmetry, board_of}
+use Rattle.pg_maps.proofs.Boards.{Fits-identity, none-Fits}
+use Rattle.pg_maps.proofs.Numbers.{numbered-number, number-few}
 
 AllPairs-last : {A : Type 0} (R : A → A → Type 0) (xs : List A) (y : A) → AllPairs R xs → All (λ x. R x y) xs → AllPairs R (xs ++ y ∷ [])
 AllPairs-last {A = A} R [] y pairs each = λ i j d before inside. absurd (omega arith)
@@ -66,3 +67,24 @@ module _ (g : Game) (k : ℕ) (maps : List GridMap) (m : GridMap) (listed : AreF
     ];
     ascending = listed.ascending;
   }
+
+-- the map of number 0 is the first
+pub AreFitting-first : (g : Game) → AreFitting g 1 (identity ∷ [])
+AreFitting-first g = AreFitting-more g 0 [] identity (AreFitting-none g) refl (Fits-identity g)
+
+-- without a board it is the only one
+pub AreFitting-alone : (g : Game) → board_of g.field ≡ None → AreFitting g 8 (identity ∷ [])
+AreFitting-alone g none = record {
+  fit = (AreFitting-first g).fit;
+  before = λ m c. let lt = (AreFitting-first g).before m c in omega (arith, lt);
+  all = λ m h lt. (AreFitting-first g).all m h (let zero = none-Fits g m none h in omega (arith, zero));
+  ascending = (AreFitting-first g).ascending;
+}
+
+-- those of all numbers are all
+pub AreFitting-whole : (g : Game) (maps : List GridMap) → AreFitting g 8 maps → ((m : GridMap) → Contains maps m ↔ Fits g m) × AllPairs (λ a b. number_of a < number_of b) maps
+AreFitting-whole g maps listed = ((λ m. (listed.fit m, λ h. listed.all m h (number-few m))), listed.ascending)
+
+-- where map 0 alone fits there is no symmetry
+pub AreFitting-plain : (g : Game) → AreFitting g 8 (identity ∷ []) → HasSymmetry g → ⊥
+AreFitting-plain g listed has = has.other (ap number_of (sym (only identity has.map (listed.all has.map has.fits (number-few has.map)))))

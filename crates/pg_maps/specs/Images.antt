@@ -1,5 +1,5 @@
 -- Maps of a game's points onto themselves that take its lines onto its lines, the maps of its board that do so, and the images of positions.
-use Rattle.std.specs.Prelude.{◌≡◌, ℕ, ◌<◌, List, map, Option, Some, None}
+use Rattle.std.specs.Prelude.{◌≡◌, ◌≢◌, ℕ, ◌<◌, List, map, Option, Some, None}
 use Rattle.std.specs.List.{AllPairs, Contains}
 use Rattle.std.specs.List.Sorted.{IsPermutation}
 use Rattle.std.specs.FinSet.{FinSet, contains, from_list}
@@ -67,6 +67,12 @@ pub record AreFitting (g : Game) (k : ℕ) (maps : List GridMap) : Type 0 where
   pub before : (m : GridMap) → Contains maps m → number_of m < k
   pub all : (m : GridMap) → Fits g m → number_of m < k → Contains maps m
   pub ascending : AllPairs (λ a b. number_of a < number_of b) maps
+
+-- a map fits that isn't the one of number 0
+pub record HasSymmetry (g : Game) : Type 0 where
+  pub map : GridMap
+  pub fits : Fits g map
+  pub other : number_of map ≢ 0
 
 -- ---- images
 

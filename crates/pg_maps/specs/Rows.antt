@@ -2,7 +2,10 @@
 use Rattle.std.specs.Prelude.{◌≡◌, ℕ, ◌<◌, List, map, length}
 use Rattle.std.specs.Global.{Vec}
 use Rattle.std.specs.List.{All, range_with_len}
-use Rattle.std.specs.List.Sorted.{IsStrictlyIncreasing}
+use Rattle.std.specs.List.Sorted.{IsStrictlyIncreasing, IsPermutation, IsSorted}
+use Rattle.std.specs.Cmp.Lexicographic.{slice_cmp}
+use Rattle.std.specs.Ordering.{nat_cmp}
+use Rattle.std.specs.declared.cmp.Ordering.{Ordering}
 use Rattle.pg_maps.specs.Images.{AreInverse}
 
 -- the points of the rows
@@ -18,3 +21,12 @@ pub record IsRow (n : ℕ) (line : List ℕ) : Type 0 where
 pub record IsTableOf (f back : ℕ → ℕ) (table : List ℕ) : Type 0 where
   pub values : table ≡ map f (range_with_len 0 (length table))
   pub inverse : AreInverse (length table) f back
+
+-- the order of rows
+abbrev pub row_cmp : Vec ℕ → Vec ℕ → Ordering
+row_cmp x y = slice_cmp nat_cmp x.items y.items
+
+-- the rows are the lines, sorted
+pub record AreSortedRows (lines : List (List ℕ)) (rows : List (Vec ℕ)) : Type 0 where
+  pub same : IsPermutation lines (points_of_rows rows)
+  pub sorted : IsSorted row_cmp rows

@@ -6,6 +6,7 @@ mod grid_map;
 mod images;
 pub mod laws;
 mod reorder;
+mod telling;
 
-pub use fitting::{fits, fitting_maps};
+pub use fitting::{fits, fitting_maps, is_symmetric};
 pub use grid_map::GridMap;

@@ -1,9 +1,9 @@
 -- What maps of a board do to all numbers that a set can hold.
-use Rattle.std.proofs.Common.{◌≡◌, ℕ, ◌*◌, ◌<◌, ◌≤◌, Option, Some, None, refl, sym, ap, ◌∙◌, subst, inl, inr, arith}
+use Rattle.std.proofs.Common.{◌*◌, ◌≤◌, Option, Some, None, refl, ap, ◌∙◌, inl, inr, arith}
 use Rattle.std.proofs.lemmas.Bool.{cases_lt}
 use Rattle.pg_base.specs.declared.grid.Grid.{Grid}
 use Rattle.pg_maps.specs.GridMaps.{IsMapOf, image_of, reverse_of}
-use Rattle.pg_maps.specs.Images.{AreInverse, IsMapOn, image_on}
+use Rattle.pg_maps.specs.Images.{AreInverse, image_on}
 use Rattle.pg_maps.specs.declared.grid_map.GridMap.{GridMap}
 use Rattle.pg_maps.proofs.Turning.{AreInverse-map, image-beyond}
 use Rattle.pg_unfold.specs.Marks.{IsBoardMap}

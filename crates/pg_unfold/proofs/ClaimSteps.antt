@@ -1,26 +1,23 @@
 -- A sound claim, unfolded.
-use Rattle.std.proofs.Common.{◌≡◌, ℕ, zero, suc, ◌+◌, ◌*◌, ◌-◌, ◌/◌, ◌%◌, ◌<◌, ◌≤◌, Bool, true, false, List, [], ◌∷◌, map, length, get_or, Option, Some, slice_get, refl, sym, ap, ◌∙◌, subst, inl, inr, arith}
+use Rattle.std.proofs.Common.{◌≡◌, ℕ, zero, suc, ◌-◌, ◌<◌, ◌≤◌, Bool, true, List, [], ◌∷◌, map, length, get_or, refl, sym, ap, subst, inl, inr, arith}
 use Rattle.std.specs.List.{All as Each, AllZip, Contains}
 use Rattle.std.proofs.lemmas.Bool.{cases_lt}
 use Rattle.std.proofs.lemmas.List.Elements.{All-cons, All-nil, All-contains}
 use Rattle.std.proofs.lemmas.Option.{slice_get_within, slice_get-get_or}
-use Rattle.pg_base.specs.declared.grid.Grid.{Grid}
 use Rattle.pg_cert.specs.Limits.{IsNode}
 use Rattle.pg_cert.specs.declared.cert.Claim.{Claim}
 use Rattle.pg_cert.specs.declared.node.Node.{Node}
 use Rattle.pg_game.specs.declared.game.Game.{Game}
-use Rattle.pg_game.specs.Game.{point_count}
 use Rattle.pg_game.proofs.Limits.{point_count-le}
 use Rattle.pg_game.proofs.Members.{Contains-head, Contains-tail}
 use Rattle.pg_image.specs.Limits.{IsImageNode, IsImageClaim}
 use Rattle.pg_image.specs.declared.cert.ImageClaim.{ImageClaim}
 use Rattle.pg_image.specs.declared.node.ImageNode.{ImageNode}
 use Rattle.pg_image.specs.declared.node.ImageNode.TheVariants.{Plain, Image}
-use Rattle.pg_maps.specs.GridMaps.{numbered, number_of, identity, followed_by}
-use Rattle.pg_maps.specs.Images.{Fits, board_of, image_on}
-use Rattle.pg_maps.specs.declared.grid_map.GridMap.{GridMap}
+use Rattle.pg_maps.specs.GridMaps.{identity}
+use Rattle.pg_maps.specs.Images.{Fits, board_of}
 use Rattle.pg_maps.proofs.Boards.{Fits-identity, Fits-followed, cells}
-use Rattle.pg_unfold.specs.Copies.{Copy, LeadsTo, IsAt, IsMet, IsMetBy, IsPlaced, AreCopies}
+use Rattle.pg_unfold.specs.Copies.{Copy, LeadsTo, IsMet, IsMetBy, AreCopies}
 use Rattle.pg_unfold.specs.Flaws.{IsSoundClaim, HasUsable, HasSize}
 use Rattle.pg_unfold.specs.Gathered.{IsTaken, IsTooMuch}
 use Rattle.pg_unfold.specs.Marks.{key_of, copy_at, IsMarked, AreEarlier, AreMet, ArePlaces, IsBoardMap, AreBoardMaps, copies_of}

@@ -1,7 +1,7 @@
 -- Images of nodes within the limits of the format are within them.
-use Rattle.std.proofs.Common.{◌≡◌, ℕ, zero, suc, ◌+◌, ◌*◌, ◌%◌, ◌<◌, ◌≤◌, Bool, true, false, List, [], ◌∷◌, map, length, Option, Some, slice_get, eqb, eqb-true, refl, sym, ap, ◌∙◌, subst, inl, inr, arith}
+use Rattle.std.proofs.Common.{◌≡◌, ℕ, ◌%◌, ◌<◌, true, false, List, [], ◌∷◌, map, Option, eqb, eqb-true, sym, ap, ◌∙◌, subst, inl, inr, arith}
 use Rattle.std.specs.FinSet.{FinSet, contains}
-use Rattle.std.specs.List.{All as Each, AllZip, Contains}
+use Rattle.std.specs.List.{All as Each, AllZip}
 use Rattle.std.specs.Ordering.{nat_cmp}
 use Rattle.std.proofs.lemmas.Bool.{cases_Bool}
 use Rattle.std.proofs.lemmas.List.{length-map}
@@ -9,7 +9,6 @@ use Rattle.std.proofs.lemmas.List.Elements.{All-cons, All-head, All-tail, All-we
 use Rattle.std.proofs.lemmas.List.Sorted.{All-permutation}
 use Rattle.pg_base.specs.Points.{members}
 use Rattle.pg_base.specs.declared.grid.Grid.{Grid}
-use Rattle.pg_base.specs.declared.pair.Pair.{Pair}
 use Rattle.pg_base.specs.declared.side.Side.{Side}
 use Rattle.pg_cert.specs.Limits.{ArePoints, IsReply, IsPair, IsBody, IsTurn, IsNode}
 use Rattle.pg_cert.specs.Node.{position_of}
@@ -25,7 +24,7 @@ use Rattle.pg_maps.specs.declared.grid_map.GridMap.{GridMap}
 use Rattle.pg_maps.proofs.Criteria.{Contains-map-from}
 use Rattle.pg_maps.proofs.SetImages.{of_member, in_image}
 use Rattle.pg_unfold.specs.Marks.{IsBoardMap}
-use Rattle.pg_unfold.specs.Unfolded.{IsReplyImage, AreReplyImages, IsBodyImage}
+use Rattle.pg_unfold.specs.Unfolded.{IsReplyImage, IsBodyImage}
 use Rattle.pg_unfold.proofs.BoardMaps.{AreInverse-board}
 use Rattle.pg_unfold.proofs.Sorting.{rising-ascend, keys-pairs}
 

@@ -1,26 +1,21 @@
 -- The copies of nodes, one after the other.
-use Rattle.std.proofs.Common.{◌≡◌, ◌⊎◌, ℕ, zero, suc, ◌+◌, ◌*◌, ◌/◌, ◌%◌, ◌<◌, ◌≤◌, Bool, true, false, List, [], ◌∷◌, ◌++◌, map, length, get_or, Option, Some, None, slice_get, refl, sym, ap, ◌∙◌, subst, inl, inr, arith, add-one}
-use Rattle.std.specs.List.{All as Each, AllZip, Contains}
-use Rattle.std.specs.List.Sorted.{IsPermutation}
-use Rattle.std.proofs.lemmas.Bool.{cases_Bool}
+use Rattle.std.proofs.Common.{◌≡◌, ℕ, suc, ◌+◌, ◌/◌, ◌%◌, Bool, false, List, [], ◌∷◌, ◌++◌, map, Option, Some, slice_get, refl, sym, ap, ◌∙◌, subst, add-one}
+use Rattle.std.specs.List.{AllZip, Contains}
 use Rattle.std.proofs.lemmas.List.{map_push}
-use Rattle.std.proofs.lemmas.Option.{slice_get-get_or}
 use Rattle.pg_base.specs.declared.grid.Grid.{Grid}
 use Rattle.pg_cert.specs.Node.{position_of}
-use Rattle.pg_cert.specs.Valid.{NamesEarlier}
 use Rattle.pg_cert.specs.declared.node.Body.{Body}
 use Rattle.pg_cert.specs.declared.node.Body.TheVariants.{Over, Move, All, Pairs, Potential, Trees, Cuts, Threat, Weaker}
 use Rattle.pg_cert.specs.declared.node.Node.{Node}
 use Rattle.pg_cert.specs.declared.reply.Reply.{Reply}
 use Rattle.pg_game.proofs.Members.{Contains-head, Contains-tail}
 use Rattle.pg_image.specs.declared.node.ImageNode.{ImageNode}
-use Rattle.pg_image.specs.declared.node.ImageNode.TheVariants.{Plain, Image}
+use Rattle.pg_image.specs.declared.node.ImageNode.TheVariants.{Plain}
 use Rattle.pg_maps.specs.GridMaps.{numbered, number_of}
 use Rattle.pg_maps.specs.Images.{image_on, image_position}
-use Rattle.pg_maps.proofs.Numbers.{number-numbered}
-use Rattle.pg_unfold.specs.Copies.{Copy, NamesChild, IsMet, IsPlaced}
+use Rattle.pg_unfold.specs.Copies.{Copy, NamesChild, IsPlaced}
 use Rattle.pg_unfold.specs.Marks.{copy_at, key_of, IsMarked, AreMet, ArePlaces, IsPlaceOf, copies_below, copies_of, is_kept}
-use Rattle.pg_unfold.specs.Unfolded.{IsReplyImage, AreReplyImages, IsBodyImage, BecomesUnder, IsCopied}
+use Rattle.pg_unfold.specs.Unfolded.{IsReplyImage, IsBodyImage, BecomesUnder, IsCopied}
 use Rattle.pg_unfold.proofs.Keys.{copy_at-key}
 use Rattle.pg_unfold.proofs.Placing.{kept-at, below-kept, below-left}
 

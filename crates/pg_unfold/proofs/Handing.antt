@@ -1,7 +1,6 @@
 -- From one copy of a node to those to which it leads, by their places in the table.
-use Rattle.std.proofs.Common.{◌≡◌, ℕ, ◌+◌, ◌*◌, ◌/◌, ◌%◌, ◌<◌, ◌≤◌, Bool, true, List, length, map, set, Some, slice_get, refl, sym, ap, ◌∙◌, subst, arith}
+use Rattle.std.proofs.Common.{◌≡◌, ℕ, ◌+◌, ◌*◌, ◌/◌, ◌%◌, ◌<◌, Bool, true, List, length, map, set, Some, slice_get, sym, ap, ◌∙◌, subst, arith}
 use Rattle.std.specs.FinSet.{FinSet}
-use Rattle.std.specs.List.{All as Each}
 use Rattle.std.specs.Ordering.{nat_cmp}
 use Rattle.std.proofs.lemmas.List.Elements.{All-contains, All-map}
 use Rattle.pg_base.specs.declared.side.Side.{Side}
@@ -14,9 +13,9 @@ use Rattle.pg_image.specs.declared.node.ImageNode.TheVariants.{Plain, Image}
 use Rattle.pg_maps.specs.GridMaps.{numbered, number_of, followed_by}
 use Rattle.pg_maps.specs.declared.grid_map.GridMap.{GridMap}
 use Rattle.pg_maps.proofs.Numbers.{number-numbered}
-use Rattle.pg_unfold.specs.Copies.{Copy, NamesChild, LeadsTo, IsAt}
+use Rattle.pg_unfold.specs.Copies.{Copy, NamesChild, LeadsTo}
 use Rattle.pg_unfold.specs.Flaws.{HasEarlier}
-use Rattle.pg_unfold.specs.Marks.{key_of, copy_at, IsMarked, AreAdded, IsChildOf, Hands, AreEarlier}
+use Rattle.pg_unfold.specs.Marks.{key_of, copy_at, AreAdded, IsChildOf, Hands, AreEarlier}
 use Rattle.pg_unfold.proofs.Keys.{copy_at-key, key-copy_at}
 use Rattle.pg_unfold.proofs.Marking.{AreAdded-same, AreAdded-one}
 

@@ -13,3 +13,4 @@ pub mod ClaimSteps
 pub mod ClaimsGathered
 pub mod Roots
 pub mod Sizes
+pub mod Rooms

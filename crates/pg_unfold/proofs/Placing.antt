@@ -1,9 +1,9 @@
 -- The copies of plain nodes that are met, in order, and at which of them the others settle.
-use Rattle.std.proofs.Common.{◌≡◌, ◌⊎◌, ℕ, zero, suc, ◌+◌, ◌*◌, ◌-◌, ◌/◌, ◌%◌, ◌<◌, ◌≤◌, Bool, true, false, cond, ◌&&◌, List, [], ◌∷◌, ◌++◌, length, get_or, Option, Some, None, slice_get, refl, sym, ap, ◌∙◌, subst, inl, inr, arith}
+use Rattle.std.proofs.Common.{◌≡◌, ◌⊎◌, ℕ, zero, suc, ◌+◌, ◌*◌, ◌/◌, ◌%◌, ◌<◌, ◌≤◌, Bool, true, false, cond, ◌&&◌, List, [], ◌∷◌, ◌++◌, length, get_or, Option, Some, None, slice_get, refl, sym, ap, ◌∙◌, subst, inl, inr, arith}
 use Rattle.std.specs.FinSet.{FinSet}
 use Rattle.std.specs.List.{AllPairs, Contains}
 use Rattle.std.specs.Ordering.{nat_cmp}
-use Rattle.std.proofs.lemmas.Bool.{cases_Bool, cases_lt, cases_order, and_parts, both_ways, false≢true}
+use Rattle.std.proofs.lemmas.Bool.{cases_Bool, cases_lt, and_parts, false≢true}
 use Rattle.std.proofs.lemmas.List.Elements.{Contains-get_or, Contains-push_cases}
 use Rattle.std.proofs.lemmas.List.{append-nil, length-append}
 use Rattle.std.proofs.lemmas.List.Quantifiers.{all_pairs_push}
@@ -15,9 +15,9 @@ use Rattle.pg_image.specs.declared.node.ImageNode.TheVariants.{Plain, Image}
 use Rattle.pg_maps.specs.GridMaps.{numbered, number_of, followed_by}
 use Rattle.pg_maps.specs.declared.grid_map.GridMap.{GridMap}
 use Rattle.pg_maps.proofs.Numbers.{number-numbered}
-use Rattle.pg_unfold.specs.Copies.{Copy, IsPlain, StandsFor, IsAt, IsMet, ComesBefore, AreCopies, IsPlaced}
-use Rattle.pg_unfold.specs.Marks.{key_of, copy_at, IsMarked, AreMet, is_plain, is_true, is_kept, copies_below, copies_of, ArePlaces}
-use Rattle.pg_unfold.proofs.Keys.{copy_at-key, key-copy_at}
+use Rattle.pg_unfold.specs.Copies.{Copy, IsPlain, IsAt, IsMet, ComesBefore, AreCopies, IsPlaced}
+use Rattle.pg_unfold.specs.Marks.{key_of, copy_at, IsMarked, AreMet, is_plain, is_true, is_kept, copies_below, copies_of}
+use Rattle.pg_unfold.proofs.Keys.{copy_at-key}
 
 -- ---- elements of lists by their places
 

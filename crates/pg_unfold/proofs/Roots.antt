@@ -1,7 +1,7 @@
 -- The nodes of an unfolded claim that come from copies, and its last one.
-use Rattle.std.proofs.Common.{◌≡◌, ◌⊎◌, ℕ, zero, suc, ◌+◌, ◌-◌, ◌<◌, ◌≤◌, true, List, [], ◌∷◌, map, length, get_or, Option, Some, None, slice_get, refl, sym, ap, ◌∙◌, subst, inl, inr, arith}
+use Rattle.std.proofs.Common.{◌≡◌, ℕ, zero, suc, ◌+◌, ◌-◌, ◌<◌, true, List, [], ◌∷◌, length, get_or, Some, slice_get, refl, sym, ap, ◌∙◌, subst, inl, inr, arith}
 use Rattle.std.specs.FinSet.{FinSet, contains}
-use Rattle.std.specs.List.{AllPairs, AllZip, Contains}
+use Rattle.std.specs.List.{AllZip, Contains}
 use Rattle.std.specs.Ordering.{nat_cmp}
 use Rattle.std.specs.Prelude.{option_map}
 use Rattle.std.proofs.lemmas.Bool.{cases_lt}
@@ -12,18 +12,15 @@ use Rattle.pg_cert.specs.Node.{position_of}
 use Rattle.pg_cert.specs.declared.cert.Claim.{Claim}
 use Rattle.pg_cert.specs.declared.node.Node.{Node}
 use Rattle.pg_game.specs.declared.game.Game.{Game}
-use Rattle.pg_game.specs.declared.position.Position.{Position}
 use Rattle.pg_image.specs.Limits.{IsImageNode, IsImageClaim}
 use Rattle.pg_image.specs.declared.cert.ImageClaim.{ImageClaim}
-use Rattle.pg_image.specs.declared.node.ImageNode.{ImageNode}
-use Rattle.pg_image.specs.declared.node.ImageNode.TheVariants.{Plain, Image}
+use Rattle.pg_image.specs.declared.node.ImageNode.TheVariants.{Plain}
 use Rattle.pg_maps.specs.GridMaps.{number_of, identity}
 use Rattle.pg_maps.specs.Images.{board_of, image_on, image_position, image_set}
 use Rattle.pg_maps.proofs.Boards.{image_on-identity}
 use Rattle.pg_maps.proofs.SetImages.{image_set-from}
-use Rattle.pg_unfold.specs.Copies.{Copy, LeadsTo, IsAt, IsPlain, IsMet, IsMetBy, ComesBefore, AreCopies}
+use Rattle.pg_unfold.specs.Copies.{Copy, IsMet, IsMetBy, ComesBefore}
 use Rattle.pg_unfold.specs.Flaws.{IsSoundClaim}
-use Rattle.pg_unfold.specs.Marks.{AreEarlier, copy_at, key_of}
 use Rattle.pg_unfold.specs.Unfolded.{IsCopied, IsUnfolded, HasImage, HasRootAt}
 use Rattle.pg_unfold.proofs.ClaimSteps.{AreEarlier-sound, zip-length}
 use Rattle.pg_unfold.proofs.Handing.{leads-earlier}

@@ -1,9 +1,9 @@
 -- A claim has one size unfolded, so a claim that is too large has no room.
-use Rattle.std.proofs.Common.{◌≡◌, ◌⊎◌, ℕ, zero, suc, ◌≤◌, List, [], ◌∷◌, length, sum, get_or, take, Some, slice_get, refl, sym, ap, ap₂, ◌∙◌, subst, inl, inr, arith}
+use Rattle.std.proofs.Common.{◌≡◌, ◌⊎◌, ℕ, zero, suc, ◌+◌, ◌<◌, ◌≤◌, List, [], ◌∷◌, length, sum, get_or, take, Some, slice_get, refl, sym, ap, ap₂, ◌∙◌, subst, inl, inr, arith}
 use Rattle.std.specs.List.{All, AllPairs, AllZip, Contains}
 use Rattle.std.proofs.lemmas.List.Sums.{sum_by_more_le}
 use Rattle.std.proofs.lemmas.Option.{slice_get_within, get_or_from_slice_get}
-use Rattle.pg_cert.specs.declared.limits.TheConstants.{MAX_CLAIM_NODES}
+use Rattle.pg_cert.specs.declared.limits.TheConstants.{MAX_CLAIM_NODES, MAX_NODES}
 use Rattle.pg_game.specs.declared.game.Game.{Game}
 use Rattle.pg_image.specs.declared.cert.ImageCert.{ImageCert}
 use Rattle.pg_image.specs.declared.cert.ImageClaim.{ImageClaim}
@@ -96,16 +96,21 @@ size_at (suc i) (d ∷ cs) (s ∷ ss) c h at = size_at i cs ss c h.1 at
 all_at : {A : Type 0} (P : A → Type 0) (xs : List A) (i : ℕ) (x : A) → All P xs → slice_get xs i ≡ Some x → P x
 all_at P xs i x all at = subst P (get_or_from_slice_get xs i x x at) (all i x (slice_get_within xs i x at))
 
-no_room : (claims : List ImageClaim) (i node : ℕ) → IsFirstTooLarge claims i node → HaveRoom claims → ⊥
-no_room claims i node h room =
-    let found = size_at i claims room.sizes h.large room.are h.claim_at in
-    let same : found.0 ≡ h.size = size_once h.large found.0 h.size found.2 h.is in
-    let before : sum (take i room.sizes) ≡ sum h.before.sizes = ap sum (sizes_once (take i claims) (take i room.sizes) h.before.sizes (sizes_taken i claims room.sizes room.are) h.before.are) in
-    let each : found.0 ≤ MAX_CLAIM_NODES = all_at (λ size. size ≤ MAX_CLAIM_NODES) room.sizes i found.0 room.few.each found.1 in
+-- a claim that is too large behind claims of these sizes
+pub too_large : (claims : List ImageClaim) (i : ℕ) (c : ImageClaim) (sizes : List ℕ) (size : ℕ) → AllZip HasSize (take i claims) sizes → slice_get claims i ≡ Some c → HasSize c size
+    → (MAX_CLAIM_NODES < size) ⊎ (MAX_NODES < sum sizes + size) → HaveRoom claims → ⊥
+too_large claims i c sizes size are at is much room =
+    let found = size_at i claims room.sizes c room.are at in
+    let same : found.0 ≡ size = size_once c found.0 size found.2 is in
+    let before : sum (take i room.sizes) ≡ sum sizes = ap sum (sizes_once (take i claims) (take i room.sizes) sizes (sizes_taken i claims room.sizes room.are) are) in
+    let each : found.0 ≤ MAX_CLAIM_NODES = all_at (λ n. n ≤ MAX_CLAIM_NODES) room.sizes i found.0 room.few.each found.1 in
     let here : get_or room.sizes i 0 ≡ found.0 = get_or_from_slice_get room.sizes i found.0 0 found.1 in
     let part = sum_by_more_le (λ (n : ℕ). n) room.sizes i 0 (slice_get_within room.sizes i found.0 found.1) in
     let together = room.few.together in
-    elim h.much [ inl many ↦ omega (arith, same, each, many) | inr full ↦ omega (arith, same, before, here, part, together, full) ]
+    elim much [ inl many ↦ omega (arith, same, each, many) | inr full ↦ omega (arith, same, before, here, part, together, full) ]
+
+no_room : (claims : List ImageClaim) (i node : ℕ) → IsFirstTooLarge claims i node → HaveRoom claims → ⊥
+no_room claims i node h room = too_large claims i h.large h.before.sizes h.size h.before.are h.claim_at h.is h.much room
 
 -- ---- faults
 

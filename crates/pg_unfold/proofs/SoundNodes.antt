@@ -1,5 +1,5 @@
 -- One node after the other is tried.
-use Rattle.std.proofs.Common.{◌≡◌, ◌↔◌, ℕ, ◌+◌, ◌<◌, ◌≤◌, Bool, true, false, List, length, get_or, take, Option, Some, None, slice_get, refl, sym, ap, ◌∙◌, subst, inl, inr, arith}
+use Rattle.std.proofs.Common.{◌≡◌, ◌↔◌, ℕ, ◌+◌, ◌≤◌, List, length, Option, Some, None, slice_get, sym, ap, ◌∙◌, subst, inl, inr, arith}
 use Rattle.std.specs.FinSet.{FinSet}
 use Rattle.std.specs.List.{Contains}
 use Rattle.std.specs.Ordering.{nat_cmp}
@@ -12,11 +12,11 @@ use Rattle.pg_game.specs.declared.position.Position.{Position}
 use Rattle.pg_image.specs.Node.{image_node_position}
 use Rattle.pg_image.specs.declared.cert.ImageClaim.{ImageClaim}
 use Rattle.pg_image.specs.declared.node.ImageNode.{ImageNode}
-use Rattle.pg_image.specs.declared.node.ImageNode.TheVariants.{Plain, Image}
+use Rattle.pg_image.specs.declared.node.ImageNode.TheVariants.{Image}
 use Rattle.pg_maps.specs.GridMaps.{image_of}
 use Rattle.pg_maps.specs.Images.{Fits, board_of, image_on, image_position}
 use Rattle.pg_maps.specs.declared.grid_map.GridMap.{GridMap}
-use Rattle.pg_unfold.specs.Flaws.{IsUsable, AreUsable, HasMarks, IsSound, AreSoundBefore, IsSoundClaim}
+use Rattle.pg_unfold.specs.Flaws.{AreUsable, HasMarks, IsSound, AreSoundBefore, IsSoundClaim}
 
 -- the maps that fit a game with a board are those that are usable
 pub usable-fitting : (g : Game) (grid : Grid) (maps : List GridMap) → board_of g.field ≡ Some grid → ((m : GridMap) → Contains maps m ↔ Fits g m) → AreUsable g maps

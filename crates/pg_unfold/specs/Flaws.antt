@@ -1,5 +1,5 @@
 -- When a node of a certificate with turned and reflected nodes is faulty, and when a claim of it is too large unfolded.
-use Rattle.std.specs.Prelude.{◌≡◌, ℕ, ◌+◌, ◌<◌, ◌≤◌, ◌↔◌, ◌⊎◌, List, [], ◌∷◌, ◌++◌, length, slice_get, Some, sum, take}
+use Rattle.std.specs.Prelude.{◌≡◌, ℕ, ◌+◌, ◌<◌, ◌≤◌, ◌↔◌, ◌⊎◌, List, length, slice_get, Some, sum, take}
 use Rattle.std.specs.List.{All, AllZip, Contains}
 use Rattle.pg_base.specs.Points.{AreBelow}
 use Rattle.pg_base.specs.declared.grid.Grid.{Grid}

@@ -1,5 +1,5 @@
 -- What is gathered while claims are unfolded one after the other.
-use Rattle.std.specs.Prelude.{◌≡◌, ℕ, ◌+◌, ◌<◌, ◌≤◌, ◌⊎◌, Bool, true, false, List, [], ◌∷◌, ◌++◌, length, map, sum, Option, Some, None, Result, Ok, Err}
+use Rattle.std.specs.Prelude.{◌≡◌, ℕ, ◌+◌, ◌<◌, ◌≤◌, ◌⊎◌, List, [], ◌∷◌, ◌++◌, length, map, sum, Option, Some, None, Result, Ok, Err}
 use Rattle.std.specs.List.{All, AllZip}
 use Rattle.pg_cert.specs.Limits.{IsClaim}
 use Rattle.pg_cert.specs.declared.cert.Claim.{Claim}
@@ -62,3 +62,10 @@ abbrev pub TellsUnfolded : Game → List ImageClaim → Result Gathered ImageFau
 TellsUnfolded g claims (Ok gathered) = AreGathered g claims gathered
 TellsUnfolded g claims (Err (Bad claim node why)) = (why ≡ 4) × IsFirstTooLarge claims claim node
 TellsUnfolded g claims (Err Memory) = Unit {0}
+
+-- these claims have so many nodes unfolded that a certificate may have that many more
+pub record AreCounted (claims : List ImageClaim) (room : ℕ) : Type 0 where
+  pub sizes : List ℕ
+  pub are : AllZip HasSize claims sizes
+  pub each : All (λ size. size ≤ MAX_CLAIM_NODES) sizes
+  pub together : sum sizes + room ≡ MAX_NODES

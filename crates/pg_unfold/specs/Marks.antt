@@ -1,15 +1,16 @@
 -- The table of marks in which an unfolding notes what is met: eight places for each node, one for each map.
-use Rattle.std.specs.Prelude.{◌≡◌, ℕ, zero, suc, ◌+◌, ◌*◌, ◌-◌, ◌/◌, ◌%◌, ◌<◌, ◌≤◌, ◌⊎◌, Bool, true, false, ◌&&◌, List, [], ◌∷◌, ◌++◌, length, slice_get, Option, Some, None, if◌then◌else◌}
+use Rattle.std.specs.Prelude.{◌≡◌, ℕ, zero, suc, ◌+◌, ◌*◌, ◌-◌, ◌/◌, ◌%◌, ◌≤◌, ◌⊎◌, Bool, true, false, ◌&&◌, List, [], ◌∷◌, ◌++◌, length, slice_get, Option, Some, None, if◌then◌else◌}
+use Rattle.std.specs.List.{All}
 use Rattle.pg_base.specs.declared.grid.Grid.{Grid}
 use Rattle.pg_base.specs.declared.limits.TheConstants.{MAX_MEMBERS}
-use Rattle.pg_cert.specs.Valid.{NamesEarlier}
 use Rattle.pg_cert.specs.declared.node.Body.{Body}
+use Rattle.pg_image.specs.declared.cert.ImageClaim.{ImageClaim}
 use Rattle.pg_image.specs.declared.node.ImageNode.{ImageNode}
 use Rattle.pg_image.specs.declared.node.ImageNode.TheVariants.{Plain, Image}
 use Rattle.pg_maps.specs.GridMaps.{numbered, number_of}
 use Rattle.pg_maps.specs.Images.{IsMapOn}
 use Rattle.pg_maps.specs.declared.grid_map.GridMap.{GridMap}
-use Rattle.pg_unfold.specs.Copies.{Copy, IsPlain, NamesChild, LeadsTo, IsAt, IsMet, IsPlaced}
+use Rattle.pg_unfold.specs.Copies.{Copy, NamesChild, LeadsTo, IsAt, IsMet, IsPlaced}
 use Rattle.pg_unfold.specs.Flaws.{HasEarlier}
 
 -- the place of a copy in the table, and the copy with a place
@@ -40,6 +41,10 @@ Hands nodes key next = IsAt nodes (copy_at key) (λ node. LeadsTo node (copy_at 
 -- the children of every node have lower numbers
 abbrev pub AreEarlier : List ImageNode → Type 0
 AreEarlier nodes = (k : ℕ) (node : ImageNode) → slice_get nodes k ≡ Some node → HasEarlier k node
+
+-- so it is in each of the claims
+abbrev pub AreAllEarlier : List ImageClaim → Type 0
+AreAllEarlier claims = All (λ (claim : ImageClaim). AreEarlier claim.nodes) claims
 
 -- the marks of a claim's copies: exactly those that are met
 pub record AreMet (nodes : List ImageNode) (marks : List Bool) : Type 0 where

@@ -15,7 +15,7 @@ use pg_image::ImageNode;
 use std::alloc::Global;
 
 /// The plain node of the copy with that place, where it is one of a plain node and met.
-fn kept_node<'a>(nodes: &'a [ImageNode], marks: &[bool], key: usize) -> Option<&'a Node>
+pub(crate) fn kept_node<'a>(nodes: &'a [ImageNode], marks: &[bool], key: usize) -> Option<&'a Node>
     requires whole { length marks.now ≡ 8 * length nodes.now }
     requires place { key < length marks.now }
     ensures some { IfSome result (λ node. IsMarked marks.now key × (slice_get nodes.now (key / 8) ≡ Some (Plain node.now))) }

@@ -8,10 +8,12 @@ mod flaw;
 pub mod laws;
 mod met;
 mod places;
+mod room;
 mod soundness;
 mod unfolded;
 mod unfolding;
 
 pub use flaw::Flaw;
+pub use room::has_room;
 pub use unfolded::{ImageFault, Origins, Sources, Unfolded};
 pub use unfolding::unfold;

@@ -1,8 +1,8 @@
 //! Unfolding a certificate.
-ghost use Rattle.std.specs.Prelude.{◌≡◌, ◌+◌, ◌≤◌, ◌↔◌, ℕ, IfOk, IsTrue, length};
+ghost use Rattle.std.specs.Prelude.{◌≡◌, ◌+◌, ◌≤◌, ℕ, IfOk, length};
 ghost use Rattle.std.specs.List.{All};
 ghost use Rattle.pg_cert.specs.Limits.{IsWithinLimits};
-ghost use Rattle.pg_cert.specs.declared.limits.TheConstants.{MAX_CLAIM_NODES, MAX_CLAIMS};
+ghost use Rattle.pg_cert.specs.declared.limits.TheConstants.{MAX_CLAIMS};
 ghost use Rattle.pg_image.specs.Limits.{IsImageClaim, IsImageWithinLimits};
 ghost use Rattle.pg_unfold.specs.Flaws.{AreSound, IsFaultless, IsFirstFault, IsSoundClaim};
 ghost use Rattle.pg_unfold.specs.Gathered.{TakesNext, TellsUnfolded, UnfoldsWithin};
@@ -12,10 +12,11 @@ use crate::board_map::board_of;
 use crate::copying::{copied_nodes, origins_of};
 use crate::met::met_copies;
 use crate::places::places_of;
+use crate::room::is_few;
 use crate::soundness::try_nodes;
 use crate::unfolded::{ImageFault, Origins, Sources, Unfolded};
 use pg_base::Memory;
-use pg_cert::{Cert, Claim, Claims, MAX_CLAIM_NODES, MAX_NODES, Nodes, Version};
+use pg_cert::{Cert, Claim, Claims, MAX_NODES, Nodes, Version};
 use pg_game::Game;
 use pg_image::{ImageCert, ImageClaim};
 use std::alloc::Global;
@@ -41,13 +42,6 @@ struct Gathered {
     room: u32,
 }
 
-/// Whether there is room for so many nodes, in a claim and with those before it.
-fn has_room(count: u32, room: u32) -> bool
-    ensures { IsTrue result ↔ ((count ≤ MAX_CLAIM_NODES) × (count ≤ room)) }
-{
-    count <= MAX_CLAIM_NODES && count <= room
-}
-
 /// The claim unfolded, or None exactly where there is no room for its nodes.
 fn unfold_claim(
     alloc: Global,
@@ -63,7 +57,7 @@ fn unfold_claim(
     let table = met_copies(alloc, nodes)?;
     let marks = table.as_slice();
     let found = places_of(alloc, nodes, marks)?;
-    let fits = has_room(found.count, room);
+    let fits = is_few(found.count, room);
     if !fits {
         return Ok(None);
     }

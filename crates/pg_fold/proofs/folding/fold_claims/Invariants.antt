@@ -1,7 +1,10 @@
 use Rattle.std.proofs.Common.{take}
 use Rattle.std.specs.List.{AllZip}
 use Rattle.pg_fold.specs.Folded.{IsFoldedClaim}
+use Rattle.pg_fold.specs.Places.{AreFoldable}
+use Rattle.pg_fold.specs.Tables.{AreTables}
+use Rattle.pg_game.specs.declared.game.Game.{Game}
 use Rattle.pg_fold.proofs.folding.fold_claims.Given as goal
 
 abbrev pub invariant-loop-claim : goal.invariant-loop-claim
-invariant-loop-claim l = AllZip (IsFoldedClaim l.g) (take l.claim-index l.claims) l.folded.items
+invariant-loop-claim l = (g : Game) → AreTables g l.tables → AreFoldable g l.claims → AllZip (IsFoldedClaim g) (take l.claim-index l.claims) l.folded.items

@@ -1,39 +1,50 @@
-use Rattle.std.proofs.Common.{◌≡◌, ◌∙◌, List, sym, ap, get_or, subst}
-use Rattle.std.proofs.lemmas.List.{take_all}
-use Rattle.std.proofs.lemmas.Option.{slice_get-get_or}
+use Rattle.std.proofs.Common.{◌≡◌, ◌∙◌, ◌<◌, List, length, sym, ap, refl, subst, arith}
+use Rattle.std.proofs.lemmas.List.{length-map, take_all}
+use Rattle.std.proofs.lemmas.Option.{slice_get_read}
 use Rattle.std.specs.HashMap.{get}
-use Rattle.pg_base.proofs.Stands.{at_contains}
+use Rattle.std.specs.List.{All}
 use Rattle.pg_fold.specs.Places.{IsEarliest}
+use Rattle.pg_fold.specs.Tables.{IsTable, maps_of}
+use Rattle.pg_fold.specs.declared.tables.MapTable.{MapTable}
+use Rattle.pg_fold.proofs.Listing.{all_at}
+use Rattle.pg_fold.proofs.MapTables.{image_before-is, map-at, small-members}
 use Rattle.pg_fold.proofs.Originals.{back_by, earliest-none, earliest-step}
 use Rattle.pg_game.specs.PositionLemmas.{equal_positions}
 use Rattle.pg_game.specs.declared.position.Position.{Position}
-use Rattle.pg_maps.specs.GridMaps.{identity, image_of}
-use Rattle.pg_maps.specs.Images.{image_position}
 use Rattle.pg_maps.specs.declared.grid_map.GridMap.{GridMap}
 use Rattle.pg_fold.proofs.original.original_of.Goals as goal
 
-pub loop-m-init : goal.loop-m-init
-loop-m-init c = earliest-none (get equal_positions c.args.known.now) (back_by c.args.grid c.args.position.now)
+pub loop-table-init : goal.loop-table-init
+loop-table-init c = λ grid tables. earliest-none (get equal_positions c.args.known.now.places) (back_by grid c.args.position.now)
 
-pub image_position-before-requires-clause-map : goal.image_position-before-requires-clause-map
-image_position-before-requires-clause-map c = λ on.
-    let maps = c.args.maps.now in
-    let i = c.loop-m.m-index in
-    let m : GridMap = get_or maps i identity in
-    let at = slice_get-get_or maps i identity c.loop-m-test.true in
-    c.requires.maps m (at_contains maps i m at) (ap (λ (h : GridMap). h.exchange) (sym c.reverse.ensures) ∙ on)
+pub source_of-requires-clause-table : goal.source_of-requires-clause-table
+source_of-requires-clause-table c =
+    let tables = c.args.tables.now in
+    let t : MapTable = c.table-item.result in
+    let at = slice_get_read tables (length tables) c.loop-table.table-index t refl c.loop-table-test.true c.table-item.is in
+    all_at (λ (s : MapTable). All (λ u. u < 1024) s.sources.items) tables c.loop-table.table-index t at c.requires.ordered.small
 
-pub loop-m-preserved : goal.loop-m-preserved
-loop-m-preserved c =
-    let maps = c.args.maps.now in
-    let i = c.loop-m.m-index in
-    let m : GridMap = get_or maps i identity in
-    let at = slice_get-get_or maps i identity c.loop-m-test.true in
-    let before : c.image_position-before.result ≡ back_by c.args.grid c.args.position.now m =
-    c.image_position-before.ensures ∙ ap (λ (h : GridMap). image_position (image_of h c.args.grid) c.args.position.now) c.reverse.ensures in
-    earliest-step (get equal_positions c.args.known.now) (back_by c.args.grid c.args.position.now) maps i m c.loop-m.first c.earlier-first.result c.node_at-node.result at c.requires.ascending c.loop-m.invariant
-    (c.node_at-node.ensures ∙ ap (λ (p : Position). get equal_positions c.args.known.now p) before) c.earlier-first.ensures
+pub source_of-requires-clause-x : goal.source_of-requires-clause-x
+source_of-requires-clause-x c = subst (All (λ v. v < 1024)) (sym c.in_ok-marks.ensures.x) (small-members c.args.position.now.x)
+
+pub source_of-requires-clause-y : goal.source_of-requires-clause-y
+source_of-requires-clause-y c = subst (All (λ v. v < 1024)) (sym c.in_ok-marks.ensures.y) (small-members c.args.position.now.y)
+
+pub loop-table-preserved : goal.loop-table-preserved
+loop-table-preserved c = λ grid are.
+    let tables = c.args.tables.now in
+    let i = c.loop-table.table-index in
+    let t : MapTable = c.table-item.result in
+    let p = c.args.position.now in
+    let at = slice_get_read tables (length tables) i t refl c.loop-table-test.true c.table-item.is in
+    let is = all_at (IsTable grid) tables i t at are in
+    let before : c.source_of.result ≡ back_by grid p t.map = c.source_of.ensures ∙ image_before-is grid t is c.in_ok-marks.marks p c.in_ok-marks.ensures.x c.in_ok-marks.ensures.y in
+    earliest-step (get equal_positions c.args.known.now.places) (back_by grid p) (maps_of tables) i t.map c.loop-table.first c.earlier-first.result c.find-node.result (map-at tables i t at) c.requires.ordered.ascending
+    (c.loop-table.invariant grid are) (c.find-node.ensures ∙ ap (λ (q : Position). get equal_positions c.args.known.now.places q) before) c.earlier-first.ensures
 
 pub returns : goal.returns
-returns c = subst (λ (maps : List GridMap). IsEarliest (get equal_positions c.args.known.now) (back_by c.args.grid c.args.position.now) maps c.loop-m.first)
-    (take_all c.loop-m.m-index c.args.maps.now c.loop-m-test.false) c.loop-m.invariant
+returns c = λ grid are.
+    let tables = c.args.tables.now in
+    let size = length-map tables (λ (t : MapTable). t.map) in
+    subst (λ (maps : List GridMap). IsEarliest (get equal_positions c.args.known.now.places) (back_by grid c.args.position.now) maps c.loop-table.first)
+    (take_all c.loop-table.table-index (maps_of tables) (omega (arith, size, c.loop-table-test.false))) (c.loop-table.invariant grid are)

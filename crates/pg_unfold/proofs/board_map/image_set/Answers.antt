@@ -1,5 +1,5 @@
 use Rattle.pg_maps.specs.Images.{image_on}
-use Rattle.std.proofs.Common.{refl, sym, subst, ◌∙◌, ◌≡◌, ap, Option}
+use Rattle.std.proofs.Common.{refl, sym, subst, ◌≡◌, Option}
 use Rattle.pg_base.specs.declared.grid.Grid.{Grid}
 use Rattle.pg_maps.proofs.SetImages.{image_set-from}
 use Rattle.pg_maps.specs.Images.{image_set}

@@ -1,13 +1,12 @@
-use Rattle.std.proofs.Common.{◌≡◌, ◌↔◌, Option, Some, None, true, sym, ap, ◌∙◌}
+use Rattle.std.proofs.Common.{◌≡◌, ◌↔◌, Option, Some, None, true, sym, ◌∙◌}
 use Rattle.std.specs.Option.{is_some}
 use Rattle.std.specs.Global.{Vec}
 use Rattle.std.specs.List.{Contains}
 use Rattle.std.proofs.lemmas.Bool.{false≢true}
 use Rattle.std.proofs.lemmas.Result.{IfOk-weaker}
 use Rattle.pg_base.specs.declared.grid.Grid.{Grid}
-use Rattle.pg_maps.specs.Images.{Fits, board_of}
+use Rattle.pg_maps.specs.Images.{Fits}
 use Rattle.pg_maps.specs.declared.grid_map.GridMap.{GridMap}
-use Rattle.pg_unfold.specs.Flaws.{AreUsable}
 use Rattle.pg_unfold.proofs.SoundNodes.{usable-fitting}
 use Rattle.pg_unfold.proofs.soundness.usable_maps.Goals as goal
 

@@ -1,11 +1,10 @@
-use Rattle.std.proofs.Common.{◌≡◌, ◌≤◌, ℕ, List, Bool, length, map, false, true, Option, refl, sym, ap, ◌∙◌, subst, arith, rules}
+use Rattle.std.proofs.Common.{◌≤◌, ℕ, List, Bool, length, Option, refl, sym, ap, ◌∙◌, subst, arith, rules}
 use Rattle.std.specs.List.{All, AllZip}
 use Rattle.std.proofs.lemmas.Bool.{both_ways}
 use Rattle.pg_base.specs.declared.grid.Grid.{Grid}
 use Rattle.pg_cert.specs.declared.cert.Claim.{Claim}
 use Rattle.pg_image.specs.Limits.{IsImageNode}
 use Rattle.pg_image.specs.declared.node.ImageNode.{ImageNode}
-use Rattle.pg_maps.specs.Images.{board_of}
 use Rattle.pg_unfold.specs.Gathered.{IsTaken}
 use Rattle.pg_unfold.specs.Marks.{AreEarlier, AreMet, ArePlaces, AreBoardMaps, copies_of}
 use Rattle.pg_unfold.specs.Unfolded.{IsCopied}
@@ -46,7 +45,7 @@ returns-then-not-fits c =
     let met = subst (λ (ns : List ImageNode). AreMet ns marks) c.as_slice-nodes.ensures here in
     too_much-from c.args.claim.now marks met c.in_ok-found.found.count c.args.room
     (c.in_ok-found.ensures.count ∙ ap (λ (ns : List ImageNode). length (copies_of ns marks)) c.as_slice-nodes.ensures)
-    (λ both. let on = c.has_room-fits.ensures.1 both in both_ways _ c.if-not-fits.true on)
+    (λ both. let on = c.is_few-fits.ensures.1 both in both_ways _ c.if-not-fits.true on)
 
 pub returns : goal.returns
 returns c =
@@ -59,7 +58,7 @@ returns c =
     let found : AreFound g marks c.in_ok-found.found.places.items c.in_ok-origins.origins.items c.in_ok-copied.copied.items nodes = record { met = here; placed = placed; each = each; came = c.in_ok-origins.ensures } in
     let facts = subst (AreFound g marks c.in_ok-found.found.places.items c.in_ok-origins.origins.items c.in_ok-copied.copied.items) c.as_slice-nodes.ensures found in
     let count = c.in_ok-found.ensures.count ∙ ap (λ (ns : List ImageNode). length (copies_of ns marks)) c.as_slice-nodes.ensures in
-    let fits = c.has_room-fits.ensures.0 (search rules) in
+    let fits = c.is_few-fits.ensures.0 (search rules) in
     let few : length (copies_of c.args.claim.now.nodes marks) ≤ 100000 = omega (arith, count, fits) in
     let within : length (copies_of c.args.claim.now.nodes marks) ≤ c.args.room = omega (arith, count, fits) in
     let claim : Claim = record { turn = c.args.claim.now.turn; side = c.args.claim.now.side; goal = c.args.claim.now.goal; nodes = c.from_vec.result } in

@@ -1,4 +1,4 @@
-use Rattle.std.proofs.Common.{◌≡◌, ◌+◌, ◌-◌, length, ap, subst, arith}
+use Rattle.std.proofs.Common.{length, ap, subst, arith}
 use Rattle.pg_unfold.specs.Gathered.{IsTaken, UnfoldsWithin}
 use Rattle.pg_unfold.proofs.unfolding.unfold_next.Goals as goal
 
