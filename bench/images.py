@@ -117,8 +117,15 @@ def row(name, found):
     return f"| {name} | {said.removeprefix('result ')} | {plain:,} | {kept:,} | {share} | {counted} | {cost} |" + "".join(f" {fault}" for fault in faults), faults
 
 
+def told(name, found):
+    """The row as a line."""
+    said, plain, kept, (without, with_images), faults = found
+    cost = f"{(with_images - without) / without:.1%}".replace("%", " per cent") if without else "not counted"
+    return f"{name}: {said.removeprefix('result ')}, {plain:,} nodes, {kept:,} plain where it is folded; the flag costs {cost}" + "".join(f"; {fault}" for fault in faults)
+
+
 def fitting_seconds(program, folder):
-    """How long one map takes: a board that is settled at its root is solved with the flag and without, and with it each of the eight maps is tried twice."""
+    """How long one map takes: a board that is settled at its root is solved with the flag and without. With it map 1 is tried, which fits; a claim of one node wants no more."""
     path = os.path.join(folder, "heavy")
     pathlib.Path(path).write_text(heavy_board(), encoding="ascii")
     times = []
@@ -127,7 +134,7 @@ def fitting_seconds(program, folder):
         if any(not said.startswith("result ") for said, _ in runs):
             raise SystemExit(f"the heavy board: {runs[0][0]}")
         times.append(min(seconds for _, seconds in runs))
-    return (times[1] - times[0]) / 16
+    return times[1] - times[0]
 
 
 def share_of(sums):
@@ -146,7 +153,7 @@ def main():
             found = measured(program, folder, text)
             line, faults = row(name, found)
             sums = [total + (cost or 0) for total, cost in zip(sums, found[3])]
-            print(line, flush=True)
+            print(told(name, found), flush=True)
             rows.append(line)
             missed += len(faults)
         seconds = fitting_seconds(program, folder)
@@ -156,8 +163,8 @@ def main():
         "# What images save", "",
         "Of each board the nodes of the certificate that `posgame solve` stores, and how many of them stay plain with `--images`; what the flag costs, in instructions by callgrind.",
         "A search seldom meets both a position and its image below one claim, where it can decide by few moves, so the share is near 1 on boards that are soon decided.",
-        "The flag may cost a tenth of what solving costs. Bold is more: folding costs some 10,000 to 18,000 instructions a node (on noughts and crosses a quarter of them for the unfolding that shows that there is room, and most of the rest for looking up eight positions), and on boards",
-        "that are solved by fewer than some 1,000 nodes that is more than a tenth of little.", "",
+        "The flag may cost a tenth of what solving costs; bold is more. Folding takes some thousand instructions a node, and printing an image takes fewer than printing a node's body,",
+        "so with many images the flag costs less than nothing.", "",
         "| board | result | nodes | plain nodes folded | share | instructions | with images | the flag's cost |",
         "|---|---|---|---|---|---|---|---|", *rows, "",
         f"All boards together: {share_of(sums)} more with the flag.", "",
