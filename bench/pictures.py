@@ -46,6 +46,10 @@ SMALL = [
     ("eight-paths-potential", ["eight-paths.game", "eight-paths-potential.cert"], 0),
     ("tippy-by-its-corner", ["tippy-5-by-5.game", "tippy-by-its-corner.cert"], 0),
     ("maker-rests-on-a-better-position", ["two-lines.game", "maker-rests-on-a-better-position.cert"], 4),
+    ("triangle", ["triangle-connectivity.game"], 0),
+    ("triangle-trees", ["triangle-connectivity.game", "triangle-trees-and-parts.cert"], 0),
+    ("triangle-parts", ["triangle-connectivity.game", "triangle-trees-and-parts.cert", "1.0"], 0),
+    ("triangle-an-edge-too-many", ["triangle-connectivity.game", "triangle-an-edge-too-many.cert"], 4),
 ]
 
 # Words for which no picture is said, with the text and the status that are due.
@@ -58,6 +62,11 @@ REFUSED = [
     (["corners.game", "corners-pairs.cert", "1.0"], "words: no such node\n", 2),
     (["corners-pairs.cert"], "game G3 line 1\n", 3),
     (["corners.game", "corners.game"], "certificate C2 line 1\n", 4),
+    (["six-vectors.game"], "game G3 line 2\n", 3),
+    (["triangle-connectivity.game", "triangle-trees-and-parts.cert", "1"], "words: no such node\n", 2),
+    (["triangle-connectivity.game", "triangle-trees-and-parts.cert", "2.0"], "words: no such node\n", 2),
+    (["triangle-connectivity.game", "corners-pairs.cert"], "certificate C2 line 1\n", 4),
+    (["corners.game", "triangle-trees-and-parts.cert"], "certificate C2 line 1\n", 4),
     (["no-such.game"], "", 5),
 ]
 
@@ -114,6 +123,19 @@ def graph_game(folder):
     open(os.path.join(folder, "graph.cert"), "w").write(f"posgame-cert 1\nclaim y x win\nnodes 1\n||y|trees {first} / {second}\n")
 
 
+def span_game(folder):
+    """A connectivity game on the same path with doubled edges, with two trees; and each vertex as a part of its own, which is faulty there."""
+    steps = [(v, v + 1) for v in range(499)]
+    edges = steps + steps + [(0, 499)] * 2
+    text = ["posgame-span 1", "vertices 500"] + [f"edge {u} {v}" for u, v in edges] + ["turn y", ""]
+    open(os.path.join(folder, "span.game"), "w").write("\n".join(text))
+    first = " ".join(map(str, range(499)))
+    second = " ".join(map(str, range(499, 998)))
+    open(os.path.join(folder, "trees.cert"), "w").write(f"posgame-span-cert 1\nclaim y x\ntrees {first} / {second}\n")
+    parts = " ".join(map(str, range(500)))
+    open(os.path.join(folder, "parts.cert"), "w").write(f"posgame-span-cert 1\nclaim y y\nparts {parts}\n")
+
+
 def main():
     program = os.path.abspath(sys.argv[1])
     os.makedirs(PICTURES, exist_ok=True)
@@ -135,7 +157,10 @@ def main():
     with tempfile.TemporaryDirectory() as folder:
         line_game(folder)
         graph_game(folder)
-        for words in (["lines.game"], ["ring.game"], ["lines.game", "lines.cert"], ["ring.game", "lines.cert"], ["graph.game"], ["graph.game", "graph.cert"]):
+        span_game(folder)
+        lines = [["lines.game"], ["ring.game"], ["lines.game", "lines.cert"], ["ring.game", "lines.cert"]]
+        graphs = [["graph.game"], ["graph.game", "graph.cert"], ["span.game"], ["span.game", "trees.cert"], ["span.game", "parts.cert"]]
+        for words in lines + graphs:
             runs = [run(program, words, folder) for _ in range(5)]
             text, status, _ = runs[0]
             seconds = min(third for _, _, third in runs)

@@ -1,24 +1,31 @@
 -- WHAT IS TO BE SAID, with its status.
-use Rattle.std.specs.Prelude.{◌≡◌, ◌⊎◌, ℕ, Option, Some, None, Result, Ok, Err, ⊤, string_bytes}
+use Rattle.std.specs.Prelude.{◌≡◌, ◌≢◌, ◌⊎◌, ℕ, Option, Some, None, Result, Ok, Err, ⊤, slice_get, string_bytes}
 use Rattle.pg_io.specs.Files.{Bytes, Holding}
 use Rattle.pg_game.specs.declared.game.Game.{Game}
-use Rattle.pg_files.specs.GameFile.{Entry as GameEntry}
-use Rattle.pg_files.specs.Views.{entry}
 use Rattle.pg_cert.specs.Valid.{IsFirstFault, IsValid}
 use Rattle.pg_cert.specs.declared.cert.Cert.{Cert}
+use Rattle.pg_span.specs.Flaw.{flaw_number}
+use Rattle.pg_span.specs.Valid.{IsFirstFlaw, IsSpanValid}
+use Rattle.pg_span.specs.declared.cert.SpanCert.{SpanCert}
+use Rattle.pg_span.specs.declared.flaw.SpanFlaw.{SpanFlaw}
+use Rattle.pg_span.specs.declared.game.SpanGame.{SpanGame}
+use Rattle.pg_family_files.specs.Views.{span_entry}
 use Rattle.pg_texts.specs.Statuses.{refusal_status}
 use Rattle.pg_texts.specs.Texts.{refusal_text}
 use Rattle.pg_texts.specs.declared.refusal.Refusal.TheVariants.{NoMeaning}
 use Rattle.pg_texts.specs.declared.statuses.TheConstants.{DONE, NO_MEANING, REFUSED}
-use Rattle.pg_talk.specs.Reading.{both, certificate_held}
 use Rattle.pg_talk.specs.declared.halt.Halt.{Halt}
 use Rattle.pg_talk.specs.declared.halt.Halt.TheVariants.{Refused, Stopped}
-use Rattle.pg_opening.specs.Opening.{IsSaidBy, game_held}
+use Rattle.pg_opening.specs.Opening.{IsSaidBy}
 use Rattle.pg_picture.specs.Svg.{picture_text}
 use Rattle.pg_scene.specs.Scenes.{IsSceneOfGame, IsSceneOfNode, LacksNode}
 use Rattle.pg_scene.specs.declared.scene.Scene.{Scene}
+use Rattle.pg_span_scene.specs.SpanScenes.{IsSceneOfSpanClaim, IsSceneOfSpanGame}
 use Rattle.pg_draw.specs.Pictures.{picture_of}
-use Rattle.pg_drawing.specs.Orders.{Order, chosen}
+use Rattle.pg_drawing.specs.Boards.{BoardEntry, PairEntry, board_held, both_held}
+use Rattle.pg_drawing.specs.Boards.BoardEntry.{Positional, Connectivity}
+use Rattle.pg_drawing.specs.Boards.PairEntry.{PositionalPair, ConnectivityPair}
+use Rattle.pg_drawing.specs.Orders.{Order, chosen, chosen_claim}
 use Rattle.pg_drawing.specs.Orders.Order.{OfGame, OfNode}
 use Rattle.pg_drawing.specs.declared.name.NodeName.{NodeName}
 use Rattle.pg_drawing.specs.declared.picturing.Telling.{Telling}
@@ -42,12 +49,28 @@ pub record DrawsNode (g : Game) (c : Cert) (claim node : ℕ) (fault : Option �
   pub shown : IsSceneOfNode g c claim node fault scene
   pub text_is : text ≡ scene_text scene
 
+-- the text is that of the picture of a scene of the connectivity game
+pub record DrawsSpanGame (g : SpanGame) (text : Bytes) : Type 0 where
+  pub scene : Scene
+  pub shown : IsSceneOfSpanGame g scene
+  pub text_is : text ≡ scene_text scene
+
+-- the text is that of the picture of a scene of a claim, and of its fault where it has this one
+pub record DrawsSpanClaim (g : SpanGame) (c : SpanCert) (claim : ℕ) (fault : Option ℕ) (text : Bytes) : Type 0 where
+  pub scene : Scene
+  pub shown : IsSceneOfSpanClaim g c claim fault scene
+  pub text_is : text ≡ scene_text scene
+
 -- ---- certificates
+
+-- there is no such node, and that is said
+abbrev pub SaysNoNode : Bytes → ℕ → Type 0
+SaysNoNode text status = (text ≡ NO_NODE.now) × (status ≡ NO_MEANING)
 
 -- a node of a valid certificate: its picture, or that the certificate has no such node
 abbrev pub IsNodeDue : Game → Cert → NodeName → Bytes → ℕ → Type 0
 IsNodeDue g c name text status =
-    (DrawsNode g c name.claim name.node None text × (status ≡ DONE)) ⊎ (LacksNode c name.claim name.node × (text ≡ NO_NODE.now) × (status ≡ NO_MEANING))
+    (DrawsNode g c name.claim name.node None text × (status ≡ DONE)) ⊎ (LacksNode c name.claim name.node × SaysNoNode text status)
 
 -- the picture of the first faulty node of a certificate that isn't valid
 pub record IsFaultDue (g : Game) (c : Cert) (text : Bytes) (status : ℕ) : Type 0 where
@@ -62,6 +85,29 @@ pub record IsFaultDue (g : Game) (c : Cert) (text : Bytes) (status : ℕ) : Type
 abbrev pub IsCertDue : Game → Cert → NodeName → Bytes → ℕ → Type 0
 IsCertDue g c name text status = (IsValid g c × IsNodeDue g c name text status) ⊎ IsFaultDue g c text status
 
+-- ---- certificates of connectivity games
+
+-- the certificate has no such node: a claim has one, number 0
+abbrev pub LacksSpanNode : SpanCert → NodeName → Type 0
+LacksSpanNode c name = (name.node ≢ 0) ⊎ (slice_get c.claims name.claim ≡ None)
+
+-- a claim of a valid certificate, by the name of its node: its picture, or that the certificate has no such node
+abbrev pub IsSpanNodeDue : SpanGame → SpanCert → NodeName → Bytes → ℕ → Type 0
+IsSpanNodeDue g c name text status =
+    ((name.node ≡ 0) × DrawsSpanClaim g c name.claim None text × (status ≡ DONE)) ⊎ (LacksSpanNode c name × SaysNoNode text status)
+
+-- the picture of the first faulty claim of a certificate that isn't valid
+pub record IsFlawDue (g : SpanGame) (c : SpanCert) (text : Bytes) (status : ℕ) : Type 0 where
+  pub claim : ℕ
+  pub why : SpanFlaw
+  pub first : IsFirstFlaw g c claim why
+  pub drawn : DrawsSpanClaim g c claim (Some (flaw_number why)) text
+  pub status_is : status ≡ REFUSED
+
+-- a claim of a certificate, or the first faulty one where there is one
+abbrev pub IsSpanCertDue : SpanGame → SpanCert → NodeName → Bytes → ℕ → Type 0
+IsSpanCertDue g c name text status = (IsSpanValid g c × IsSpanNodeDue g c name text status) ⊎ IsFlawDue g c text status
+
 -- ---- what was read
 
 -- what stands against reading it is said
@@ -70,30 +116,24 @@ IsHaltDue (Refused refusal) text status = (text ≡ refusal_text refusal) × (st
 IsHaltDue (Stopped stop) text status = ⊥
 
 -- a game that was read
-abbrev pub IsDueOfGame : Result GameEntry Halt → Bytes → ℕ → Type 0
+abbrev pub IsDueOfGame : Result BoardEntry Halt → Bytes → ℕ → Type 0
 IsDueOfGame (Err halt) text status = IsHaltDue halt text status
-IsDueOfGame (Ok said) text status = (g : Game) × IsSaidBy said g × DrawsGame g text × (status ≡ DONE)
+IsDueOfGame (Ok (Positional e)) text status = (g : Game) × IsSaidBy e g × DrawsGame g text × (status ≡ DONE)
+IsDueOfGame (Ok (Connectivity e)) text status = (g : SpanGame) × (span_entry g ≡ e) × DrawsSpanGame g text × (status ≡ DONE)
 
 -- a game and a certificate that were read
-abbrev pub IsDueOfBoth : Option NodeName → Result (GameEntry × Cert) Halt → Bytes → ℕ → Type 0
+abbrev pub IsDueOfBoth : Option NodeName → Result PairEntry Halt → Bytes → ℕ → Type 0
 IsDueOfBoth name (Err halt) text status = IsHaltDue halt text status
-IsDueOfBoth name (Ok pair) text status = (g : Game) × IsSaidBy pair.0 g × IsCertDue g pair.1 (chosen pair.1 name) text status
-
--- the game and the certificate that two names hold, or what stands against the first of them
-abbrev pub both_held : Option Bytes → Option Bytes → Result (GameEntry × Cert) Halt
-both_held game_bytes certificate_bytes = both (game_held game_bytes) (certificate_held certificate_bytes)
+IsDueOfBoth name (Ok (PositionalPair e c)) text status = (g : Game) × IsSaidBy e g × IsCertDue g c (chosen c name) text status
+IsDueOfBoth name (Ok (ConnectivityPair e c)) text status = (g : SpanGame) × (span_entry g ≡ e) × IsSpanCertDue g c (chosen_claim name) text status
 
 -- what is due to what was asked for, where the names hold these bytes
 abbrev pub IsDue : Option Order → Holding → Bytes → ℕ → Type 0
 IsDue None held text status = IsHaltDue (Refused NoMeaning) text status
-IsDue (Some (OfGame game)) held text status = IsDueOfGame (game_held (held game)) text status
+IsDue (Some (OfGame game)) held text status = IsDueOfGame (board_held (held game)) text status
 IsDue (Some (OfNode game certificate name)) held text status = IsDueOfBoth name (both_held (held game) (held certificate)) text status
 
 -- ---- what the code finds
-
--- a game and a certificate, with the game as its file says it
-abbrev pub pair_entry : Game × Cert → GameEntry × Cert
-pair_entry pair = (entry pair.0, pair.1)
 
 -- what was found is due, also what stands against it
 abbrev pub IsFound : (Bytes → ℕ → Type 0) → Result Telling Halt → Type 0

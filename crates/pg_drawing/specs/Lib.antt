@@ -1,3 +1,4 @@
 pub mod Orders
+pub mod Boards
 pub mod Due
 pub mod Runs

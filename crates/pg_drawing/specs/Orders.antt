@@ -32,6 +32,11 @@ abbrev pub chosen : Cert → Option NodeName → NodeName
 chosen c (Some name) = name
 chosen c None = node_of 0 (last_of c.claims)
 
+-- the same of a connectivity game's certificate: a claim there has one node, number 0
+abbrev pub chosen_claim : Option NodeName → NodeName
+chosen_claim (Some name) = name
+chosen_claim None = node_of 0 0
+
 -- ---- orders
 
 -- what can be asked for, by the names of files: a game, or a node of a certificate for a game

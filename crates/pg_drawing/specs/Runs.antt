@@ -10,8 +10,8 @@ use Rattle.pg_talk.specs.Halts.{Calm, IsGameHalt, IsReadHalt, ReadCause, WriteCa
 use Rattle.pg_talk.specs.Reading.{IsLackingOne, IsLackingTwo}
 use Rattle.pg_talk.specs.declared.halt.Halt.{Halt}
 use Rattle.pg_talk.specs.declared.halt.Halt.TheVariants.{Refused}
-use Rattle.pg_opening.specs.Opening.{game_held}
-use Rattle.pg_drawing.specs.Due.{IsDue, both_held}
+use Rattle.pg_drawing.specs.Boards.{board_held, both_held}
+use Rattle.pg_drawing.specs.Due.{IsDue}
 use Rattle.pg_drawing.specs.Orders.{Order}
 use Rattle.pg_drawing.specs.Orders.Order.{OfGame, OfNode}
 use Rattle.pg_drawing.specs.declared.picturing.Telling.{Telling}
@@ -50,7 +50,7 @@ Ran order told before after status = IfSome told (λ held. SaysDue order held be
 -- it is told that a name that is wanted isn't held
 abbrev pub IsLacking : Option Holding → Option Order → Type 0
 IsLacking told None = ⊥
-IsLacking told (Some (OfGame game)) = IsLackingOne game_held told game
+IsLacking told (Some (OfGame game)) = IsLackingOne board_held told game
 IsLacking told (Some (OfNode game certificate name)) = IsLackingTwo both_held told game certificate
 
 -- the causes of a status: a failed read or an absent name, a failed write; at any other no number of faults rose

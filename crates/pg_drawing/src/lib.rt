@@ -1,12 +1,15 @@
 //! Drawing a game, or a node of a certificate, as its files say it.
 #![tactic(auto)]
 
+mod board;
+mod claims;
 mod name;
 mod opening;
 mod picturing;
 mod running;
 mod telling;
 
+pub use board::Board;
 pub use name::{DOT, NodeName};
 pub use picturing::{NO_NODE, Telling};
 pub use running::draw;

@@ -1,7 +1,7 @@
 //! The names of nodes.
 ghost use Rattle.std.specs.Prelude.{◌≡◌, ◌+◌, length};
 ghost use Rattle.pg_cert.specs.Limits.{IsWithinLimits};
-ghost use Rattle.pg_drawing.specs.Orders.{chosen, node_named};
+ghost use Rattle.pg_drawing.specs.Orders.{chosen, chosen_claim, node_named};
 
 use pg_cert::Cert;
 use pg_text::{number, two_parts};
@@ -47,5 +47,15 @@ pub(crate) fn chosen(cert: &Cert, name: Option<NodeName>) -> NodeName
     NodeName {
         claim: 0,
         node: first.nodes.as_slice().len() as u32 - 1,
+    }
+}
+
+/// The node that is named, or else that of the first claim, where each claim has one node, number 0.
+pub(crate) fn chosen_claim(name: Option<NodeName>) -> NodeName
+    ensures { result ≡ chosen_claim name }
+{
+    match name {
+        Some(name) => name,
+        None => NodeName { claim: 0, node: 0 },
     }
 }

@@ -1,33 +1,91 @@
-//! Reading a game and a certificate.
-ghost use Rattle.std.specs.Prelude.{IfErr, IfOk};
-ghost use Rattle.pg_io.specs.Files.{ReadsOnly};
-ghost use Rattle.pg_cert.specs.Limits.{IsWithinLimits};
-ghost use Rattle.pg_talk.specs.Halts.{HaltCauses, IsReadHalt};
-ghost use Rattle.pg_talk.specs.Reading.{IsLackingTwo, OpensTwo};
-ghost use Rattle.pg_drawing.specs.Due.{both_held, pair_entry};
+//! Reading games of the families that are drawn, and certificates.
+ghost use Rattle.std.specs.Prelude.{◌≡◌, Some, IfErr, IfOk};
+ghost use Rattle.pg_io.specs.Files.{IsAbsent, ReadsOnly};
+ghost use Rattle.pg_family_files.specs.SpanCertPrint.{IsWithinRanges};
+ghost use Rattle.pg_talk.specs.Halts.{HaltCauses, IsGameHalt, IsReadHalt};
+ghost use Rattle.pg_talk.specs.Reading.{Opens};
+ghost use Rattle.pg_families.specs.Connectivity.{OpensSpanCert, span_held};
+ghost use Rattle.pg_drawing.specs.Boards.{IsBoardRead, as_connectivity, board_entry, board_held, is_other_kind};
 
-use pg_cert::Cert;
-use pg_game::Game;
-use pg_io::Files;
-use pg_opening::open_game;
-use pg_talk::{Halt, open_certificate};
+use crate::board::Board;
+use pg_family_files::{MAX_SPAN_CERT_BYTES, read_span, read_span_cert};
+use pg_files::{Fault, MAX_GAME_BYTES, read_game};
+use pg_io::{Files, Stop, read_whole};
+use pg_span::SpanCert;
+use pg_talk::Halt;
+use pg_text::{FileError, Numbered};
+use pg_texts::Refusal;
 use std::alloc::Global;
 
-/// The game and the certificate under these names. The certificate is opened only where the game is taken.
-pub(crate) fn open_both<F: Files>(
-    alloc: Global,
-    files: &mut F,
-    game: &str,
-    certificate: &str,
-) -> Result<(Game, Cert), Halt>
-    ensures opened { OpensTwo pair_entry both_held (F.told files.old).held game.now certificate.now result }
-    ensures limits { IfOk result (λ both. IsWithinLimits both.1) }
-    ensures halts { IfErr result IsReadHalt }
-    ensures causes { HaltCauses (IsLackingTwo both_held (F.told files.old).held game.now certificate.now)
+/// Whether the fault is that the file doesn't begin as one of games on lines and switching games.
+fn is_other_kind(number: u8) -> bool
+    ensures { result ≡ is_other_kind number }
+{
+    number == Fault::Header.number()
+}
+
+/// The connectivity game that the text says.
+fn read_connectivity(alloc: Global, text: &[u8]) -> Result<Board, FileError>
+    ensures { IsBoardRead result (as_connectivity (span_held (Some text.now))) }
+{
+    match read_span(alloc, text) {
+        Ok(game) => Ok(Board::Connectivity(game)),
+        Err(FileError::Bad { number, line }) => Err(FileError::Bad { number, line }),
+        Err(FileError::Memory) => Err(FileError::Memory),
+    }
+}
+
+/// The game that the text says. It is read as a connectivity game where it doesn't begin as one of the others.
+fn read_board(alloc: Global, text: &[u8]) -> Result<Board, FileError>
+    ensures { IsBoardRead result (board_held (Some text.now)) }
+{
+    match read_game(alloc, text) {
+        Ok(game) => Ok(Board::Positional(game)),
+        Err(FileError::Bad { number, line }) => {
+            if is_other_kind(number) {
+                return read_connectivity(alloc, text);
+            }
+            Err(FileError::Bad { number, line })
+        }
+        Err(FileError::Memory) => Err(FileError::Memory),
+    }
+}
+
+/// The game under this name.
+pub(crate) fn open_board<F: Files>(alloc: Global, files: &mut F, name: &str) -> Result<Board, Halt>
+    ensures opened { Opens board_entry board_held (F.told files.old).held name.now result }
+    ensures halts { IfErr result IsGameHalt }
+    ensures causes { HaltCauses (IsAbsent (F.told files.old).held name.now)
         (F.told files.old).faults (F.told files.new).faults result }
     ensures kept { ReadsOnly (F.told files.old) (F.told files.new) }
 {
-    let game = open_game(alloc, files, game)?;
-    let certificate = open_certificate(alloc, files, certificate)?;
-    Ok((game, certificate))
+    let text = read_whole(alloc, files, name, MAX_GAME_BYTES)?;
+    match read_board(alloc, &text) {
+        Ok(board) => Ok(board),
+        Err(FileError::Bad { number, line }) => Err(Halt::Refused(Refusal::Game { number, line })),
+        Err(FileError::Memory) => Err(Halt::Stopped(Stop::Memory)),
+    }
+}
+
+/// The certificate of a connectivity game under this name.
+pub(crate) fn open_span_cert<F: Files>(
+    alloc: Global,
+    files: &mut F,
+    name: &str,
+) -> Result<SpanCert, Halt>
+    ensures opened { OpensSpanCert (F.told files.old).held name.now result }
+    ensures ranges { IfOk result IsWithinRanges }
+    ensures halts { IfErr result IsReadHalt }
+    ensures causes { HaltCauses (IsAbsent (F.told files.old).held name.now)
+        (F.told files.old).faults (F.told files.new).faults result }
+    ensures kept { ReadsOnly (F.told files.old) (F.told files.new) }
+{
+    let text = read_whole(alloc, files, name, MAX_SPAN_CERT_BYTES)?;
+    match read_span_cert(alloc, &text) {
+        Ok(certificate) => Ok(certificate),
+        Err(FileError::Bad { number, line }) => {
+            Err(Halt::Refused(Refusal::Certificate { number, line }))
+        }
+        Err(FileError::Memory) => Err(Halt::Stopped(Stop::Memory)),
+    }
 }

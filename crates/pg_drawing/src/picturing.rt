@@ -4,7 +4,7 @@ ghost use Rattle.pg_cert.specs.Limits.{IsWithinLimits};
 ghost use Rattle.pg_cert.specs.Valid.{IsFirstFault, IsValid};
 ghost use Rattle.pg_scene.specs.Limits.{IsScene};
 ghost use Rattle.pg_scene.specs.Scenes.{LacksNode};
-ghost use Rattle.pg_drawing.specs.Due.{DrawsGame, DrawsNode, IsCertDue, IsFaultDue, IsNodeDue, scene_text};
+ghost use Rattle.pg_drawing.specs.Due.{DrawsGame, DrawsNode, IsCertDue, IsFaultDue, IsNodeDue, SaysNoNode, scene_text};
 ghost use Rattle.pg_drawing.specs.Orders.{chosen};
 
 use crate::name::{NodeName, chosen};
@@ -30,12 +30,22 @@ pub struct Telling {
 }
 
 /// The text of the picture of a scene.
-fn text_of(alloc: Global, scene: &Scene) -> Result<String, Memory>
+pub(crate) fn text_of(alloc: Global, scene: &Scene) -> Result<String, Memory>
     requires { IsScene scene.now }
     ensures { IfOk result (λ text. string_bytes text ≡ scene_text scene.now) }
 {
     let picture = pg_draw::draw(alloc, scene)?;
     Ok(print_picture(alloc, &picture)?)
+}
+
+/// That there is no such node.
+pub(crate) fn no_node(alloc: Global) -> Result<Telling, Memory>
+    ensures { IfOk result (λ told. SaysNoNode (string_bytes told.words) told.status) }
+{
+    Ok(Telling {
+        words: String::from_str(alloc, NO_NODE)?,
+        status: NO_MEANING,
+    })
 }
 
 /// The text of the picture of a game.
@@ -94,10 +104,7 @@ fn sound(alloc: Global, game: &Game, cert: &Cert, name: NodeName) -> Result<Tell
             words,
             status: DONE,
         }),
-        None => Ok(Telling {
-            words: String::from_str(alloc, NO_NODE)?,
-            status: NO_MEANING,
-        }),
+        None => no_node(alloc),
     }
 }
 

@@ -22,9 +22,10 @@ fn end_with<C: Console>(console: &mut C, text: &str, status: u8) -> u8
     }
 }
 
-/// Says the picture that the words ask for, and gives the status. `GAME` is a game's file, of which the board is drawn; `GAME CERTIFICATE` draws the root of
-/// the certificate's first claim, `GAME CERTIFICATE K` node K of that claim, and `GAME CERTIFICATE C.K` node K of claim C, all counted from 0. The
-/// certificate is checked first: where it isn't valid its first faulty node is drawn, with the fault.
+/// Says the picture that the words ask for, and gives the status. `GAME` is the file of a game on lines, of a switching game or of a connectivity game, of which
+/// the board is drawn; `GAME CERTIFICATE` draws the root of the certificate's first claim, `GAME CERTIFICATE K` node K of that claim, and
+/// `GAME CERTIFICATE C.K` node K of claim C, all counted from 0. A claim of a connectivity game has one node, number 0. The certificate is checked first: where it
+/// isn't valid its first faulty node is drawn, with the fault.
 ///
 /// | status | when |
 /// |---|---|

@@ -1,41 +1,117 @@
 //! What there is to say to what the words ask for.
-ghost use Rattle.std.specs.Prelude.{◌≡◌, Some, IfErr, IfOk, map, string_bytes};
-ghost use Rattle.pg_io.specs.Files.{ReadsOnly};
+ghost use Rattle.std.specs.Prelude.{◌≡◌, Some, Ok, IfErr, IfOk, map, string_bytes};
+ghost use Rattle.pg_io.specs.Files.{IsAbsent, ReadsOnly};
+ghost use Rattle.pg_files.specs.Views.{entry};
+ghost use Rattle.pg_family_files.specs.Views.{span_entry};
 ghost use Rattle.pg_talk.specs.Halts.{HaltCauses, IsGameHalt, IsReadHalt};
 ghost use Rattle.pg_talk.specs.Reading.{IsLackingOne, IsLackingTwo};
 ghost use Rattle.pg_texts.specs.declared.statuses.TheConstants.{DONE};
-ghost use Rattle.pg_opening.specs.Opening.{game_held};
-ghost use Rattle.pg_drawing.specs.Due.{Finds, IsDue, IsDueOfBoth, IsDueOfGame, both_held};
+ghost use Rattle.pg_drawing.specs.Boards.{board_entry, board_held, both_held, with_certificate};
+ghost use Rattle.pg_drawing.specs.Boards.BoardEntry.{Positional, Connectivity};
+ghost use Rattle.pg_drawing.specs.Due.{Finds, IsDue, IsDueOfBoth, IsDueOfGame};
 ghost use Rattle.pg_drawing.specs.Orders.{order_of};
 ghost use Rattle.pg_drawing.specs.Runs.{Gives, IsCertEnd, IsLacking};
 
+use crate::board::Board;
+use crate::claims::{span_game_text, tell_span_certificate};
 use crate::name::{NodeName, node_named};
-use crate::opening::open_both;
+use crate::opening::{open_board, open_span_cert};
 use crate::picturing::{Telling, game_text, tell_certificate};
+use pg_base::Memory;
+use pg_game::Game;
 use pg_io::Files;
-use pg_opening::open_game;
-use pg_talk::Halt;
+use pg_span::SpanGame;
+use pg_talk::{Halt, open_certificate};
 use pg_texts::{DONE, Refusal};
 use std::alloc::Global;
 
+/// The text of the picture of a game.
+fn board_text(alloc: Global, board: &Board) -> Result<String, Memory>
+    ensures { IfOk result (λ text. IsDueOfGame (Ok (board_entry board.now)) (string_bytes text) DONE) }
+{
+    match board {
+        Board::Positional(game) => game_text(alloc, game),
+        Board::Connectivity(game) => span_game_text(alloc, game),
+    }
+}
+
 /// The picture of the game under a name.
 fn tell_game<F: Files>(alloc: Global, files: &mut F, game: &str) -> Result<Telling, Halt>
-    ensures found { Finds (F.told files.old).held (λ held. IsDueOfGame (game_held (held game.now))) result }
+    ensures found { Finds (F.told files.old).held (λ held. IsDueOfGame (board_held (held game.now))) result }
     ensures done { IfOk result (λ told. told.status ≡ DONE) }
     ensures halts { IfErr result IsGameHalt }
-    ensures causes { HaltCauses (IsLackingOne game_held (F.told files.old).held game.now)
+    ensures causes { HaltCauses (IsLackingOne board_held (F.told files.old).held game.now)
         (F.told files.old).faults (F.told files.new).faults result }
     ensures kept { ReadsOnly (F.told files.old) (F.told files.new) }
 {
-    let game = open_game(alloc, files, game)?;
-    let words = game_text(alloc, &game)?;
+    let board = open_board(alloc, files, game)?;
+    let words = board_text(alloc, &board)?;
     Ok(Telling {
         words,
         status: DONE,
     })
 }
 
-/// The picture of a node of the certificate under one name for the game under another.
+/// The picture of a node of the certificate under a name for a game on lines or a switching game.
+fn tell_node_of<F: Files>(
+    alloc: Global,
+    files: &mut F,
+    game: &Game,
+    certificate: &str,
+    name: Option<NodeName>,
+) -> Result<Telling, Halt>
+    ensures found { Finds (F.told files.old).held (λ held. IsDueOfBoth name (with_certificate (Ok (Positional (entry game.now))) (held certificate.now))) result }
+    ensures done { IfOk result (λ told. IsCertEnd told.status) }
+    ensures halts { IfErr result IsReadHalt }
+    ensures causes { HaltCauses (IsAbsent (F.told files.old).held certificate.now)
+        (F.told files.old).faults (F.told files.new).faults result }
+    ensures kept { ReadsOnly (F.told files.old) (F.told files.new) }
+{
+    let cert = open_certificate(alloc, files, certificate)?;
+    Ok(tell_certificate(alloc, game, &cert, name)?)
+}
+
+/// The picture of a claim of the certificate under a name for a connectivity game.
+fn tell_claim_of<F: Files>(
+    alloc: Global,
+    files: &mut F,
+    game: &SpanGame,
+    certificate: &str,
+    name: Option<NodeName>,
+) -> Result<Telling, Halt>
+    ensures found { Finds (F.told files.old).held (λ held. IsDueOfBoth name (with_certificate (Ok (Connectivity (span_entry game.now))) (held certificate.now))) result }
+    ensures done { IfOk result (λ told. IsCertEnd told.status) }
+    ensures halts { IfErr result IsReadHalt }
+    ensures causes { HaltCauses (IsAbsent (F.told files.old).held certificate.now)
+        (F.told files.old).faults (F.told files.new).faults result }
+    ensures kept { ReadsOnly (F.told files.old) (F.told files.new) }
+{
+    let cert = open_span_cert(alloc, files, certificate)?;
+    Ok(tell_span_certificate(alloc, game, &cert, name)?)
+}
+
+/// The picture of a node of the certificate under a name for this game. The certificate is read as one of the game's family.
+fn tell_node_on<F: Files>(
+    alloc: Global,
+    files: &mut F,
+    board: &Board,
+    certificate: &str,
+    name: Option<NodeName>,
+) -> Result<Telling, Halt>
+    ensures found { Finds (F.told files.old).held (λ held. IsDueOfBoth name (with_certificate (Ok (board_entry board.now)) (held certificate.now))) result }
+    ensures done { IfOk result (λ told. IsCertEnd told.status) }
+    ensures halts { IfErr result IsReadHalt }
+    ensures causes { HaltCauses (IsAbsent (F.told files.old).held certificate.now)
+        (F.told files.old).faults (F.told files.new).faults result }
+    ensures kept { ReadsOnly (F.told files.old) (F.told files.new) }
+{
+    match board {
+        Board::Positional(game) => tell_node_of(alloc, files, game, certificate, name),
+        Board::Connectivity(game) => tell_claim_of(alloc, files, game, certificate, name),
+    }
+}
+
+/// The picture of a node of the certificate under one name for the game under another. The certificate is opened only where the game is taken.
 fn tell_node<F: Files>(
     alloc: Global,
     files: &mut F,
@@ -50,8 +126,8 @@ fn tell_node<F: Files>(
         (F.told files.old).faults (F.told files.new).faults result }
     ensures kept { ReadsOnly (F.told files.old) (F.told files.new) }
 {
-    let both = open_both(alloc, files, game, certificate)?;
-    Ok(tell_certificate(alloc, &both.0, &both.1, name)?)
+    let board = open_board(alloc, files, game)?;
+    tell_node_on(alloc, files, &board, certificate, name)
 }
 
 /// What there is to say to what the words ask for.

@@ -1,0 +1,85 @@
+-- What the names of a game and of a certificate hold, for the two families whose games are drawn.
+use Rattle.std.specs.Prelude.{◌≡◌, ℕ, Bool, ◌==◌, if◌then◌else◌, Option, Result, Ok, Err, ⊤}
+use Rattle.pg_io.specs.Files.{Bytes}
+use Rattle.pg_text.specs.declared.error.FileError.{FileError}
+use Rattle.pg_text.specs.declared.error.FileError.TheVariants as errors
+use Rattle.pg_files.specs.GameFile.{Entry as GameEntry}
+use Rattle.pg_files.specs.Views.{entry, number_of}
+use Rattle.pg_files.specs.declared.fault.Fault.TheVariants.{Header}
+use Rattle.pg_cert.specs.declared.cert.Cert.{Cert}
+use Rattle.pg_span.specs.declared.cert.SpanCert.{SpanCert}
+use Rattle.pg_family_files.specs.FamilyFile.{SpanEntry}
+use Rattle.pg_family_files.specs.Views.{span_entry}
+use Rattle.pg_texts.specs.declared.refusal.Refusal.TheVariants.{Game as FaultyGame}
+use Rattle.pg_talk.specs.Reading.{certificate_held, game_fault}
+use Rattle.pg_talk.specs.declared.halt.Halt.{Halt}
+use Rattle.pg_talk.specs.declared.halt.Halt.TheVariants.{Refused}
+use Rattle.pg_opening.specs.Opening.{game_held}
+use Rattle.pg_families.specs.Connectivity.{span_cert_held, span_held}
+use Rattle.pg_drawing.specs.declared.board.Board.{Board}
+use Rattle.pg_drawing.specs.declared.board.Board.TheVariants as boards
+
+-- ---- games
+
+-- a game as its file says it: one on lines or a switching game, or a connectivity game
+pub data BoardEntry : Type 0 where
+  Positional : GameEntry → BoardEntry
+  Connectivity : SpanEntry → BoardEntry
+
+-- a connectivity game that was read, or what stands against it
+abbrev pub as_connectivity : Result SpanEntry Halt → Result BoardEntry Halt
+as_connectivity (Ok e) = Ok (Connectivity e)
+as_connectivity (Err halt) = Err halt
+
+-- the number of the fault that a file doesn't begin as one of games on lines and switching games
+abbrev pub is_other_kind : ℕ → Bool
+is_other_kind number = number == number_of Header
+
+-- what the first reader says, unless that is that the file is of another kind: then what the reader of connectivity games says
+abbrev pub first_or : Result GameEntry Halt → Result SpanEntry Halt → Result BoardEntry Halt
+first_or (Ok e) span = Ok (Positional e)
+first_or (Err (Refused (FaultyGame number line))) span = if is_other_kind number then as_connectivity span else Err (game_fault number line)
+first_or (Err halt) span = Err halt
+
+-- the game that a name holds, or what stands against it
+abbrev pub board_held : Option Bytes → Result BoardEntry Halt
+board_held bytes = first_or (game_held bytes) (span_held bytes)
+
+-- ---- certificates
+
+-- a game with a certificate of its family
+pub data PairEntry : Type 0 where
+  PositionalPair : GameEntry → Cert → PairEntry
+  ConnectivityPair : SpanEntry → SpanCert → PairEntry
+
+-- a game with its certificate, or what stands against that
+abbrev pub positional_pair : GameEntry → Result Cert Halt → Result PairEntry Halt
+positional_pair e (Ok cert) = Ok (PositionalPair e cert)
+positional_pair e (Err halt) = Err halt
+
+abbrev pub connectivity_pair : SpanEntry → Result SpanCert Halt → Result PairEntry Halt
+connectivity_pair e (Ok cert) = Ok (ConnectivityPair e cert)
+connectivity_pair e (Err halt) = Err halt
+
+-- a game with the certificate that a name holds, read as one of its family, or what stands against the first of them
+abbrev pub with_certificate : Result BoardEntry Halt → Option Bytes → Result PairEntry Halt
+with_certificate (Err halt) bytes = Err halt
+with_certificate (Ok (Positional e)) bytes = positional_pair e (certificate_held bytes)
+with_certificate (Ok (Connectivity e)) bytes = connectivity_pair e (span_cert_held bytes)
+
+-- the game and the certificate that two names hold, or what stands against the first of them
+abbrev pub both_held : Option Bytes → Option Bytes → Result PairEntry Halt
+both_held game_bytes certificate_bytes = with_certificate (board_held game_bytes) certificate_bytes
+
+-- ---- what the code has read
+
+-- a game of the code, as its file says it
+abbrev pub board_entry : Board → BoardEntry
+board_entry (boards.Positional g) = Positional (entry g)
+board_entry (boards.Connectivity g) = Connectivity (span_entry g)
+
+-- what was read of a text is what it says, unless memory ran out
+abbrev pub IsBoardRead : Result Board FileError → Result BoardEntry Halt → Type 0
+IsBoardRead (Ok board) says = says ≡ Ok (board_entry board)
+IsBoardRead (Err (errors.Bad number line)) says = says ≡ Err (game_fault number line)
+IsBoardRead (Err errors.Memory) says = ⊤
