@@ -167,7 +167,7 @@ def main():
         "so with many images the flag costs less than nothing.", "",
         "| board | result | nodes | plain nodes folded | share | instructions | with images | the flag's cost |",
         "|---|---|---|---|---|---|---|---|", *rows, "",
-        f"All boards together: {share_of(sums)} more with the flag.", "",
+        f"All boards together: the flag costs {share_of(sums)}.", "",
         f"Whether one map fits a board of 20,000 lines of 20 points takes {seconds:.3f} s of a processor. Written by `bench/images.py`.", "",
     ])
     pathlib.Path(given.out).write_text(text, encoding="utf-8")
