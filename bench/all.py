@@ -1,7 +1,7 @@
 #!/usr/bin/env python3
-"""Runs every bench, and writes docs/FIGURES.md: instructions, seconds and memory, and beside each the figure that was asked for.
+"""Runs the benches that measure or try the programs, and writes docs/FIGURES.md: instructions, seconds and memory, and beside each the figure that was asked for.
 
-Usage: all.py [--only WORD].. [--out FILE]
+Usage: all.py [--only WORD].. [--long] [--out FILE]
 The programs are those that `rt ci` or `rt run` left in crates/posgame/out, crates/posgame_draw/out and crates/bench_parts/out. `--only` runs the benches with such a word in their names
 and leaves the file alone, unless `--out` names one. A bench whose program or script isn't there, that fails or takes too long is a line of its own. It takes half an
 hour, on a quiet machine; `--long` also hands posgame 20,000 mutated files and words and kills it 200 times.

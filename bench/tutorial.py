@@ -2,8 +2,8 @@
 """Runs the walk of docs/TUTORIAL.md again, and tells whether the program still prints what stands there.
 
 Usage: tutorial.py [PROGRAM]
-A block of indented lines behind a name of a game, a certificate or a record shows that file; a block that begins with `$ ./posgame`
-shows a run. The lines of a run that begin with none of the program's own words were typed, and are handed in as its input.
+A block of indented lines behind a name of a game, a certificate or a record shows that file; a block that begins with `$ ./posgame `
+shows a run. What `./posgame-draw` draws isn't drawn here: bench/pictures.py does that. The lines of a run that begin with none of the program's own words were typed, and are handed in as its input.
 The runs, in their order, write into a folder of their own, which has the examples too.
 """
 import pathlib
