@@ -264,7 +264,7 @@ def main():
         "# Boards",
         "",
         f"{many} boards, solved by `bench/boards.py` on {datetime.date.today().isoformat()} with at most {given.positions:,} positions a question and {given.seconds} s a run: {settled} are settled. Of each the winner by best play is told, the number of",
-        "nodes of the certificate that was stored and then accepted by a check, and the seconds of a processor. `unknown after N` says that so many positions were expanded and leave the",
+        "nodes of the certificate that was stored and then accepted by a check, and the seconds of a processor. How many nodes there are depends also on the order in which the file lists the lines. `unknown after N` says that so many positions were expanded and leave the",
         "question open. More can't be asked for: positions times free points are at most 99,999, and each open board here stopped at that.",
         "",
     ]
