@@ -42,7 +42,7 @@ BENCHES = [
     ("Threat lines asked for", ["threat.py", PARTS], [], False),
     ("Private pairs asked for", ["asking.py", PARTS], [], False),
     ("Pictures of examples, and the largest ones", ["pictures.py", DRAWS], [("", "as is due; 2,000,000 bytes, 0.1 s")], False),
-    ("Certificates with images", ["images.py", POSGAME], [("one map", "0.2 s")], False),
+    ("Certificates with images", ["images.py", POSGAME], [("one map", "0.2 s"), ("", "the flag below a tenth")], False),
     ("The walk of docs/TUTORIAL.md", ["tutorial.py", POSGAME], [("", "as printed there")], False),
     ("Files, names and consoles of the system that fail, and kills", ["real_files.py", POSGAME], [("", "each row as the script says")], True),
     ("Mutated files, words and dialogues", ["fuzz.py", POSGAME, "--runs", "20000"], [("", "no end that none may have")], True),
@@ -121,7 +121,7 @@ def main():
         "# Figures",
         "",
         f"Measured by `bench/all.py` on {datetime.date.today().isoformat()} at {commit()}: {machine()}. Instructions are counted by callgrind, whatever else the machine does; seconds are by the",
-        "clock. A figure above what was asked for is told in capitals.",
+        "clock. A figure above what was asked for is told behind it.",
         "",
     ]
     texts, wrong = [], []
