@@ -4,9 +4,10 @@ of them takes as long as all proofs together; the gate tries those of crates/NAM
 
     bench/edits.py [NAME..]     those of these crates, or of all
 
-Works on a copy of the checkout's files, in which each edit lies where `rt must-fail` looks for it, so the checkout stays as it is. Each crate below those named
-is proved first, unless the kit has kept that. Prints what rt says of each edit; the status is 1 where one isn't refused."""
+Works on a copy of the checkout's files, in which these edits lie where `rt ci` looks for them, so the checkout stays as it is. Each crate below those named is proved first, unless
+the kit has kept that, and so are edits of the gate that it hasn't kept. Prints what rt says of each edit that isn't as it must be, and its last line; the status is 1 where there is one."""
 import pathlib
+import re
 import shutil
 import subprocess
 import sys
@@ -20,6 +21,15 @@ def tracked():
     """The checkout's files that git knows, as paths from its top."""
     listed = subprocess.run(["git", "ls-files", "-z"], cwd=TOP, stdout=subprocess.PIPE, check=True).stdout
     return [name for name in listed.decode().split("\0") if name and (TOP / name).is_file()]
+
+
+def tried(copy, names):
+    """Tries the edits of these crates in the copy, and tells whether one isn't refused."""
+    done = subprocess.run(["rt", "ci", *names], cwd=copy, stdout=subprocess.PIPE, stderr=subprocess.STDOUT, text=True, errors="replace")
+    lines = [line.strip() for line in re.split("[\r\n]", done.stdout) if line.strip()]
+    wrong = [line for line in lines if re.search("BAD EDIT|NOT TRIED|NOT REFUSED", line)]
+    print("\n".join([*wrong, *lines[-3:]]))
+    return 1 if wrong or done.returncode else 0
 
 
 def main():
@@ -38,7 +48,7 @@ def main():
             must_fail = copy / "crates" / name / "must-fail"
             shutil.rmtree(must_fail, ignore_errors=True)
             shutil.copytree(EDITS / name, must_fail)
-        sys.exit(subprocess.run(["rt", "must-fail", *names], cwd=copy).returncode)
+        sys.exit(tried(copy, names))
 
 
 main()
