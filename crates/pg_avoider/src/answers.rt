@@ -1,5 +1,5 @@
 //! The answer by Avoider's potential.
-ghost use Rattle.std.specs.Prelude.{◌≡◌, ◌≢◌, ◌<◌, ◌≤◌, ◌^◌, ◌-◌, ℕ, length, get_or, map, false, true, if◌then◌else◌};
+ghost use Rattle.std.specs.Prelude.{◌≡◌, ◌≢◌, ◌<◌, ◌^◌, ◌-◌, ℕ, length, get_or, map, false, true, if◌then◌else◌};
 ghost use Rattle.pg_base.specs.declared.kind.Kind.TheVariants.{AvoiderEnforcer, Switching};
 ghost use Rattle.pg_base.specs.declared.score.Score.TheVariants.{XWins};
 ghost use Rattle.pg_base.specs.declared.side.Side.TheVariants.{X};

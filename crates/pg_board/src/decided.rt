@@ -1,9 +1,8 @@
 //! Whether a potential decides a board's position, and whether the game is over, by counts.
-ghost use Rattle.std.specs.Prelude.{◌≡◌, ◌<◌, ◌≤◌, ◌+◌, ◌^◌, length, get_or};
+ghost use Rattle.std.specs.Prelude.{◌≡◌, ◌<◌, ◌≤◌, ◌+◌, length, get_or};
 ghost use Rattle.std.specs.List.{list_any};
 ghost use Rattle.pg_game.specs.Position.{points_of};
 ghost use Rattle.pg_game.specs.Game.{is_filled};
-ghost use Rattle.pg_base.specs.Side.{is_same_side};
 ghost use Rattle.pg_game.specs.Avoider.{x_takes_last};
 ghost use Rattle.pg_board.specs.Shape.{turn_cell};
 ghost use Rattle.pg_board.specs.Fits.{position_of, free_points_in};

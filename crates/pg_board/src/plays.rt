@@ -1,5 +1,5 @@
 //! A play, and how it is taken back.
-ghost use Rattle.std.specs.Prelude.{◌≡◌, ◌<◌, ◌≤◌, ◌+◌, ◌*◌, true, length};
+ghost use Rattle.std.specs.Prelude.{◌≡◌, ◌<◌, true};
 ghost use Rattle.pg_base.specs.declared.side.Side.TheVariants.{X, Y};
 ghost use Rattle.pg_game.specs.Position.{is_free};
 ghost use Rattle.pg_trail.specs.Trail.{back_to};

@@ -1,6 +1,6 @@
 //! The weights of a board's lines and points.
-ghost use Rattle.std.specs.Prelude.{◌≡◌, ◌<◌, ◌≤◌, ◌+◌, ◌^◌, true, length, if◌then◌else◌};
-ghost use Rattle.pg_base.specs.declared.side.Side.TheVariants.{X, Y};
+ghost use Rattle.std.specs.Prelude.{◌≡◌, ◌<◌, ◌≤◌, ◌+◌, ◌^◌, length, if◌then◌else◌};
+ghost use Rattle.pg_base.specs.declared.side.Side.TheVariants.{Y};
 ghost use Rattle.pg_base.specs.Side.{other};
 ghost use Rattle.pg_game.specs.Position.{is_free, points_of};
 ghost use Rattle.pg_game.specs.Potential.{line_weight};

@@ -1,6 +1,5 @@
 //! Why a certificate can't be read.
 
-ghost use Rattle.std.specs.Prelude.{◌≡◌};
 ghost use Rattle.pg_cert_files.specs.Views.{number_of};
 
 use pg_text::Numbered;

@@ -6,7 +6,6 @@ ghost use Rattle.pg_text.specs.Text.{words_of};
 ghost use Rattle.pg_cert_files.specs.Form.{has_bar, are_none, has_one_slash};
 ghost use Rattle.pg_cert_files.specs.NodeLine.{edges_of, node_line};
 ghost use Rattle.pg_cert_files.specs.Outline.{formed_body, read_node, node_part};
-ghost use Rattle.pg_base.specs.Goal.{goal_of};
 ghost use Rattle.pg_cert_files.specs.Lines.{version_of, head_of, count_of};
 
 use crate::fault::Fault;

@@ -1,6 +1,6 @@
 //! The numbers of a node line.
 
-ghost use Rattle.std.specs.Prelude.{◌≡◌, ℕ, ◌<◌, map, IfOk, IfSome, option_map, length};
+ghost use Rattle.std.specs.Prelude.{◌≡◌, ◌<◌, map, IfOk, IfSome, option_map};
 ghost use Rattle.std.specs.FinSet.{empty};
 ghost use Rattle.std.specs.List.{All};
 ghost use Rattle.pg_text.specs.Text.{number, parts, two_parts, words_of, ascend_from};

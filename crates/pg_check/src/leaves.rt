@@ -1,5 +1,5 @@
 //! Nodes that stand on a criterion.
-ghost use Rattle.std.specs.Prelude.{◌≡◌, ◌≢◌, ◌↔◌, IsTrue, true, List, ℕ};
+ghost use Rattle.std.specs.Prelude.{◌≡◌, ◌≢◌, ◌↔◌, IsTrue, true, ℕ};
 ghost use Rattle.pg_base.specs.declared.kind.Kind.TheVariants.{Switching};
 ghost use Rattle.pg_base.specs.declared.side.Side.{Side};
 ghost use Rattle.pg_base.specs.declared.goal.Goal.{Goal};

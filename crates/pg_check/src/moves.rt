@@ -1,5 +1,5 @@
 //! Nodes that move on to other nodes.
-ghost use Rattle.std.specs.Prelude.{◌≡◌, ◌*◌, ◌<◌, ℕ, List, map, true, ◌↔◌, IsTrue};
+ghost use Rattle.std.specs.Prelude.{◌≡◌, ◌*◌, ◌<◌, map, true, ◌↔◌, IsTrue};
 ghost use Rattle.std.specs.List.{All};
 ghost use Rattle.pg_cert.specs.Valid.{NamesEarlier, IsNodeOf, FollowsMove, FollowMoves, HasTurn, TakesFree, HasWeaker};
 ghost use Rattle.pg_base.specs.Points.{AreBelow};

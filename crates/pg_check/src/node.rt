@@ -1,5 +1,5 @@
 //! One node against the table of faults.
-ghost use Rattle.std.specs.Prelude.{◌≡◌, ◌≢◌, ◌<◌, ◌≤◌, ◌+◌, ℕ, ◌↔◌, IsTrue, IfSome, IfNone, length, slice_get, Some, true};
+ghost use Rattle.std.specs.Prelude.{◌≡◌, ◌<◌, ◌≤◌, ◌+◌, ◌↔◌, IsTrue, IfSome, IfNone, Some, true};
 ghost use Rattle.pg_base.specs.Points.{ShareNone};
 ghost use Rattle.pg_game.specs.Judge.{IsMadeForGame};
 ghost use Rattle.pg_game.specs.Game.{IsPosition, is_over, outcome, with_turn};

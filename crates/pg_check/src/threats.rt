@@ -1,5 +1,5 @@
 //! Threat lines, attack by attack.
-ghost use Rattle.std.specs.Prelude.{◌≡◌, ◌<◌, ◌↔◌, ℕ, true, false, List, IsTrue, IfSome, IfNone};
+ghost use Rattle.std.specs.Prelude.{◌≡◌, ◌<◌, ◌↔◌, ℕ, true, false, IsTrue, IfSome, IfNone};
 ghost use Rattle.std.specs.List.{All, list_any};
 ghost use Rattle.std.specs.FinSet.{contains};
 ghost use Rattle.pg_game.specs.Game.{lines_of, has_filled, is_filled, IsPosition};

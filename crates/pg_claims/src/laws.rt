@@ -1,5 +1,5 @@
 //! What trees, cuts and parts force, as laws. Each function is empty: what it promises is a fact about the definitions.
-ghost use Rattle.std.specs.Prelude.{◌≡◌, ℕ, ◌<◌, ◌↔◌, Bool, true, IsTrue, Option};
+ghost use Rattle.std.specs.Prelude.{ℕ, ◌<◌, ◌↔◌, Bool, IsTrue, Option};
 ghost use Rattle.std.specs.FinSet.{FinSet};
 ghost use Rattle.std.specs.Ordering.{nat_cmp};
 ghost use Rattle.pg_base.specs.declared.goal.Goal.TheVariants.{Win};

@@ -1,5 +1,5 @@
 //! The file of a certificate that solving has found.
-ghost use Rattle.std.specs.Prelude.{◌≡◌, ℕ, List, IfOk, Some};
+ghost use Rattle.std.specs.Prelude.{IfOk, Some};
 ghost use Rattle.pg_cert.specs.Limits.{IsWithinLimits};
 ghost use Rattle.pg_cert.specs.Valid.{IsValid};
 ghost use Rattle.pg_cli.specs.Solving.{IsFileOf};
@@ -14,7 +14,7 @@ use pg_image::print_image;
 use std::alloc::Global;
 
 /// The text of a certificate; where images are asked for, that of the folded one, unless no turn or reflection of the
-/// board fits the game or the folded one has too many nodes unfolded.
+/// board but the one of number 0 fits the game, or a claim of the folded one, or all together, have too many nodes unfolded.
 pub fn print_solution(
     alloc: Global,
     game: &Game,

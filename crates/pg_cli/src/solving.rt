@@ -1,7 +1,5 @@
 //! Solving a game, and storing what shows it.
-ghost use Rattle.std.specs.Prelude.{◌≡◌, ◌≢◌, ◌≤◌, [], ◌∷◌, length, map, IfErr, IfOk, IfSome, Some};
-ghost use Rattle.pg_io.specs.Console.{Grows};
-ghost use Rattle.pg_io.specs.declared.entry.Entry.TheVariants.{Said};
+ghost use Rattle.std.specs.Prelude.{◌≡◌, ◌≢◌, ◌≤◌, [], ◌∷◌, length, IfErr, IfOk, IfSome, Some};
 ghost use Rattle.pg_cert.specs.Limits.{IsWithinLimits};
 ghost use Rattle.pg_cert.specs.Print.{printed_certificate};
 ghost use Rattle.pg_base.specs.declared.kind.Kind.TheVariants.{Switching};

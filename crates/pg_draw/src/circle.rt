@@ -1,5 +1,5 @@
 //! Places on a circle.
-ghost use Rattle.std.specs.Prelude.{◌≡◌, ◌≤◌, ◌<◌, ◌^◌};
+ghost use Rattle.std.specs.Prelude.{◌≡◌, ◌≤◌, ◌<◌};
 ghost use Rattle.pg_draw.specs.Places.{IsWithin, part_of, place_after, place_on_circle, radius_of};
 ghost use Rattle.pg_game.specs.declared.bounds.TheConstants.{MAX_VERTICES};
 

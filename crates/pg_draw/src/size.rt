@@ -1,5 +1,5 @@
 //! The size of pictures.
-ghost use Rattle.std.specs.Prelude.{◌≡◌, ◌≤◌, ◌<◌, length};
+ghost use Rattle.std.specs.Prelude.{◌≡◌, ◌≤◌, ◌<◌};
 ghost use Rattle.pg_scene.specs.Limits.{IsBoard};
 ghost use Rattle.pg_draw.specs.Places.{IsPlan, IsWithin};
 ghost use Rattle.pg_draw.specs.Pictures.{bridge_reach, circle_reach, far_corner, plan_reach, reach_of, row_reach, text_width, widest};

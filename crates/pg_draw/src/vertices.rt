@@ -1,5 +1,5 @@
 //! Where the vertices of graphs lie.
-ghost use Rattle.std.specs.Prelude.{◌≡◌, ◌≤◌, IfSome};
+ghost use Rattle.std.specs.Prelude.{◌≡◌};
 ghost use Rattle.pg_draw.specs.Places.{IsPlan, IsWithin, place_of_end};
 
 use crate::bridge::place_on_bridge;

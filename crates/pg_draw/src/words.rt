@@ -1,5 +1,5 @@
 //! Words in pictures.
-ghost use Rattle.std.specs.Prelude.{◌≡◌, ◌++◌, ◌∷◌, [], OnOk, IfOk, codes, decimal};
+ghost use Rattle.std.specs.Prelude.{◌≡◌, ◌++◌, ◌∷◌, [], OnOk, IfOk, decimal};
 ghost use Rattle.pg_picture.specs.declared.shape.Shape.TheVariants.{Words};
 ghost use Rattle.pg_draw.specs.Shapes.{child_text};
 

@@ -1,8 +1,7 @@
 //! Pictures of connectivity games and of claims of their certificates.
 ghost use Rattle.std.specs.Prelude.{◌≡◌, IfNone, IfOk, IfSome, None, slice_get, string_bytes};
 ghost use Rattle.pg_family_files.specs.SpanCertPrint.{IsWithinRanges};
-ghost use Rattle.pg_scene.specs.Limits.{IsScene};
-ghost use Rattle.pg_span.specs.Valid.{IsFirstFlaw, IsSpanValid};
+ghost use Rattle.pg_span.specs.Valid.{IsFirstFlaw};
 ghost use Rattle.pg_drawing.specs.Due.{DrawsSpanClaim, DrawsSpanGame, IsFlawDue, IsSpanCertDue, IsSpanNodeDue};
 ghost use Rattle.pg_drawing.specs.Orders.{chosen_claim};
 

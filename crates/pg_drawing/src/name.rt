@@ -1,5 +1,5 @@
 //! The names of nodes.
-ghost use Rattle.std.specs.Prelude.{◌≡◌, ◌+◌, length};
+ghost use Rattle.std.specs.Prelude.{◌≡◌};
 ghost use Rattle.pg_cert.specs.Limits.{IsWithinLimits};
 ghost use Rattle.pg_drawing.specs.Orders.{chosen, chosen_claim, node_named};
 

@@ -1,5 +1,5 @@
 //! Spanning forests of a graph as bases.
-ghost use Rattle.std.specs.Prelude.{◌≡◌, ◌<◌, ◌≤◌, ℕ, Bool, suc, IfOk, vec_len};
+ghost use Rattle.std.specs.Prelude.{◌≡◌, ◌<◌, ◌≤◌, suc, IfOk, vec_len};
 ghost use Rattle.std.specs.FinSet.{contains};
 ghost use Rattle.pg_base.specs.Points.{AreBelow, ShareNone};
 ghost use Rattle.pg_base.specs.Sets.{either, below};

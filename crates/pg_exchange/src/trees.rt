@@ -1,5 +1,5 @@
 //! Two spanning forests of a graph.
-ghost use Rattle.std.specs.Prelude.{◌≡◌, ◌<◌, ◌≤◌, ℕ, IfOk};
+ghost use Rattle.std.specs.Prelude.{◌≡◌, ◌<◌, ◌≤◌, IfOk};
 ghost use Rattle.std.specs.FinSet.{contains};
 ghost use Rattle.pg_base.specs.Points.{AreBelow, ShareNone};
 ghost use Rattle.pg_graph.specs.Graph.{IsGraph, edge_count};

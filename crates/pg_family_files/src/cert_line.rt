@@ -3,7 +3,7 @@ ghost use Rattle.std.specs.Prelude.{◌≡◌, ◌≤◌, IfOk, option_map};
 ghost use Rattle.std.specs.List.{All, list_any};
 ghost use Rattle.pg_cert_files.specs.Form.{has_one_slash, is_slash};
 ghost use Rattle.pg_cert_files.specs.NodeLine.{before_slash, after_slash};
-ghost use Rattle.pg_family_files.specs.SpanCertLine.{ascending, body_of, cut_first, edges_of, first_edge, head_of, number_in, parts_of, trees_of};
+ghost use Rattle.pg_family_files.specs.SpanCertLine.{ascending, body_of, cut_first, first_edge, head_of, number_in, parts_of, trees_of};
 ghost use Rattle.pg_family_files.specs.declared.cert_limits.TheConstants.{MAX_SPAN_NUMBER};
 ghost use Rattle.pg_text.specs.Faults.{Gives, each_of};
 

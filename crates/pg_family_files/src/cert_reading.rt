@@ -1,5 +1,5 @@
 //! A connectivity game's certificate from the bytes of its file.
-ghost use Rattle.std.specs.Prelude.{◌≡◌, IfOk};
+ghost use Rattle.std.specs.Prelude.{IfOk};
 ghost use Rattle.pg_family_files.specs.SpanCertFile.{span_cert};
 ghost use Rattle.pg_family_files.specs.SpanCertPrint.{IsWithinRanges};
 ghost use Rattle.pg_family_files.specs.SpanCertViews.{IsReadAs};

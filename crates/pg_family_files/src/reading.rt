@@ -1,5 +1,5 @@
 //! A game from its text.
-ghost use Rattle.std.specs.Prelude.{◌≡◌, ◌≤◌, length, Ok};
+ghost use Rattle.std.specs.Prelude.{◌≤◌, length, Ok};
 ghost use Rattle.pg_text.specs.Text.{lines};
 ghost use Rattle.pg_text.specs.Faults.{reading};
 ghost use Rattle.pg_files.specs.Views.{IsReadAs};

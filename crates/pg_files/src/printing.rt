@@ -1,5 +1,5 @@
 //! The text of a game.
-ghost use Rattle.std.specs.Prelude.{◌≡◌, ◌++◌, [], ◌∷◌, OnOk, IfOk, string_bytes};
+ghost use Rattle.std.specs.Prelude.{◌≡◌, ◌++◌, OnOk, IfOk, string_bytes};
 ghost use Rattle.std.specs.List.{flat_map};
 ghost use Rattle.pg_base.specs.Points.{members};
 ghost use Rattle.pg_files.specs.Print.{spelled, numbered, worded, marked, size_words, bias_words, edge_words, field_words, printed};

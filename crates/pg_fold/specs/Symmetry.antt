@@ -13,7 +13,7 @@ pub record FoldsWell (g : Game) (c : Cert) (d : ImageCert) : Type 0 where
   pub folded : IsFolded g c d
   pub room : HaveRoom d.claims
 
--- the certificate folded has a claim with too many nodes unfolded
+-- unfolded, a claim of the folded certificate has too many nodes, or all its claims together have
 pub record LacksRoom (g : Game) (c : Cert) : Type 0 where
   pub certificate : ImageCert
   pub folded : IsFolded g c certificate

@@ -1,7 +1,6 @@
 //! The plain nodes so far, by their positions.
-ghost use Rattle.std.specs.Prelude.{◌≡◌, ℕ, ◌+◌, ◌*◌, ◌%◌, ◌^◌, ◌<◌, ◌≤◌, None, Some, if◌then◌else◌, IfOk, OnOk, length, get_or};
+ghost use Rattle.std.specs.Prelude.{◌≡◌, ◌+◌, ◌*◌, ◌%◌, ◌^◌, ◌<◌, None, Some, if◌then◌else◌, IfOk, OnOk};
 ghost use Rattle.std.specs.HashMap.{get};
-ghost use Rattle.pg_base.specs.Words.{words_of};
 ghost use Rattle.pg_fold.specs.Codes.{IsKnown, code_of, mixed, place_of};
 ghost use Rattle.pg_game.specs.PositionLemmas.{equal_positions};
 ghost use Rattle.pg_game.specs.declared.position.Position.{Position};

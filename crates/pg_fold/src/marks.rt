@@ -1,8 +1,6 @@
 //! The marks of a position as lists.
-ghost use Rattle.std.specs.Prelude.{◌≡◌, ◌<◌, ◌≤◌, IfOk};
-ghost use Rattle.std.specs.List.{All};
+ghost use Rattle.std.specs.Prelude.{◌≡◌, ◌<◌, IfOk};
 ghost use Rattle.pg_base.specs.Points.{members};
-ghost use Rattle.pg_base.specs.declared.limits.TheConstants.{MAX_MEMBERS};
 
 use pg_base::{Memory, PointSet};
 use pg_game::Position;

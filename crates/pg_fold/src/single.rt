@@ -1,5 +1,5 @@
 //! Claims of one node, which stays.
-ghost use Rattle.std.specs.Prelude.{◌≡◌, ◌∷◌, [], IfOk, IsTrue, ◌↔◌, length};
+ghost use Rattle.std.specs.Prelude.{◌≡◌, IfOk, IsTrue, ◌↔◌, length};
 ghost use Rattle.std.specs.List.{All, AllZip};
 ghost use Rattle.pg_fold.specs.Places.{Stays};
 

@@ -1,7 +1,7 @@
 //! Maps of a board as tables.
-ghost use Rattle.std.specs.Prelude.{◌≡◌, ◌↔◌, ◌<◌, ◌≤◌, ◌*◌, IfOk, get_or, map};
+ghost use Rattle.std.specs.Prelude.{◌≡◌, ◌<◌, ◌≤◌, ◌*◌, IfOk, map};
 ghost use Rattle.std.specs.FinSet.{from_list};
-ghost use Rattle.std.specs.List.{All, AllPairs};
+ghost use Rattle.std.specs.List.{All};
 ghost use Rattle.pg_base.specs.declared.limits.TheConstants.{MAX_MEMBERS};
 ghost use Rattle.pg_fold.specs.Tables.{AreOrdered, AreTables, AreTablesOf, IsTable, come_from, image_before};
 ghost use Rattle.pg_maps.specs.GridMaps.{IsMapOf};

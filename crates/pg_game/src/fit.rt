@@ -1,11 +1,11 @@
 //! Whether the parts of a game fit together and are within the limits.
-ghost use Rattle.std.specs.Prelude.{◌≡◌, ℕ, ◌+◌, ◌*◌, ◌^◌, ◌<◌, ◌≤◌, ◌↔◌, IsTrue, false, true, length, Some};
+ghost use Rattle.std.specs.Prelude.{◌≡◌, ◌*◌, ◌^◌, ◌<◌, ◌↔◌, IsTrue, false, true, length, Some};
 ghost use Rattle.std.specs.List.{All, sum_by};
 ghost use Rattle.pg_base.specs.declared.grid.Grid.{Grid};
 ghost use Rattle.pg_game.specs.Field.{field_points};
 ghost use Rattle.pg_game.specs.declared.field.Field.TheVariants.{Graph as OnGraph};
 ghost use Rattle.pg_graph.specs.declared.graph.Graph.{Graph};
-ghost use Rattle.pg_game.specs.Fit.{IsFit, FieldFits, IsLineOf, AreLinesOf, IsBoard, longest, greatest_bias, is_switching};
+ghost use Rattle.pg_game.specs.Fit.{IsFit, FieldFits, IsLineOf, AreLinesOf, IsBoard, longest, greatest_bias};
 
 use crate::bounds::{
     MAX_BIAS, MAX_BIASED_LINE_POINTS, MAX_LINE_POINTS, MAX_LINES, MAX_POINTS, MAX_SUMMED_POINTS,

@@ -1,8 +1,7 @@
 //! What has been filled, touched and taken.
-ghost use Rattle.std.specs.Prelude.{◌≡◌, ℕ, ◌<◌, ◌≤◌};
+ghost use Rattle.std.specs.Prelude.{◌≡◌, ◌<◌};
 ghost use Rattle.std.specs.List.{All, list_any, list_all};
-ghost use Rattle.std.specs.FinSet.{contains};
-ghost use Rattle.pg_game.specs.Game.{is_touched, is_filled, is_full, lines_of, point_count};
+ghost use Rattle.pg_game.specs.Game.{is_touched, is_filled, is_full, lines_of};
 ghost use Rattle.pg_game.specs.Judge.{filling_result, race_result};
 
 use crate::game::Game;

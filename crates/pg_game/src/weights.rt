@@ -1,6 +1,6 @@
 //! The weights of lines and points.
 ghost use Rattle.std.specs.Prelude.{◌≡◌, ◌≢◌, ℕ, ◌+◌, ◌^◌, ◌<◌, ◌≤◌, ◌==◌, ◌&&◌, length, get_or, unwrap_or, if◌then◌else◌};
-ghost use Rattle.std.specs.List.{All, count_by, find};
+ghost use Rattle.std.specs.List.{All, find};
 ghost use Rattle.std.specs.List.Sorted.{IsStrictlyIncreasing};
 ghost use Rattle.pg_base.specs.declared.kind.Kind.TheVariants.{Switching};
 ghost use Rattle.pg_game.specs.Position.{is_free};

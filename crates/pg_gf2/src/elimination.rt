@@ -1,5 +1,5 @@
 //! Elimination, and the base that it grows.
-ghost use Rattle.std.specs.Prelude.{◌+◌, ◌≡◌, ◌≢◌, ◌<◌, ◌≤◌, ℕ, Bool, true, false, length, IfOk};
+ghost use Rattle.std.specs.Prelude.{◌+◌, ◌≡◌, ◌≢◌, ◌<◌, ◌≤◌, ℕ, Bool, false, length, IfOk};
 ghost use Rattle.pg_gf2.specs.declared.game.TheConstants.{MAX_VECTORS};
 ghost use Rattle.std.specs.FinSet.{contains};
 ghost use Rattle.pg_base.specs.Sets.{below, either};

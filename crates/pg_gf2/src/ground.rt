@@ -1,5 +1,5 @@
 //! Vectors over two elements as a ground.
-ghost use Rattle.std.specs.Prelude.{◌+◌, ◌≡◌, ◌<◌, ◌≤◌, ◌++◌, ◌∷◌, [], ℕ, Bool, true, length, IfOk};
+ghost use Rattle.std.specs.Prelude.{◌+◌, ◌≡◌, ◌<◌, ◌≤◌, ◌++◌, ◌∷◌, [], length, IfOk};
 ghost use Rattle.pg_gf2.specs.declared.game.TheConstants.{MAX_VECTORS};
 ghost use Rattle.std.specs.FinSet.{contains};
 ghost use Rattle.pg_base.specs.Sets.{IsBelow, either};

@@ -1,6 +1,6 @@
 //! Eliminations in room that was made before: none of these takes memory.
-ghost use Rattle.std.specs.Prelude.{◌+◌, ◌≡◌, ◌≢◌, ◌<◌, ◌≤◌, ℕ, Bool, false, true, length, not, ◌&&◌, find, Option, if◌then◌else◌, None};
-ghost use Rattle.std.specs.FinSet.{contains, remove, empty};
+ghost use Rattle.std.specs.Prelude.{◌+◌, ◌≡◌, ◌≢◌, ◌<◌, ◌≤◌, ℕ, false, true, length, not, ◌&&◌, find, Option, None};
+ghost use Rattle.std.specs.FinSet.{contains, empty};
 ghost use Rattle.std.specs.List.{range_with_len};
 ghost use Rattle.std.specs.Vec.{vec_len, vec_capacity};
 ghost use Rattle.pg_base.specs.Sets.{minus, outside, IsWithin};

@@ -1,5 +1,5 @@
 //! What edges join and part, by labels in an array that the caller lends.
-ghost use Rattle.std.specs.Prelude.{◌≡◌, ◌≢◌, ℕ, ◌<◌, ◌≤◌, ◌↔◌, ◌⊎◌, true, IsTrue, IfSome, IfNone, length};
+ghost use Rattle.std.specs.Prelude.{◌≡◌, ℕ, ◌<◌, ◌≤◌, ◌↔◌, true, IsTrue, IfSome, IfNone, length};
 ghost use Rattle.std.specs.FinSet.{contains};
 ghost use Rattle.pg_base.specs.Sets.{minus};
 ghost use Rattle.pg_graph.specs.Graph.{IsGraph, IsJoinedIn, JoinsEndsOf, IsBridge, edge_count, first_end_of, second_end_of};

@@ -1,6 +1,5 @@
 //! A list of calls that are to fail.
-ghost use Rattle.std.specs.Prelude.{◌≡◌, IsTrue, ◌↔◌, ◌<◌, ◌+◌, ◌^◌, min};
-ghost use Rattle.std.specs.List.{Contains};
+ghost use Rattle.std.specs.Prelude.{◌≡◌, IsTrue, ◌↔◌, ◌<◌};
 ghost use Rattle.pg_io.specs.Failing.{FailsNext, CountsOne};
 
 /// The calls of one object that are to fail, by their numbers from 0, and how many were made.

@@ -1,6 +1,6 @@
 //! Files in memory.
-ghost use Rattle.std.specs.Prelude.{◌≡◌, ◌⊎◌, ℕ, ◌<◌, ◌≤◌, ◌+◌, ◌^◌, Option, Some, None, Bool, true, false, List, [], length, take, drop, IfOk, IsErr, IsOk, OnOk, OnErr, IsTrue, is_some};
-ghost use Rattle.std.specs.List.{Contains, position};
+ghost use Rattle.std.specs.Prelude.{◌≡◌, ◌⊎◌, ◌<◌, ◌≤◌, ◌+◌, ◌^◌, Option, Some, None, true, false, [], length, take, IfOk, IsErr, OnOk, OnErr, IsTrue, is_some};
+ghost use Rattle.std.specs.List.{position};
 ghost use Rattle.std.specs.Option.{option_map};
 ghost use Rattle.pg_io.specs.Causes.{faults, BlamesOpen, BlamesReads, BlamesWrites};
 ghost use Rattle.pg_io.specs.Files.{ReadsOnly, Opens, IsAbsent, Takes, Begins, Adds, Finishes};

@@ -1,5 +1,5 @@
 //! The criteria that decide a position without search.
-ghost use Rattle.std.specs.Prelude.{◌≡◌, ◌≢◌, ◌<◌, ◌≤◌, length, slice_get, Some, IfOk, IfSome, OnOk, true, false, option_map, List, ℕ, is_some, None, if◌then◌else◌};
+ghost use Rattle.std.specs.Prelude.{◌≡◌, ◌≢◌, ◌<◌, ◌≤◌, Some, IfOk, IfSome, true, false, option_map, is_some, None};
 ghost use Rattle.pg_base.specs.declared.kind.Kind.TheVariants.{Switching};
 ghost use Rattle.pg_game.specs.Game.{lines_of, is_over, IsPosition};
 ghost use Rattle.pg_game.specs.Decided.{decided, answer_for, attack_wins, pairs_exist, IsQuestion};

@@ -1,8 +1,6 @@
 //! The order in which a position's moves are gone through.
-ghost use Rattle.std.specs.Prelude.{◌≡◌, ◌<◌, ℕ, IfOk, IfSome, OnOk, Some, length, slice_get};
-ghost use Rattle.std.specs.List.{Contains};
+ghost use Rattle.std.specs.Prelude.{◌≡◌, ◌<◌, ℕ, IfOk, OnOk, Some, length, slice_get};
 ghost use Rattle.pg_game.specs.Game.{lines_of};
-ghost use Rattle.pg_board.specs.Board.{live_lines};
 ghost use Rattle.pg_leaf.specs.Order.{IsOrder, IsPlaceOf, IsTaking, Takes};
 
 use pg_base::{Kind, Memory, Side};

@@ -1,5 +1,5 @@
 //! The eight maps of a board of square cells.
-ghost use Rattle.std.specs.Prelude.{◌≡◌, ◌<◌, ◌≤◌, ◌*◌, ◌↔◌, ℕ, nat_lt, if◌then◌else◌, Some, None, IsTrue};
+ghost use Rattle.std.specs.Prelude.{◌≡◌, ◌<◌, ◌≤◌, ◌*◌, ◌↔◌, nat_lt, if◌then◌else◌, Some, None, IsTrue};
 ghost use Rattle.pg_base.specs.declared.limits.TheConstants.{MAX_MEMBERS};
 ghost use Rattle.pg_maps.specs.GridMaps.{turned};
 

@@ -1,5 +1,5 @@
 //! What the maps that fit tell of the others.
-ghost use Rattle.std.specs.Prelude.{◌≡◌, ◌↔◌, IfSome, IsTrue};
+ghost use Rattle.std.specs.Prelude.{◌↔◌, IfSome, IsTrue};
 ghost use Rattle.pg_game.specs.declared.game.Game.{Game};
 ghost use Rattle.pg_maps.specs.GridMaps.{number_of};
 ghost use Rattle.pg_maps.specs.Images.{Fits, AreFitting};

@@ -1,5 +1,5 @@
 //! A cache of recent answers of the matching.
-ghost use Rattle.std.specs.Prelude.{◌≡◌, ◌≤◌, ◌<◌, ℕ, [], None, Some, IfOk, IfErr, OnOk, OnErr, MatchOption, length};
+ghost use Rattle.std.specs.Prelude.{◌≡◌, ◌≤◌, ◌<◌, [], None, Some, IfOk, OnOk, OnErr, MatchOption, length};
 ghost use Rattle.std.specs.Map.{lookup};
 ghost use Rattle.pg_match.specs.Private.{CanMatch, IsMatching, HasPointsBelow, told};
 ghost use Rattle.pg_match.specs.Cache.{Fits, Remembers, Answers, Keeps, same_asked};

@@ -1,5 +1,5 @@
 //! The search for an alternating chain, which gives the next seat a point.
-ghost use Rattle.std.specs.Prelude.{◌≡◌, false, IsTrue, IfSome, ℕ, ◌+◌, ◌*◌, ◌/◌, ◌<◌, ◌≤◌, Bool, [], ◌∷◌, ◌++◌, length, get_or, map, slice_get, slice_index, IfOk, OnOk, Option, List, if◌then◌else◌, MatchOption};
+ghost use Rattle.std.specs.Prelude.{◌≡◌, false, IsTrue, IfSome, ℕ, ◌+◌, ◌*◌, ◌/◌, ◌<◌, ◌≤◌, [], ◌∷◌, ◌++◌, length, map, slice_get, slice_index, IfOk, OnOk, Option, if◌then◌else◌};
 ghost use Rattle.std.specs.List.{All};
 ghost use Rattle.std.specs.FinSet as set;
 ghost use Rattle.pg_match.specs.Private.{line_at, CanMatch, IsShort};

@@ -1,5 +1,5 @@
 //! The leaf of pairs at a position.
-ghost use Rattle.std.specs.Prelude.{◌≡◌, ◌≢◌, ◌<◌, ◌++◌, ℕ, List, IfOk, IfSome, is_some, length};
+ghost use Rattle.std.specs.Prelude.{◌≡◌, ◌≢◌, ◌<◌, ◌++◌, List, IfOk, IfSome, is_some, length};
 ghost use Rattle.std.specs.List.{All};
 ghost use Rattle.pg_base.specs.declared.kind.Kind.TheVariants.{AvoiderEnforcer};
 ghost use Rattle.pg_base.specs.declared.pair.Pair.{Pair};

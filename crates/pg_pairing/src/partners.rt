@@ -1,5 +1,5 @@
 //! The other point of each pair, found at once.
-ghost use Rattle.std.specs.Prelude.{◌≡◌, ◌≢◌, ◌<◌, List, IsTrue, ◌↔◌};
+ghost use Rattle.std.specs.Prelude.{◌≢◌, ◌<◌, List, IsTrue, ◌↔◌};
 ghost use Rattle.std.specs.List.{All, AllPairs};
 ghost use Rattle.pg_base.specs.declared.pair.Pair.{Pair};
 ghost use Rattle.pg_game.specs.Pairs.{SharesNone, IsSafe};

@@ -1,5 +1,5 @@
 //! Threat lines, attack by attack.
-ghost use Rattle.std.specs.Prelude.{◌≡◌, ◌≢◌, ◌==◌, ◌||◌, ◌<◌, ◌↔◌, true, IsTrue};
+ghost use Rattle.std.specs.Prelude.{◌≡◌, ◌≢◌, ◌==◌, ◌||◌, ◌<◌, ◌↔◌, IsTrue};
 ghost use Rattle.std.specs.List.{All, list_all, list_any};
 ghost use Rattle.std.specs.FinSet.{contains};
 ghost use Rattle.pg_game.specs.Game.{has_filled, all_touched, is_over};

@@ -1,5 +1,5 @@
 //! The walk on the board from the root to the position that is expanded next, and back.
-ghost use Rattle.std.specs.Prelude.{◌≡◌, ◌<◌, IfSome, IfNone, None, Some, ℕ, List, length, get_or, slice_get, []};
+ghost use Rattle.std.specs.Prelude.{◌≡◌, ◌<◌, IfSome, IfNone, None, Some, List, length, get_or, slice_get, []};
 ghost use Rattle.std.specs.List.{All};
 ghost use Rattle.pg_base.specs.declared.score.Score.{Score};
 ghost use Rattle.pg_game.specs.declared.game.Game.{Game};

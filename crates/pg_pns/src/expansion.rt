@@ -14,8 +14,7 @@ ghost use Rattle.pg_pns.specs.Found.{IsAnswer};
 ghost use Rattle.pg_leaf.specs.At.{IsAt};
 ghost use Rattle.pg_pns.specs.Descent.{IsAtStart};
 ghost use Rattle.pg_pns.specs.Known.{answer_at};
-ghost use Rattle.std.specs.List.{All, Contains};
-ghost use Rattle.std.specs.Option.{is_none};
+ghost use Rattle.std.specs.List.{Contains};
 ghost use Rattle.pg_pns.specs.Search.{IsSearch, CanGrow, IsGrowing};
 
 use crate::descent::{go_down, go_up};

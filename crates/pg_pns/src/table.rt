@@ -1,11 +1,11 @@
 //! The positions that a search has met.
-ghost use Rattle.std.specs.Prelude.{◌≡◌, ◌≢◌, ◌<◌, ◌≤◌, ◌+◌, ◌^◌, [], length, slice_get, Some, None, IfOk, IfSome, OnOk, true, false, option_map, List, ℕ};
+ghost use Rattle.std.specs.Prelude.{◌≡◌, ◌≢◌, ◌<◌, ◌^◌, [], length, Some, None, IfOk, true, false};
 ghost use Rattle.std.specs.HashMap.{get};
 ghost use Rattle.pg_base.specs.declared.kind.Kind.TheVariants.{Switching};
 ghost use Rattle.pg_base.specs.declared.score.Score.{Score};
 ghost use Rattle.pg_game.specs.declared.game.Game.{Game};
 ghost use Rattle.pg_game.specs.declared.position.Position.{Position};
-ghost use Rattle.pg_game.specs.Decided.{decided, claimer, claimed_goal, IsQuestion};
+ghost use Rattle.pg_game.specs.Decided.{IsQuestion};
 ghost use Rattle.pg_game.specs.Game.{lines_of, point_count, after, IsPosition};
 ghost use Rattle.pg_game.specs.Position.{is_free};
 ghost use Rattle.pg_game.specs.PositionLemmas.{equal_positions};

@@ -1,5 +1,5 @@
 //! Cells of a board.
-ghost use Rattle.std.specs.Prelude.{◌≡◌, ◌<◌};
+ghost use Rattle.std.specs.Prelude.{◌≡◌};
 ghost use Rattle.pg_poly.specs.Cells.{is_next, share_side};
 
 /// A cell, by its row and its column.

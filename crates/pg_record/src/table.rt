@@ -1,5 +1,5 @@
 //! What the standing moves of a session are played on.
-ghost use Rattle.std.specs.Prelude.{◌≡◌, ◌≢◌, ℕ, ◌-◌, ◌<◌, ◌++◌, [], ◌∷◌, length, take, IfOk, OnOk, OnErr};
+ghost use Rattle.std.specs.Prelude.{◌≡◌, ◌-◌, ◌<◌, ◌++◌, [], ◌∷◌, length, take, IfOk, OnOk, OnErr};
 ghost use Rattle.pg_base.specs.declared.kind.Kind.TheVariants.{Switching};
 ghost use Rattle.pg_game.specs.Game.{start, after};
 ghost use Rattle.pg_game.specs.Judge.{judged_move};

@@ -1,5 +1,5 @@
 //! A session from the bytes of its file.
-ghost use Rattle.std.specs.Prelude.{◌≡◌, ◌+◌, ◌<◌, ◌≤◌, [], length, Some, IfOk, OnOk};
+ghost use Rattle.std.specs.Prelude.{◌≡◌, ◌+◌, ◌<◌, ◌≤◌, [], length, Some, IfOk};
 ghost use Rattle.pg_record.specs.declared.event.TheConstants.{MAX_EVENTS};
 ghost use Rattle.pg_record_files.specs.RecordFile.{after, event_faults, record_of, with_one};
 ghost use Rattle.pg_record_files.specs.Views.{event_said, number_of};

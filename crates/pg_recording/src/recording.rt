@@ -1,6 +1,5 @@
 //! Recording a session of a game, and storing its record.
-ghost use Rattle.std.specs.Prelude.{◌≡◌, [], ◌∷◌, Err, IfErr, IfOk, length, ⊤};
-ghost use Rattle.pg_record.specs.Replay.{replay};
+ghost use Rattle.std.specs.Prelude.{◌≡◌, [], ◌∷◌, Err, IfErr, IfOk, ⊤};
 ghost use Rattle.pg_texts.specs.Texts.{recorded_text};
 ghost use Rattle.pg_texts.specs.declared.statuses.TheConstants.{DONE};
 ghost use Rattle.pg_opening.specs.Opening.{IsGameLacking, game_held};

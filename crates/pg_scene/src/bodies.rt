@@ -1,5 +1,5 @@
 //! What the bodies of nodes name.
-ghost use Rattle.std.specs.Prelude.{◌≡◌, ◌≤◌, ◌++◌, ◌&&◌, nat_lt, OnOk};
+ghost use Rattle.std.specs.Prelude.{◌≡◌, ◌++◌, ◌&&◌, OnOk};
 ghost use Rattle.std.specs.List.{flat_map};
 ghost use Rattle.pg_game.specs.Fit.{is_graph};
 ghost use Rattle.pg_scene.specs.Items.{body_items, fault_items, reply_item, seen_if, set_items};

@@ -1,5 +1,5 @@
 //! Lists whose members are numbered.
-ghost use Rattle.std.specs.Prelude.{◌≡◌, ◌<◌, ◌+◌, ◌++◌, ◌&&◌, nat_lt, OnOk};
+ghost use Rattle.std.specs.Prelude.{◌≡◌, ◌<◌, ◌+◌, ◌++◌, ◌&&◌, OnOk};
 ghost use Rattle.pg_scene.specs.Items.{numbered, pair_item, step_item};
 
 use crate::item::Item;

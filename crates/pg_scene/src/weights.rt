@@ -1,7 +1,7 @@
 //! The weights of free points.
-ghost use Rattle.std.specs.Prelude.{◌≡◌, ◌<◌, ◌≤◌, ◌++◌, ◌/◌, IfOk, OnOk, length, get_or, map, ℕ};
+ghost use Rattle.std.specs.Prelude.{◌≡◌, ◌<◌, ◌≤◌, ◌++◌, ◌/◌, OnOk, length, get_or, map, ℕ};
 ghost use Rattle.std.specs.Fmt.{decimal};
-ghost use Rattle.std.specs.List.{count_by, All};
+ghost use Rattle.std.specs.List.{All};
 ghost use Rattle.pg_base.specs.declared.limits.TheConstants.{MAX_MEMBERS};
 ghost use Rattle.pg_game.specs.Game.{free_points, lines_of, point_count};
 ghost use Rattle.pg_game.specs.Position.{is_free};

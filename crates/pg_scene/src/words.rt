@@ -1,8 +1,8 @@
 //! Titles and legends.
-ghost use Rattle.std.specs.Prelude.{◌≡◌, ◌++◌, ◌∷◌, [], IfOk, OnOk, codes, map, string_bytes};
+ghost use Rattle.std.specs.Prelude.{◌≡◌, ◌++◌, IfOk, OnOk, codes, string_bytes};
 ghost use Rattle.std.specs.Fmt.{decimal};
 ghost use Rattle.pg_game.specs.declared.field.Field.{Field};
-ghost use Rattle.pg_scene.specs.Words.{body_line, claim_text, fault_text, game_legend, game_title, kind_line, lines_legend, node_legend, node_title, turn_line, weaker_line, weights_line};
+ghost use Rattle.pg_scene.specs.Words.{body_line, fault_text, game_legend, game_title, kind_line, node_legend, node_title, turn_line, weaker_line, weights_line};
 
 use crate::lines::are_drawn;
 use crate::text::{Text, Texts};

@@ -1,5 +1,5 @@
 //! Checking certificates of connectivity games.
-ghost use Rattle.std.specs.Prelude.{◌≡◌, ◌<◌, ◌≤◌, ◌^◌, ℕ, IfErr, IfNone, IfOk, IfSome, length, Err};
+ghost use Rattle.std.specs.Prelude.{◌≡◌, ◌<◌, ◌≤◌, ◌^◌, ℕ, IfNone, IfOk, IfSome, length, Err};
 ghost use Rattle.pg_span.specs.declared.flaw.SpanFlaw.{SpanFlaw};
 ghost use Rattle.pg_span.specs.Game.{marks_at};
 ghost use Rattle.pg_span.specs.Judge.{IsJudgeOf};

@@ -1,9 +1,9 @@
 //! Whether a connectivity game is over and who has won.
-ghost use Rattle.std.specs.Prelude.{◌≡◌, ◌<◌, ℕ, Bool, true, IfOk};
+ghost use Rattle.std.specs.Prelude.{◌≡◌, ◌<◌, true, IfOk};
 ghost use Rattle.std.specs.FinSet.{contains};
 ghost use Rattle.pg_base.specs.Points.{AreBelow};
-ghost use Rattle.pg_graph.specs.Graph.{IsGraph, edge_count, IsJoinedIn};
-ghost use Rattle.pg_graph.specs.Joiner.{IsMadeFor, AreEdges};
+ghost use Rattle.pg_graph.specs.Graph.{IsGraph, edge_count};
+ghost use Rattle.pg_graph.specs.Joiner.{IsMadeFor};
 ghost use Rattle.pg_span.specs.Judge.{ending_by, judged_by, connects, IsJudgeOf};
 ghost use Rattle.pg_span.specs.Game.{span_rules_of};
 

@@ -1,5 +1,5 @@
 //! What the bodies of a connectivity game's claims name.
-ghost use Rattle.std.specs.Prelude.{◌≡◌, ◌≤◌, ◌++◌, nat_lt, OnOk};
+ghost use Rattle.std.specs.Prelude.{◌≡◌, ◌≤◌, ◌++◌, OnOk};
 ghost use Rattle.pg_graph.specs.Graph.{edge_count};
 ghost use Rattle.pg_scene.specs.Items.{numbered};
 ghost use Rattle.pg_span_scene.specs.SpanScenes.{first_items, part_item, span_items};

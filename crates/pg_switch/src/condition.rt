@@ -1,5 +1,5 @@
 //! Whether trees and cuts hold.
-ghost use Rattle.std.specs.Prelude.{◌≡◌, ℕ, ◌<◌, ◌≤◌, ◌↔◌, ◌⊎◌, not, suc, true, IsTrue};
+ghost use Rattle.std.specs.Prelude.{◌≡◌, ℕ, ◌↔◌, ◌⊎◌, not, suc, true, IsTrue};
 ghost use Rattle.std.specs.FinSet.{contains, insert};
 ghost use Rattle.pg_base.specs.Points.{AreBelow};
 ghost use Rattle.pg_base.specs.Sets.{below};

@@ -1,11 +1,9 @@
 //! Plans by trees and by cuts.
-ghost use Rattle.std.specs.Prelude.{◌≡◌, ◌<◌, ◌≤◌, false, true, suc};
+ghost use Rattle.std.specs.Prelude.{◌≡◌, ◌<◌, false, true};
 ghost use Rattle.std.specs.FinSet.{contains, remove};
-ghost use Rattle.pg_base.specs.Points.{AreBelow};
 ghost use Rattle.pg_base.specs.declared.kind.Kind.TheVariants.{Switching};
 ghost use Rattle.pg_base.specs.declared.side.Side.TheVariants.{X, Y};
 ghost use Rattle.pg_graph.specs.Graph.{IsGraph, edge_count};
-ghost use Rattle.pg_graph.specs.Joiner.{IsMadeFor, AreEdges};
 ghost use Rattle.pg_game.specs.Position.{is_free};
 ghost use Rattle.pg_game.specs.Game.{point_count, is_over, after, IsPosition};
 ghost use Rattle.pg_game.specs.Judge.{IsMadeForGame};

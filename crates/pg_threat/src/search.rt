@@ -1,5 +1,5 @@
 //! The search for a threat line.
-ghost use Rattle.std.specs.Prelude.{◌≡◌, ◌≤◌, ◌<◌, ◌+◌, ◌*◌, ◌↔◌, ℕ, true, false, Some, IfSome, length, [], ◌∷◌, ◌==◌, ◌&&◌, if◌then◌else◌};
+ghost use Rattle.std.specs.Prelude.{◌≡◌, ◌≤◌, ◌<◌, ◌+◌, ◌*◌, ◌↔◌, ℕ, true, false, Some, IfSome, length, ◌==◌, ◌&&◌, if◌then◌else◌};
 ghost use Rattle.std.specs.FinSet.{contains};
 ghost use Rattle.pg_game.specs.Game.{after, is_over, lines_of, IsPosition};
 ghost use Rattle.pg_game.specs.Threat.{may_attack, IsAttack, LeadsToLine, IsAttacking};

@@ -1,5 +1,5 @@
 //! The first node that is faulty.
-ghost use Rattle.std.specs.Prelude.{◌≡◌, ◌<◌, ◌≤◌, ◌↔◌, IsTrue, IfOk, IfSome, IfNone, MatchResult, length};
+ghost use Rattle.std.specs.Prelude.{◌<◌, ◌≤◌, ◌↔◌, IsTrue, IfOk, IfSome, IfNone, MatchResult, length};
 ghost use Rattle.std.specs.List.{All};
 ghost use Rattle.pg_cert.specs.Valid.{NamesEarlier};
 ghost use Rattle.pg_image.specs.Limits.{IsImageClaim};

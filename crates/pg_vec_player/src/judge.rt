@@ -1,5 +1,5 @@
 //! Whether a game on vectors is over and who has won, and what is claimed where a vector is lost.
-ghost use Rattle.std.specs.Prelude.{◌≡◌, ◌<◌, ◌≤◌, ◌+◌, ℕ, Bool, suc, length, IfOk};
+ghost use Rattle.std.specs.Prelude.{◌≡◌, ◌<◌, ◌≤◌, ◌+◌, length, IfOk};
 ghost use Rattle.std.specs.FinSet.{contains, remove};
 ghost use Rattle.pg_base.specs.Sets.{either};
 ghost use Rattle.pg_claims.specs.Claims.{kept, left_without};

@@ -1,5 +1,5 @@
 //! A player's own moves on vectors.
-ghost use Rattle.std.specs.Prelude.{◌≡◌, ◌<◌, ◌≤◌, ℕ, Option, length};
+ghost use Rattle.std.specs.Prelude.{◌≡◌, ◌<◌, ◌≤◌, Option, length};
 ghost use Rattle.std.specs.FinSet.{remove};
 ghost use Rattle.pg_gf2.specs.Answers.{lost_vector, vec_move};
 ghost use Rattle.pg_gf2.specs.Classes.{with_target};

@@ -1,5 +1,5 @@
 //! The table of classes, and each call on forests on the graph with two inner vertices.
-ghost use Rattle.std.specs.Prelude.{◌≡◌, ◌≤◌, IfOk};
+ghost use Rattle.std.specs.Prelude.{◌≡◌, IfOk};
 ghost use Rattle.pg_graph.specs.Graph.{IsGraph, edge_count};
 
 use crate::tally_games;

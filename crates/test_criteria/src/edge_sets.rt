@@ -1,5 +1,5 @@
 //! Trees and cuts beside the value.
-ghost use Rattle.std.specs.Prelude.{◌≡◌, ◌<◌, ◌≤◌, suc};
+ghost use Rattle.std.specs.Prelude.{◌≡◌, ◌<◌};
 ghost use Rattle.pg_base.specs.declared.kind.Kind.TheVariants.{Switching};
 ghost use Rattle.pg_game.specs.Game.{point_count, IsPosition};
 ghost use Rattle.pg_game.specs.Judge.{IsMadeForGame};

@@ -1,5 +1,4 @@
 //! Rows worked by hand.
-ghost use Rattle.std.specs.Prelude.{◌≤◌};
 
 use crate::telling::{answer, expanded};
 use pg_base::{Kind, Score};
