@@ -1,17 +1,15 @@
-//! Reading games of the families that are drawn, and certificates.
-ghost use Rattle.std.specs.Prelude.{◌≡◌, Some, IfErr, IfOk};
+//! Reading games of the families that are drawn.
+ghost use Rattle.std.specs.Prelude.{◌≡◌, Some, IfErr};
 ghost use Rattle.pg_io.specs.Files.{IsAbsent, ReadsOnly};
-ghost use Rattle.pg_family_files.specs.SpanCertPrint.{IsWithinRanges};
-ghost use Rattle.pg_talk.specs.Halts.{HaltCauses, IsGameHalt, IsReadHalt};
+ghost use Rattle.pg_talk.specs.Halts.{HaltCauses, IsGameHalt};
 ghost use Rattle.pg_talk.specs.Reading.{Opens};
-ghost use Rattle.pg_families.specs.Connectivity.{OpensSpanCert, span_held};
+ghost use Rattle.pg_families.specs.Connectivity.{span_held};
 ghost use Rattle.pg_drawing.specs.Boards.{IsBoardRead, as_connectivity, board_entry, board_held, is_other_kind};
 
 use crate::board::Board;
-use pg_family_files::{MAX_SPAN_CERT_BYTES, read_span, read_span_cert};
+use pg_family_files::read_span;
 use pg_files::{Fault, MAX_GAME_BYTES, read_game};
 use pg_io::{Files, Stop, read_whole};
-use pg_span::SpanCert;
 use pg_talk::Halt;
 use pg_text::{FileError, Numbered};
 use pg_texts::Refusal;
@@ -63,29 +61,6 @@ pub(crate) fn open_board<F: Files>(alloc: Global, files: &mut F, name: &str) -> 
     match read_board(alloc, &text) {
         Ok(board) => Ok(board),
         Err(FileError::Bad { number, line }) => Err(Halt::Refused(Refusal::Game { number, line })),
-        Err(FileError::Memory) => Err(Halt::Stopped(Stop::Memory)),
-    }
-}
-
-/// The certificate of a connectivity game under this name.
-pub(crate) fn open_span_cert<F: Files>(
-    alloc: Global,
-    files: &mut F,
-    name: &str,
-) -> Result<SpanCert, Halt>
-    ensures opened { OpensSpanCert (F.told files.old).held name.now result }
-    ensures ranges { IfOk result IsWithinRanges }
-    ensures halts { IfErr result IsReadHalt }
-    ensures causes { HaltCauses (IsAbsent (F.told files.old).held name.now)
-        (F.told files.old).faults (F.told files.new).faults result }
-    ensures kept { ReadsOnly (F.told files.old) (F.told files.new) }
-{
-    let text = read_whole(alloc, files, name, MAX_SPAN_CERT_BYTES)?;
-    match read_span_cert(alloc, &text) {
-        Ok(certificate) => Ok(certificate),
-        Err(FileError::Bad { number, line }) => {
-            Err(Halt::Refused(Refusal::Certificate { number, line }))
-        }
         Err(FileError::Memory) => Err(Halt::Stopped(Stop::Memory)),
     }
 }

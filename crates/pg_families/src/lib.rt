@@ -15,6 +15,7 @@ mod vec_solve;
 
 pub use family::carry_out_in_family;
 pub use laws::announced_family_claims_are_forced;
+pub use opening::open_span_cert;
 pub use span_check::check_span;
 pub use span_play::play_span;
 pub use span_solve::solve_span;

@@ -1,12 +1,14 @@
 -- Marks of the positions that are known.
-use Rattle.std.proofs.Common.{◌≡◌, ℕ, zero, suc, ◌<◌, Bool, true, false, cond, List, [], ◌∷◌, Option, Some, None, length, set, refl, sym, ap, ◌∙◌, subst, inl, inr, arith, slice_get}
+use Rattle.std.proofs.Common.{◌≡◌, ℕ, ◌<◌, Bool, true, false, cond, List, Option, Some, None, length, set, refl, sym, ap, ◌∙◌, subst, inl, inr, arith, slice_get}
 use Rattle.std.proofs.lemmas.Bool.{cases_Bool, cond-false, false≢true}
+use Rattle.std.proofs.lemmas.List.{length-set}
 use Rattle.std.specs.HashMap.{get}
 use Rattle.pg_base.proofs.Stands.{same_some}
 use Rattle.pg_fold.specs.Codes.{IsKnown, place_of}
 use Rattle.pg_fold.specs.declared.known.Known.{Known}
 use Rattle.pg_game.specs.PositionLemmas.{equal_positions, equal_positions-decides}
 use Rattle.pg_game.specs.declared.position.Position.{Position}
+use Rattle.pg_unfold.proofs.Marking.{kept_set, marked_set}
 
 -- what is not marked is not known
 pub unmarked : (known : Known) → IsKnown known → (p : Position) (b : Bool) → slice_get known.marks.items (place_of p (length known.marks.items)) ≡ Some b → b ≡ false → get equal_positions known.places p ≡ None
@@ -15,23 +17,6 @@ unmarked known is p b at off = by (get equal_positions known.places p) refl
     by : (found : Option ℕ) → get equal_positions known.places p ≡ found → found ≡ None
     by None e = refl
     by (Some j) e = absurd (false≢true (sym off ∙ same_some (sym at ∙ is.marked p j e)))
-
-pub set-here : (marks : List Bool) (i : ℕ) → i < length marks → slice_get (set marks i true) i ≡ Some true
-set-here [] i lt = absurd (omega (arith, lt))
-set-here (b ∷ bs) zero lt = refl
-set-here (b ∷ bs) (suc i) lt = set-here bs i (omega (arith, lt))
-
-pub set-kept : (marks : List Bool) (i k : ℕ) → slice_get marks k ≡ Some true → slice_get (set marks i true) k ≡ Some true
-set-kept [] i k at = at
-set-kept (b ∷ bs) zero zero at = refl
-set-kept (b ∷ bs) zero (suc k) at = at
-set-kept (b ∷ bs) (suc i) zero at = at
-set-kept (b ∷ bs) (suc i) (suc k) at = set-kept bs i k at
-
-length-set : (marks : List Bool) (i : ℕ) → length (set marks i true) ≡ length marks
-length-set [] i = refl
-length-set (b ∷ bs) zero = refl
-length-set (b ∷ bs) (suc i) = ap suc (length-set bs i)
 
 -- one position more
 pub known-more : (old new : Known) (p : Position) (number : ℕ) → IsKnown old → new.marks.items ≡ set old.marks.items (place_of p (length old.marks.items)) true → place_of p (length old.marks.items) < length old.marks.items
@@ -43,10 +28,10 @@ known-more old new p number is marks within updates = record {
       (subst (λ (ms : List Bool). slice_get ms (place_of q (length old.marks.items)) ≡ Some true) (sym marks)
       (elim (cases_Bool (equal_positions p q)) [
         | inl on ↦ subst (λ (r : Position). slice_get (set old.marks.items (place_of p (length old.marks.items)) true) (place_of r (length old.marks.items)) ≡ Some true) ((equal_positions-decides p q).0 on)
-            (set-here old.marks.items (place_of p (length old.marks.items)) within)
-        | inr off ↦ set-kept old.marks.items (place_of p (length old.marks.items)) (place_of q (length old.marks.items)) (is.marked q j (sym (cond-false _ _ _ off) ∙ sym (updates q) ∙ at))
+            (marked_set old.marks.items (place_of p (length old.marks.items)) within)
+        | inr off ↦ kept_set old.marks.items (place_of p (length old.marks.items)) (place_of q (length old.marks.items)) (is.marked q j (sym (cond-false _ _ _ off) ∙ sym (updates q) ∙ at))
       ]));
 }
   where
     size : length new.marks.items ≡ length old.marks.items
-    size = ap length marks ∙ length-set old.marks.items (place_of p (length old.marks.items))
+    size = ap length marks ∙ length-set old.marks.items (place_of p (length old.marks.items)) true

@@ -5,7 +5,8 @@ use Rattle.std.proofs.lemmas.List.Elements.{Contains-append_left, Contains-push,
 use Rattle.pg_unfold.specs.Marks.{IsMarked, AreAdded}
 use Rattle.pg_unfold.proofs.Keys.{key-node, key-map}
 
-kept_set : (xs : List Bool) (at k : ℕ) → IsMarked xs k → IsMarked (set xs at true) k
+-- a further mark leaves those that are there
+pub kept_set : (xs : List Bool) (at k : ℕ) → IsMarked xs k → IsMarked (set xs at true) k
 kept_set [] at k h = h
 kept_set (x ∷ xs) zero zero h = refl
 kept_set (x ∷ xs) zero (suc k) h = h
