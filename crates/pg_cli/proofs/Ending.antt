@@ -20,9 +20,9 @@ use Rattle.pg_words.specs.declared.source.Source.{Source}
 use Rattle.pg_cli.specs.Generating.{searches}
 use Rattle.pg_cli.specs.Commands.{Gives, Quiets, Silences, SaysNoMeaning, statuses_of}
 use Rattle.pg_talk.specs.Done.{Done, End, Finished, Failed, Starved, Changes, IsNothing, ending, nothing, talk, stop_end}
-use Rattle.pg_talk.specs.Halts.{BothCauses, Calm, stop_status}
+use Rattle.pg_talk.specs.Halts.{BothCauses, Calm, HasCause, stop_status}
 use Rattle.pg_talk.specs.Hearing.{Hearing}
-use Rattle.pg_cli.specs.Run.{Allows, Declines, RanOn, Ran, CarriesOn, Carries, Ends, HasCause}
+use Rattle.pg_cli.specs.Run.{Allows, Declines, RanOn, Ran, CarriesOn, Carries, Ends}
 use Rattle.pg_pns.specs.Expanded.{Expanded}
 use Rattle.pg_talk.specs.declared.halt.Halt.{Halt}
 use Rattle.pg_talk.specs.declared.halt.Halt.TheVariants.{Refused, Stopped}

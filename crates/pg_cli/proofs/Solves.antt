@@ -17,7 +17,7 @@ use Rattle.pg_game.specs.Game.{free_points, start}
 use Rattle.pg_pns.specs.Budget.{budget_for, most_for}
 use Rattle.pg_pns.specs.Expanded.{Expanded}
 use Rattle.pg_solve.specs.Due.{heading}
-use Rattle.pg_solve.specs.Left.{budget, IsAskedLast, IsLeft, IsLeftOpen}
+use Rattle.pg_solve.specs.Left.{budget, IsAskedLast, IsLeft, IsLeftOpen, LeavesSearch}
 use Rattle.pg_solve.specs.Solved.{certificate_of, due, is_class, IsTrueOf, IsShown}
 use Rattle.pg_solve.specs.declared.solution.Solution.{Solution}
 use Rattle.pg_texts.specs.Texts.{message_text, unknown_text}
@@ -28,7 +28,7 @@ use Rattle.pg_words.specs.Words.{Solve}
 use Rattle.pg_talk.specs.Done.{Done, End, Finished, Failed, Starved, Does, Follows, talk, stop_end}
 use Rattle.pg_opening.specs.Opening.{OpensGame, game_held}
 use Rattle.pg_cli.specs.Run.{Refuses, CarriesOn, Carries}
-use Rattle.pg_cli.specs.Solving.{IsFileOf, IsFound, IsLeftBehind, LeavesSearch, Shows, SolvesGame, Solves, Told, result_alone, solution_text}
+use Rattle.pg_cli.specs.Solving.{IsFileOf, IsFound, IsLeftBehind, Shows, SolvesGame, Solves, Told, result_alone, solution_text}
 use Rattle.pg_talk.specs.Storing.{Delivers}
 use Rattle.pg_talk.specs.declared.halt.Halt.{Halt}
 use Rattle.pg_talk.specs.declared.halt.Halt.TheVariants.{Refused, Stopped}

@@ -12,18 +12,19 @@ use Rattle.pg_talk.specs.Halts.{IsGameHalt, IsReadHalt, IsPlayHalt, IsPlayEnd, I
 use Rattle.pg_cli.specs.Reading.{both_held}
 use Rattle.pg_opening.specs.Opening.{game_held}
 use Rattle.pg_cli.specs.Reporting.{IsReportEnd}
-use Rattle.pg_cli.specs.Solving.{LeavesSearch, positions_for}
+use Rattle.pg_cli.specs.Solving.{positions_for}
 use Rattle.pg_cli.specs.declared.solving.TheConstants.{DEFAULT_POSITIONS}
 use Rattle.pg_talk.specs.Reading.{lacking}
 use Rattle.pg_talk.specs.Runs.{QuietsBy}
 use Rattle.pg_talk.specs.Storing.{StoresAt}
 use Rattle.pg_families.specs.Family.{GivesInFamily, LacksInFamily, LeavesFamilyFiles, QuietAtReadInFamily, statuses_in_family}
 use Rattle.pg_recording.specs.Recording.{GivesRecord}
-use Rattle.pg_review.specs.Review.{GivesReview, LeavesReview, StandsAgainst}
+use Rattle.pg_review.specs.Review.{GivesReview, StandsAgainst}
 use Rattle.pg_pns.specs.Expanded.{Expanded}
 use Rattle.pg_io.specs.declared.stop.Stop.TheVariants.{Memory}
 use Rattle.pg_talk.specs.declared.halt.Halt.{Halt}
 use Rattle.pg_talk.specs.declared.halt.Halt.TheVariants.{Refused, Stopped}
+use Rattle.pg_solve.specs.Left.{LeavesSearch}
 
 -- a command whose numbers are within their ranges; any other has no meaning
 abbrev pub built : Command → Option Command
@@ -111,8 +112,8 @@ abbrev pub LeavesWork : Option Command → Expanded → Expanded → Type 0
 LeavesWork (Some (Solve g c None images)) before after = LeavesSearch DEFAULT_POSITIONS before after
 LeavesWork (Some (Solve g c (Some positions) images)) before after = LeavesSearch positions before after
 LeavesWork (Some (Gen which g c)) before after = (searches which c ≡ false → after ≡ before) × LeavesSearch DEFAULT_POSITIONS before after
-LeavesWork (Some (Review g r None)) before after = LeavesReview DEFAULT_POSITIONS before after
-LeavesWork (Some (Review g r (Some positions))) before after = LeavesReview positions before after
+LeavesWork (Some (Review g r None)) before after = LeavesSearch DEFAULT_POSITIONS before after
+LeavesWork (Some (Review g r (Some positions))) before after = LeavesSearch positions before after
 LeavesWork _ before after = after ≡ before
 
 -- a name that the command reads, in the order of its work, isn't held

@@ -1,5 +1,5 @@
 -- WHAT EACH COMMAND MAY DO, and what a run is.
-use Rattle.std.specs.Prelude.{◌≡◌, ◌≢◌, ◌⊎◌, ℕ, [], ◌∷◌, Option, Some, None, Result, Err, IfSome}
+use Rattle.std.specs.Prelude.{◌≡◌, ◌⊎◌, ℕ, [], ◌∷◌, Option, Some, None, Result, Err, IfSome}
 use Rattle.pg_io.specs.Causes.{Rose}
 use Rattle.pg_io.specs.Console.{ConsoleTold, Grows}
 use Rattle.pg_io.specs.Files.{Holding, FilesTold}
@@ -8,12 +8,12 @@ use Rattle.pg_texts.specs.Statuses.{refusal_status}
 use Rattle.pg_texts.specs.Texts.{refusal_text}
 use Rattle.pg_texts.specs.declared.refusal.Refusal.{Refusal}
 use Rattle.pg_texts.specs.declared.refusal.Refusal.TheVariants.{NoMeaning}
-use Rattle.pg_texts.specs.declared.statuses.TheConstants.{READ_FAILED, WRITE_FAILED}
+use Rattle.pg_texts.specs.declared.statuses.TheConstants.{WRITE_FAILED}
 use Rattle.pg_words.specs.Words.{Command, Solve, Check, Play, Gen, Report, OfFamily, Record, Review}
 use Rattle.pg_cli.specs.Checking.{RefusesCheck, AcceptsAll}
 use Rattle.pg_talk.specs.Done.{Done, End, Finished, Failed, Starved, Changes, Follows, IsNothing, ending}
 use Rattle.pg_cli.specs.Generating.{Generates}
-use Rattle.pg_talk.specs.Halts.{Calm, ReadCause, WriteCause, stop_status}
+use Rattle.pg_talk.specs.Halts.{stop_status}
 use Rattle.pg_cli.specs.Playing.{RefusesPlay, PlaysOn}
 use Rattle.pg_cli.specs.Reading.{both_held}
 use Rattle.pg_opening.specs.Opening.{game_held}
@@ -85,9 +85,3 @@ Ends (Refused refusal) before after status =
     ((status ≡ refusal_status refusal) × Grows before.log after.log (Said (refusal_text refusal) ∷ []) × (after.left ≡ before.left) × (after.faults ≡ before.faults))
     ⊎ ((status ≡ WRITE_FAILED) × (after.log ≡ before.log) × (after.left ≡ before.left) × Rose before.faults.writes after.faults.writes)
 Ends (Stopped stop) before after status = (status ≡ stop_status stop) × (after ≡ before)
-
--- the causes of a status: a failed read or an absent name, a failed write; at any other no number of faults rose
-pub record HasCause (absent : Type 0) (files files' : FilesTold) (console console' : ConsoleTold) (status : ℕ) : Type 0 where
-  pub read : status ≡ READ_FAILED → ReadCause absent files files' console console'
-  pub write : status ≡ WRITE_FAILED → WriteCause files files' console console'
-  pub other : status ≢ READ_FAILED → status ≢ WRITE_FAILED → Calm files files' console console'

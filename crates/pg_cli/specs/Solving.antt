@@ -26,7 +26,7 @@ use Rattle.pg_solve.specs.declared.solution.Class.{Class}
 use Rattle.pg_solve.specs.declared.solution.Class.TheVariants.{Short, Cut, First}
 use Rattle.pg_solve.specs.declared.solution.Solution.{Solution}
 use Rattle.pg_solve.specs.declared.solution.Solution.TheVariants.{Value, Class as ForClass, Unknown}
-use Rattle.pg_solve.specs.declared.solving.TheConstants.{LEAST_POSITIONS, MOST_POSITIONS}
+use Rattle.pg_solve.specs.declared.solving.TheConstants.{MAX_POSITIONS, MIN_POSITIONS}
 use Rattle.pg_texts.specs.Texts.{class_short_text, class_cut_text, class_first_mover_text, expanded_text, message_text, result_text, unknown_text}
 use Rattle.pg_texts.specs.declared.message.Message.{Message}
 use Rattle.pg_texts.specs.declared.statuses.TheConstants.{DONE, UNKNOWN}
@@ -39,7 +39,7 @@ use Rattle.pg_talk.specs.declared.halt.Halt.{Halt}
 -- how many positions may be expanded: as many as are asked for, where they may be, and as usual where none are said
 abbrev pub positions_for : Option ℕ → Option ℕ
 positions_for None = Some DEFAULT_POSITIONS
-positions_for (Some n) = if nat_le LEAST_POSITIONS n && nat_le n MOST_POSITIONS then Some n else None
+positions_for (Some n) = if nat_le MIN_POSITIONS n && nat_le n MAX_POSITIONS then Some n else None
 
 -- the text of a class
 abbrev pub class_text : Class → Bytes
@@ -94,10 +94,6 @@ pub record IsLeftBehind (g : Game) (positions : ℕ) (work : Expanded) (solution
   pub last : IsAskedLast g.kind work.question solution
   pub left : g.kind ≢ Switching → IsLeft g (budget g positions) work
   pub shown : IsShown g (budget g positions) work.positions solution
-
--- what solving leaves in the work: all as it was, or by the rules what it asked last of a game on lines
-abbrev pub LeavesSearch : ℕ → Expanded → Expanded → Type 0
-LeavesSearch positions before after = (after ≡ before) ⊎ ((g : Game) × (g.kind ≢ Switching) × IsLeft g (budget g positions) after)
 
 -- the question that was asked last of a game on lines is open after as many positions as the budget allows, and that is said
 pub record StaysOpen (g : Game) (positions : ℕ) (work : Expanded) (done : Done) (status : ℕ) : Type 0 where

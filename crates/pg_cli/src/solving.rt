@@ -4,7 +4,7 @@ ghost use Rattle.pg_cert.specs.Limits.{IsWithinLimits};
 ghost use Rattle.pg_cert.specs.Print.{printed_certificate};
 ghost use Rattle.pg_base.specs.declared.kind.Kind.TheVariants.{Switching};
 ghost use Rattle.pg_solve.specs.Left.{budget, IsLeft};
-ghost use Rattle.pg_solve.specs.declared.solving.TheConstants.{LEAST_POSITIONS, MOST_POSITIONS};
+ghost use Rattle.pg_solve.specs.declared.solving.TheConstants.{MAX_POSITIONS, MIN_POSITIONS};
 ghost use Rattle.pg_texts.specs.Texts.{message_text};
 ghost use Rattle.pg_texts.specs.declared.statuses.TheConstants.{DONE, UNKNOWN};
 ghost use Rattle.pg_words.specs.Words.{Solve};
@@ -23,7 +23,7 @@ use pg_game::Game;
 use pg_io::{Console, Files};
 use pg_opening::open_game;
 use pg_pns::{Work, budget_of};
-use pg_solve::{Class, LEAST_POSITIONS, MOST_POSITIONS, Solution};
+use pg_solve::{Class, MAX_POSITIONS, MIN_POSITIONS, Solution};
 use pg_talk::{Halt, deliver, say};
 use pg_texts::{Message, UNKNOWN};
 use std::alloc::Global;
@@ -44,11 +44,11 @@ pub struct Options {
 /// number that isn't allowed.
 pub fn positions_for(positions: Option<u32>) -> Option<u32>
     ensures exact { result ≡ positions_for positions }
-    ensures within { IfSome result (λ n. (LEAST_POSITIONS ≤ n) × (n ≤ MOST_POSITIONS)) }
+    ensures within { IfSome result (λ n. (MIN_POSITIONS ≤ n) × (n ≤ MAX_POSITIONS)) }
 {
     match positions {
         None => Some(DEFAULT_POSITIONS),
-        Some(n) if LEAST_POSITIONS <= n && n <= MOST_POSITIONS => Some(n),
+        Some(n) if MIN_POSITIONS <= n && n <= MAX_POSITIONS => Some(n),
         Some(_) => None,
     }
 }
@@ -98,10 +98,10 @@ pub fn find(
     positions: u32,
     work: &mut Work,
 ) -> Result<Option<(Message, Cert)>, Memory>
-    requires some { LEAST_POSITIONS ≤ positions }
-    requires most { positions ≤ MOST_POSITIONS }
+    requires some { MIN_POSITIONS ≤ positions }
+    requires most { positions ≤ MAX_POSITIONS }
     ensures found { IfOk result (IsFound game.now positions work.new) }
-    ensures few { work.old.positions ≡ [] → length work.new.positions ≤ MOST_POSITIONS }
+    ensures few { work.old.positions ≡ [] → length work.new.positions ≤ MAX_POSITIONS }
     ensures work { game.now.kind ≢ Switching → IsLeft game.now (budget game.now positions) work.new }
     ensures untouched { game.now.kind ≡ Switching → work.new ≡ work.old }
 {
@@ -125,8 +125,8 @@ fn solve_game<F: Files, C: Console>(
     console: &mut C,
     work: &mut Work,
 ) -> Result<u8, Halt>
-    requires some { LEAST_POSITIONS ≤ options.positions }
-    requires most { options.positions ≤ MOST_POSITIONS }
+    requires some { MIN_POSITIONS ≤ options.positions }
+    requires most { options.positions ≤ MAX_POSITIONS }
     ensures solved { Does (SolvesGame options.images (result_alone game.now) game.now certificate.now
         options.positions work.new)
         (F.told files.old) (F.told files.new) (C.told console.old) (C.told console.new) result }
@@ -164,8 +164,8 @@ pub fn solve<F: Files, C: Console>(
     console: &mut C,
     work: &mut Work,
 ) -> Result<u8, Halt>
-    requires some { LEAST_POSITIONS ≤ options.positions }
-    requires most { options.positions ≤ MOST_POSITIONS }
+    requires some { MIN_POSITIONS ≤ options.positions }
+    requires most { options.positions ≤ MAX_POSITIONS }
     ensures ran { Carries (Some (Solve game.now certificate.now (Some options.positions) options.images)) work.new
         (F.told files.old) (F.told files.new) (C.told console.old) (C.told console.new) result }
     ensures causes { BothCauses (IsGameLacking (F.told files.old).held game.now)

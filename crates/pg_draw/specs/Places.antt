@@ -2,9 +2,10 @@
 use Rattle.std.specs.Prelude.{ℕ, ◌+◌, ◌*◌, ◌-◌, ◌/◌, ◌%◌, ◌<◌, ◌≤◌, ◌==◌, max, nat_le, if◌then◌else◌, Option, Some, None, IfSome, slice_index}
 use Rattle.pg_game.specs.declared.bounds.TheConstants.{MAX_VERTICES}
 use Rattle.pg_picture.specs.declared.shape.Place.{Place}
-use Rattle.pg_draw.specs.declared.measures.TheConstants.{APART, CELL, HALF, MARGIN, MAX_ROWS, MOST_ON_RING, ROW, TOP}
+use Rattle.pg_draw.specs.declared.measures.TheConstants.{APART, CELL, HALF, MARGIN, MOST_ON_RING, ROW, TOP}
 use Rattle.pg_draw.specs.declared.vertices.Plan.{Plan}
 use Rattle.pg_draw.specs.declared.sines.TheConstants.{SINES}
+use Rattle.pg_gen.specs.declared.limits.TheConstants.{MAX_BRIDGE_ROWS}
 
 -- the place so far from the left and from the top
 abbrev pub at : ℕ → ℕ → Place
@@ -86,7 +87,7 @@ place_by vertices (Some rows) vertex other = place_on_bridge rows vertex other
 -- what the places of vertices rest on is within the limits
 pub record IsPlan (plan : Plan) : Type 0 where
   pub few_vertices : plan.vertices ≤ MAX_VERTICES
-  pub few_rows : IfSome plan.bridge (λ rows. rows ≤ MAX_ROWS)
+  pub few_rows : IfSome plan.bridge (λ rows. rows ≤ MAX_BRIDGE_ROWS)
 
 -- where a vertex lies from which an edge leads to the other
 abbrev pub place_of_end : Plan → ℕ → ℕ → Place

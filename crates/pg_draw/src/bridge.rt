@@ -1,24 +1,24 @@
 //! Places on the boards of Bridg-It.
 ghost use Rattle.std.specs.Prelude.{◌≡◌, ◌≤◌, ◌<◌};
 ghost use Rattle.pg_draw.specs.Places.{IsWithin, columns_of, column_of, place_on_bridge, row_of};
-ghost use Rattle.pg_draw.specs.declared.measures.TheConstants.{MAX_ROWS};
+ghost use Rattle.pg_gen.specs.declared.limits.TheConstants.{MAX_BRIDGE_ROWS};
 
 use crate::measures::{APART, HALF, MARGIN, TOP};
 use pg_picture::Place;
 
 /// How many columns of inner vertices there are.
 pub(crate) fn columns_of(rows: u32) -> u32
-    requires { rows ≤ MAX_ROWS }
+    requires { rows ≤ MAX_BRIDGE_ROWS }
     ensures columns { result ≡ columns_of rows }
     ensures some { 1 ≤ result }
-    ensures few { result ≤ MAX_ROWS }
+    ensures few { result ≤ MAX_BRIDGE_ROWS }
 {
     rows.saturating_sub(1).max(1)
 }
 
 /// The column of a vertex: terminal 0 is left of the inner vertices, and terminal 1 right of them.
 fn column_of(rows: u32, vertex: u16) -> u32
-    requires { rows ≤ MAX_ROWS }
+    requires { rows ≤ MAX_BRIDGE_ROWS }
     ensures column { result ≡ column_of rows vertex }
     ensures few { result ≤ 501 }
 {
@@ -34,7 +34,7 @@ fn column_of(rows: u32, vertex: u16) -> u32
 
 /// The row in which an edge leaves a vertex: a terminal is left in the row of the edge's other end.
 fn row_of(rows: u32, vertex: u16, other: u16) -> u32
-    requires { rows ≤ MAX_ROWS }
+    requires { rows ≤ MAX_BRIDGE_ROWS }
     ensures row { result ≡ row_of rows vertex other }
     ensures few { result < 65536 }
 {
@@ -51,7 +51,7 @@ fn row_of(rows: u32, vertex: u16, other: u16) -> u32
 /// The place at which an edge leaves a vertex.
 #[tactic(auto, unfolding(crate::specs::Places::place_on_bridge))]
 pub(crate) fn place_on_bridge(rows: u32, vertex: u16, other: u16) -> Place
-    requires { rows ≤ MAX_ROWS }
+    requires { rows ≤ MAX_BRIDGE_ROWS }
     ensures place { result ≡ place_on_bridge rows vertex other }
     ensures near { IsWithin 4194304 result }
 {

@@ -5,7 +5,7 @@ ghost use Rattle.pg_scene.specs.Limits.{IsBoard};
 ghost use Rattle.pg_draw.specs.Places.{IsPlan};
 ghost use Rattle.pg_draw.specs.Shapes.{bar_shapes, vertex_paint, vertex_shapes, vertices_shapes};
 ghost use Rattle.pg_draw.specs.Pictures.{legend_shapes, picture_of, shapes_of, width_of};
-ghost use Rattle.pg_draw.specs.declared.measures.TheConstants.{MAX_LEGEND_LINES};
+ghost use Rattle.pg_scene.specs.declared.lines.TheConstants.{MAX_LEGEND_LINES};
 
 use crate::boards::courses_of;
 use crate::bridge::place_on_bridge;

@@ -19,4 +19,3 @@ mod vertices;
 mod words;
 
 pub use drawing::draw;
-pub use measures::MAX_LEGEND_LINES;

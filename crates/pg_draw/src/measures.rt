@@ -30,11 +30,5 @@ pub(crate) const ROW: u32 = 16;
 /// How far apart the lines of the legend are.
 pub(crate) const LEADING: u32 = 18;
 
-/// The most rows of a Bridg-It board.
-pub(crate) const MAX_ROWS: u32 = 22;
-
 /// How many letters of a text count for the width of a picture.
 pub(crate) const MAX_COUNTED_LETTERS: usize = 1000;
-
-/// The most lines of a legend.
-pub const MAX_LEGEND_LINES: usize = 1000;

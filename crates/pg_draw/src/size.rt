@@ -4,7 +4,7 @@ ghost use Rattle.pg_scene.specs.Limits.{IsBoard};
 ghost use Rattle.pg_draw.specs.Places.{IsPlan, IsWithin};
 ghost use Rattle.pg_draw.specs.Pictures.{bridge_reach, circle_reach, far_corner, plan_reach, reach_of, row_reach, text_width, widest};
 ghost use Rattle.pg_game.specs.declared.bounds.TheConstants.{MAX_POINTS, MAX_VERTICES};
-ghost use Rattle.pg_draw.specs.declared.measures.TheConstants.{MAX_ROWS};
+ghost use Rattle.pg_gen.specs.declared.limits.TheConstants.{MAX_BRIDGE_ROWS};
 
 use crate::bridge::columns_of;
 use crate::circle::radius_of;
@@ -31,7 +31,7 @@ fn circle_reach(count: u32) -> Place
 /// How far a board of Bridg-It reaches.
 #[tactic(auto, unfolding(crate::specs::Pictures::bridge_reach))]
 fn bridge_reach(rows: u32) -> Place
-    requires { rows ≤ MAX_ROWS }
+    requires { rows ≤ MAX_BRIDGE_ROWS }
     ensures place { result ≡ bridge_reach rows }
     ensures near { IsWithin 100000 result }
 {

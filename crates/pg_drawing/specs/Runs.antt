@@ -1,12 +1,12 @@
 -- WHAT A RUN IS.
-use Rattle.std.specs.Prelude.{◌≡◌, ◌≢◌, ◌⊎◌, ℕ, List, [], ◌∷◌, Option, Some, None, Result, Ok, Err, IfSome}
+use Rattle.std.specs.Prelude.{◌≡◌, ◌⊎◌, ℕ, List, [], ◌∷◌, Option, Some, None, Result, Ok, Err, IfSome}
 use Rattle.pg_io.specs.Causes.{Rose}
 use Rattle.pg_io.specs.Console.{ConsoleTold, Grows}
-use Rattle.pg_io.specs.Files.{Bytes, Holding, FilesTold}
+use Rattle.pg_io.specs.Files.{Bytes, Holding}
 use Rattle.pg_io.specs.declared.entry.Entry.TheVariants.{Said}
 use Rattle.pg_texts.specs.declared.refusal.Refusal.TheVariants.{NoMeaning}
 use Rattle.pg_texts.specs.declared.statuses.TheConstants.{DONE, NO_MEANING, FAULTY_GAME, REFUSED, READ_FAILED, WRITE_FAILED, NO_MEMORY}
-use Rattle.pg_talk.specs.Halts.{Calm, IsGameHalt, IsReadHalt, ReadCause, WriteCause}
+use Rattle.pg_talk.specs.Halts.{IsGameHalt, IsReadHalt}
 use Rattle.pg_talk.specs.Reading.{IsLackingOne, IsLackingTwo}
 use Rattle.pg_talk.specs.declared.halt.Halt.{Halt}
 use Rattle.pg_talk.specs.declared.halt.Halt.TheVariants.{Refused}
@@ -52,12 +52,6 @@ abbrev pub IsLacking : Option Holding → Option Order → Type 0
 IsLacking told None = ⊥
 IsLacking told (Some (OfGame game)) = IsLackingOne board_held told game
 IsLacking told (Some (OfNode game certificate name)) = IsLackingTwo both_held told game certificate
-
--- the causes of a status: a failed read or an absent name, a failed write; at any other no number of faults rose
-pub record HasCause (absent : Type 0) (files files' : FilesTold) (console console' : ConsoleTold) (status : ℕ) : Type 0 where
-  pub read : status ≡ READ_FAILED → ReadCause absent files files' console console'
-  pub write : status ≡ WRITE_FAILED → WriteCause files files' console console'
-  pub other : status ≢ READ_FAILED → status ≢ WRITE_FAILED → Calm files files' console console'
 
 -- ---- what the code finds
 

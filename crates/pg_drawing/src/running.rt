@@ -4,7 +4,8 @@ ghost use Rattle.std.specs.List.{Contains};
 ghost use Rattle.pg_io.specs.Console.{Grows};
 ghost use Rattle.pg_io.specs.Files.{ReadsOnly};
 ghost use Rattle.pg_drawing.specs.Orders.{order_of};
-ghost use Rattle.pg_drawing.specs.Runs.{EndsWith, HasCause, IsLacking, IsStopped, Ran, statuses_of};
+ghost use Rattle.pg_talk.specs.Halts.{HasCause};
+ghost use Rattle.pg_drawing.specs.Runs.{EndsWith, IsLacking, IsStopped, Ran, statuses_of};
 
 use crate::telling::tell;
 use pg_io::{Console, Files, Stop};

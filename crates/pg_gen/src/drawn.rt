@@ -7,6 +7,7 @@ ghost use Rattle.pg_gen.specs.Rows.{below};
 ghost use Rattle.pg_gen.specs.Scatter.{AreDrawn, IsDrawn, IsScatterGame, has_scatter, mixed, next_state};
 
 use crate::fault::GenFault;
+use crate::limits::MAX_SEED;
 use pg_base::{Kind, Line, LineFault, Lines, Memory, PointSet, Side};
 use pg_game::{Field, Game, LineField, MAX_LINE_POINTS, MAX_LINES, MAX_POINTS, MAX_SUMMED_POINTS};
 use std::alloc::Global;
@@ -97,7 +98,7 @@ fn drawn_lines(alloc: Global, seed: u32, n: u16, m: u32, k: usize) -> Result<Vec
 fn has_scatter(seed: u32, n: u32, m: u32, k: u32) -> bool
     ensures { result ≡ has_scatter seed n m k }
 {
-    seed <= 2_147_483_647
+    seed <= MAX_SEED
         && (1..=MAX_POINTS as u32).contains(&n)
         && m <= MAX_LINES as u32
         && (1..=n.min(MAX_LINE_POINTS as u32)).contains(&k)

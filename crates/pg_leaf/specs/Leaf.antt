@@ -12,6 +12,7 @@ use Rattle.pg_cert.specs.declared.node.Node.{Node}
 use Rattle.pg_cert.specs.declared.node.Body.{Body}
 use Rattle.pg_cert.specs.declared.node.Body.TheVariants.{Over, Move, All as AllReplies, Pairs, Potential, Trees, Cuts, Threat, Weaker}
 use Rattle.pg_prune.specs.Sound.{BodyHolds}
+use Rattle.pg_base.specs.declared.limits.TheConstants.{MAX_MEMBERS}
 
 -- the criterion by which a body shows the answer, where it is by one
 abbrev pub criterion_of : Body → Option Criterion
@@ -28,7 +29,7 @@ criterion_of (Weaker child) = None
 -- the points are a threat line of the side to move, an odd number of points
 pub record IsAttackLine (g : Game) (p : Position) (points : List ℕ) : Type 0 where
   pub line : IsThreatLine g p p.turn points
-  pub range : All (λ v. v < 1024) points
+  pub range : All (λ v. v < MAX_MEMBERS) points
   pub odd : length points % 2 ≡ 1
 
 -- the body shows the answer at the position wherever the node stands, and it is by the first criterion

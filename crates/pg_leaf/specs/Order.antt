@@ -2,6 +2,7 @@
 use Rattle.std.specs.Prelude.{◌≡◌, ◌≢◌, ℕ, ◌<◌, ◌≤◌, ◌⊎◌, List, Some, length, slice_get}
 use Rattle.std.specs.List.{Contains}
 use Rattle.pg_leaf.specs.declared.order.Order.{Order}
+use Rattle.pg_game.specs.declared.bounds.TheConstants.{MAX_POINTS}
 
 -- the move at the place goes to the point
 abbrev pub IsPlaceOf : List (ℕ × ℕ) → ℕ → ℕ → Type 0
@@ -15,7 +16,7 @@ HasPlaceOf moves order v = (k : ℕ) × Contains order k × IsPlaceOf moves k v
 pub record IsOrder (moves : List (ℕ × ℕ)) (order : List ℕ) : Type 0 where
   pub range : (k : ℕ) → Contains order k → k < length moves
   pub different : (i j k : ℕ) → slice_get order i ≡ Some k → slice_get order j ≡ Some k → i ≡ j
-  pub all : length moves ≤ 65535 → (k v : ℕ) → IsPlaceOf moves k v → v < 256 → HasPlaceOf moves order v
+  pub all : length moves ≤ 65535 → (k v : ℕ) → IsPlaceOf moves k v → v < MAX_POINTS → HasPlaceOf moves order v
 
 -- ---- while moves are taken
 
@@ -29,7 +30,7 @@ pub record IsTaking (moves : List (ℕ × ℕ)) (members left : List ℕ) : Type
   pub different : (i j k : ℕ) → slice_get members i ≡ Some k → slice_get members j ≡ Some k → i ≡ j
   pub from : (v k : ℕ) → slice_get left v ≡ Some k → k ≢ 65535 → IsPlaceOf moves k v
   pub gone : (k v : ℕ) → Contains members k → IsPlaceOf moves k v → slice_get left v ≡ Some 65535
-  pub all : length moves ≤ 65535 → (k v : ℕ) → IsPlaceOf moves k v → v < 256 → IsToCome left v ⊎ HasPlaceOf moves members v
+  pub all : length moves ≤ 65535 → (k v : ℕ) → IsPlaceOf moves k v → v < MAX_POINTS → IsToCome left v ⊎ HasPlaceOf moves members v
 
 -- what goes along while moves are taken
 pub record Takes (old new : Order) : Type 0 where

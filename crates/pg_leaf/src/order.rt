@@ -2,9 +2,11 @@
 ghost use Rattle.std.specs.Prelude.{◌≡◌, ◌<◌, ℕ, IfOk, OnOk, Some, length, slice_get};
 ghost use Rattle.pg_game.specs.Game.{lines_of};
 ghost use Rattle.pg_leaf.specs.Order.{IsOrder, IsPlaceOf, IsTaking, Takes};
+ghost use Rattle.pg_game.specs.declared.bounds.TheConstants.{MAX_POINTS};
 
 use pg_base::{Kind, Memory, Side};
 use pg_board::Board;
+use pg_game::MAX_POINTS;
 use std::alloc::Global;
 
 /// The moves in their order so far, and those that are still to come, by their points.
@@ -13,7 +15,7 @@ struct Order {
     /// Places of moves in the list of moves.
     members: Vec<u16>,
     /// The place of the move to each point, beyond all places where there is none or it was taken.
-    left: [u16; 256],
+    left: [u16; MAX_POINTS],
 }
 
 /// The side whose points make a line dead: Y, and in Maker-Maker the side that isn't to move.
@@ -29,11 +31,11 @@ impl Order {
     fn new(alloc: Global, moves: &[(u16, u32)]) -> Result<Order, Memory>
         ensures { IfOk result (λ order. IsTaking moves.now order.members.items order.left) }
     {
-        let mut left = [u16::MAX; 256];
+        let mut left = [u16::MAX; MAX_POINTS];
         let mut k: u16 = 0;
         for m in moves {
             let v = m.0 as usize;
-            if v < 256 {
+            if v < MAX_POINTS {
                 left[v] = k;
             }
             k = k.saturating_add(1);
@@ -45,10 +47,10 @@ impl Order {
     /// Takes the move to the point, where it is still to come.
     fn take(&mut self, v: u16) -> Result<(), Memory>
         ensures takes { OnOk result (Takes self.old self.new) }
-        ensures gone { OnOk result (v < 256 → slice_get self.new.left v ≡ Some 65535) }
+        ensures gone { OnOk result (v < MAX_POINTS → slice_get self.new.left v ≡ Some 65535) }
     {
         let i = v as usize;
-        if i >= 256 {
+        if i >= MAX_POINTS {
             return Ok(());
         }
         let k = self.left[i];
@@ -92,7 +94,7 @@ impl Order {
     /// Takes the moves that are left.
     fn take_rest(&mut self, moves: &[(u16, u32)]) -> Result<(), Memory>
         ensures takes { OnOk result (Takes self.old self.new) }
-        ensures gone { OnOk result ((k : ℕ) → (v : ℕ) → k < length moves.now → IsPlaceOf moves.now k v → v < 256 → slice_get self.new.left v ≡ Some 65535) }
+        ensures gone { OnOk result ((k : ℕ) → (v : ℕ) → k < length moves.now → IsPlaceOf moves.now k v → v < MAX_POINTS → slice_get self.new.left v ≡ Some 65535) }
     {
         for m in moves {
             self.take(m.0)?;

@@ -1,7 +1,8 @@
 -- The eight maps by their numbers, and how they are put together.
 use Rattle.std.proofs.Common.{◌≡◌, ℕ, zero, suc, ◌<◌, Bool, true, false, refl, sym, arith}
 use Rattle.pg_maps.specs.declared.grid_map.GridMap.{GridMap}
-use Rattle.pg_maps.specs.GridMaps.{differ, numbered, number_of, identity, followed_by, reverse_of}
+use Rattle.pg_maps.specs.GridMaps.{numbered, number_of, identity, followed_by, reverse_of}
+use Rattle.pg_game.specs.Trees.{differ}
 
 pub number-numbered : (n : ℕ) → n < 8 → number_of (numbered n) ≡ n
 number-numbered zero lt = refl

@@ -5,9 +5,10 @@ use Rattle.std.proofs.lemmas.Nat.{div-add-mod', mul-add-lt, div-mul-add, mod-mul
 use Rattle.std.proofs.Math.Nat.{mul_comm}
 use Rattle.pg_base.specs.declared.grid.Grid.{Grid}
 use Rattle.pg_maps.specs.declared.grid_map.GridMap.{GridMap}
-use Rattle.pg_maps.specs.GridMaps.{differ, identity, IsMapOf, turned, image_row, image_column, image_of, followed_by, reverse_of}
+use Rattle.pg_maps.specs.GridMaps.{identity, IsMapOf, turned, image_row, image_column, image_of, followed_by, reverse_of}
 use Rattle.pg_maps.specs.Images.{AreInverse}
 use Rattle.pg_maps.proofs.Numbers.{followed-reverse, reverse-followed}
+use Rattle.pg_game.specs.Trees.{differ}
 
 -- ---- places from either end
 

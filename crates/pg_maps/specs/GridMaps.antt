@@ -1,12 +1,8 @@
 -- The eight maps of a board of square cells: whether rows and columns are exchanged first, and whether the rows and the columns then stand in reverse order.
-use Rattle.std.specs.Prelude.{◌≡◌, ℕ, ◌+◌, ◌*◌, ◌-◌, ◌/◌, ◌%◌, Bool, true, false, not, ◌==◌, nat_lt, nat_le, if◌then◌else◌}
+use Rattle.std.specs.Prelude.{◌≡◌, ℕ, ◌+◌, ◌*◌, ◌-◌, ◌/◌, ◌%◌, Bool, true, false, ◌==◌, nat_lt, nat_le, if◌then◌else◌}
 use Rattle.pg_base.specs.declared.grid.Grid.{Grid}
+use Rattle.pg_game.specs.Trees.{differ}
 use Rattle.pg_maps.specs.declared.grid_map.GridMap.{GridMap}
-
--- whether exactly one of the two holds
-abbrev pub differ : Bool → Bool → Bool
-differ true b = not b
-differ false b = b
 
 -- the map of a number from 0 to 7
 abbrev pub numbered : ℕ → GridMap

@@ -7,6 +7,7 @@ ghost use Rattle.pg_game.specs.Settled.{IsTable};
 ghost use Rattle.pg_match.specs.Cache.{Fits};
 ghost use Rattle.pg_pns.specs.Budget.{budget_for, most_for};
 ghost use Rattle.pg_pns.specs.Found.{IsAnswer};
+ghost use Rattle.pg_cert.specs.declared.limits.TheConstants.{MAX_CLAIM_NODES};
 
 use crate::expansion::explore;
 use crate::work::{Found, Work};
@@ -56,7 +57,7 @@ pub fn search(
     requires asked { IsQuestion g.now.kind question }
     requires lines { g.now.kind ≢ Switching }
     requires some { 1 ≤ budget }
-    requires limit { budget ≤ 100000 }
+    requires limit { budget ≤ MAX_CLAIM_NODES }
     requires few { budget * length (free_points g.now (start g.now)) ≤ 99999 }
     ensures answer { IfOk result (λ found. IsAnswer g.now question budget work.new.positions found) }
     ensures question { work.new.question ≡ Some question }
@@ -85,7 +86,7 @@ pub fn search_with(
     requires asked { IsQuestion g.now.kind question }
     requires lines { g.now.kind ≢ Switching }
     requires some { 1 ≤ budget }
-    requires limit { budget ≤ 100000 }
+    requires limit { budget ≤ MAX_CLAIM_NODES }
     requires few { budget * length (free_points g.now (start g.now)) ≤ 99999 }
     requires fits { Fits cache.old (lines_of g.now) }
     ensures fits { Fits cache.new (lines_of g.now) }

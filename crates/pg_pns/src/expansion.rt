@@ -16,6 +16,8 @@ ghost use Rattle.pg_pns.specs.Descent.{IsAtStart};
 ghost use Rattle.pg_pns.specs.Known.{answer_at};
 ghost use Rattle.std.specs.List.{Contains};
 ghost use Rattle.pg_pns.specs.Search.{IsSearch, CanGrow, IsGrowing};
+ghost use Rattle.pg_cert.specs.declared.limits.TheConstants.{MAX_CLAIM_NODES};
+ghost use Rattle.pg_base.specs.declared.limits.TheConstants.{MAX_MEMBERS};
 
 use crate::descent::{go_down, go_up};
 use crate::guide::Guide;
@@ -61,7 +63,7 @@ fn meet_move(
     requires lines { g.now.kind ≢ Switching }
     requires stands { IsAt g.now p.now board.old }
     requires fits { Fits cache.old (lines_of g.now) }
-    requires range { v < 1024 }
+    requires range { v < MAX_MEMBERS }
     requires point { v < point_count g.now }
     requires free { is_free p.now v ≡ true }
     requires few { length table.old.positions.items < 2 ^ 32 }
@@ -119,7 +121,7 @@ fn settle_table(
     table: &mut Table,
 ) -> Result<(), Memory>
     requires some { (list : List Position) × IsSearch g.now question (k ∷ []) list table.old }
-    requires few { length table.old.positions.items ≤ 100000 }
+    requires few { length table.old.positions.items ≤ MAX_CLAIM_NODES }
     ensures { OnOk result ((list : List Position) → IsSearch g.now question (k ∷ []) list table.old → IsSearch g.now question [] list table.new) }
 {
     settle_from(
@@ -172,7 +174,7 @@ fn step(
     requires fits { Fits cache.old (lines_of g.now) }
     requires search { IsSearch g.now question [] (keys_of work.old.entries) table.old }
     requires unanswered { answer_at table.old.answers.items 0 ≡ None }
-    requires few { 1 + (length (keys_of work.old.entries) + 1) * length (free_points g.now (start g.now)) ≤ 100000 }
+    requires few { 1 + (length (keys_of work.old.entries) + 1) * length (free_points g.now (start g.now)) ≤ MAX_CLAIM_NODES }
     ensures fits { Fits cache.new (lines_of g.now) }
     ensures rules { IsTable g.now question (keys_of work.new.entries) }
     ensures more { length (keys_of work.new.entries) ≤ length (keys_of work.old.entries) + 1 }
@@ -201,7 +203,7 @@ fn claim_of(
     table: Table,
 ) -> Result<Found, Memory>
     requires some { (list : List Position) × IsSearch g.now question [] list table }
-    requires few { length table.positions.items ≤ 100000 }
+    requires few { length table.positions.items ≤ MAX_CLAIM_NODES }
     requires root { slice_get table.answers.items 0 ≡ Some (Some answered) }
     ensures { IfOk result (λ found. (list : List Position) → (budget : ℕ) → IsSearch g.now question [] list table → IsAnswer g.now question budget list found) }
 {

@@ -3,6 +3,7 @@ ghost use Rattle.std.specs.Prelude.{◌≡◌, ◌<◌, ◌≤◌, IfSome, IsTru
 ghost use Rattle.std.specs.List.{All};
 ghost use Rattle.pg_pns.specs.Descent.{IsOpenMove};
 ghost use Rattle.pg_pns.specs.Known.{answer_at};
+ghost use Rattle.pg_cert.specs.declared.limits.TheConstants.{MAX_CLAIM_NODES};
 
 use crate::known::Answered;
 use crate::numbers::{Numbers, fresh_numbers, numbers_at};
@@ -142,7 +143,7 @@ impl Guide {
 
     /// Keeps numbers and an empty order for the positions that are new.
     fn add_new(&mut self, alloc: Global, table: &Table) -> Result<(), Memory>
-        requires { length table.now.positions.items ≤ 100000 }
+        requires { length table.now.positions.items ≤ MAX_CLAIM_NODES }
     {
         for place in self.numbers.len()..table.positions.len() {
             let fresh = fresh_at(table, place as u32, self.numbers.as_slice());
@@ -171,7 +172,7 @@ impl Guide {
         order: Vec<u16>,
         levels: u16,
     ) -> Result<(), Memory>
-        requires { length table.now.positions.items ≤ 100000 }
+        requires { length table.now.positions.items ≤ MAX_CLAIM_NODES }
     {
         self.add_new(alloc, table)?;
         self.set_order(place, order);

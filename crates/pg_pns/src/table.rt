@@ -14,6 +14,7 @@ ghost use Rattle.pg_pns.specs.Claims.{nodes_of};
 ghost use Rattle.pg_leaf.specs.At.{IsAt};
 ghost use Rattle.pg_pns.specs.Met.{LeafAdds};
 ghost use Rattle.pg_pns.specs.Tree.{IsTreeOf, IsMetAt};
+ghost use Rattle.pg_base.specs.declared.limits.TheConstants.{MAX_MEMBERS};
 
 use crate::claims::Claims;
 use crate::known::Answered;
@@ -154,7 +155,7 @@ pub(crate) fn meet_after(
     requires asked { IsQuestion g.now.kind question }
     requires lines { g.now.kind ≢ Switching }
     requires position { IsPosition g.now p.now }
-    requires range { v < 1024 }
+    requires range { v < MAX_MEMBERS }
     requires point { v < point_count g.now }
     requires free { is_free p.now v ≡ true }
     requires stands { IsAt g.now p.now board.old }

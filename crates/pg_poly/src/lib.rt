@@ -3,12 +3,14 @@
 
 mod cell;
 pub mod laws;
+mod limits;
 mod links;
 mod motion;
 mod placing;
 mod shape;
 
 pub use cell::Cell;
+pub use limits::{MAX_CELLS, MAX_GRID_CELLS};
 pub use links::is_connected;
 pub use placing::{placed, placements};
 pub use shape::{Shape, ShapeFault};

@@ -3,15 +3,14 @@ ghost use Rattle.std.specs.Prelude.{◌≡◌, false, true, ◌↔◌, ◌<◌, 
 ghost use Rattle.std.specs.List.{position};
 ghost use Rattle.pg_poly.specs.Decided.{is_shape};
 ghost use Rattle.pg_poly.specs.Shapes.{IsShape, are_signs, cells_of, has_rows, is_row, ones, width_of};
+ghost use Rattle.pg_poly.specs.declared.limits.TheConstants.{MAX_CELLS};
 
 use crate::cell::Cell;
+use crate::limits::MAX_CELLS;
 use crate::links::is_connected;
 use pg_base::Memory;
 use std::alloc::Global;
 use std::marker::Model;
-
-/// The most cells of a shape.
-const MOST_CELLS: usize = 100;
 
 /// A polyomino (Golomb 1954; Harary's animals): cells of which any two are linked by steps between cells that share a side.
 #[derive(Debug, Drop)]
@@ -116,13 +115,13 @@ impl Shape {
     pub fn read(alloc: Global, word: &[u8]) -> Result<Shape, ShapeFault>
         ensures cells { IfOk result (λ shape. shape ≡ cells_of word.now) }
         ensures count { IfOk result (λ shape. length shape ≡ ones word.now) }
-        ensures shape { IfOk result (λ _. (ones word.now ≤ 100) × IsShape word.now) }
-        ensures large { (result ≡ Err ShapeFault.Large) ↔ (100 < ones word.now) }
+        ensures shape { IfOk result (λ _. (ones word.now ≤ MAX_CELLS) × IsShape word.now) }
+        ensures large { (result ≡ Err ShapeFault.Large) ↔ (MAX_CELLS < ones word.now) }
         ensures form { result ≡ Err ShapeFault.Form → is_shape word.now ≡ false }
         ensures told { IfOk result (λ _. is_shape word.now ≡ true) }
         ensures none { result ≡ Err ShapeFault.Form → ¬ IsShape word.now }
     {
-        if ones(word) > MOST_CELLS {
+        if ones(word) > MAX_CELLS {
             return Err(ShapeFault::Large);
         }
         if !has_rows(word) {

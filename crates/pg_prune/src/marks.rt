@@ -5,6 +5,7 @@ ghost use Rattle.std.proofs.Math.ListN.{replicate};
 ghost use Rattle.pg_cert.specs.Valid.{NamesEarlier};
 ghost use Rattle.pg_cert.specs.declared.node.Node.{Node};
 ghost use Rattle.pg_prune.specs.Pruned.{AreMarked, AreNamed, IsMarked, MarksMore, Names};
+ghost use Rattle.pg_cert.specs.declared.limits.TheConstants.{MAX_CLAIM_NODES};
 
 use pg_base::Memory;
 use pg_cert::{Body, Node, Reply};
@@ -76,7 +77,7 @@ fn mark_all(nodes: &[Node], marks: &mut [bool])
 /// Marks the last number, and what the marked nodes name.
 pub(crate) fn mark_needed(nodes: &[Node], marks: &mut [bool])
     requires some { 1 ≤ length nodes.now }
-    requires few { length nodes.now ≤ 100000 }
+    requires few { length nodes.now ≤ MAX_CLAIM_NODES }
     requires earlier { (k : ℕ) → (n : Node) → slice_get nodes.now k ≡ Some n → NamesEarlier k n.body }
     requires marks { marks.old ≡ replicate (length nodes.now) false }
     ensures { AreMarked nodes.now 0 marks.new }

@@ -4,6 +4,7 @@ ghost use Rattle.std.specs.List.{All};
 ghost use Rattle.pg_cert.specs.Valid.{NamesEarlier};
 ghost use Rattle.pg_cert.specs.declared.node.Node.{Node};
 ghost use Rattle.pg_prune.specs.Pruned.{AreMarked, AreRenumbered, IsKept, IsPruned, Renumbers};
+ghost use Rattle.pg_cert.specs.declared.limits.TheConstants.{MAX_CLAIM_NODES};
 
 use crate::marks::{mark_needed, unmarked};
 use pg_base::{Memory, Pairs, Points};
@@ -97,7 +98,7 @@ fn keep_node(
 
 /// The marked nodes in their order, with new numbers.
 fn marked_nodes(alloc: Global, nodes: &[Node], marks: &[bool]) -> Result<Vec<Node>, Memory>
-    requires few { length nodes.now ≤ 100000 }
+    requires few { length nodes.now ≤ MAX_CLAIM_NODES }
     requires earlier { (k : ℕ) → (n : Node) → slice_get nodes.now k ≡ Some n → NamesEarlier k n.body }
     requires marks { AreMarked nodes.now 0 marks.now }
     ensures { IfOk result (λ out. (numbers : List ℕ) × IsPruned nodes.now marks.now (length nodes.now) numbers out.items) }
@@ -117,7 +118,7 @@ fn marked_nodes(alloc: Global, nodes: &[Node], marks: &[bool]) -> Result<Vec<Nod
 /// `Memory` where no memory is found.
 pub fn prune(alloc: Global, nodes: &[Node]) -> Result<Vec<Node>, Memory>
     requires some { 1 ≤ length nodes.now }
-    requires few { length nodes.now ≤ 100000 }
+    requires few { length nodes.now ≤ MAX_CLAIM_NODES }
     requires earlier { (k : ℕ) → (n : Node) → slice_get nodes.now k ≡ Some n → NamesEarlier k n.body }
     ensures { IfOk result (λ out. (marks : List Bool) × (numbers : List ℕ) × AreMarked nodes.now 0 marks × IsPruned nodes.now marks (length nodes.now) numbers out.items) }
 {

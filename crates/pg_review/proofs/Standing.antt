@@ -16,9 +16,9 @@ use Rattle.pg_game.specs.declared.field.Field.{Field}
 use Rattle.pg_game.specs.declared.game.Game.{Game}
 use Rattle.pg_game.specs.declared.position.Position.{Position}
 use Rattle.pg_pns.specs.Expanded.{Expanded}
-use Rattle.pg_solve.specs.Left.{budget, IsLeft}
+use Rattle.pg_solve.specs.Left.{budget, IsLeft, LeavesSearch}
 use Rattle.pg_review.specs.Known.{HaveNodes, IsKnown}
-use Rattle.pg_review.specs.Review.{IsGameAt, LeavesReview}
+use Rattle.pg_review.specs.Review.{IsGameAt}
 use Rattle.pg_review.specs.declared.known.Known.{Known}
 
 -- ---- values
@@ -106,19 +106,19 @@ legal-at g p (v ∷ moves) (suc k) legal low = legal-at g (after g p v) moves k 
 -- ---- the work
 
 -- what deciding a game leaves
-pub leaves-one : (here : Game) (positions : ℕ) (before after : Expanded) → ((here.kind ≡ Switching → ⊥) → IsLeft here (budget here positions) after) → (here.kind ≡ Switching → after ≡ before) → LeavesReview positions before after
+pub leaves-one : (here : Game) (positions : ℕ) (before after : Expanded) → ((here.kind ≡ Switching → ⊥) → IsLeft here (budget here positions) after) → (here.kind ≡ Switching → after ≡ before) → LeavesSearch positions before after
 leaves-one here positions before after left same = by here.kind refl
   where
-    on_lines : (here.kind ≡ Switching → ⊥) → LeavesReview positions before after
+    on_lines : (here.kind ≡ Switching → ⊥) → LeavesSearch positions before after
     on_lines lines = inr (here, lines, left lines)
 
-    by : (kind : Kind) → here.kind ≡ kind → LeavesReview positions before after
+    by : (kind : Kind) → here.kind ≡ kind → LeavesSearch positions before after
     by Switching is = inl (same is)
     by MakerBreaker is = on_lines (λ e. let no : MakerBreaker ≡ Switching = sym is ∙ e in absurd (cc))
     by MakerMaker is = on_lines (λ e. let no : MakerMaker ≡ Switching = sym is ∙ e in absurd (cc))
     by AvoiderEnforcer is = on_lines (λ e. let no : AvoiderEnforcer ≡ Switching = sym is ∙ e in absurd (cc))
 
 -- what two decisions leave, one after the other
-pub leaves-then : (positions : ℕ) (before between after : Expanded) → LeavesReview positions before between → LeavesReview positions between after → LeavesReview positions before after
-leaves-then positions before between after first (inl same) = subst (λ (w : Expanded). LeavesReview positions before w) (sym same) first
+pub leaves-then : (positions : ℕ) (before between after : Expanded) → LeavesSearch positions before between → LeavesSearch positions between after → LeavesSearch positions before after
+leaves-then positions before between after first (inl same) = subst (λ (w : Expanded). LeavesSearch positions before w) (sym same) first
 leaves-then positions before between after first (inr left) = inr left

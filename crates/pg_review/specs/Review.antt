@@ -1,6 +1,5 @@
 -- What a review of a recorded game does: it says which of the standing moves lost value.
-use Rattle.std.specs.Prelude.{◌≡◌, ◌≢◌, ◌⊎◌, ℕ, ◌-◌, ◌≤◌, nat_lt, false, if◌then◌else◌, List, [], ◌∷◌, ◌++◌, length, map, take, Option, Some, None, Result, Ok, Err, ⊤}
-use Rattle.pg_base.specs.declared.kind.Kind.TheVariants.{Switching}
+use Rattle.std.specs.Prelude.{◌≡◌, ◌⊎◌, ℕ, ◌-◌, ◌≤◌, nat_lt, false, if◌then◌else◌, List, [], ◌∷◌, ◌++◌, length, map, take, Option, Some, None, Result, Ok, Err, ⊤}
 use Rattle.pg_io.specs.Files.{Bytes, Holding}
 use Rattle.pg_io.specs.declared.entry.Entry.{Entry}
 use Rattle.pg_io.specs.declared.entry.Entry.TheVariants.{Said}
@@ -16,7 +15,7 @@ use Rattle.pg_record_files.specs.RecordFile.{record_of}
 use Rattle.pg_record_files.specs.Views.{number_of}
 use Rattle.pg_record_files.specs.declared.fault.Fault.{Fault}
 use Rattle.pg_pns.specs.Expanded.{Expanded}
-use Rattle.pg_solve.specs.Left.{budget, IsLeft, IsLeftOpen}
+use Rattle.pg_solve.specs.Left.{budget, IsLeftOpen}
 use Rattle.pg_texts.specs.Texts.{lost_text, reviewed_text, unknown_at_text}
 use Rattle.pg_texts.specs.declared.refusal.Refusal.{Refusal}
 use Rattle.pg_texts.specs.declared.refusal.Refusal.TheVariants.{Game as FaultyGame, Record as FaultyRecord}
@@ -105,10 +104,6 @@ abbrev pub Reviews : Option Bytes → Option Bytes → ℕ → Expanded → Done
 Reviews game_bytes record_bytes positions work done end = ReviewsRead (game_held game_bytes) record_bytes positions work done.entries end
 
 -- ---- what it leaves and gives
-
--- what a review leaves in the work: all as it was, or by the rules what was asked last of a game on lines at some position
-abbrev pub LeavesReview : ℕ → Expanded → Expanded → Type 0
-LeavesReview positions before after = (after ≡ before) ⊎ ((here : Game) × (here.kind ≢ Switching) × IsLeft here (budget here positions) after)
 
 -- what can end a review early
 abbrev pub IsReviewHalt : Halt → Type 0

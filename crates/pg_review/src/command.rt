@@ -2,12 +2,13 @@
 ghost use Rattle.std.specs.Prelude.{◌≡◌, ◌≤◌, [], Err, ⊤};
 ghost use Rattle.pg_io.specs.Console.{Grows};
 ghost use Rattle.pg_io.specs.Files.{ReadsOnly};
-ghost use Rattle.pg_solve.specs.declared.solving.TheConstants.{LEAST_POSITIONS, MOST_POSITIONS};
+ghost use Rattle.pg_solve.specs.declared.solving.TheConstants.{MAX_POSITIONS, MIN_POSITIONS};
 ghost use Rattle.pg_talk.specs.Halts.{BothCauses};
 ghost use Rattle.pg_talk.specs.Reading.{IsLackingOne};
 ghost use Rattle.pg_talk.specs.Runs.{QuietsBy, Runs};
 ghost use Rattle.pg_talk.specs.declared.halt.Halt.TheVariants.{Refused};
-ghost use Rattle.pg_review.specs.Review.{GivesReview, IsReviewLacking, LeavesReview, RefusesReview, Reviews, ReviewsRecord, moves_held};
+ghost use Rattle.pg_review.specs.Review.{GivesReview, IsReviewLacking, RefusesReview, Reviews, ReviewsRecord, moves_held};
+ghost use Rattle.pg_solve.specs.Left.{LeavesSearch};
 
 use crate::opening::open_moves;
 use crate::reviewing::review_moves;
@@ -15,7 +16,7 @@ use pg_game::Game;
 use pg_io::{Console, Files};
 use pg_opening::open_game;
 use pg_pns::Work;
-use pg_solve::{LEAST_POSITIONS, MOST_POSITIONS};
+use pg_solve::{MAX_POSITIONS, MIN_POSITIONS};
 use pg_talk::Halt;
 use std::alloc::Global;
 
@@ -29,8 +30,8 @@ fn review_record<F: Files, C: Console>(
     console: &mut C,
     work: &mut Work,
 ) -> Result<u8, Halt>
-    requires some { LEAST_POSITIONS ≤ positions }
-    requires most { positions ≤ MOST_POSITIONS }
+    requires some { MIN_POSITIONS ≤ positions }
+    requires most { positions ≤ MAX_POSITIONS }
     ensures ran { Runs (λ held refusal. moves_held game.old (held record.now) ≡ Err (Refused refusal))
         (λ held done end. ReviewsRecord game.old (held record.now) positions work.new done.entries end × (done.stored ≡ []))
         (F.told files.old) (F.told files.new) (C.told console.old) (C.told console.new) result }
@@ -39,7 +40,7 @@ fn review_record<F: Files, C: Console>(
     ensures quiet { QuietsBy (Grows (C.told console.old).log (C.told console.new).log []) ⊤
         (C.told console.old) (C.told console.new) result }
     ensures files { ReadsOnly (F.told files.old) (F.told files.new) }
-    ensures work { LeavesReview positions work.old work.new }
+    ensures work { LeavesSearch positions work.old work.new }
     ensures gives { GivesReview result }
 {
     let moves = open_moves(alloc, files, record, game)?;
@@ -68,8 +69,8 @@ pub fn review<F: Files, C: Console>(
     console: &mut C,
     work: &mut Work,
 ) -> Result<u8, Halt>
-    requires some { LEAST_POSITIONS ≤ positions }
-    requires most { positions ≤ MOST_POSITIONS }
+    requires some { MIN_POSITIONS ≤ positions }
+    requires most { positions ≤ MAX_POSITIONS }
     ensures ran { Runs (λ held. RefusesReview (held game.now) (held record.now))
         (λ held done end. Reviews (held game.now) (held record.now) positions work.new done end × (done.stored ≡ []))
         (F.told files.old) (F.told files.new) (C.told console.old) (C.told console.new) result }
@@ -78,7 +79,7 @@ pub fn review<F: Files, C: Console>(
     ensures quiet { QuietsBy (Grows (C.told console.old).log (C.told console.new).log []) ⊤
         (C.told console.old) (C.told console.new) result }
     ensures files { ReadsOnly (F.told files.old) (F.told files.new) }
-    ensures work { LeavesReview positions work.old work.new }
+    ensures work { LeavesSearch positions work.old work.new }
     ensures gives { GivesReview result }
 {
     let mut game = open_game(alloc, files, game)?;

@@ -6,7 +6,7 @@ ghost use Rattle.pg_cert.specs.Valid.{IsValid};
 ghost use Rattle.pg_game.specs.Fit.{is_switching};
 ghost use Rattle.pg_game.specs.Game.{start};
 ghost use Rattle.pg_solve.specs.Left.{budget, IsLeft, IsLeftOpen};
-ghost use Rattle.pg_solve.specs.declared.solving.TheConstants.{LEAST_POSITIONS, MOST_POSITIONS};
+ghost use Rattle.pg_solve.specs.declared.solving.TheConstants.{MAX_POSITIONS, MIN_POSITIONS};
 ghost use Rattle.pg_review.specs.Known.{IsKnown};
 
 use crate::known::{Known, known_by};
@@ -15,7 +15,7 @@ use pg_cert::Cert;
 use pg_check::{CheckFault, check};
 use pg_game::Game;
 use pg_pns::Work;
-use pg_solve::{LEAST_POSITIONS, MOST_POSITIONS, solve};
+use pg_solve::{MAX_POSITIONS, MIN_POSITIONS, solve};
 use std::alloc::Global;
 
 /// Checks a certificate that solving has found: it is accepted.
@@ -42,8 +42,8 @@ pub fn decide(
     positions: u32,
     work: &mut Work,
 ) -> Result<Option<Known>, Memory>
-    requires some { LEAST_POSITIONS ≤ positions }
-    requires most { positions ≤ MOST_POSITIONS }
+    requires some { MIN_POSITIONS ≤ positions }
+    requires most { positions ≤ MAX_POSITIONS }
     ensures known { IfOk result (λ found. IfSome found (IsKnown game.now (start game.now))) }
     ensures lines { result ≡ Ok None → is_switching game.now.kind ≡ false }
     ensures unknown { result ≡ Ok None → IsLeftOpen game.now (budget game.now positions) work.new }

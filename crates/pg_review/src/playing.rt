@@ -3,10 +3,10 @@ ghost use Rattle.std.specs.Prelude.{◌≡◌, ◌<◌, ◌≤◌, Ok, true, fal
 ghost use Rattle.pg_game.specs.Fit.{is_switching};
 ghost use Rattle.pg_game.specs.Game.{after, point_count, start, IsPosition};
 ghost use Rattle.pg_game.specs.Position.{is_free};
-ghost use Rattle.pg_solve.specs.Left.{budget, IsLeftOpen};
-ghost use Rattle.pg_solve.specs.declared.solving.TheConstants.{LEAST_POSITIONS, MOST_POSITIONS};
+ghost use Rattle.pg_solve.specs.Left.{budget, IsLeftOpen, LeavesSearch};
+ghost use Rattle.pg_solve.specs.declared.solving.TheConstants.{MAX_POSITIONS, MIN_POSITIONS};
 ghost use Rattle.pg_review.specs.Known.{IsKnown};
-ghost use Rattle.pg_review.specs.Review.{IsGameAt, LeavesReview};
+ghost use Rattle.pg_review.specs.Review.{IsGameAt};
 
 use crate::deciding::decide;
 use crate::known::Known;
@@ -39,8 +39,8 @@ pub(crate) fn play(
     positions: u32,
     work: &mut Work,
 ) -> Result<bool, Memory>
-    requires some { LEAST_POSITIONS ≤ positions }
-    requires most { positions ≤ MOST_POSITIONS }
+    requires some { MIN_POSITIONS ≤ positions }
+    requires most { positions ≤ MAX_POSITIONS }
     requires single { game.old.bias ≡ 1 }
     requires within { point < point_count game.old }
     requires free { is_free (start game.old) point ≡ true }
@@ -49,7 +49,7 @@ pub(crate) fn play(
     ensures known { result ≡ Ok true → IsKnown game.new (start game.new) known.new }
     ensures lines { result ≡ Ok false → is_switching game.new.kind ≡ false }
     ensures unknown { result ≡ Ok false → IsLeftOpen game.new (budget game.new positions) work.new }
-    ensures work { LeavesReview positions work.old work.new }
+    ensures work { LeavesSearch positions work.old work.new }
 {
     let next = game.after(&game.start(), point);
     stand_at(game, &next);

@@ -4,11 +4,12 @@ ghost use Rattle.pg_game.specs.Game.{start};
 ghost use Rattle.pg_game.specs.Play.{IsLegalPlay};
 ghost use Rattle.pg_io.specs.Stop.{Causes};
 ghost use Rattle.pg_record.specs.declared.event.TheConstants.{MAX_EVENTS};
-ghost use Rattle.pg_solve.specs.declared.solving.TheConstants.{LEAST_POSITIONS, MOST_POSITIONS};
+ghost use Rattle.pg_solve.specs.declared.solving.TheConstants.{MAX_POSITIONS, MIN_POSITIONS};
 ghost use Rattle.pg_talk.specs.Done.{Performs};
 ghost use Rattle.pg_talk.specs.Halts.{HaltCauses, IsWriteHalt};
-ghost use Rattle.pg_review.specs.Review.{IsReviewEnd, LeavesReview, ReviewsMoves};
+ghost use Rattle.pg_review.specs.Review.{IsReviewEnd, ReviewsMoves};
 ghost use Rattle.pg_review.specs.Saying.{SaysAtOnce, move_texts};
+ghost use Rattle.pg_solve.specs.Left.{LeavesSearch};
 
 use crate::deciding::decide;
 use crate::losses::is_worse;
@@ -60,15 +61,15 @@ pub(crate) fn review_moves<C: Console>(
     console: &mut C,
     work: &mut Work,
 ) -> Result<u8, Halt>
-    requires some { LEAST_POSITIONS ≤ positions }
-    requires most { positions ≤ MOST_POSITIONS }
+    requires some { MIN_POSITIONS ≤ positions }
+    requires most { positions ≤ MAX_POSITIONS }
     requires single { game.old.bias ≡ 1 }
     requires legal { IsLegalPlay game.old (start game.old) moves.now }
     requires few { length moves.now ≤ MAX_EVENTS }
     ensures reviewed { Performs (λ _. ⊥) (ReviewsMoves game.old moves.now positions work.new)
         (C.told console.old) (C.told console.new) result }
     ensures causes { HaltCauses ⊥ (C.told console.old).faults (C.told console.new).faults result }
-    ensures work { LeavesReview positions work.old work.new }
+    ensures work { LeavesSearch positions work.old work.new }
     ensures done { IfOk result IsReviewEnd }
     ensures halts { IfErr result IsWriteHalt }
 {

@@ -10,6 +10,7 @@ use Rattle.pg_scene.specs.declared.board.Board.TheVariants.{Grid, Ring, Graph}
 use Rattle.pg_scene.specs.declared.item.Item.{Item}
 use Rattle.pg_scene.specs.declared.item.Item.TheVariants.{Point, Line, Pair, Weight, Member, Extra, Step, Move, Reply, Part, Fault}
 use Rattle.pg_scene.specs.declared.scene.Scene.{Scene}
+use Rattle.pg_scene.specs.declared.lines.TheConstants.{MAX_LEGEND_LINES}
 
 -- a graph of as many vertices as the Bridg-It board of so many rows, with its terminals
 abbrev pub IsSized : Multigraph → ℕ → Type 0
@@ -74,4 +75,4 @@ IsItemOn board Fault = Unit {0}
 pub record IsScene (scene : Scene) : Type 0 where
   pub board : IsBoard scene.board
   pub items : All (IsItemOn scene.board) scene.items
-  pub few_lines : length scene.legend ≤ 1000
+  pub few_lines : length scene.legend ≤ MAX_LEGEND_LINES

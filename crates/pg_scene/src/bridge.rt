@@ -2,16 +2,14 @@
 ghost use Rattle.std.specs.Prelude.{◌≡◌, ◌≤◌, ◌↔◌, ◌∷◌, [], ℕ, IfOk, IfSome, IfNone, IsTrue};
 ghost use Rattle.pg_scene.specs.Limits.{IsBridge, IsSized};
 ghost use Rattle.pg_scene.specs.Scenes.{IsBoardOf, IsDrawnGraph, line_board};
+ghost use Rattle.pg_gen.specs.declared.limits.TheConstants.{MAX_BRIDGE_ROWS};
 
 use crate::board::Board;
 use pg_base::{Memory, Points};
 use pg_game::{Field, LineField};
-use pg_gen::bridge;
+use pg_gen::{MAX_BRIDGE_ROWS, bridge};
 use pg_graph::{Ends, Graph};
 use std::alloc::Global;
-
-/// The most rows of a Bridg-It board.
-const MAX_ROWS: u16 = 22;
 
 /// Whether the edges have the same ends in the same order.
 fn are_same(ends: &Ends, others: &Ends) -> bool
@@ -23,7 +21,7 @@ fn are_same(ends: &Ends, others: &Ends) -> bool
 /// Whether the graph has the vertices and the terminals of the Bridg-It board of so many rows.
 fn is_sized(graph: &Graph, rows: u16) -> bool
     requires some { 1 ≤ rows }
-    requires few { rows ≤ 22 }
+    requires few { rows ≤ MAX_BRIDGE_ROWS }
     ensures { IsTrue result ↔ IsSized graph.now rows }
 {
     graph.vertices == rows * (rows - 1) + 2 && graph.s == 0 && graph.t == 1
@@ -32,7 +30,7 @@ fn is_sized(graph: &Graph, rows: u16) -> bool
 /// Whether the graph is the Bridg-It board of so many rows.
 fn is_bridge(alloc: Global, graph: &Graph, rows: u16) -> Result<bool, Memory>
     requires some { 1 ≤ rows }
-    requires few { rows ≤ 22 }
+    requires few { rows ≤ MAX_BRIDGE_ROWS }
     ensures { IfOk result (λ same. IsTrue same ↔ IsBridge graph.now.vertices graph.now.ends (graph.now.s ∷ graph.now.t ∷ []) rows) }
 {
     if !is_sized(graph, rows) {
@@ -52,7 +50,7 @@ fn bridge_rows(alloc: Global, graph: &Graph) -> Result<Option<u32>, Memory>
     ensures found { IfOk result (λ rows. IfSome rows (IsBridge graph.now.vertices graph.now.ends (graph.now.s ∷ graph.now.t ∷ []))) }
     ensures missed { IfOk result (λ rows. IfNone rows ((r : ℕ) → IsBridge graph.now.vertices graph.now.ends (graph.now.s ∷ graph.now.t ∷ []) r → ⊥)) }
 {
-    for rows in 1..MAX_ROWS + 1 {
+    for rows in 1..MAX_BRIDGE_ROWS as u16 + 1 {
         if is_bridge(alloc, graph, rows)? {
             return Ok(Some(u32::from(rows)));
         }

@@ -23,7 +23,7 @@ pub use laws::{
     edges_are_drawn_once, pairs_are_drawn_once, points_are_drawn_once, replies_are_drawn_once,
     scenes_can_be_laid_out,
 };
-pub use lines::MAX_DRAWN_LINES;
+pub use lines::{MAX_DRAWN_LINES, MAX_LEGEND_LINES};
 pub use points::{put_members, put_points};
 pub use scene::Scene;
 pub use shown::{scene_of_game, scene_of_node};

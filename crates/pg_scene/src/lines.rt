@@ -9,6 +9,9 @@ use std::alloc::Global;
 /// The most lines of a game whose lines are drawn.
 pub const MAX_DRAWN_LINES: usize = 30;
 
+/// The most lines of a legend, so that a picture stays within numbers that it can say.
+pub const MAX_LEGEND_LINES: usize = 1000;
+
 /// Whether there are few enough lines to draw them.
 pub(crate) fn are_drawn(lines: &[Line]) -> bool
     ensures { result ≡ are_drawn lines.now }

@@ -1,7 +1,7 @@
 -- What solving leaves in the work.
-use Rattle.std.specs.Prelude.{◌≡◌, ◌≢◌, ◌≤◌, ℕ, length, Option, Some}
+use Rattle.std.specs.Prelude.{◌≡◌, ◌≢◌, ◌≤◌, ◌⊎◌, ℕ, length, Option, Some}
 use Rattle.pg_base.specs.declared.kind.Kind.{Kind}
-use Rattle.pg_base.specs.declared.kind.Kind.TheVariants.{MakerMaker}
+use Rattle.pg_base.specs.declared.kind.Kind.TheVariants.{MakerMaker, Switching}
 use Rattle.pg_base.specs.declared.score.Score.{Score}
 use Rattle.pg_base.specs.declared.score.Score.TheVariants.{XWins, Draw, YWins}
 use Rattle.pg_game.specs.Game.{free_points, start}
@@ -44,3 +44,7 @@ abbrev pub IsAskedLast : Kind → Option Score → Solution → Type 0
 IsAskedLast kind question (Value score certificate) = question ≡ Some (last_question kind score)
 IsAskedLast kind question (ForClass class certificate) = Unit {0}
 IsAskedLast kind question Unknown = Unit {0}
+
+-- what solving leaves in the work: all as it was, or by the rules what it asked last of a game on lines
+abbrev pub LeavesSearch : ℕ → Expanded → Expanded → Type 0
+LeavesSearch positions before after = (after ≡ before) ⊎ ((g : Game) × (g.kind ≢ Switching) × IsLeft g (budget g positions) after)

@@ -6,6 +6,7 @@ ghost use Rattle.pg_game.specs.Game.{free_points, start};
 ghost use Rattle.pg_solve.specs.Left.{IsLeft};
 ghost use Rattle.pg_solve.specs.Searched.{IsSearched};
 ghost use Rattle.pg_solve.specs.Solved.{IsFoundBy};
+ghost use Rattle.pg_solve.specs.declared.solving.TheConstants.{MAX_POSITIONS};
 
 use crate::solution::Solution;
 use pg_base::{Kind, Memory, Score};
@@ -25,7 +26,7 @@ fn ask_second(
 ) -> Result<Solution, Memory>
     requires kind { game.now.kind ≡ MakerMaker }
     requires some { 1 ≤ budget }
-    requires limit { budget ≤ 100000 }
+    requires limit { budget ≤ MAX_POSITIONS }
     requires few { budget * length (free_points game.now (start game.now)) ≤ 99999 }
     requires denied { IsSearched game.now budget XWins false denial }
     ensures found { IfOk result (IsFoundBy game.now budget work.new) }
@@ -53,7 +54,7 @@ pub(crate) fn ask_first(
 ) -> Result<Solution, Memory>
     requires lines { game.now.kind ≢ Switching }
     requires some { 1 ≤ budget }
-    requires limit { budget ≤ 100000 }
+    requires limit { budget ≤ MAX_POSITIONS }
     requires few { budget * length (free_points game.now (start game.now)) ≤ 99999 }
     ensures found { IfOk result (IsFoundBy game.now budget work.new) }
     ensures left { IsLeft game.now budget work.new }

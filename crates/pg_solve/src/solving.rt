@@ -18,10 +18,10 @@ use pg_pns::{Work, budget_of};
 use std::alloc::Global;
 
 /// The least number of positions that may be asked for.
-pub const LEAST_POSITIONS: u32 = 1;
+pub const MIN_POSITIONS: u32 = 1;
 
 /// The greatest number of positions that may be asked for.
-pub const MOST_POSITIONS: u32 = 100_000;
+pub const MAX_POSITIONS: u32 = 100_000;
 
 /// Decides the game, with the certificate that shows it, which is of version 1.
 ///
@@ -40,8 +40,8 @@ pub fn solve(
     positions: u32,
     work: &mut Work,
 ) -> Result<Solution, Memory>
-    requires some { LEAST_POSITIONS ≤ positions }
-    requires most { positions ≤ MOST_POSITIONS }
+    requires some { MIN_POSITIONS ≤ positions }
+    requires most { positions ≤ MAX_POSITIONS }
     ensures kind { IfOk result (λ solution. is_class solution ≡ is_switching game.now.kind) }
     ensures answer { IfOk result (IsTrueOf game.now) }
     ensures claims { IfOk result (λ solution. IfSome (certificate_of solution) (λ c. map heading c.claims ≡ due game.now.turn solution)) }

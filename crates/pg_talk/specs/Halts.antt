@@ -1,5 +1,5 @@
 -- What ends a command early: its status, and by which numbers of faults it shows.
-use Rattle.std.specs.Prelude.{◌≡◌, ◌⊎◌, ℕ, [], Result, Ok, Err, ⊤}
+use Rattle.std.specs.Prelude.{◌≡◌, ◌≢◌, ◌⊎◌, ℕ, [], Result, Ok, Err, ⊤}
 use Rattle.pg_io.specs.Causes.{Faults, Rose}
 use Rattle.pg_io.specs.Console.{ConsoleTold, Grows}
 use Rattle.pg_io.specs.Files.{FilesTold}
@@ -95,3 +95,9 @@ BothCauses absent files files' console console' (Err (Refused refusal)) = Calm f
 BothCauses absent files files' console console' (Err (Stopped Read)) = ReadCause absent files files' console console'
 BothCauses absent files files' console console' (Err (Stopped Write)) = WriteCause files files' console console'
 BothCauses absent files files' console console' (Err (Stopped Memory)) = Calm files files' console console'
+
+-- the causes of a status: a failed read or an absent name, a failed write; at any other no number of faults rose
+pub record HasCause (absent : Type 0) (files files' : FilesTold) (console console' : ConsoleTold) (status : ℕ) : Type 0 where
+  pub read : status ≡ READ_FAILED → ReadCause absent files files' console console'
+  pub write : status ≡ WRITE_FAILED → WriteCause files files' console console'
+  pub other : status ≢ READ_FAILED → status ≢ WRITE_FAILED → Calm files files' console console'

@@ -13,6 +13,9 @@ use Rattle.pg_words.specs.declared.family.FamilyTask.{FamilyTask}
 use Rattle.pg_words.specs.declared.family.FamilyTask.TheVariants as tasks
 use Rattle.pg_words.specs.declared.source.Source.{Source}
 use Rattle.pg_words.specs.declared.source.Source.TheVariants.{Rows, Bridge, Scatter}
+use Rattle.pg_game.specs.declared.bounds.TheConstants.{MAX_POINTS, MAX_LINES, MAX_LINE_POINTS, MAX_SUMMED_POINTS}
+use Rattle.pg_gen.specs.declared.limits.TheConstants.{MAX_BRIDGE_ROWS, MAX_SQUARE_SIDE}
+use Rattle.pg_words.specs.declared.limits.TheConstants.{MAX_POSITIONS}
 
 -- what the program is asked to do, with the names of files
 pub data Command : Type 0 where
@@ -36,7 +39,7 @@ pub data Command : Type 0 where
 -- a number of positions, where one is given
 abbrev pub limit_of : Option Bytes → Option (Option ℕ)
 limit_of None = Some None
-limit_of (Some word) = option_map (λ n. Some n) (number_in 1 100000 word)
+limit_of (Some word) = option_map (λ n. Some n) (number_in 1 MAX_POSITIONS word)
 
 abbrev pub solve : List Bytes → Option Bytes → Option Bytes → Bool → Option Command
 solve (game ∷ certificate ∷ []) positions None images = option_map (λ limit. Solve game certificate limit images) (limit_of positions)
@@ -69,20 +72,20 @@ made (game ∷ certificate ∷ []) which = Some (Gen which game (Some certificat
 made _ which = None
 
 abbrev pub rows : List Bytes → Option Command
-rows (n ∷ names) = option_and_then (λ n. made names (Rows n)) (number_in 2 16 n)
+rows (n ∷ names) = option_and_then (λ n. made names (Rows n)) (number_in 2 MAX_SQUARE_SIDE n)
 rows [] = None
 
 abbrev pub bridge : List Bytes → Option Command
-bridge (r ∷ names) = option_and_then (λ r. made names (Bridge r)) (number_in 1 22 r)
+bridge (r ∷ names) = option_and_then (λ r. made names (Bridge r)) (number_in 1 MAX_BRIDGE_ROWS r)
 bridge [] = None
 
 abbrev pub scatter_by : Option ℕ → Option ℕ → Option ℕ → Option ℕ → Option Source
-scatter_by (Some seed) (Some n) (Some m) (Some k) = if nat_le (m * k) 400000 then Some (Scatter seed n m k) else None
+scatter_by (Some seed) (Some n) (Some m) (Some k) = if nat_le (m * k) MAX_SUMMED_POINTS then Some (Scatter seed n m k) else None
 scatter_by _ _ _ _ = None
 
 -- m lines of k points, of n in all
 abbrev pub scatter_of : Bytes → Bytes → Bytes → Bytes → Option Source
-scatter_of seed n m k = scatter_by (seed_of seed) (number_in 1 256 n) (number_in 0 20000 m) (option_and_then (λ n. number_in 1 (min n 100) k) (number_in 1 256 n))
+scatter_of seed n m k = scatter_by (seed_of seed) (number_in 1 MAX_POINTS n) (number_in 0 MAX_LINES m) (option_and_then (λ n. number_in 1 (min n MAX_LINE_POINTS) k) (number_in 1 MAX_POINTS n))
 
 abbrev pub scatter : List Bytes → Option Command
 scatter (seed ∷ n ∷ m ∷ k ∷ names) = option_and_then (made names) (scatter_of seed n m k)

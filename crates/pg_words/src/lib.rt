@@ -4,6 +4,7 @@
 mod command;
 mod family;
 mod key;
+mod limits;
 mod matching;
 mod number;
 mod order;
@@ -13,5 +14,6 @@ mod table;
 
 pub use command::Command;
 pub use family::{Family, FamilyTask};
+pub use limits::MAX_POSITIONS;
 pub use reading::meaning;
 pub use source::Source;

@@ -2,6 +2,7 @@
 ghost use Rattle.std.specs.Prelude.{◌≡◌};
 ghost use Rattle.pg_words.specs.Numbers.{is_long_numeral, number_in, seed_of};
 
+use pg_gen::MAX_SEED;
 use pg_text::{is_digits, number};
 
 /// The number in this range that a word spells.
@@ -34,9 +35,5 @@ pub(crate) fn seed(word: &str) -> Option<u32>
         return None;
     }
     let seed = word.parse::<u32>().ok()?;
-    if seed <= 2_147_483_647 {
-        Some(seed)
-    } else {
-        None
-    }
+    if seed <= MAX_SEED { Some(seed) } else { None }
 }

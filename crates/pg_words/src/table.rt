@@ -5,9 +5,12 @@ ghost use Rattle.pg_words.specs.Words.{asked_by, bridge, check, generate, limit_
 
 use crate::command::Command;
 use crate::family::{Family, FamilyTask};
+use crate::limits::MAX_POSITIONS;
 use crate::number::{number_in, seed as read_seed};
 use crate::source::Source;
 use pg_base::{Memory, Side};
+use pg_game::{MAX_LINE_POINTS, MAX_LINES, MAX_POINTS, MAX_SUMMED_POINTS};
+use pg_gen::{MAX_BRIDGE_ROWS, MAX_SQUARE_SIDE};
 use std::alloc::Global;
 
 /// A game or a certificate under a name.
@@ -23,7 +26,7 @@ fn limit(positions: Option<&str>) -> Option<Option<u32>>
 {
     match positions {
         None => Some(None),
-        Some(word) => match number_in(1, 100_000, word) {
+        Some(word) => match number_in(1, MAX_POSITIONS, word) {
             None => None,
             Some(n) => Some(Some(n)),
         },
@@ -178,7 +181,7 @@ fn rows(alloc: Global, others: &[&str]) -> Result<Option<Command>, Memory>
     let [length, names @ ..] = others else {
         return Ok(None);
     };
-    match number_in(2, 16, length) {
+    match number_in(2, MAX_SQUARE_SIDE, length) {
         Some(length) => made(alloc, names, Source::Rows { length }),
         None => Ok(None),
     }
@@ -191,7 +194,7 @@ fn bridge(alloc: Global, others: &[&str]) -> Result<Option<Command>, Memory>
     let [rows, names @ ..] = others else {
         return Ok(None);
     };
-    match number_in(1, 22, rows) {
+    match number_in(1, MAX_BRIDGE_ROWS, rows) {
         Some(rows) => made(alloc, names, Source::Bridge { rows }),
         None => Ok(None),
     }
@@ -202,10 +205,10 @@ fn scattered(seed: &str, points: &str, lines: &str, size: &str) -> Option<Source
     ensures { result ≡ scatter_of seed.now points.now lines.now size.now }
 {
     let seed = read_seed(seed)?;
-    let points = number_in(1, 256, points)?;
-    let lines = number_in(0, 20_000, lines)?;
-    let size = number_in(1, points.min(100), size)?;
-    if lines * size <= 400_000 {
+    let points = number_in(1, MAX_POINTS as u32, points)?;
+    let lines = number_in(0, MAX_LINES as u32, lines)?;
+    let size = number_in(1, points.min(MAX_LINE_POINTS as u32), size)?;
+    if lines * size <= MAX_SUMMED_POINTS as u32 {
         Some(Source::Scatter {
             seed,
             points,

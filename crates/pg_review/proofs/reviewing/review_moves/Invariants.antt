@@ -4,8 +4,9 @@ use Rattle.pg_io.specs.Console.{Grows}
 use Rattle.pg_io.specs.declared.entry.Entry.TheVariants.{Said}
 use Rattle.pg_record.specs.Replay.{position_after}
 use Rattle.pg_review.specs.Known.{IsKnown}
-use Rattle.pg_review.specs.Review.{IsGameAt, LeavesReview, loss_texts}
+use Rattle.pg_review.specs.Review.{IsGameAt, loss_texts}
 use Rattle.pg_review.proofs.reviewing.review_moves.Given as goal
+use Rattle.pg_solve.specs.Left.{LeavesSearch}
 
 abbrev pub invariant-loop-point : goal.invariant-loop-point
 invariant-loop-point g l = record {
@@ -15,5 +16,5 @@ invariant-loop-point g l = record {
   said : Grows (g.C.Console.told l.fn.console).log (g.C.Console.told l.console).log (map Said (loss_texts l.fn.game (take l.point-index l.moves)));
   left : (g.C.Console.told l.console).left ≡ (g.C.Console.told l.fn.console).left;
   faults : (g.C.Console.told l.console).faults ≡ (g.C.Console.told l.fn.console).faults;
-  work : LeavesReview l.fn.positions l.fn.work l.work;
+  work : LeavesSearch l.fn.positions l.fn.work l.work;
 }
