@@ -128,7 +128,8 @@ fn end_early<C: Console>(console: &mut C, halt: Halt) -> u8
 /// where the command is a family's. `silent` says what is said at 5 and 7, `words` what is said of words without a
 /// meaning, `files` and `work` what is left, `statuses` which statuses the command may give, and `causes` when a
 /// status comes from a failed call. Of files and consoles that tell nothing, as the system's, the last four alone
-/// say something: what `work` holds, the statuses, their causes, and that no file is being made afterwards.
+/// say something: what `work` holds, the statuses, their causes, and that no file is being made afterwards where none was
+/// before.
 pub fn run<F: Files, C: Console>(
     alloc: Global,
     words: &[String],

@@ -166,15 +166,17 @@ pub fn solve<F: Files, C: Console>(
 ) -> Result<u8, Halt>
     requires some { MIN_POSITIONS ≤ options.positions }
     requires most { options.positions ≤ MAX_POSITIONS }
-    ensures ran { Carries (Some (Solve game.now certificate.now (Some options.positions) options.images)) work.new
-        (F.told files.old) (F.told files.new) (C.told console.old) (C.told console.new) result }
+    ensures ran { Carries (Some (Solve game.now certificate.now (Some options.positions) options.images))
+        work.new (F.told files.old) (F.told files.new) (C.told console.old) (C.told console.new) result }
     ensures causes { BothCauses (IsGameLacking (F.told files.old).held game.now)
         (F.told files.old) (F.told files.new) (C.told console.old) (C.told console.new) result }
     ensures quiet { Quiets (Some (Solve game.now certificate.now (Some options.positions) options.images))
         (C.told console.old) (C.told console.new) result }
     ensures files { StoresAt (certificate.now ∷ []) (F.told files.old) (F.told files.new) }
-    ensures work { LeavesWork (Some (Solve game.now certificate.now (Some options.positions) options.images)) work.old work.new }
-    ensures gives { Gives (Some (Solve game.now certificate.now (Some options.positions) options.images)) result }
+    ensures work { LeavesWork (Some (Solve game.now certificate.now (Some options.positions) options.images))
+        work.old work.new }
+    ensures gives { Gives (Some (Solve game.now certificate.now (Some options.positions) options.images))
+        result }
 {
     let game = open_game(alloc, files, game)?;
     solve_game(alloc, &game, certificate, options, files, console, work)
