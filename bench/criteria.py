@@ -1,5 +1,6 @@
 #!/usr/bin/env python3
-"""Finds again the numbers in crates/test_criteria/src/tests.rt, by a program that shares nothing with that crate.
+"""Finds again the numbers of the tables claims, attacks and trees-and-cuts in crates/test_criteria/stdin, by a program that shares
+nothing with that crate.
 
 It goes over every position of small games and counts where a criterion holds, as the rules of docs/DEFINITIONS.md say it,
 and where the value by plain search reaches the criterion's goal. It stops where one holds and the goal isn't reached, and

@@ -10,8 +10,8 @@ use pg_game::{Game, Judge, Position};
 use pg_graph::Joiner;
 
 /// What was found at all positions of a switching game.
-#[derive(Clone, Copy, Debug, PartialEq, Eq)]
-pub struct EdgeTally {
+#[derive(Clone, Copy)]
+pub(crate) struct EdgeTally {
     /// How many positions X wins.
     pub won: u32,
     /// How many pairs of sets are trees, summed over the positions.
@@ -83,7 +83,7 @@ fn tally_turn(judge: &mut Judge, g: &Game, joiner: &mut Joiner, turn: Side, tall
 }
 
 /// What is found at all positions of a switching game, over all pairs of sets of its edges and e.
-pub fn tally_sets(judge: &mut Judge, g: &Game, joiner: &mut Joiner) -> EdgeTally
+pub(crate) fn tally_sets(judge: &mut Judge, g: &Game, joiner: &mut Joiner) -> EdgeTally
     requires switching { g.now.kind ≡ Switching }
     requires small { point_count g.now < 12 }
     requires judge { IsMadeForGame judge.old g.now }

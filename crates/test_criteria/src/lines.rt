@@ -12,8 +12,8 @@ use pg_base::{Goal, Kind, Pairs, Side};
 use pg_game::{Game, Judge, Position, reaches};
 
 /// What was found at all positions of a game.
-#[derive(Clone, Copy, Debug, PartialEq, Eq)]
-pub struct Tally {
+#[derive(Clone, Copy)]
+pub(crate) struct Tally {
     /// At how many the potential holds.
     pub potentials: u32,
     /// How many sets of pairs hold, summed over the positions.
@@ -124,7 +124,13 @@ fn tally_turn(
 }
 
 /// What is found of the side's claim to the goal at all positions of a game on lines, over the sets of pairs.
-pub fn tally_claim(judge: &mut Judge, g: &Game, side: Side, goal: Goal, pairings: &[Pairs]) -> Tally
+pub(crate) fn tally_claim(
+    judge: &mut Judge,
+    g: &Game,
+    side: Side,
+    goal: Goal,
+    pairings: &[Pairs],
+) -> Tally
     requires lines { g.now.kind ≢ Switching }
     requires small { point_count g.now ≤ 12 }
     requires made { IsMadeForGame judge.old g.now }

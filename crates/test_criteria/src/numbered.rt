@@ -7,7 +7,7 @@ use pg_base::{PointSet, Side};
 use pg_game::{Game, Position};
 
 /// How many pairs of sets of points below the count there are.
-pub fn number_count(count: u16) -> u32
+pub(crate) fn number_count(count: u16) -> u32
     requires { count ≤ 12 }
     ensures { result ≡ 2 ^ (2 * count) }
 {
@@ -16,7 +16,7 @@ pub fn number_count(count: u16) -> u32
 
 /// The two sets of points below the count that a number names: of the two binary digits that belong to a point, counted
 /// from the lowest, the first says whether it is in the one set, and the second whether it is in the other.
-pub fn sets_of(count: u16, number: u32) -> (PointSet, PointSet)
+pub(crate) fn sets_of(count: u16, number: u32) -> (PointSet, PointSet)
     requires { count ≤ 12 }
     ensures first { AreBelow result.0 count }
     ensures second { AreBelow result.1 count }
@@ -36,7 +36,7 @@ pub fn sets_of(count: u16, number: u32) -> (PointSet, PointSet)
 
 /// The position with X's and Y's points by number, where no point is both sides' and the side to move may still claim so
 /// many points in its turn.
-pub fn position_of(g: &Game, number: u32, turn: Side, left: u8) -> Option<Position>
+pub(crate) fn position_of(g: &Game, number: u32, turn: Side, left: u8) -> Option<Position>
     requires { point_count g.now ≤ 12 }
     ensures { IfSome result (IsPosition g.now) }
 {

@@ -28,7 +28,7 @@ fn pairs_of(alloc: Global, number: u16) -> Result<Pairs, AllocError> {
 }
 
 /// All sets of pairs of five points, also those that share points.
-pub fn all_pairings(alloc: Global) -> Result<Vec<Pairs>, AllocError> {
+pub(crate) fn all_pairings(alloc: Global) -> Result<Vec<Pairs>, AllocError> {
     let mut sets = Vec::new(alloc);
     for number in 0..1024 {
         sets.push(pairs_of(alloc, number)?)?;

@@ -9,8 +9,8 @@ use pg_base::{Goal, Side};
 use pg_game::{Game, Judge, Position};
 
 /// What was found of threat lines at all positions of a game.
-#[derive(Clone, Copy, Debug, PartialEq, Eq)]
-pub struct ThreatTally {
+#[derive(Clone, Copy)]
+pub(crate) struct ThreatTally {
     /// At how many the side to move wins by its next move.
     pub at_once: u32,
     /// At how many it wins by a threat line of at most three forced replies.
@@ -67,7 +67,7 @@ fn tally_turn(judge: &mut Judge, g: &Game, turn: Side, tally: &mut ThreatTally)
 }
 
 /// What is found of threat lines at all positions of a game in which each side claims one point a turn.
-pub fn tally_threats(judge: &mut Judge, g: &Game) -> ThreatTally
+pub(crate) fn tally_threats(judge: &mut Judge, g: &Game) -> ThreatTally
     requires small { point_count g.now ≤ 12 }
     requires made { IsMadeForGame judge.old g.now }
     ensures kept { judge.new ≡ judge.old }

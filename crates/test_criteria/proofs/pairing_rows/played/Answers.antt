@@ -2,7 +2,7 @@ use Rattle.std.proofs.Common.{◌≡◌, ◌<◌, ◌≤◌, ◌+◌, ℕ, sym, 
 use Rattle.pg_game.specs.declared.position.Position.{Position}
 use Rattle.pg_game.specs.Game.{IsPosition, point_count}
 use Rattle.pg_game.proofs.Moves.{IsPosition-after}
-use Rattle.test_criteria_rows.proofs.pairing_rows.played.Goals as goal
+use Rattle.test_criteria.proofs.pairing_rows.played.Goals as goal
 
 pub returns-then-is_free : goal.returns-then-is_free
 returns-then-is_free c =

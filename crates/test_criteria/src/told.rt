@@ -1,4 +1,4 @@
-//! What the rows share: the turn at which a question is asked, and words for answers.
+//! What the questions share: the turn at which one is asked, the parts of a row, and words for answers.
 ghost use Rattle.pg_game.specs.Game.{IsPosition};
 
 use pg_base::Side;
@@ -12,14 +12,9 @@ pub(crate) fn turn_of(g: &Game, turn: Side) -> Position
     g.with_turn(turn)
 }
 
-/// The question of a row.
-pub(crate) fn question(row: &str) -> &str {
-    word(part(row, 0), 4)
-}
-
 /// The side of which a row asks, and Y where it names none.
 pub(crate) fn asked_side(row: &str) -> Side {
-    test_kit::side(word(part(row, 0), 5))
+    test_kit::side(word(part(row, 0), 4))
 }
 
 /// What is due in a row.
