@@ -108,7 +108,7 @@ def main():
         ranked = sorted(families().items(), key=lambda entry: -passes(entry[1]))
         for kind, lines in ranked[:4]:
             with open(name, "w") as file:
-                file.write("".join(" ".join(map(str, line)) + "\n" for line in lines))
+                file.write(f"maker-breaker {POINTS} x 1:" + ",".join(" ".join(map(str, line)) for line in lines) + "::\n")
             none, _ = instructions(program, name, 0)
             asked, told = instructions(program, name, ASKS)
             one, _ = instructions(program, name, 1, "cached")

@@ -1,5 +1,5 @@
 #!/usr/bin/env python3
-"""Finds the numbers of test_families again, by plain search that shares nothing with the crates.
+"""Finds the numbers of test_classes on connectivity games and on games on vectors again, by plain search that shares nothing with the crates.
 
 Usage: small_families.py
 For connectivity games on two to four vertices and for games on vectors of three signs it prints, for each number of

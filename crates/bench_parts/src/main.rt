@@ -1,17 +1,20 @@
-//! What the scripts under `bench/` measure of boards, threat lines and private pairs. The first of its words names the part, and the
-//! others say what is done; without words it does small rows of each part.
+//! What the scripts under `bench/` measure of boards, threat lines and private pairs. The first of its words names the part, the second a
+//! file with a game, and the others say what is done; without words it does small rows of each part.
 #![tactic(auto)]
 
 mod boards;
 mod matching;
 mod threats;
 
+use pg_game::Game;
+use std::alloc::{AllocError, Global};
 use std::{env, fs, io};
+use test_kit::game;
 
 /// Rows of each part, separated by `;`.
 const ROWS: &str = "\
-board 204 1;\
-threat breaker still ask;\
+board lines-of-ten.txt 1;\
+threat five-in-a-row.txt still ask;\
 match two-lines.txt 2;\
 match two-lines.txt 3 cached";
 
@@ -32,35 +35,41 @@ fn cut(text: &str) -> (&str, &str) {
     text.split_once(' ').unwrap_or((text, ""))
 }
 
-/// What a row tells.
-fn told(rt: &HostRuntime, row: &str) -> io::Result<String> {
-    let (part, words) = cut(row);
-    let (first, words) = cut(words);
-    let (second, third) = cut(words);
+/// What a part tells of a game.
+fn told_of(alloc: Global, g: &Game, part: &str, words: &str) -> Result<String, AllocError> {
+    let (first, second) = cut(words);
     match part {
-        "board" => Ok(boards::told(rt.alloc(), first, second)?),
-        "threat" => Ok(threats::told(rt.alloc(), first, second, third)?),
-        "match" => {
-            let bytes = fs::read(rt, first)?;
-            Ok(matching::told(rt.alloc(), &bytes, second, third)?)
-        }
-        _ => Ok(String::from_str(rt.alloc(), "no such part")?),
+        "board" => boards::told(alloc, g, first),
+        "threat" => threats::told(alloc, g, first, second),
+        "match" => matching::told(alloc, g, first, second),
+        _ => String::from_str(alloc, "no such part"),
     }
 }
 
-/// Says what a row tells.
-fn tell(rt: &HostRuntime, row: &str) -> io::Result<()> {
-    let text = told(rt, row)?;
-    rt.println(text.as_str())
+/// What a row tells.
+fn told(rt: &HostRuntime, row: &str) -> io::Result<String> {
+    let (part, words) = cut(row);
+    let (name, words) = cut(words);
+    let bytes = fs::read(rt, name)?;
+    let Ok(text) = str::from_utf8(&bytes) else {
+        return Ok(String::from_str(rt.alloc(), "no text")?);
+    };
+    match game(rt.alloc(), text) {
+        Some(g) => Ok(told_of(rt.alloc(), &g, part, words)?),
+        None => Ok(String::from_str(rt.alloc(), "no game")?),
+    }
+}
+
+/// Says what each row tells.
+fn tell(rt: &HostRuntime, rows: &str) -> io::Result<()> {
+    for row in rows.split(';') {
+        let text = told(rt, row)?;
+        rt.println(text.as_str())?;
+    }
+    Ok(())
 }
 
 fn main(rt: HostRuntime) -> io::Result<()> {
     let row = row(&rt)?;
-    if !row.is_empty() {
-        return tell(&rt, row.as_str());
-    }
-    for row in ROWS.split(';') {
-        tell(&rt, row)?;
-    }
-    Ok(())
+    tell(&rt, if row.is_empty() { ROWS } else { row.as_str() })
 }

@@ -1,36 +1,12 @@
-//! Private pairs for all lines of a game on 256 points, asked for again and again, also through a cache: what `bench/asking.py`
+//! Private pairs for all lines of a game, asked for again and again, also through a cache: what `bench/asking.py`
 //! measures.
 ghost use Rattle.std.specs.Prelude.{◌<◌, ◌≤◌, IfSome, length};
 ghost use Rattle.std.specs.List.{All};
 
-use pg_base::{Kind, Line, Lines, Memory, PointSet, Side};
-use pg_game::{Field, Game, LineField};
+use pg_base::{Lines, Memory};
+use pg_game::{Field, Game};
 use pg_match::{Matching, PairCache, lines_without, private_pairs};
 use std::alloc::{AllocError, Global};
-
-/// The line of a row of numbers; None where a word is no number, a number stands twice or memory is wanting.
-fn line_of(alloc: Global, row: &str) -> Option<Line> {
-    let mut points = Vec::new(alloc);
-    for word in row.split_whitespace() {
-        points.push(word.parse::<u16>().ok()?).ok()?;
-    }
-    Line::new(alloc, &points).ok()
-}
-
-/// Maker-Breaker on 256 points with the lines of a text.
-fn game_of(alloc: Global, text: &str) -> Option<Game> {
-    let mut lines = Vec::new(alloc);
-    for row in text.lines() {
-        lines.push(line_of(alloc, row)?).ok()?;
-    }
-    let field = Field::Lines(LineField {
-        points: 256,
-        grid: None,
-        lines: Lines::from_vec(lines),
-    });
-    let none = PointSet::empty();
-    Game::new(Kind::MakerBreaker, field, none, none, Side::X, 1).ok()
-}
 
 /// The lines of a game on lines.
 fn lines_of(g: &Game) -> Option<&Lines>
@@ -76,32 +52,17 @@ fn cached(alloc: Global, g: &Game, asks: u32) -> Result<u64, Memory> {
     Ok(cache.hits())
 }
 
-/// What is told of a game: so many asks, through a cache where a word says so.
-fn told_of(alloc: Global, game: &Game, asks: u32, word: &str) -> Result<String, AllocError> {
+/// What is told of so many asks, through a cache where a word says so.
+pub(crate) fn told(alloc: Global, g: &Game, asks: &str, word: &str) -> Result<String, AllocError> {
+    let asks = asks.parse::<u32>().unwrap_or(0);
     if word.is_empty() {
-        return match asked(alloc, game, asks) {
+        return match asked(alloc, g, asks) {
             Ok(pairs) => format!(in alloc; "{pairs} pairs"),
             Err(_) => String::from_str(alloc, "no memory"),
         };
     }
-    match cached(alloc, game, asks) {
+    match cached(alloc, g, asks) {
         Ok(hits) => format!(in alloc; "{hits} hits"),
         Err(_) => String::from_str(alloc, "no memory"),
-    }
-}
-
-/// What is told of the lines of a file, a line of numbers for each.
-pub(crate) fn told(
-    alloc: Global,
-    bytes: &[u8],
-    asks: &str,
-    word: &str,
-) -> Result<String, AllocError> {
-    let Ok(text) = str::from_utf8(bytes) else {
-        return String::from_str(alloc, "no text");
-    };
-    match game_of(alloc, text) {
-        Some(game) => told_of(alloc, &game, asks.parse::<u32>().unwrap_or(0), word),
-        None => String::from_str(alloc, "no game"),
     }
 }

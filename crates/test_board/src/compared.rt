@@ -48,7 +48,7 @@ fn ends_alike(judge: &mut Judge, b: &Board) -> bool
 }
 
 /// Whether the board tells of its position what the criteria and the judge tell.
-pub fn agrees(judge: &mut Judge, b: &Board) -> bool
+pub(crate) fn agrees(judge: &mut Judge, b: &Board) -> bool
     requires { IsMadeForGame judge.old b.now.game }
     ensures { judge.new ≡ judge.old }
 {
@@ -60,7 +60,7 @@ pub fn agrees(judge: &mut Judge, b: &Board) -> bool
 }
 
 /// Whether they agree after each of many random plays and undos.
-pub fn games_agree(judge: &mut Judge, b: &mut Board, seed: u32) -> bool
+pub(crate) fn games_agree(judge: &mut Judge, b: &mut Board, seed: u32) -> bool
     requires { IsMadeForGame judge.old b.old.game }
 {
     let mut random = seed;

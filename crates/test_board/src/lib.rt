@@ -4,16 +4,10 @@
 #[cfg(test)]
 mod compared;
 #[cfg(test)]
+mod ground;
+#[cfg(test)]
+mod rows;
+#[cfg(test)]
 mod steps;
 #[cfg(test)]
 mod walks;
-
-#[cfg(test)]
-pub use compared::{agrees, games_agree};
-#[cfg(test)]
-pub use steps::{opened, play_some, take_back};
-#[cfg(test)]
-pub use walks::live_digits;
-
-#[cfg(test)]
-mod tests;

@@ -7,7 +7,7 @@ use pg_game::Game;
 use std::alloc::Global;
 
 /// The board of a game on lines at its marks; None where it is another game, or no memory is found.
-pub fn opened<'a>(alloc: Global, g: &'a Game) -> Option<Board<'a>>
+pub(crate) fn opened<'a>(alloc: Global, g: &'a Game) -> Option<Board<'a>>
     ensures { IfSome result (λ b. b.game ≡ g.now) }
 {
     if g.kind == Kind::Switching {
@@ -19,7 +19,7 @@ pub fn opened<'a>(alloc: Global, g: &'a Game) -> Option<Board<'a>>
 }
 
 /// Plays the point where it is a free one of the game, and tells whether it was.
-pub fn play_some(b: &mut Board, v: u16) -> bool
+pub(crate) fn play_some(b: &mut Board, v: u16) -> bool
     ensures { b.new.game ≡ b.old.game }
 {
     let playable = v < b.game().points() && b.is_free(v);
@@ -30,7 +30,7 @@ pub fn play_some(b: &mut Board, v: u16) -> bool
 }
 
 /// Takes the last play back where one stands, and tells whether one stood.
-pub fn take_back(b: &mut Board) -> bool
+pub(crate) fn take_back(b: &mut Board) -> bool
     ensures { b.new.game ≡ b.old.game }
 {
     let some = b.plays() > 0;

@@ -1,12 +1,18 @@
-//! The class by two forests beside the class by plain search, on all small switching games, and each call on two forests
-//! once. Nothing of the product calls it.
+//! The classes of all small switching games, connectivity games and games on vectors beside plain search, and each call on two
+//! forests once. Nothing of the product calls it.
 #![tactic(auto)]
 
-mod small_games;
-
-pub use small_games::{Tally, all_pairs, chosen, tally_games};
-
 #[cfg(test)]
-mod class_rows;
+mod families;
 #[cfg(test)]
-mod tests;
+mod forests;
+#[cfg(test)]
+mod plain;
+#[cfg(test)]
+mod rows;
+#[cfg(test)]
+mod switching;
+#[cfg(test)]
+mod tally;
+#[cfg(test)]
+mod told;

@@ -2,8 +2,8 @@
 #![tactic(auto)]
 
 #[cfg(test)]
+mod expanding;
+#[cfg(test)]
 mod rows;
 #[cfg(test)]
 mod settling;
-#[cfg(test)]
-mod telling;

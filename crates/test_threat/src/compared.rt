@@ -10,20 +10,20 @@ use pg_threat::{ThreatLine, forced};
 use std::alloc::Global;
 
 /// What was found.
-#[derive(Clone, Copy, Debug, PartialEq, Eq)]
-pub struct Tally {
+#[derive(Drop)]
+pub(crate) struct Tally {
     /// At how many positions the shortest threat line forces no reply, one, two, and three, and at how many there is none.
-    pub found: [u32; 5],
+    pub(crate) found: [u32; 5],
     /// How often the two searches differ, or the board is left in another way.
-    pub faults: u32,
+    pub(crate) faults: u32,
 }
 
 /// The line that the search finds to a depth at the game's marks, where the side to move may attack there.
-///
-/// # Errors
-///
-/// `Memory` where no memory is found.
-pub fn line_at_start(alloc: Global, g: &Game, depth: u8) -> Result<Option<ThreatLine>, Memory>
+pub(crate) fn line_at_start(
+    alloc: Global,
+    g: &Game,
+    depth: u8,
+) -> Result<Option<ThreatLine>, Memory>
     requires lines { g.now.kind ≢ Switching }
     requires few { depth ≤ 3 }
 {
@@ -34,12 +34,15 @@ pub fn line_at_start(alloc: Global, g: &Game, depth: u8) -> Result<Option<Threat
     Ok(forced(&mut b, g.turn, depth))
 }
 
-/// Whether both are none, or lines of the same points.
-fn is_same(found: Option<ThreatLine>, expected: Option<ThreatLine>) -> bool {
-    let Some(line) = found else {
-        return expected.is_none();
+/// Whether a line is found to a depth exactly where the shortest forces so many replies at most, and is that.
+fn is_due(found: Option<ThreatLine>, shortest: Option<ThreatLine>, depth: u8) -> bool {
+    let Some(other) = shortest else {
+        return found.is_none();
     };
-    let Some(other) = expected else {
+    if other.len / 2 > depth {
+        return found.is_none();
+    }
+    let Some(line) = found else {
         return false;
     };
     let mut same = line.len == other.len;
@@ -49,38 +52,9 @@ fn is_same(found: Option<ThreatLine>, expected: Option<ThreatLine>) -> bool {
     same
 }
 
-/// The line, where it forces so many replies at most.
-fn to_depth(line: Option<ThreatLine>, depth: u8) -> Option<ThreatLine> {
-    match line {
-        Some(line) if line.len / 2 <= depth => Some(line),
-        _ => None,
-    }
-}
-
 impl Tally {
-    /// The tally before any position.
-    pub fn none() -> Tally {
-        Tally {
-            found: [0; 5],
-            faults: 0,
-        }
-    }
-
-    /// Adds a position with its shortest line.
-    fn add(&mut self, line: Option<ThreatLine>) {
-        let depth = match line {
-            Some(line) if line.len < 8 => usize::from(line.len / 2),
-            _ => 4,
-        };
-        self.found[depth] = self.found[depth].saturating_add(1);
-    }
-
     /// Compares the two searches at the game's marks, to each depth, where the side to move may attack.
-    ///
-    /// # Errors
-    ///
-    /// `Memory` where no memory is found.
-    pub fn compare(&mut self, alloc: Global, g: &Game) -> Result<(), Memory>
+    pub(crate) fn compare(&mut self, alloc: Global, g: &Game) -> Result<(), Memory>
         requires { g.now.kind ≢ Switching }
     {
         let p = g.start();
@@ -89,10 +63,14 @@ impl Tally {
             return Ok(());
         }
         let shortest = first_line(g, &p, g.turn);
-        self.add(shortest);
+        let replies = match shortest {
+            Some(line) if line.len < 8 => usize::from(line.len / 2),
+            _ => 4,
+        };
+        self.found[replies] = self.found[replies].saturating_add(1);
         for depth in 0..4u8 {
             let found = forced(&mut b, g.turn, depth);
-            if !is_same(found, to_depth(shortest, depth)) || b.position() != p || b.plays() != 0 {
+            if !is_due(found, shortest, depth) || b.position() != p || b.plays() != 0 {
                 self.faults = self.faults.saturating_add(1);
             }
         }

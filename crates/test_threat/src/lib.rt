@@ -1,4 +1,5 @@
-//! The search for threat lines beside a plain one, on every position of small games. Nothing of the product calls it.
+//! The search for threat lines beside a plain one, on every position of small games, and on rows worked by hand. Nothing of the product
+//! calls it.
 //!
 //! The plain search tries all lists of free points, the shortest first and those of one length in their order, and asks of
 //! each whether it is a threat line.
@@ -8,11 +9,5 @@
 mod compared;
 #[cfg(test)]
 mod plain;
-
 #[cfg(test)]
-pub use compared::{Tally, line_at_start};
-#[cfg(test)]
-pub use plain::first_line;
-
-#[cfg(test)]
-mod tests;
+mod rows;

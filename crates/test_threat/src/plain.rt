@@ -23,7 +23,7 @@ fn fill(g: &Game, p: &Position, side: Side, now: &Position, points: &mut [u16], 
 
 /// The shortest threat line of the side at the position with seven points at most, of these the first in the order of
 /// lists. It tries lists of one point, of three, of five and of seven.
-pub fn first_line(g: &Game, p: &Position, side: Side) -> Option<ThreatLine> {
+pub(crate) fn first_line(g: &Game, p: &Position, side: Side) -> Option<ThreatLine> {
     for depth in 0..4u8 {
         let len = 2 * depth + 1;
         let mut points = [0; 7];
