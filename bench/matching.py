@@ -1,5 +1,5 @@
 #!/usr/bin/env python3
-"""Makes the table of families in crates/test_match, by a program that shares nothing with the crates.
+"""Makes the table `families` of crates/test_rows, by a program that shares nothing with the crates.
 
 Whether private pairs exist is found by trying all choices: each pair of free points of the first line, and then the rest.
 A row is a position of Maker-Breaker, as `maker-breaker POINTS x 1:LINES:X:Y:ANSWER`: lines with a point of Y aren't wanted, and points of
@@ -65,7 +65,7 @@ def main():
         if due.get(kind, 0) > 0 and (len(lines) > 2 or draw.random() < 0.3):
             due[kind] -= 1
             answer = "yes" if kind in ("plain", "blocked") else "no"
-            print(f"maker-breaker {points} x 1:{','.join(map(words, lines))}:{words(taken)}:{words(own)}:{answer};\\")
+            print(f"maker-breaker {points} x 1:{','.join(map(words, lines))}:{words(taken)}:{words(own)}:{answer}")
 
 
 main()

@@ -1,5 +1,5 @@
 #!/usr/bin/env python3
-"""Makes the table of placements in crates/test_poly, by a program that shares nothing with the crates.
+"""Makes the table `counts` of crates/test_rows, by a program that shares nothing with the crates.
 
 It moves no shape. On each board it goes over all connected sets of four or of five cells, grown cell by cell, and counts each for the
 free polyomino that it is: the least of its eight images, each moved to the corner. A row is WORD:COUNTS, a tetromino or a pentomino and
@@ -55,4 +55,4 @@ def table(size):
 
 for size in (4, 5):
     for cells, row in table(size):
-        print(f"{word(cells)}:{','.join(map(str, row))};\\")
+        print(f"{word(cells)}:{','.join(map(str, row))}")

@@ -24,11 +24,11 @@ pub(crate) fn are_private(lines: &[Line], wanted: &[u32], free: &PointSet, pairs
     wanted.len() == pairs.len()
 }
 
-/// Whether the numbers are different and below the limit of a set.
-fn are_different(numbers: &[u32]) -> bool {
+/// Whether the numbers are different, below the limit of a set, and all wanted.
+fn are_wanted(numbers: &[u32], wanted: &[u32]) -> bool {
     let mut met = PointSet::empty();
     for j in numbers {
-        if *j >= u32::from(MAX_MEMBERS) || met.has(*j as u16) {
+        if *j >= u32::from(MAX_MEMBERS) || met.has(*j as u16) || !wanted.contains(j) {
             return false;
         }
         met.put(*j as u16);
@@ -56,6 +56,5 @@ pub(crate) fn is_short(lines: &[Line], wanted: &[u32], free: &PointSet, family: 
             covered = covered.saturating_add(1);
         }
     }
-    let wants_all = family.iter().all(|j| wanted.contains(j));
-    wants_all && are_different(family) && covered as usize / 2 < family.len()
+    are_wanted(family, wanted) && covered as usize / 2 < family.len()
 }

@@ -1,54 +1,19 @@
-//! Graphs: rows worked by hand.
+//! Graphs: what joiners answer, and where edges end.
 ghost use Rattle.std.specs.Prelude.{◌≡◌, ◌<◌, suc};
 ghost use Rattle.pg_base.specs.Points.{AreBelow};
 ghost use Rattle.pg_graph.specs.Graph.{IsGraph, edge_count};
 ghost use Rattle.pg_graph.specs.Joiner.{IsMadeFor};
 
+use crate::telling::{is_found, is_said};
 use pg_base::PointSet;
 use pg_game::Field;
 use pg_graph::{Graph, Joiner};
 use std::alloc::Global;
-use std::test::Fail;
-use test_kit::{game, numbers, set, word, wrong_rows};
-
-/// Games as `test_kit` reads them, and what one joiner then answers on the graph, question after question: `CALL U V ANSWER/SET/OTHERS`, where
-/// the number of edges stands for the edge between the terminals. The graphs are two ways of two edges from 0 to 1 with an edge between their
-/// inner vertices; a loop at 0 and two parallel edges from 0 to 2, while 1 is apart; and two terminals without an edge.
-const ANSWERS: &str = "\
-switching 4 x 1:0 2,0 3,2 3,2 1,3 1::\
-:joined 0 1 no/0 4/:joined 3 1 yes/0 4/:crossing 0 0 1/0 4/1 2 3:parting 0 2 3/2 3 5/2 3:bridges 0 0 yes/1 2 3/2;\
-switching 3 x 1:0 0,0 2,2 0::\
-:joined 0 2 no/0/:joined 1 1 yes/0/:bridges 0 0 no/0/0:crossing 0 0 none/0/0:crossing 2 0 2/0/0 2 3:parting 0 0 none/0/0;\
-switching 3 x 1:0 0,0 2,2 0::\
-:bridges 0 0 no/1 2/1:parting 0 2 none/1 2/1 2:parting 2 0 2/0 2/0 1 2;\
-switching 3 x 1:0 0,0 2,2 0::\
-:bridges 0 0 yes/1 2 3/3:bridges 0 0 no/1 2 3/1 2 3:bridges 0 0 yes/3/1 2:bridges 0 0 no/1 3/1 2;\
-switching 3 x 1:0 0,0 2,2 0::\
-:joins 0 0 yes/1/0 2:joins 0 0 no/1/2 3:joins 0 0 yes//;\
-switching 2 x 1:::\
-:joined 0 1 no//:joined 0 1 yes/0/:bridges 0 0 yes/0/0:crossing 1 0 0//0:parting 1 0 0/0/0";
-
-/// Games, and the ends of edges of the graph, as `NUMBER U V`, behind the number of its edges.
-const ENDS: &str = "\
-switching 4 x 1:0 2,0 3,2 3,2 1,3 1:::5:3 2 1:5 0 1;\
-switching 2 x 1::::0:0 0 1";
+use test_kit::{game, numbers, set, word};
 
 /// The piece of a question that has this number, from 0, and no text where it has fewer.
 fn piece(question: &str, number: usize) -> &str {
     question.split('/').nth(number).unwrap_or("")
-}
-
-/// Whether the answer is yes or no, as the word says.
-fn is_said(answer: bool, due: &str) -> bool {
-    due == if answer { "yes" } else { "no" }
-}
-
-/// Whether the edge that was found, if there is one, is that of the word.
-fn is_found(found: Option<u16>, due: &str) -> bool {
-    match found {
-        Some(k) => due.parse::<u16>() == Ok(k),
-        None => due == "none",
-    }
 }
 
 /// Whether the joiner answers the question of which edges or vertices are joined as is due.
@@ -122,7 +87,7 @@ fn is_so(alloc: Global, joiner: &mut Joiner, graph: &Graph, question: &str) -> O
 }
 
 /// Whether one joiner answers all questions of the row as they tell.
-fn are_so(alloc: Global, row: &str) -> Option<bool> {
+pub(crate) fn are_so(alloc: Global, row: &str) -> Option<bool> {
     let g = game(alloc, row)?;
     let Field::Graph(graph) = &g.field else {
         return None;
@@ -151,7 +116,7 @@ fn has_ends(alloc: Global, graph: &Graph, text: &str) -> Option<bool>
 }
 
 /// Whether the graph of the row has as many edges as it tells, and with the ends that it tells.
-fn have_ends(alloc: Global, row: &str) -> Option<bool> {
+pub(crate) fn have_ends(alloc: Global, row: &str) -> Option<bool> {
     let g = game(alloc, row)?;
     let Field::Graph(graph) = &g.field else {
         return None;
@@ -167,18 +132,4 @@ fn have_ends(alloc: Global, row: &str) -> Option<bool> {
         }
     }
     Some(true)
-}
-
-#[test]
-fn answers_of_a_joiner(rt: HostRuntime) -> Result<(), Fail> {
-    let wrong = wrong_rows(rt.alloc(), ANSWERS, |alloc, row| are_so(alloc, row))?;
-    assert_eq!(rt; wrong.as_str(), "");
-    Ok(())
-}
-
-#[test]
-fn ends_stand_in_order(rt: HostRuntime) -> Result<(), Fail> {
-    let wrong = wrong_rows(rt.alloc(), ENDS, |alloc, row| have_ends(alloc, row))?;
-    assert_eq!(rt; wrong.as_str(), "");
-    Ok(())
 }
