@@ -1,10 +1,9 @@
 //! What words mean, as text.
 use pg_words::{Command, Family, FamilyTask, Source, meaning};
-use std::alloc::Global;
-use std::test::Fail;
+use std::alloc::{AllocError, Global};
 
 /// The words of a row, with spaces between them: `<>` is the empty word, and `~` a space.
-fn words(alloc: Global, row: &str) -> Result<Vec<String>, Fail> {
+fn words(alloc: Global, row: &str) -> Result<Vec<String>, AllocError> {
     let mut words = Vec::new(alloc);
     for word in row.split_whitespace() {
         if word == "<>" {
@@ -17,7 +16,7 @@ fn words(alloc: Global, row: &str) -> Result<Vec<String>, Fail> {
 }
 
 /// A game that is made from numbers, by its words.
-fn source_text(alloc: Global, source: Source) -> Result<String, Fail> {
+fn source_text(alloc: Global, source: Source) -> Result<String, AllocError> {
     Ok(match source {
         Source::Rows { length } => format!(in alloc; "rows {length}")?,
         Source::Bridge { rows } => format!(in alloc; "bridge {rows}")?,
@@ -36,7 +35,7 @@ fn made_text(
     which: Source,
     game: &str,
     certificate: Option<&str>,
-) -> Result<String, Fail> {
+) -> Result<String, AllocError> {
     let source = source_text(alloc, which)?;
     Ok(match certificate {
         None => format!(in alloc; "{source} <{game}>")?,
@@ -51,7 +50,7 @@ fn family_text(
     task: FamilyTask,
     game: &str,
     certificate: &str,
-) -> Result<String, Fail> {
+) -> Result<String, AllocError> {
     let name = match family {
         Family::Connectivity => "connectivity",
         Family::Vectors => "vectors",
@@ -66,7 +65,7 @@ fn family_text(
 }
 
 /// A command, with its names in angle brackets.
-fn command_text(alloc: Global, command: &Command) -> Result<String, Fail> {
+fn command_text(alloc: Global, command: &Command) -> Result<String, AllocError> {
     Ok(match command {
         Command::Solve {
             game,
@@ -129,27 +128,13 @@ fn command_text(alloc: Global, command: &Command) -> Result<String, Fail> {
 }
 
 /// What the words of a row mean; `none` where they have no meaning.
-fn told(alloc: Global, row: &str) -> Result<String, Fail> {
+pub(crate) fn told(alloc: Global, row: &str) -> Result<String, AllocError> {
     let words = words(alloc, row)?;
     let Ok(meaning) = meaning(alloc, &words) else {
-        return Ok(String::from_str(alloc, "memory")?);
+        return String::from_str(alloc, "memory");
     };
     match meaning {
-        None => Ok(String::from_str(alloc, "none")?),
+        None => String::from_str(alloc, "none"),
         Some(command) => command_text(alloc, &command),
     }
-}
-
-/// The rows that are wrong, of rows `WORDS => MEANING` with `;` between them.
-pub(crate) fn wrong_rows(alloc: Global, rows: &str) -> Result<String, Fail> {
-    let mut wrong = String::new(alloc);
-    for row in rows.split(';') {
-        let mut parts = row.split("=> ");
-        let words = parts.next().unwrap_or("");
-        let expected = parts.next().unwrap_or("");
-        if told(alloc, words)?.as_str() != expected {
-            wrong.push_str(row)?;
-        }
-    }
-    Ok(wrong)
 }
