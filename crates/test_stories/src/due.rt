@@ -1,11 +1,11 @@
 //! What is due from the runs of a row, in the words of its entries.
-use crate::entries::{cut, file_left, given, is_logged, is_of_a_file, push_shown};
+use crate::entries::{cut, is_logged, is_of_a_file, of_file, push_shown};
 use crate::texts::{Named, value};
 use std::alloc::{AllocError, Global};
 use std::fmt::Write;
 
 /// How far a run comes: its status where a call fails, how many entries its log has at most, and how many of the files of which the row tells are stored.
-#[derive(Clone, Copy, Debug)]
+#[derive(Clone, Copy)]
 pub(crate) struct Reach {
     pub(crate) status: Option<u8>,
     pub(crate) entries: u64,
@@ -32,14 +32,6 @@ fn push_told(
     text.push(' ')?;
     push_shown(text, value.as_bytes())?;
     text.push_str(if word == "says" { ";\n" } else { "\n" })
-}
-
-/// Adds the status of a run.
-fn push_status(text: &mut String, told: &str, status: Option<u8>) -> Result<(), AllocError> {
-    match status {
-        Some(status) => write!(text, "status {status}\n"),
-        None => write!(text, "status {told}\n"),
-    }
 }
 
 /// Adds two entries of a log once more, as often as is told.
@@ -72,7 +64,10 @@ fn push_run(
     for line in told.lines().skip(1) {
         let (word, rest) = cut(line);
         if word == "status" {
-            push_status(text, rest, reach.status)?;
+            match reach.status {
+                Some(status) => write!(text, "status {status}\n")?,
+                None => write!(text, "status {rest}\n")?,
+            }
         } else if word == "repeat" {
             push_again(alloc, texts, latest, rest, text)?;
         } else if is_logged(word) && left > 0 {
@@ -84,24 +79,15 @@ fn push_run(
     Ok(())
 }
 
-/// Adds what is left of a file that keeps what it held.
-fn push_kept(
-    alloc: Global,
-    texts: &[Named],
-    row: &str,
-    name: &str,
-    text: &mut String,
-) -> Result<(), AllocError> {
-    match given(row, name) {
-        Some(told) => {
-            write!(text, "holds {name}")?;
-            push_told(alloc, texts, "", told, text)
-        }
-        None => write!(text, "lacks {name} \n"),
-    }
+/// Whether the line gives a file of which no other entry of the row tells.
+fn is_kept(row: &str, word: &str, name: &str) -> bool {
+    word == "file"
+        && of_file(row, "holds", name).is_none()
+        && of_file(row, "starts", name).is_none()
+        && of_file(row, "lacks", name).is_none()
 }
 
-/// Adds what is to be left of each file of which the row tells.
+/// Adds what is to be left of each file of which the row tells: what is stored where the run comes so far, or else what the row gives.
 fn push_files(
     alloc: Global,
     texts: &[Named],
@@ -111,16 +97,20 @@ fn push_files(
 ) -> Result<(), AllocError> {
     let mut left = reach.stored;
     for line in row.lines().skip(1) {
-        if let Some(name) = file_left(row, line) {
-            let (word, rest) = cut(line);
-            if is_of_a_file(word) && left > 0 {
-                left -= 1;
-                let (_, told) = cut(rest);
-                write!(text, "{word} {name}")?;
-                push_told(alloc, texts, "", told, text)?;
+        let (word, rest) = cut(line);
+        let (name, told) = cut(rest);
+        let is_stored = is_of_a_file(word) && left > 0;
+        if is_of_a_file(word) || is_kept(row, word, name) {
+            let (word, told) = if is_stored {
+                (word, told)
+            } else if let Some(given) = of_file(row, "file", name) {
+                ("holds", given)
             } else {
-                push_kept(alloc, texts, row, name, text)?;
-            }
+                ("lacks", "")
+            };
+            left = left.saturating_sub(u64::from(is_stored));
+            write!(text, "{word} {name}")?;
+            push_told(alloc, texts, "", told, text)?;
         }
     }
     Ok(())
@@ -141,32 +131,22 @@ pub(crate) fn due(
     Ok(text)
 }
 
-/// Whether a line begins with a word, and then with a text.
-fn begins(line: &str, word: &str, text: &str) -> bool {
-    match line.strip_prefix(word) {
-        Some(rest) => rest.starts_with(text),
-        None => false,
-    }
-}
-
-/// Whether a line is as due: one that is due as `begins` or `starts` tells the beginning alone.
-fn is_line_so(due: &str, came: &str) -> bool {
-    if let Some(text) = due.strip_prefix("begins ") {
-        begins(came, "says ", text)
-    } else if let Some(text) = due.strip_prefix("starts ") {
-        begins(came, "holds ", text)
-    } else {
-        due == came
-    }
-}
-
-/// Whether what came is as due, line by line.
+/// Whether what came is as due, line by line. Of a line that is due as `begins` or `starts` the beginning is told alone.
 pub(crate) fn is_so(due: &str, came: &str) -> bool {
     let mut lines = came.lines();
     for line in due.lines() {
-        match lines.next() {
-            Some(came) if is_line_so(line, came) => {}
-            _ => return false,
+        let Some(came) = lines.next() else {
+            return false;
+        };
+        let (word, text) = cut(line);
+        let (came_word, came_text) = cut(came);
+        let is_line_so = match word {
+            "begins" => came_word == "says" && came_text.starts_with(text),
+            "starts" => came_word == "holds" && came_text.starts_with(text),
+            _ => line == came,
+        };
+        if !is_line_so {
+            return false;
         }
     }
     lines.next().is_none()

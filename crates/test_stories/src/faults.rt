@@ -8,70 +8,68 @@ use std::alloc::{AllocError, Global};
 const SQUARE: &str =
     "posgame 1;kind maker-breaker;points 9;line 0 1 2;line 3 4 5;line 6 7 8;line 0 3 6;line 1 4 7;line 2 5 8;line 0 4 8;line 2 4 6;y 4;turn x;";
 
-/// What a check says of a text, as a game with a faulty certificate behind it, or as a certificate.
-fn said_of(alloc: Global, text: &str, is_game: bool) -> Result<String, AllocError> {
-    let left = if is_game {
-        ran(alloc, "check G C", text, "posgame-cert 9", "")?
-    } else {
-        ran(alloc, "check G C", SQUARE, text, "")?
-    };
-    Ok(left.log)
-}
-
-/// Whether a check of this text tells this fault at the line with this number.
-fn is_told(alloc: Global, text: &str, fault: &str, number: &str) -> Result<bool, AllocError> {
-    let is_game = fault.starts_with('G');
-    let said = said_of(alloc, text, is_game)?;
-    let due = if is_game {
-        format!(in alloc; "3;game {fault} line {number};")?
-    } else {
-        format!(in alloc; "4;certificate {fault} line {number};")?
-    };
-    Ok(said.as_str() == due.as_str())
-}
-
-/// Whether a check of this file tells no fault of form.
-fn is_in_form(alloc: Global, text: &str) -> Result<bool, AllocError> {
-    let is_game = !text.starts_with("posgame-cert");
-    let said = said_of(alloc, text, is_game)?;
-    let said = said.as_str();
-    Ok(if is_game {
-        said == "4;certificate C2 line 1;"
-    } else {
-        said.starts_with("0;accepted") || said.starts_with("4;rejected")
-    })
-}
-
-/// Whether a file is as is told: `FAULT LINE=TEXT`, or `none=TEXT` where it has no fault of form.
-pub(crate) fn is_form_so(alloc: Global, texts: &[Named], told: &str) -> Result<bool, AllocError> {
-    let (head, text) = told.split_once('=').unwrap_or((told, ""));
-    let text = value(alloc, texts, text)?;
-    if head == "none" {
-        return is_in_form(alloc, text.as_str());
-    }
-    let (fault, line) = cut(head);
-    is_told(alloc, text.as_str(), fault, line)
-}
-
 /// A triangle, on which Maker wants to join all vertices.
 const TRIANGLE: &str = "posgame-span 1;vertices 3;edge 0 1;edge 1 2;edge 0 2;turn x;";
 
-/// Whether a certificate of a connectivity game is as is told: `FAULT LINE=TEXT`, or `none=TEXT` where it has no fault of form.
-pub(crate) fn is_span_form_so(
+/// What a text is to be.
+#[derive(Clone, Copy)]
+enum Kind {
+    Game,
+    Certificate,
+    SpanCertificate,
+}
+
+/// Whether a check of a text tells this fault at the line with this number; `none`: it has no fault of form. A game has a faulty certificate behind it.
+fn is_told(
+    alloc: Global,
+    kind: Kind,
+    fault: &str,
+    number: &str,
+    text: &str,
+) -> Result<bool, AllocError> {
+    let (words, game, certificate) = match kind {
+        Kind::Game => ("check G C", text, "posgame-cert 9"),
+        Kind::Certificate => ("check G C", SQUARE, text),
+        Kind::SpanCertificate => ("span check G C", TRIANGLE, text),
+    };
+    let said = ran(alloc, words, game, certificate)?;
+    let said = said.as_str();
+    if fault == "none" {
+        return Ok(match kind {
+            Kind::Game => said == "status 4\nsays certificate C2 line 1;\n",
+            _ => {
+                said.starts_with("status 0\nsays accepted")
+                    || said.starts_with("status 4\nsays rejected")
+            }
+        });
+    }
+    let due = match kind {
+        Kind::Game => format!(in alloc; "status 3\nsays game {fault} line {number};\n")?,
+        _ => format!(in alloc; "status 4\nsays certificate {fault} line {number};\n")?,
+    };
+    Ok(said == due.as_str())
+}
+
+/// Whether a file, or a certificate of a connectivity game, is as is told: `FAULT LINE=TEXT`, or `none=TEXT` where it has no fault of form.
+pub(crate) fn is_form_so(
     alloc: Global,
     texts: &[Named],
     told: &str,
+    is_span: bool,
 ) -> Result<bool, AllocError> {
     let (head, text) = told.split_once('=').unwrap_or((told, ""));
+    let (fault, number) = cut(head);
     let text = value(alloc, texts, text)?;
-    let left = ran(alloc, "span check G C", TRIANGLE, text.as_str(), "")?;
-    let said = left.log.as_str();
-    if head == "none" {
-        return Ok(said.starts_with("0;accepted") || said.starts_with("4;rejected"));
-    }
-    let (fault, line) = cut(head);
-    let due = format!(in alloc; "4;certificate {fault} line {line};")?;
-    Ok(said == due.as_str())
+    let text = text.as_str();
+    let is_game = fault.starts_with('G') || fault == "none" && !text.starts_with("posgame-cert");
+    let kind = if is_span {
+        Kind::SpanCertificate
+    } else if is_game {
+        Kind::Game
+    } else {
+        Kind::Certificate
+    };
+    is_told(alloc, kind, fault, number, text)
 }
 
 /// The lines of a text from one number up to another, from 1, each with its line feed.
@@ -91,6 +89,7 @@ fn lines(alloc: Global, text: &str, from: u32, to: u32) -> Result<String, AllocE
 /// A line with a fault, which may stand before lines of a file.
 #[derive(Clone, Copy)]
 struct Faulty<'a> {
+    kind: Kind,
     fault: &'a str,
     file: &'a str,
     line: &'a str,
@@ -106,22 +105,17 @@ fn is_told_before(
     let before = lines(alloc, faulty.file, 1, place.parse::<u32>().unwrap_or(0))?;
     let line = faulty.line;
     let text = format!(in alloc; "{before}{line}{behind}")?;
-    is_told(alloc, text.as_str(), faulty.fault, place)
+    is_told(alloc, faulty.kind, faulty.fault, place, text.as_str())
 }
 
-/// Whether the fault is told at this place before the other lines of the file, and where the file ends with the line.
-fn is_told_at(alloc: Global, faulty: Faulty, place: &str) -> Result<bool, AllocError> {
-    let from = place.parse::<u32>().unwrap_or(0);
-    let rest = lines(alloc, faulty.file, from, u32::MAX)?;
-    let behind = format!(in alloc; "\n{rest}")?;
-    let alone = is_told_before(alloc, faulty, place, "")?;
-    Ok(alone && is_told_before(alloc, faulty, place, behind.as_str())?)
-}
-
-/// Whether the fault is told at each of these places.
+/// Whether the fault is told at each of these places before the other lines of the file, and where the file ends with the line.
 fn is_told_at_all(alloc: Global, faulty: Faulty, places: &str) -> Result<bool, AllocError> {
     for place in places.split(' ') {
-        if !is_told_at(alloc, faulty, place)? {
+        let from = place.parse::<u32>().unwrap_or(0);
+        let rest = lines(alloc, faulty.file, from, u32::MAX)?;
+        let behind = format!(in alloc; "\n{rest}")?;
+        let alone = is_told_before(alloc, faulty, place, "")?;
+        if !alone || !is_told_before(alloc, faulty, place, behind.as_str())? {
             return Ok(false);
         }
     }
@@ -150,21 +144,21 @@ pub(crate) fn is_fault_so(alloc: Global, texts: &[Named], told: &str) -> Result<
     let (head, line) = told.split_once('=').unwrap_or((told, ""));
     let (fault, rest) = cut(head);
     let (file, places) = cut(rest);
+    let (first, _) = cut(places);
+    let (kind, others) = if fault.starts_with('G') {
+        (Kind::Game, "other-game-lines")
+    } else {
+        (Kind::Certificate, "other-certificate-lines")
+    };
     let line = value(alloc, texts, line)?;
     let faulty = Faulty {
+        kind,
         fault,
         file: lines_of(texts, file),
         line: line.as_str(),
     };
-    let is_game = fault.starts_with('G');
-    let others = lines_of(
-        texts,
-        if is_game {
-            "other-game-lines"
-        } else {
-            "other-certificate-lines"
-        },
-    );
-    let (first, _) = cut(places);
-    Ok(is_told_at_all(alloc, faulty, places)? && is_told_first(alloc, faulty, first, others)?)
+    Ok(
+        is_told_at_all(alloc, faulty, places)?
+            && is_told_first(alloc, faulty, first, lines_of(texts, others))?,
+    )
 }

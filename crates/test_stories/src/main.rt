@@ -4,13 +4,11 @@
 //! With a number as its word it makes so many allocations first, and carries out the rows in memory alone.
 #![tactic(auto)]
 
-mod calls;
 mod came;
 mod due;
 mod entries;
 mod faults;
-mod generator;
-mod legal;
+mod held;
 mod nodes;
 mod pairs;
 mod pieces;
@@ -22,7 +20,6 @@ mod tables;
 mod texts;
 mod values;
 
-use std::alloc::Global;
 use std::{env, io};
 
 /// The words by which Breaker is played on the console of the system.
@@ -33,13 +30,6 @@ fn number(rt: &HostRuntime) -> io::Result<Option<u64>> {
     match env::args(rt)?.nth(1) {
         Some(word) => Ok(word.parse::<u64>().ok()),
         None => Ok(None),
-    }
-}
-
-/// Makes so many allocations.
-fn allocate(alloc: Global, count: u64) {
-    for _ in 0..count {
-        let _ = b"room".to_vec(alloc);
     }
 }
 
@@ -69,7 +59,9 @@ fn answer(rt: &HostRuntime, script: &str) -> io::Result<()> {
 
 fn main(rt: HostRuntime) -> io::Result<()> {
     let count = number(&rt)?;
-    allocate(rt.alloc(), count.unwrap_or(0));
+    for _ in 0..count.unwrap_or(0) {
+        let _ = b"room".to_vec(rt.alloc());
+    }
     let script = script(&rt, count.is_some())?;
     answer(&rt, script.as_str())
 }

@@ -10,109 +10,70 @@ const CLAIMS: u32 = 8;
 /// How many nodes a claim has.
 const NODES: u32 = 6;
 
-/// A game, what a claim says, and a node that may stand at each place of it.
+/// How many nodes a certificate has.
+const ALL: u32 = 48;
+
+/// A node with a fault; a game, what a claim says, and a node without one that may stand at each place of it.
 #[derive(Clone, Copy)]
-struct Base<'a> {
+struct Faulty<'a> {
+    fault: &'a str,
+    node: &'a str,
     game: &'a str,
     claim: &'a str,
-    node: &'a str,
+    sound: &'a str,
 }
 
-/// The base whose three parts the text tells, with `#` between them.
-fn base_of(text: &str) -> Base<'_> {
-    let (game, rest) = text.split_once("\n#\n").unwrap_or((text, ""));
-    let (claim, node) = rest.split_once("\n#\n").unwrap_or((rest, ""));
-    Base { game, claim, node }
-}
-
-/// A node that stands in the place of another.
-#[derive(Clone, Copy)]
-struct Bad<'a> {
+/// A certificate of eight claims that has the node at this place of this claim, and another one as the last of all.
+fn certificate(
+    alloc: Global,
+    faulty: Faulty,
     claim: u32,
     place: u32,
-    node: &'a str,
-}
-
-/// The node at this place of this claim.
-fn node_at<'a>(base: Base<'a>, bad: Bad<'a>, last: &'a str, claim: u32, place: u32) -> &'a str {
-    if bad.claim == claim && bad.place == place {
-        bad.node
-    } else if claim == CLAIMS - 1 && place == NODES - 1 {
-        last
-    } else {
-        base.node
-    }
-}
-
-/// Adds a claim with its nodes.
-fn push_claim(
-    text: &mut String,
-    base: Base,
-    bad: Bad,
     last: &str,
-    claim: u32,
-) -> Result<(), AllocError> {
-    text.push_str(base.claim)?;
-    text.push_str("\nnodes 6\n")?;
-    for place in 0..NODES {
-        text.push_str(node_at(base, bad, last, claim, place))?;
-        text.push('\n')?;
-    }
-    Ok(())
-}
-
-/// A certificate of eight claims that has the node, and this one as the last of all.
-fn certificate(alloc: Global, base: Base, bad: Bad, last: &str) -> Result<String, AllocError> {
+) -> Result<String, AllocError> {
     let mut text = String::from_str(alloc, "posgame-cert 2\n")?;
-    for claim in 0..CLAIMS {
-        push_claim(&mut text, base, bad, last, claim)?;
+    for number in 0..ALL {
+        if number % NODES == 0 {
+            text.push_str(faulty.claim)?;
+            text.push_str("\nnodes 6\n")?;
+        }
+        let is_faulty = number / NODES == claim && number % NODES == place;
+        text.push_str(if is_faulty {
+            faulty.node
+        } else if number == ALL - 1 {
+            last
+        } else {
+            faulty.sound
+        })?;
+        text.push('\n')?;
     }
     Ok(text)
 }
 
-/// Whether a check tells the fault of the node, where this one is the last of all.
+/// Whether a check tells the fault of the node at this place of this claim, where the other one is the last of all.
 fn is_told(
     alloc: Global,
-    base: Base,
-    fault: &str,
-    bad: Bad,
+    faulty: Faulty,
+    claim: u32,
+    place: u32,
     last: &str,
 ) -> Result<bool, AllocError> {
-    let text = certificate(alloc, base, bad, last)?;
-    let left = ran(alloc, "check G C", base.game, text.as_str(), "")?;
-    let (claim, place) = (bad.claim, bad.place);
-    let due = format!(in alloc; "4;rejected {fault} claim {claim} node {place};")?;
-    Ok(left.log.as_str() == due.as_str())
+    let text = certificate(alloc, faulty, claim, place, last)?;
+    let said = ran(alloc, "check G C", faulty.game, text.as_str())?;
+    let fault = faulty.fault;
+    let due = format!(in alloc; "status 4\nsays rejected {fault} claim {claim} node {place};\n")?;
+    Ok(said.as_str() == due.as_str())
 }
 
-/// Whether the fault of the node is told at this place in the first, a middle and the last claim, with nothing wrong behind it.
-fn is_told_at(
-    alloc: Global,
-    base: Base,
-    fault: &str,
-    place: u32,
-    node: &str,
-) -> Result<bool, AllocError> {
-    for claim in [0u32, 3, 7] {
-        let bad = Bad { claim, place, node };
-        if !is_told(alloc, base, fault, bad, base.node)? {
-            return Ok(false);
-        }
-    }
-    Ok(true)
-}
-
-/// Whether the fault of the node is told at each of these places.
-fn is_told_at_all(
-    alloc: Global,
-    base: Base,
-    fault: &str,
-    places: &str,
-    node: &str,
-) -> Result<bool, AllocError> {
+/// Whether the fault of the node is told at each of these places in the first, a middle and the last claim, with nothing wrong behind it.
+fn is_told_at_all(alloc: Global, faulty: Faulty, places: &str) -> Result<bool, AllocError> {
+    let sound = faulty.sound;
     for place in places.split(' ') {
         let place = place.parse::<u32>().unwrap_or(NODES);
-        if !is_told_at(alloc, base, fault, place, node)? {
+        let is_so = is_told(alloc, faulty, 0, place, sound)?
+            && is_told(alloc, faulty, 3, place, sound)?
+            && is_told(alloc, faulty, CLAIMS - 1, place, sound)?;
+        if !is_so {
             return Ok(false);
         }
     }
@@ -122,35 +83,23 @@ fn is_told_at_all(
 /// Whether the fault of the node is told at this place of the last claim but one, where the last node of all is any of the table's with the same base.
 fn is_told_first(
     alloc: Global,
-    base: Base,
-    fault: &str,
-    bad: Bad,
-    others: &str,
+    faulty: Faulty,
+    place: u32,
+    script: &str,
+    base: &str,
 ) -> Result<bool, AllocError> {
-    for last in others.split('\n') {
-        if !is_told(alloc, base, fault, bad, last)? {
+    for line in script.lines() {
+        let (head, last) = line.split_once('=').unwrap_or((line, ""));
+        let is_other = head.starts_with("node ") && head.split(' ').nth(2).unwrap_or("") == base;
+        if is_other && !is_told(alloc, faulty, CLAIMS - 2, place, last)? {
             return Ok(false);
         }
     }
     Ok(true)
 }
 
-/// The nodes of the table with this base, a line each.
-fn others_of(alloc: Global, script: &str, wanted: &str) -> Result<String, AllocError> {
-    let mut nodes = String::new(alloc);
-    for line in script.lines() {
-        if let Some((head, node)) = line.split_once('=') {
-            let base = head.split(' ').nth(2).unwrap_or("");
-            if head.starts_with("node ") && base == wanted {
-                nodes.push_str(if nodes.is_empty() { "" } else { "\n" })?;
-                nodes.push_str(node)?;
-            }
-        }
-    }
-    Ok(nodes)
-}
-
 /// Whether a node is as is told, `FAULT BASE PLACES=NODE`: it has the fault at each of the places, and at the first of them before any other node.
+/// The base is a game, a claim and a sound node, with `#` between them.
 pub(crate) fn is_node_so(
     alloc: Global,
     texts: &[Named],
@@ -159,18 +108,19 @@ pub(crate) fn is_node_so(
 ) -> Result<bool, AllocError> {
     let (head, node) = told.split_once('=').unwrap_or((told, ""));
     let (fault, rest) = cut(head);
-    let (name, places) = cut(rest);
-    let base = base_of(lines_of(texts, name));
+    let (base, places) = cut(rest);
+    let (game, rest) = lines_of(texts, base)
+        .split_once("\n#\n")
+        .unwrap_or(("", ""));
+    let (claim, sound) = rest.split_once("\n#\n").unwrap_or((rest, ""));
+    let faulty = Faulty {
+        fault,
+        node,
+        game,
+        claim,
+        sound,
+    };
     let (first, _) = cut(places);
     let place = first.parse::<u32>().unwrap_or(NODES);
-    let others = others_of(alloc, script, name)?;
-    let bad = Bad {
-        claim: CLAIMS - 2,
-        place,
-        node,
-    };
-    Ok(
-        is_told_at_all(alloc, base, fault, places, node)?
-            && is_told_first(alloc, base, fault, bad, others.as_str())?,
-    )
+    Ok(is_told_at_all(alloc, faulty, places)? && is_told_first(alloc, faulty, place, script, base)?)
 }

@@ -1,19 +1,21 @@
 //! Two positions on the same lines, of which the first rests on the second by `weaker`.
 use crate::entries::cut;
-use crate::runs::ran;
+use crate::held::{Held, holding};
+use crate::runs::logged;
 use crate::values::is_won;
 use pg_base::Side;
 use std::alloc::{AllocError, Global};
 
 /// A certificate with this claim, whose root stands behind the nodes of a certificate of one claim and rests on the last of them, and the root's number.
-fn resting(alloc: Global, solved: &str, claim: &str, root: &str) -> Option<(String, u32)> {
-    let (_first, lines) = solved.split_once(';')?;
-    let (_claim, lines) = lines.split_once(';')?;
-    let (count, nodes) = lines.split_once(';')?;
+fn resting(alloc: Global, solved: &[u8], claim: &str, root: &str) -> Option<(String, u32)> {
+    let solved = str::from_utf8(solved).ok()?;
+    let (_first, lines) = solved.split_once('\n')?;
+    let (_claim, lines) = lines.split_once('\n')?;
+    let (count, nodes) = lines.split_once('\n')?;
     let count = count.strip_prefix("nodes ")?.parse::<u32>().ok()?;
     let (last, next) = (count.checked_sub(1)?, count.checked_add(1)?);
     let text = format!(in alloc;
-        "posgame-cert 2;claim {claim};nodes {next};{nodes}{root}weaker {last};"
+        "posgame-cert 2\nclaim {claim}\nnodes {next}\n{nodes}{root}weaker {last}\n"
     ).ok()?;
     Some((text, count))
 }
@@ -25,31 +27,32 @@ fn rested(
     claim: &str,
     root: &str,
 ) -> Result<Option<(String, u32)>, AllocError> {
-    let solved = ran(alloc, "solve G C", other, "", "")?;
-    Ok(resting(alloc, solved.certificate.as_str(), claim, root))
+    let mut files = holding(alloc, other, "")?;
+    let _ = logged(alloc, "solve G C", &mut files, "")?;
+    let solved = files.files.bytes_of("C").unwrap_or(&[]);
+    Ok(resting(alloc, solved, claim, root))
 }
 
 /// Whether the certificate is accepted and the side plays to this result, where there is a word for it; or its node is rejected.
 fn is_so(
     alloc: Global,
     word: &str,
-    game: &str,
     claim: &str,
-    certificate: &str,
     number: u32,
+    files: &mut Held,
 ) -> Result<bool, AllocError> {
-    let checked = ran(alloc, "check G C", game, certificate, "")?;
+    let checked = logged(alloc, "check G C", files, "")?;
     let due = if word == "rejected" {
-        format!(in alloc; "4;rejected J13 claim 0 node {number};")?
+        format!(in alloc; "status 4\nsays rejected J13 claim 0 node {number};\n")?
     } else {
-        format!(in alloc; "0;accepted {claim};")?
+        format!(in alloc; "status 0\nsays accepted {claim};\n")?
     };
-    if checked.log.as_str() != due.as_str() {
+    if checked.as_str() != due.as_str() {
         return Ok(false);
     }
     match word {
-        "maker" => is_won(alloc, Side::X, word, game, certificate),
-        "breaker" => is_won(alloc, Side::Y, word, game, certificate),
+        "maker" => is_won(alloc, Side::X, word, files),
+        "breaker" => is_won(alloc, Side::Y, word, files),
         _ => Ok(true),
     }
 }
@@ -65,8 +68,9 @@ pub(crate) fn is_pair_so(alloc: Global, told: &str) -> Result<bool, AllocError> 
     let root = parts.next().unwrap_or("");
     let game = format!(in alloc; "posgame 1;kind maker-breaker;{field};{game};")?;
     let other = format!(in alloc; "posgame 1;kind maker-breaker;{field};{other};")?;
-    match rested(alloc, other.as_str(), claim, root)? {
-        Some((text, number)) => is_so(alloc, word, game.as_str(), claim, text.as_str(), number),
-        None => Ok(false),
-    }
+    let Some((text, number)) = rested(alloc, other.as_str(), claim, root)? else {
+        return Ok(false);
+    };
+    let mut files = holding(alloc, game.as_str(), text.as_str())?;
+    is_so(alloc, word, claim, number, &mut files)
 }

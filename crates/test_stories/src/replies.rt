@@ -1,11 +1,12 @@
 //! Plays against every list of replies.
 use crate::came::{Fails, came};
+use crate::entries::cut;
 use crate::texts::Named;
 use std::alloc::{AllocError, Global};
 use std::fmt::Write;
 
 /// How far a play with certain replies comes.
-#[derive(Debug, Drop)]
+#[derive(Drop)]
 enum Ending {
     /// One of them was refused.
     Refused,
@@ -29,7 +30,11 @@ fn play(
     for reply in replies {
         write!(told, "{reply};")?;
     }
-    let came = came(alloc, texts, told.as_str(), &Fails::none(alloc))?;
+    let none = Fails {
+        files: &[],
+        console: &[],
+    };
+    let came = came(alloc, texts, told.as_str(), "", none)?;
     let due = format!(in alloc; "says result {winner};")?;
     if came.as_str().contains("says refused") {
         Ok(Ending::Refused)
@@ -57,15 +62,18 @@ fn raise(replies: &mut Vec<u16>, points: u16) -> Result<bool, AllocError> {
     Ok(false)
 }
 
-/// What comes of the first play of the row's run that doesn't end with this winner, of the plays against every list of replies
-/// below so many points; or that no play ends at all.
-fn first_lost(
+/// What comes of the first play of the row's run that isn't as due, of the plays against every list of replies, or that no play ends at all. The entry says how
+/// many points there are and who is to win.
+pub(crate) fn first_wrong_play(
     alloc: Global,
     texts: &[Named],
     row: &str,
-    points: u16,
-    winner: &str,
+    told: &str,
 ) -> Result<Option<String>, AllocError> {
+    let (points, winner) = cut(told);
+    let Ok(points) = points.parse::<u16>() else {
+        return Ok(Some(String::from_str(alloc, "replies below what number?")?));
+    };
     let mut replies = Vec::new(alloc);
     let mut won = false;
     for _play in 0..u32::MAX {
@@ -89,18 +97,4 @@ fn first_lost(
         return Ok(None);
     }
     Ok(Some(String::from_str(alloc, "no play ends")?))
-}
-
-/// What comes of the first play that isn't as due, where the entry says how many points there are and who is to win.
-pub(crate) fn first_wrong_play(
-    alloc: Global,
-    texts: &[Named],
-    row: &str,
-    told: &str,
-) -> Result<Option<String>, AllocError> {
-    let (points, winner) = crate::entries::cut(told);
-    match points.parse::<u16>() {
-        Ok(points) => first_lost(alloc, texts, row, points, winner),
-        Err(_) => Ok(Some(String::from_str(alloc, "replies below what number?")?)),
-    }
 }

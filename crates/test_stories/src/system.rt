@@ -1,18 +1,14 @@
 //! Runs on the files and the console of the system.
-use crate::came::words_of;
-use pg_cli::run;
+use crate::runs::status_of;
 use pg_io::{HostConsole, HostFiles};
-use pg_pns::Work;
 use std::io;
 
 /// Carries out a run on these words, which are said first; last its status, where that isn't 0.
 pub(crate) fn carry_out(rt: &HostRuntime, words: &str) -> io::Result<()> {
     println!(rt; "{words}:")?;
-    let words = words_of(rt.alloc(), words)?;
     let mut files = HostFiles::new(rt);
     let mut console = HostConsole::new(rt);
-    let mut work = Work::new(rt.alloc());
-    let status = run(rt.alloc(), &words, &mut files, &mut console, &mut work);
+    let status = status_of(rt.alloc(), words, &mut files, &mut console)?;
     if status != 0 {
         println!(rt; "status {status}")?;
     }

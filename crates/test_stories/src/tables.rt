@@ -1,6 +1,6 @@
 //! The lines of tables, each of which stands for several runs.
 use crate::entries::cut;
-use crate::faults::{is_fault_so, is_form_so, is_span_form_so};
+use crate::faults::{is_fault_so, is_form_so};
 use crate::nodes::is_node_so;
 use crate::pairs::is_pair_so;
 use crate::pieces::are_pieces_so;
@@ -18,8 +18,8 @@ fn is_so(
 ) -> Result<Option<bool>, AllocError> {
     let (word, told) = cut(line);
     Ok(match word {
-        "form" => Some(is_form_so(alloc, texts, told)?),
-        "span-form" => Some(is_span_form_so(alloc, texts, told)?),
+        "form" => Some(is_form_so(alloc, texts, told, false)?),
+        "span-form" => Some(is_form_so(alloc, texts, told, true)?),
         "fault" => Some(is_fault_so(alloc, texts, told)?),
         "node" => Some(is_node_so(alloc, texts, script, told)?),
         "value" => Some(is_value_so(alloc, told)?),

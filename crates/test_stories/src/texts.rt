@@ -3,7 +3,7 @@ use crate::entries::cut;
 use std::alloc::{AllocError, Global};
 
 /// A text with its name.
-#[derive(Debug, Drop)]
+#[derive(Drop)]
 pub(crate) struct Named {
     name: String,
     text: String,
@@ -15,7 +15,9 @@ pub(crate) fn folded(alloc: Global, script: &str) -> Result<String, AllocError> 
     let mut text = String::new(alloc);
     for line in script.lines() {
         if line.starts_with("  ") {
-            push_further(&mut text, line.trim())?;
+            text.push(' ')?;
+            text.push_str(line.trim())?;
+            text.push(';')?;
         } else if !line.is_empty() && !line.starts_with('#') {
             text.push('\n')?;
             text.push_str(line)?;
@@ -24,31 +26,18 @@ pub(crate) fn folded(alloc: Global, script: &str) -> Result<String, AllocError> 
     Ok(text)
 }
 
-/// Adds a line of a text that goes on.
-fn push_further(text: &mut String, line: &str) -> Result<(), AllocError> {
-    text.push(' ')?;
-    text.push_str(line)?;
-    text.push(';')
-}
-
-/// The texts that the script names, each by a line `text NAME TEXT`.
+/// The texts that the script names, each by a line `text NAME TEXT`. Its lines may stand for those of the texts before it.
 pub(crate) fn texts_of(alloc: Global, script: &str) -> Result<Vec<Named>, AllocError> {
     let mut texts = Vec::new(alloc);
     for line in script.lines() {
         if let Some(told) = line.strip_prefix("text ") {
-            let text = define(alloc, &texts, told)?;
-            texts.push(text)?;
+            let (name, told) = cut(told);
+            let text = value(alloc, &texts, told)?;
+            let name = String::from_str(alloc, name)?;
+            texts.push(Named { name, text })?;
         }
     }
     Ok(texts)
-}
-
-/// The text that a line names. Its own lines may stand for those of the texts before it.
-fn define(alloc: Global, texts: &[Named], told: &str) -> Result<Named, AllocError> {
-    let (name, told) = cut(told);
-    let name = String::from_str(alloc, name)?;
-    let text = value(alloc, texts, told)?;
-    Ok(Named { name, text })
 }
 
 /// The lines of the text with this name, without the last line feed: a word that says so where none has it.
@@ -71,26 +60,22 @@ pub(crate) fn value(alloc: Global, texts: &[Named], told: &str) -> Result<String
             text.push('\n')?;
         }
         is_later = true;
-        push_line(&mut text, texts, line.trim())?;
+        let line = line.trim();
+        if let Some(name) = line.strip_prefix("@") {
+            text.push_str(lines_of(texts, name))?;
+        } else if let Some(rest) = line.strip_prefix("*") {
+            let (count, line) = cut(rest);
+            push_lines(&mut text, count.parse::<u32>().unwrap_or(0), line)?;
+        } else {
+            push_signs(&mut text, line)?;
+        }
     }
     Ok(text)
 }
 
-/// Adds a line that is told, or the lines for which it stands.
-fn push_line(text: &mut String, texts: &[Named], told: &str) -> Result<(), AllocError> {
-    if let Some(name) = told.strip_prefix("@") {
-        return text.push_str(lines_of(texts, name));
-    }
-    match told.strip_prefix("*") {
-        Some(rest) => push_lines(text, rest),
-        None => push_signs(text, told),
-    }
-}
-
-/// Adds a line as often as the number before it says.
-fn push_lines(text: &mut String, told: &str) -> Result<(), AllocError> {
-    let (count, line) = cut(told);
-    for number in 0..count.parse::<u32>().unwrap_or(0) {
+/// Adds a line so many times.
+fn push_lines(text: &mut String, count: u32, line: &str) -> Result<(), AllocError> {
+    for number in 0..count {
         if number > 0 {
             text.push('\n')?;
         }
@@ -104,22 +89,17 @@ fn push_signs(text: &mut String, told: &str) -> Result<(), AllocError> {
     let mut is_named = false;
     for sign in told.chars() {
         if is_named {
-            text.push(sign_of(sign))?;
+            text.push(match sign {
+                's' => ' ',
+                't' => '\t',
+                'r' => '\r',
+                'd' => '\u{7f}',
+                _ => sign,
+            })?;
         } else if sign != '\\' {
             text.push(sign)?;
         }
         is_named = !is_named && sign == '\\';
     }
     Ok(())
-}
-
-/// The sign that stands behind `\` under this letter.
-fn sign_of(letter: char) -> char {
-    match letter {
-        's' => ' ',
-        't' => '\t',
-        'r' => '\r',
-        'd' => '\u{7f}',
-        _ => letter,
-    }
 }

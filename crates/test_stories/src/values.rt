@@ -1,19 +1,49 @@
 //! Small games with their values: each is solved, what is stored is checked, and played to its end against replies drawn at random.
 use crate::entries::cut;
-use crate::generator::replies;
-use crate::legal::is_legal;
-use crate::runs::{bytes_of, ran};
+use crate::held::{Held, holding};
+use crate::runs::logged;
 use pg_base::Side;
 use pg_files::read_game;
+use pg_game::Game;
 use std::alloc::{AllocError, Global};
+use std::fmt::Write;
 
-/// Whether the moves and replies of a logged play are legal.
-fn is_legal_play(alloc: Global, game: &str, side: Side, log: &str) -> Result<bool, AllocError> {
-    let bytes = bytes_of(alloc, game)?;
-    match read_game(alloc, &bytes) {
-        Ok(g) => Ok(is_legal(&g, side, log)),
-        Err(_) => Ok(false),
+/// Ninety replies below nine, of which some are no point of a game with few points, and some are taken when they come. They are drawn by the linear
+/// congruential generator that the standard of C prints as an example.
+fn replies(alloc: Global, seed: u64) -> Result<String, AllocError> {
+    let mut state = seed;
+    let mut text = String::new(alloc);
+    for _ in 0..90 {
+        state = state.wrapping_mul(1_103_515_245).wrapping_add(12_345) % 2_147_483_648;
+        let v = state / 65_536 % 9;
+        write!(text, "{v}\n")?;
     }
+    Ok(text)
+}
+
+/// Whether the own moves of a logged play are legal, and its replies, each where the side is to move; but those that are refused.
+fn is_legal(g: &Game, side: Side, log: &str) -> bool {
+    let mut p = g.start();
+    let mut is_refusal_due = false;
+    for line in log.lines() {
+        if line.starts_with("says refused") != is_refusal_due {
+            return false;
+        }
+        let (mover, number) = match line.strip_prefix("says move ") {
+            Some(number) => (side, number.strip_suffix(";").unwrap_or(number)),
+            None => (side.other(), line.strip_prefix("hears ").unwrap_or("")),
+        };
+        let v = number.parse::<u16>().unwrap_or(1000);
+        let is_legal = p.turn == mover && v < g.points() && p.is_free(v);
+        if is_legal {
+            p = p.after(g.bias, v);
+        } else if mover == side {
+            return false;
+        }
+        let (word, _) = cut(line);
+        is_refusal_due = !is_legal && matches!(word, "hears" | "skips" | "ended");
+    }
+    !is_refusal_due
 }
 
 /// Whether the side plays legally by the certificate against these replies, and to this result.
@@ -21,18 +51,22 @@ fn is_won_against(
     alloc: Global,
     side: Side,
     due: &str,
-    game: &str,
-    certificate: &str,
+    files: &mut Held,
     replies: &str,
 ) -> Result<bool, AllocError> {
     let words = match side {
         Side::X => "play G C --side x",
         Side::Y => "play G C --side y",
     };
-    let played = ran(alloc, words, game, certificate, replies)?;
-    let log = played.log.as_str();
-    let is_won = log.starts_with("0;claim") && log.ends_with(due);
-    Ok(is_won && is_legal_play(alloc, game, side, log)?)
+    let log = logged(alloc, words, files, replies)?;
+    let log = log.as_str();
+    if !log.starts_with("status 0\nsays claim") || !log.ends_with(due) {
+        return Ok(false);
+    }
+    match read_game(alloc, files.files.bytes_of("G").unwrap_or(&[])) {
+        Ok(g) => Ok(is_legal(&g, side, log)),
+        Err(_) => Ok(false),
+    }
 }
 
 /// Whether the side plays so in ten plays against drawn replies.
@@ -40,39 +74,34 @@ pub(crate) fn is_won(
     alloc: Global,
     side: Side,
     word: &str,
-    game: &str,
-    certificate: &str,
+    files: &mut Held,
 ) -> Result<bool, AllocError> {
-    let due = format!(in alloc; "result {word};")?;
+    let due = format!(in alloc; "says result {word};\n")?;
     for seed in 0..10 {
         let replies = replies(alloc, seed)?;
-        if !is_won_against(
-            alloc,
-            side,
-            due.as_str(),
-            game,
-            certificate,
-            replies.as_str(),
-        )? {
+        if !is_won_against(alloc, side, due.as_str(), files, replies.as_str())? {
             return Ok(false);
         }
     }
     Ok(true)
 }
 
-/// The certificate that is stored where the game is solved with this result, and is accepted.
-fn certificate(alloc: Global, word: &str, game: &str) -> Result<Option<String>, AllocError> {
-    let due = format!(in alloc; "0;result {word};")?;
-    let solved = ran(alloc, "solve G C", game, "", "")?;
-    if solved.log.as_str() != due.as_str() {
-        return Ok(None);
+/// Whether the game is solved with this result, what is stored is accepted, and the side, if one is named, plays to it.
+fn is_solved(alloc: Global, word: &str, side: &str, files: &mut Held) -> Result<bool, AllocError> {
+    let due = format!(in alloc; "status 0\nsays result {word};\n")?;
+    let solved = logged(alloc, "solve G C", files, "")?;
+    if solved.as_str() != due.as_str() {
+        return Ok(false);
     }
-    let checked = ran(alloc, "check G C", game, solved.certificate.as_str(), "")?;
-    Ok(if checked.log.as_str().starts_with("0;accepted") {
-        Some(solved.certificate)
-    } else {
-        None
-    })
+    let checked = logged(alloc, "check G C", files, "")?;
+    if !checked.as_str().starts_with("status 0\nsays accepted") {
+        return Ok(false);
+    }
+    match side {
+        "x" => is_won(alloc, Side::X, word, files),
+        "y" => is_won(alloc, Side::Y, word, files),
+        _ => Ok(true),
+    }
 }
 
 /// Whether a game is as is told, `WORD SIDE=GAME`: it is solved with this result, and the side, if one is named, plays to it.
@@ -80,13 +109,6 @@ pub(crate) fn is_value_so(alloc: Global, told: &str) -> Result<bool, AllocError>
     let (head, game) = told.split_once('=').unwrap_or((told, ""));
     let (word, side) = cut(head);
     let game = format!(in alloc; "posgame 1;{game}")?;
-    let game = game.as_str();
-    let Some(certificate) = certificate(alloc, word, game)? else {
-        return Ok(false);
-    };
-    match side {
-        "x" => is_won(alloc, Side::X, word, game, certificate.as_str()),
-        "y" => is_won(alloc, Side::Y, word, game, certificate.as_str()),
-        _ => Ok(true),
-    }
+    let mut files = holding(alloc, game.as_str(), "")?;
+    is_solved(alloc, word, side, &mut files)
 }
