@@ -1,6 +1,6 @@
 //! What comes of the runs of a row, in the words of its entries.
 use crate::entries::{cut, entry, is_of_a_file, push_shown};
-use crate::held::{Held, file, held};
+use crate::held::{Held, file, held_files};
 use crate::runs::push_run;
 use crate::texts::{Named, value};
 use pg_io::Files;
@@ -24,7 +24,7 @@ fn files_of(alloc: Global, texts: &[Named], row: &str, fails: &[u64]) -> Result<
             files.push(file(alloc, name, text.as_str())?)?;
         }
     }
-    held(alloc, files, fails)
+    held_files(alloc, files, fails)
 }
 
 /// Adds what is left of each file of which something is due.

@@ -45,7 +45,7 @@ impl Files for Held {
 }
 
 /// These files, of whose calls those with these numbers fail. A read gives as many bytes as there is room for.
-pub(crate) fn held(
+pub(crate) fn held_files(
     alloc: Global,
     files: Vec<(Text, Text)>,
     fails: &[u64],
@@ -70,5 +70,5 @@ pub(crate) fn holding(alloc: Global, game: &str, certificate: &str) -> Result<He
     let mut files = Vec::new(alloc);
     files.push(file(alloc, "G", game)?)?;
     files.push(file(alloc, "C", certificate)?)?;
-    held(alloc, files, &[])
+    held_files(alloc, files, &[])
 }
