@@ -6,7 +6,7 @@ use std::alloc::Global;
 use test_kit::{game, numbers, part, set, side, word};
 
 /// Whether the row tells the outcome at the marks.
-pub(crate) fn has_outcome(alloc: Global, row: &str) -> Option<bool> {
+fn has_outcome(alloc: Global, row: &str) -> Option<bool> {
     let g = game(alloc, row)?;
     let mut judge = Judge::new(alloc, &g).ok()?;
     let told = match judge.over(&g, &g.start()) {
@@ -41,7 +41,7 @@ fn judged(alloc: Global, g: &Game, p: &Position, v: u16) -> Option<Result<Positi
 }
 
 /// Whether the moves of a row are answered as it tells.
-pub(crate) fn has_answers(alloc: Global, row: &str) -> Option<bool> {
+fn has_answers(alloc: Global, row: &str) -> Option<bool> {
     let g = game(alloc, row)?;
     let mut p = g.start();
     for text in part(row, 4).split(',') {
@@ -69,7 +69,7 @@ fn after_moves(g: &Game, points: &[u16]) -> Position {
 }
 
 /// Whether the row tells the free points and the lines.
-pub(crate) fn has_free(alloc: Global, row: &str) -> Option<bool> {
+fn has_free(alloc: Global, row: &str) -> Option<bool> {
     let g = game(alloc, row)?;
     let p = after_moves(&g, &numbers(alloc, part(row, 4))?);
     let due = part(row, 5);
@@ -101,7 +101,7 @@ pub(crate) fn fits(alloc: Global, row: &str) -> Option<bool> {
 }
 
 /// Whether the row tells whether the game with a grid fits.
-pub(crate) fn grid_fits(alloc: Global, row: &str) -> Option<bool> {
+fn grid_fits(alloc: Global, row: &str) -> Option<bool> {
     let head = part(row, 0);
     let width = word(head, 0).parse::<u16>().ok()?;
     let points = word(head, 1).parse::<u16>().ok()?;
@@ -113,13 +113,13 @@ pub(crate) fn grid_fits(alloc: Global, row: &str) -> Option<bool> {
 }
 
 /// Whether a turn of several points begins as the game does, and with as many points left as the bias says.
-pub(crate) fn turns_begin(alloc: Global, row: &str) -> Option<bool> {
+fn turns_begin(alloc: Global, row: &str) -> Option<bool> {
     let g = game(alloc, row)?;
     Some(g.with_turn(Side::Y).left == g.bias && g.start().is_same(&g.with_turn(g.turn)))
 }
 
 /// Whether the points of two rows make lines, of which the first is the one that the row tells, or a point stands twice.
-pub(crate) fn are_ordered(alloc: Global, row: &str) -> Option<bool> {
+fn are_ordered(alloc: Global, row: &str) -> Option<bool> {
     let first = numbers(alloc, part(row, 0))?;
     let second = numbers(alloc, part(row, 1))?;
     let due = part(row, 2);
@@ -130,5 +130,27 @@ pub(crate) fn are_ordered(alloc: Global, row: &str) -> Option<bool> {
             Some(ordered && field.lines.as_slice().len() == 2)
         }
         Err(fault) => Some(fault == LineFault::Repeated && due == "repeated"),
+    }
+}
+
+/// Whether the row is as it tells, of the question that the word names; None where it names none, the row can't be read, or no
+/// memory is found.
+pub(crate) fn is_so(alloc: Global, question: &str, row: &str) -> Option<bool> {
+    match question {
+        // the outcome at a position.
+        "outcomes" => has_outcome(alloc, row),
+        // what a judge answers to moves.
+        "moves" => has_answers(alloc, row),
+        // which points are free.
+        "free" => has_free(alloc, row),
+        // which games are within the limits.
+        "fits" => fits(alloc, row),
+        // which grids and marks are.
+        "grids" => grid_fits(alloc, row),
+        // how turns of several points begin.
+        "turns" => turns_begin(alloc, row),
+        // points of lines in any order.
+        "orders" => are_ordered(alloc, row),
+        _ => None,
     }
 }

@@ -87,7 +87,7 @@ fn is_so(alloc: Global, joiner: &mut Joiner, graph: &Graph, question: &str) -> O
 }
 
 /// Whether one joiner answers all questions of the row as they tell.
-pub(crate) fn are_so(alloc: Global, row: &str) -> Option<bool> {
+fn are_so(alloc: Global, row: &str) -> Option<bool> {
     let g = game(alloc, row)?;
     let Field::Graph(graph) = &g.field else {
         return None;
@@ -116,7 +116,7 @@ fn has_ends(alloc: Global, graph: &Graph, text: &str) -> Option<bool>
 }
 
 /// Whether the graph of the row has as many edges as it tells, and with the ends that it tells.
-pub(crate) fn have_ends(alloc: Global, row: &str) -> Option<bool> {
+fn have_ends(alloc: Global, row: &str) -> Option<bool> {
     let g = game(alloc, row)?;
     let Field::Graph(graph) = &g.field else {
         return None;
@@ -132,4 +132,16 @@ pub(crate) fn have_ends(alloc: Global, row: &str) -> Option<bool> {
         }
     }
     Some(true)
+}
+
+/// Whether the row is as it tells, of the question that the word names; None where it names none, the row can't be read, or no
+/// memory is found.
+pub(crate) fn is_so(alloc: Global, question: &str, row: &str) -> Option<bool> {
+    match question {
+        // what joins, crosses, parts and bridges.
+        "joiner" => are_so(alloc, row),
+        // the ends of edges.
+        "ends" => have_ends(alloc, row),
+        _ => None,
+    }
 }

@@ -7,10 +7,10 @@ use std::alloc::Global;
 use test_kit::{part, set, side, word};
 
 /// The lines before the node of a claim that has one.
-pub(crate) const ONE_NODE: &str = "posgame-cert 3;claim x y win;nodes 1;";
+const ONE_NODE: &str = "posgame-cert 3;claim x y win;nodes 1;";
 
 /// A certificate of eight claims.
-pub(crate) const EIGHT_CLAIMS: &str = "posgame-cert 3;\
+const EIGHT_CLAIMS: &str = "posgame-cert 3;\
 claim x y win;nodes 1;||x|image 0 0;\
 claim x y win;nodes 1;||x|image 0 0;\
 claim x y win;nodes 1;||x|image 0 0;\
@@ -44,7 +44,7 @@ fn answer(alloc: Global, text: &[u8]) -> Result<String, Memory> {
 }
 
 /// Whether the text of the row, behind this head, has the row's fault. A row is the fault, then `=`, then the text.
-pub(crate) fn has_fault(alloc: Global, head: &str, row: &str) -> Option<bool> {
+fn has_fault(alloc: Global, head: &str, row: &str) -> Option<bool> {
     let (fault, text) = row.split_once('=')?;
     let whole = bytes_of(alloc, head, text).ok()?;
     Some(answer(alloc, &whole).ok()?.as_str() == fault)
@@ -59,7 +59,7 @@ fn prints_back(alloc: Global, text: &[u8]) -> Result<bool, Memory> {
 }
 
 /// Whether the file of the row, behind its first line, is printed as it is read.
-pub(crate) fn is_printed_back(alloc: Global, row: &str) -> Option<bool> {
+fn is_printed_back(alloc: Global, row: &str) -> Option<bool> {
     let text = bytes_of(alloc, "posgame-cert 3;", row).ok()?;
     prints_back(alloc, &text).ok()
 }
@@ -98,7 +98,7 @@ fn is_image(alloc: Global, row: &str, node: &ImageNode) -> Option<bool> {
 }
 
 /// Whether an image is read with each of its numbers in its place.
-pub(crate) fn has_numbers(alloc: Global, row: &str) -> Option<bool> {
+fn has_numbers(alloc: Global, row: &str) -> Option<bool> {
     let text = bytes_of(alloc, ONE_NODE, part(row, 0)).ok()?;
     let Ok(cert) = read_image(alloc, &text) else {
         return None;
@@ -110,4 +110,22 @@ pub(crate) fn has_numbers(alloc: Global, row: &str) -> Option<bool> {
         return None;
     };
     is_image(alloc, row, node)
+}
+
+/// Whether the row is as it tells, of the question that the word names; None where it names none, the row can't be read, or no
+/// memory is found.
+pub(crate) fn is_so(alloc: Global, question: &str, row: &str) -> Option<bool> {
+    match question {
+        // the faults of whole files.
+        "files" => has_fault(alloc, "", row),
+        // the faults of a node.
+        "nodes" => has_fault(alloc, ONE_NODE, row),
+        // the faults of what stands behind eight claims.
+        "ninth-claims" => has_fault(alloc, EIGHT_CLAIMS, row),
+        // files that are printed as they are read.
+        "printed" => is_printed_back(alloc, row),
+        // the numbers of an image.
+        "numbers" => has_numbers(alloc, row),
+        _ => None,
+    }
 }

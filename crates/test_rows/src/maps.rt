@@ -33,7 +33,7 @@ fn image(m: GridMap, grid: Grid, point: u16) -> Option<u16> {
 }
 
 /// Whether the map of the row has the images that it tells, and is the map of its number.
-pub(crate) fn has_images(alloc: Global, row: &str) -> Option<bool> {
+fn has_images(alloc: Global, row: &str) -> Option<bool> {
     let head = part(row, 0);
     let (grid, m) = (board(head)?, map_at(head, 2)?);
     let mut images = Vec::new(alloc);
@@ -47,7 +47,7 @@ pub(crate) fn has_images(alloc: Global, row: &str) -> Option<bool> {
 }
 
 /// Whether the row tells no map of its board.
-pub(crate) fn is_no_map(row: &str) -> Option<bool> {
+fn is_no_map(row: &str) -> Option<bool> {
     let grid = board(row)?;
     match map_at(row, 2) {
         Some(m) => Some(!m.is_map_of(grid)),
@@ -56,12 +56,12 @@ pub(crate) fn is_no_map(row: &str) -> Option<bool> {
 }
 
 /// Whether the row tells one map and then another.
-pub(crate) fn is_followed(row: &str) -> Option<bool> {
+fn is_followed(row: &str) -> Option<bool> {
     Some(map_at(row, 0)?.followed_by(map_at(row, 1)?) == map_at(row, 2)?)
 }
 
 /// Whether the row tells what undoes a map.
-pub(crate) fn is_undone(row: &str) -> Option<bool> {
+fn is_undone(row: &str) -> Option<bool> {
     Some(map_at(row, 0)?.reverse() == map_at(row, 1)?)
 }
 
@@ -81,7 +81,7 @@ fn image_on_three(m: GridMap, x: PointSet, y: PointSet) -> Position {
 }
 
 /// Whether the row tells the image of its position.
-pub(crate) fn has_image(alloc: Global, row: &str) -> Option<bool> {
+fn has_image(alloc: Global, row: &str) -> Option<bool> {
     let m = map_at(part(row, 0), 0)?;
     let image = image_on_three(m, set(alloc, part(row, 1))?, set(alloc, part(row, 2))?);
     let sides = image.x == set(alloc, part(row, 3))? && image.y == set(alloc, part(row, 4))?;
@@ -126,7 +126,27 @@ fn numbers_of_maps(alloc: Global, g: &Game) -> Option<String> {
 }
 
 /// Whether exactly the maps of the row fit its game.
-pub(crate) fn has_maps(alloc: Global, row: &str) -> Option<bool> {
+fn has_maps(alloc: Global, row: &str) -> Option<bool> {
     let g = game(alloc, row)?;
     Some(numbers_of_maps(alloc, &g)?.as_str() == part(row, 3))
+}
+
+/// Whether the row is as it tells, of the question that the word names; None where it names none, the row can't be read, or no
+/// memory is found.
+pub(crate) fn is_so(alloc: Global, question: &str, row: &str) -> Option<bool> {
+    match question {
+        // the images of points.
+        "images" => has_images(alloc, row),
+        // which maps a board lacks.
+        "no-maps" => is_no_map(row),
+        // one map and then another.
+        "followed" => is_followed(row),
+        // what undoes a map.
+        "reverses" => is_undone(row),
+        // the images of positions.
+        "positions" => has_image(alloc, row),
+        // which maps fit a game.
+        "fitting" => has_maps(alloc, row),
+        _ => None,
+    }
 }

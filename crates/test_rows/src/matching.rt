@@ -58,7 +58,7 @@ fn answers_twice(alloc: Global, g: &Game, answer: &str) -> Result<bool, Memory> 
 }
 
 /// Whether matching gives the answer of the row, and a cache gives it twice.
-pub(crate) fn is_answered_twice(alloc: Global, row: &str) -> Option<bool> {
+fn is_answered_twice(alloc: Global, row: &str) -> Option<bool> {
     let g = game(alloc, row)?;
     answers_twice(alloc, &g, part(row, 4)).ok()
 }
@@ -77,7 +77,7 @@ fn with_others(alloc: Global, g: &Game) -> Result<String, Memory> {
 }
 
 /// Whether the pairs and those of the rest are as the row tells.
-pub(crate) fn has_rest(alloc: Global, row: &str) -> Option<bool> {
+fn has_rest(alloc: Global, row: &str) -> Option<bool> {
     let g = game(alloc, row)?;
     Some(with_others(alloc, &g).ok()?.as_str() == part(row, 4))
 }
@@ -104,8 +104,22 @@ fn leaf_matches(alloc: Global, g: &Game, exist: bool) -> Result<bool, Memory> {
 }
 
 /// Whether the lines without a point of Y have private pairs exactly where the row says so.
-pub(crate) fn is_family_so(alloc: Global, row: &str) -> Option<bool> {
+fn is_family_so(alloc: Global, row: &str) -> Option<bool> {
     let g = game(alloc, row)?;
     let exist = part(row, 4) == "yes";
     Some(matches(alloc, &g, exist).ok()? && leaf_matches(alloc, &g, exist).ok()?)
+}
+
+/// Whether the row is as it tells, of the question that the word names; None where it names none, the row can't be read, or no
+/// memory is found.
+pub(crate) fn is_so(alloc: Global, question: &str, row: &str) -> Option<bool> {
+    match question {
+        // what matching answers.
+        "pairs" => is_answered_twice(alloc, row),
+        // private pairs with those of the rest.
+        "rest" => has_rest(alloc, row),
+        // whether there are private pairs.
+        "families" => is_family_so(alloc, row),
+        _ => None,
+    }
 }

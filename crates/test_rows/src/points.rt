@@ -23,7 +23,7 @@ fn names_kind(word: &str, kind: Kind) -> bool {
 }
 
 /// Whether the row's second word names what the row tells.
-pub(crate) fn is_word_so(row: &str) -> bool {
+fn is_word_so(row: &str) -> bool {
     let name = word(row, 1);
     match row {
         "side x" => names_side(name, Side::X),
@@ -42,7 +42,7 @@ pub(crate) fn is_word_so(row: &str) -> bool {
 }
 
 /// Whether the side and the goal are printed as the row tells.
-pub(crate) fn is_claim_so(alloc: Global, row: &str) -> Option<bool> {
+fn is_claim_so(alloc: Global, row: &str) -> Option<bool> {
     let head = part(row, 0);
     let side = side(word(head, 0));
     let claimed = Goal::from_word(word(head, 1).as_bytes())?;
@@ -51,7 +51,7 @@ pub(crate) fn is_claim_so(alloc: Global, row: &str) -> Option<bool> {
 }
 
 /// Whether the values of which the row tells are equal, differ and are ordered as they should be.
-pub(crate) fn is_value_so(row: &str) -> bool {
+fn is_value_so(row: &str) -> bool {
     match row {
         "sides" => {
             Side::X.other() == Side::Y && Side::Y.other() == Side::X && Side::X != Side::Y
@@ -81,7 +81,7 @@ fn has_in_order(line: &Line, points: &[u16]) -> bool {
 }
 
 /// Whether the points make the line that the row tells, which a list of lines holds; or none.
-pub(crate) fn is_line_so(alloc: Global, row: &str) -> Option<bool> {
+fn is_line_so(alloc: Global, row: &str) -> Option<bool> {
     let due = part(row, 1);
     match Line::new(alloc, &numbers(alloc, part(row, 0))?) {
         Ok(line) => {
@@ -103,7 +103,7 @@ fn copied(alloc: Global, points: &[u16]) -> Result<Vec<Vec<u16>>, Memory> {
 }
 
 /// Whether the list has the members of the row.
-pub(crate) fn is_list_so(alloc: Global, row: &str) -> Option<bool> {
+fn is_list_so(alloc: Global, row: &str) -> Option<bool> {
     let (kind, told) = row.split_once(' ')?;
     if kind == "pairs" {
         let kept = Pairs::from_vec(pairs(alloc, told)?);
@@ -135,7 +135,7 @@ fn has_just(set: &PointSet, points: &[u16]) -> bool {
 }
 
 /// Whether the set has its points, and those that the row tells behind the one that is taken out.
-pub(crate) fn is_set_so(alloc: Global, row: &str) -> Option<bool> {
+fn is_set_so(alloc: Global, row: &str) -> Option<bool> {
     let mut points = set(alloc, part(row, 0))?;
     let taken = part(row, 1).parse::<u16>().ok()?;
     if taken >= MAX_MEMBERS {
@@ -149,7 +149,7 @@ pub(crate) fn is_set_so(alloc: Global, row: &str) -> Option<bool> {
 }
 
 /// Whether sets that are made of points at once are as they should be in what the row tells.
-pub(crate) fn is_given_set_so(row: &str) -> bool {
+fn is_given_set_so(row: &str) -> bool {
     let low = PointSet::from_points(&[0, 63]);
     let both = PointSet::from_points(&[0, 63, 64, 1023]);
     match row {
@@ -162,7 +162,7 @@ pub(crate) fn is_given_set_so(row: &str) -> bool {
 }
 
 /// Whether the row tells the first point of the set from a point on, or whether its points are below a limit.
-pub(crate) fn is_first_so(alloc: Global, row: &str) -> Option<bool> {
+fn is_first_so(alloc: Global, row: &str) -> Option<bool> {
     let points = set(alloc, part(row, 0))?;
     let told = part(row, 1);
     let v = word(told, 1).parse::<u16>().ok()?;
@@ -174,7 +174,7 @@ pub(crate) fn is_first_so(alloc: Global, row: &str) -> Option<bool> {
 }
 
 /// Whether the row tells what is so of two sets.
-pub(crate) fn are_two_sets_so(alloc: Global, row: &str) -> Option<bool> {
+fn are_two_sets_so(alloc: Global, row: &str) -> Option<bool> {
     let (a, b) = (set(alloc, part(row, 0))?, set(alloc, part(row, 1))?);
     let due = part(row, 3);
     match part(row, 2) {
@@ -187,7 +187,7 @@ pub(crate) fn are_two_sets_so(alloc: Global, row: &str) -> Option<bool> {
 }
 
 /// Whether the set of all points below the limit of the row has just these.
-pub(crate) fn are_all_below(row: &str) -> Option<bool> {
+fn are_all_below(row: &str) -> Option<bool> {
     let limit = row.parse::<u16>().ok()?;
     if limit > MAX_MEMBERS {
         return None;
@@ -199,4 +199,32 @@ pub(crate) fn are_all_below(row: &str) -> Option<bool> {
         }
     }
     Some(all.len() == u32::from(limit) && all.is_empty() == (limit == 0))
+}
+
+/// Whether the row is as it tells, of the question that the word names; None where it names none, the row can't be read, or no
+/// memory is found.
+pub(crate) fn is_so(alloc: Global, question: &str, row: &str) -> Option<bool> {
+    match question {
+        // what words of sides, goals and kinds name.
+        "words" => Some(is_word_so(row)),
+        // how a side and a goal are printed.
+        "claims" => is_claim_so(alloc, row),
+        // which values are equal, differ and are ordered.
+        "values" => Some(is_value_so(row)),
+        // which lines points make.
+        "lines" => is_line_so(alloc, row),
+        // what lists hold.
+        "lists" => is_list_so(alloc, row),
+        // a set without a point.
+        "sets" => is_set_so(alloc, row),
+        // sets beside points that stand in the program.
+        "given-sets" => Some(is_given_set_so(row)),
+        // the first point of a set from a point on, and whether all are below a limit.
+        "firsts" => is_first_so(alloc, row),
+        // what is so of two sets.
+        "two-sets" => are_two_sets_so(alloc, row),
+        // all points below a limit.
+        "all-below" => are_all_below(row),
+        _ => None,
+    }
 }

@@ -59,12 +59,12 @@ fn listed(alloc: Global, width: u16, height: u16, word: &str) -> Result<String, 
 }
 
 /// Whether the word of the row has as many placements on each board as the row tells.
-pub(crate) fn has_counts(alloc: Global, row: &str) -> Option<bool> {
+fn has_counts(alloc: Global, row: &str) -> Option<bool> {
     Some(counted(alloc, part(row, 0)).ok()?.as_str() == part(row, 1))
 }
 
 /// Whether the word of the row has the placements that the row tells, or as many as it tells.
-pub(crate) fn has_placements(alloc: Global, row: &str) -> Option<bool> {
+fn has_placements(alloc: Global, row: &str) -> Option<bool> {
     let head = part(row, 0);
     let width = word(head, 0).parse::<u16>().ok()?;
     let height = word(head, 1).parse::<u16>().ok()?;
@@ -74,5 +74,17 @@ pub(crate) fn has_placements(alloc: Global, row: &str) -> Option<bool> {
             let listed = listed(alloc, width, height, word(head, 2)).ok()?;
             Some(listed.as_str() == part(row, 1))
         }
+    }
+}
+
+/// Whether the row is as it tells, of the question that the word names; None where it names none, the row can't be read, or no
+/// memory is found.
+pub(crate) fn is_so(alloc: Global, question: &str, row: &str) -> Option<bool> {
+    match question {
+        // how many placements a polyomino has on small boards.
+        "counts" => has_counts(alloc, row),
+        // which placements it has on a board, or how many.
+        "placements" => has_placements(alloc, row),
+        _ => None,
     }
 }
