@@ -13,6 +13,7 @@ mod telling;
 
 use std::alloc::Global;
 use std::io;
+use test_kit::word;
 
 /// Whether the row is as it tells, of a question of this group; None where there is no such group or question, the row can't be read, or
 /// no memory is found.
@@ -33,7 +34,7 @@ fn is_so(alloc: Global, group: &str, question: &str, row: &str) -> Option<bool> 
 /// and the word of a question; empty lines and those that begin with `#` are no rows.
 fn answer(rt: &HostRuntime, table: &str) -> io::Result<()> {
     let name = table.lines().next().unwrap_or("");
-    let (group, question) = name.split_once(' ').unwrap_or((name, ""));
+    let (group, question) = (word(name, 0), word(name, 1));
     let mut count = 0u32;
     let mut are_all_so = true;
     for row in table.lines().skip(1) {
