@@ -68,7 +68,7 @@ fn is_answered(
 }
 
 /// Whether the question is one on the graph, and the joiner answers it as it tells.
-fn is_so(alloc: Global, joiner: &mut Joiner, graph: &Graph, question: &str) -> Option<bool>
+fn is_question_so(alloc: Global, joiner: &mut Joiner, graph: &Graph, question: &str) -> Option<bool>
     requires graph { IsGraph graph.now }
     requires made { IsMadeFor joiner.old graph.now }
     ensures { joiner.new ≡ joiner.old }
@@ -94,7 +94,7 @@ fn are_so(alloc: Global, row: &str) -> Option<bool> {
     };
     let mut joiner = Joiner::new(alloc, graph).ok()?;
     for question in row.split(':').skip(4) {
-        if !is_so(alloc, &mut joiner, graph, question)? {
+        if !is_question_so(alloc, &mut joiner, graph, question)? {
             return Some(false);
         }
     }
