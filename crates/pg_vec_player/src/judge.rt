@@ -2,11 +2,12 @@
 ghost use Rattle.std.specs.Prelude.{◌≡◌, ◌<◌, ◌≤◌, ◌+◌, length, IfOk};
 ghost use Rattle.std.specs.FinSet.{contains, remove};
 ghost use Rattle.pg_base.specs.Sets.{either};
+ghost use Rattle.pg_game.specs.Judging.{ending_by, judged_by};
 ghost use Rattle.pg_claims.specs.Claims.{kept, left_without};
 ghost use Rattle.pg_gf2.specs.declared.game.TheConstants.{MAX_VECTORS};
 ghost use Rattle.pg_gf2.specs.Answers.{lowest_free, reply_vector, answer_vector};
 ghost use Rattle.pg_gf2.specs.Classes.{with_target, vector_rules};
-ghost use Rattle.pg_vec_player.specs.Judge.{ending_by, judged_by, IsVecJudgeOf};
+ghost use Rattle.pg_vec_player.specs.Judge.{IsVecJudgeOf};
 ghost use Rattle.pg_gf2.specs.Vectors.{vector_spans};
 
 use pg_base::{Memory, PointSet, Score, Side};
