@@ -65,12 +65,7 @@ fn lowest_free(n: u16, p: &Position) -> u16
     requires { n ≤ MAX_VECTORS }
     ensures { result ≡ lowest_free n p.now }
 {
-    for v in 0..n {
-        if p.is_free(v) {
-            return v;
-        }
-    }
-    0
+    p.lowest_free_below(n).unwrap_or(0)
 }
 
 impl VecJudge {
