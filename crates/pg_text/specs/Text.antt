@@ -94,3 +94,7 @@ behind_spaces ws = flat_map (λ w. SPACE ∷ w) ws
 abbrev pub spaced : List Bytes → Bytes
 spaced [] = []
 spaced (word ∷ others) = word ++ behind_spaces others
+
+-- a line of words with its line feed
+abbrev pub spelled : List Bytes → Bytes
+spelled ws = spaced ws ++ LINE_FEED ∷ []
