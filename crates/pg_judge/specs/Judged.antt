@@ -1,5 +1,5 @@
 -- What there is to say of a text that comes piece by piece.
-use Rattle.std.specs.Prelude.{◌≡◌, ℕ, List, [], ◌∷◌, ◌++◌, Ok, IsErrAnd, ⊤}
+use Rattle.std.specs.Prelude.{◌≡◌, List, [], ◌∷◌, ◌++◌, Ok, IsErrAnd, ⊤}
 use Rattle.pg_base.specs.Texts.{Bytes}
 use Rattle.pg_text.specs.declared.error.FileError.{FileError}
 use Rattle.pg_text.specs.declared.error.FileError.TheVariants as outcomes
