@@ -7,7 +7,7 @@ use crate::circle::place_on_circle;
 use pg_picture::Place;
 
 /// What the places of a graph's vertices rest on.
-#[derive(Clone, Copy, Debug, PartialEq, Eq)]
+#[derive(Clone, Copy, PartialEq, Eq)]
 pub(crate) struct Plan {
     /// How many vertices there are.
     pub(crate) vertices: u32,
