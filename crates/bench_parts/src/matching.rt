@@ -2,6 +2,8 @@
 //! measures.
 ghost use Rattle.std.specs.Prelude.{◌<◌, ◌≤◌, IfSome, length};
 ghost use Rattle.std.specs.List.{All};
+ghost use Rattle.pg_base.specs.declared.limits.TheConstants.{MAX_MEMBERS};
+ghost use Rattle.pg_game.specs.declared.bounds.TheConstants.{MAX_LINES};
 
 use pg_base::{Lines, Memory};
 use pg_game::{Field, Game};
@@ -10,8 +12,8 @@ use std::alloc::{AllocError, Global};
 
 /// The lines of a game on lines.
 fn lines_of(g: &Game) -> Option<&Lines>
-    ensures few { IfSome result (λ lines. length lines.now ≤ 20000) }
-    ensures range { IfSome result (λ lines. All (All (λ v. v < 1024)) lines.now) }
+    ensures few { IfSome result (λ lines. length lines.now ≤ MAX_LINES) }
+    ensures range { IfSome result (λ lines. All (All (λ v. v < MAX_MEMBERS)) lines.now) }
 {
     match &g.field {
         Field::Lines(field) => Some(&field.lines),

@@ -1,5 +1,5 @@
 //! Boards.
-ghost use Rattle.std.specs.Prelude.{◌≡◌, ◌≢◌, ◌<◌, ◌≤◌, ◌+◌, ◌*◌, ◌++◌, ◌∷◌, [], true, length, get_or, nat_lt, ℕ, false, IfOk, IfSome, IfNone};
+ghost use Rattle.std.specs.Prelude.{◌≡◌, ◌≢◌, ◌<◌, ◌≤◌, ◌+◌, ◌*◌, ◌^◌, ◌++◌, ◌∷◌, [], true, length, get_or, nat_lt, ℕ, false, IfOk, IfSome, IfNone};
 ghost use Rattle.std.specs.List.{Contains, find, slice_get};
 ghost use Rattle.pg_base.specs.Points.{ShareNone};
 ghost use Rattle.pg_base.specs.Side.{other};
@@ -21,7 +21,7 @@ use crate::plays::{Played, play_point, undo_play};
 use crate::points::{free_point, is_unmarked, left, marked, turn};
 use crate::totals;
 use pg_base::{Kind, Memory, Score, Side};
-use pg_game::{Game, Position, at_least, defender, is_over_by, outcome_by};
+use pg_game::{Game, MAX_POINTS, Position, at_least, defender, is_over_by, outcome_by};
 use pg_links::Ring;
 use pg_trail::Trail;
 use std::alloc::Global;
@@ -227,7 +227,7 @@ impl<'a> Board<'a> {
         requires range { line < length (lines_of self.now.game) }
         requires place { i < length (line_at self.now.game line) }
         ensures exact { result ≡ get_or (line_at self.now.game line) i 0 }
-        ensures few { result < 256 }
+        ensures few { result < MAX_POINTS }
     {
         let points = self.layout.line(line);
         points[usize::from(i)] as u16
@@ -453,7 +453,7 @@ impl<'a> Board<'a> {
 
 /// The same number as a point.
 fn point_of(v: Option<u32>) -> Option<u16>
-    requires { IfSome v (λ x. x < 65536) }
+    requires { IfSome v (λ x. x < 2 ^ 16) }
     ensures { result ≡ v }
 {
     match v {

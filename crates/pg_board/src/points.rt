@@ -1,5 +1,5 @@
 //! A point that a side claims, and the turn that passes.
-ghost use Rattle.std.specs.Prelude.{◌≡◌, ◌<◌, ◌≤◌, ◌+◌, ◌*◌, ℕ, true, length, get_or};
+ghost use Rattle.std.specs.Prelude.{◌≡◌, ◌<◌, ◌≤◌, ◌+◌, ◌*◌, ◌^◌, ℕ, true, length, get_or};
 ghost use Rattle.std.specs.List.{Contains, find};
 ghost use Rattle.pg_board.specs.Near.{has_none};
 ghost use Rattle.pg_base.specs.declared.side.Side.TheVariants.{X, Y};
@@ -29,7 +29,7 @@ pub(crate) fn turn(trail: &Trail) -> Side
 /// How many points it still claims in its turn.
 pub(crate) fn left(trail: &Trail) -> u8
     requires width { 1 ≤ length trail.now.cells }
-    requires few { get_or trail.now.cells turn_cell 0 < 256 }
+    requires few { get_or trail.now.cells turn_cell 0 < 2 ^ 8 }
     ensures { result ≡ left_of (get_or trail.now.cells turn_cell 0) }
 {
     let left = trail.get(0);

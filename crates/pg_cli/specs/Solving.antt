@@ -5,6 +5,7 @@ use Rattle.pg_base.specs.declared.kind.Kind.TheVariants.{Switching}
 use Rattle.pg_io.specs.Files.{Bytes}
 use Rattle.pg_io.specs.declared.entry.Entry.TheVariants.{Said}
 use Rattle.pg_game.specs.Fit.{is_switching}
+use Rattle.pg_game.specs.declared.bounds.TheConstants.{MAX_POSITIONS}
 use Rattle.pg_game.specs.declared.game.Game.{Game}
 use Rattle.pg_files.specs.GameFile.{Entry as GameEntry}
 use Rattle.pg_cert.specs.Limits.{IsWithinLimits, node_count}
@@ -26,7 +27,7 @@ use Rattle.pg_solve.specs.declared.solution.Class.{Class}
 use Rattle.pg_solve.specs.declared.solution.Class.TheVariants.{Short, Cut, First}
 use Rattle.pg_solve.specs.declared.solution.Solution.{Solution}
 use Rattle.pg_solve.specs.declared.solution.Solution.TheVariants.{Value, Class as ForClass, Unknown}
-use Rattle.pg_solve.specs.declared.solving.TheConstants.{MAX_POSITIONS, MIN_POSITIONS}
+use Rattle.pg_solve.specs.declared.solving.TheConstants.{MIN_POSITIONS}
 use Rattle.pg_texts.specs.Texts.{class_short_text, class_cut_text, class_first_mover_text, expanded_text, message_text, result_text, unknown_text}
 use Rattle.pg_texts.specs.declared.message.Message.{Message}
 use Rattle.pg_texts.specs.declared.statuses.TheConstants.{DONE, UNKNOWN}

@@ -8,7 +8,7 @@ use Rattle.std.proofs.lemmas.Nat.{div-add-mod', le-div, mod_below, mul-le}
 use Rattle.pg_game.specs.declared.bounds.TheConstants.{MAX_VERTICES}
 use Rattle.pg_picture.specs.declared.shape.Place.{Place}
 use Rattle.pg_draw.specs.Places.{at, part_of, place_after, place_on_circle, place_on_ring, radius_of}
-use Rattle.pg_draw.specs.declared.measures.TheConstants.{MOST_ON_RING, ROW}
+use Rattle.pg_draw.specs.declared.measures.TheConstants.{MAX_ON_RING, ROW}
 use Rattle.pg_draw.specs.declared.sines.TheConstants.{SINES}
 use Rattle.pg_draw.proofs.Apart.{cells_apart}
 
@@ -248,7 +248,7 @@ members_apart count u v few low within same =
 
 pub ring_apart : (points u v : ℕ) → u < points → v < points → place_on_ring points u ≡ place_on_ring points v → u ≡ v
 ring_apart points u v low within same =
-    elim (cases_Bool (nat_le points MOST_ON_RING)) [
+    elim (cases_Bool (nat_le points MAX_ON_RING)) [
       | inl few ↦ members_apart points u v (let most : points ≤ 48 = grind (arith, nat_tests) in omega arith) low within (rw few at same)
       | inr many ↦ cells_apart ROW u v (rw many at same)
     ]

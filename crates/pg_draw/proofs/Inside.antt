@@ -16,7 +16,7 @@ use Rattle.pg_draw.specs.Pictures.{bridge_reach, circle_reach, far_corner, pictu
 use Rattle.pg_draw.specs.Places.{at, column_of, columns_of, part_of, place_by, place_on_bridge, place_on_circle, place_on_grid, place_on_ring, radius_of, row_of}
 use Rattle.pg_draw.specs.Shapes.{courses_of, place_of}
 use Rattle.pg_draw.specs.declared.course.Course.{Course}
-use Rattle.pg_draw.specs.declared.measures.TheConstants.{HALF, MARGIN, MOST_ON_RING, ROW, TOP}
+use Rattle.pg_draw.specs.declared.measures.TheConstants.{HALF, MARGIN, MAX_ON_RING, ROW, TOP}
 use Rattle.pg_draw.proofs.Circles.{part_fits, place_in}
 
 -- ---- cells
@@ -62,7 +62,7 @@ circle_inside count u =
 
 ring_inside : (points v : ℕ) → v < points → IsUpTo (reach_of (Ring points)) (place_on_ring points v)
 ring_inside points v lt =
-    elim (cases_Bool (nat_le points MOST_ON_RING)) [
+    elim (cases_Bool (nat_le points MAX_ON_RING)) [
       | inl few ↦ rw few (circle_inside points v)
       | inr many ↦ rw many (cell_inside ROW (points / ROW + 1) v (omega arith) (omega arith))
     ]

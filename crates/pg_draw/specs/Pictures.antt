@@ -13,7 +13,7 @@ use Rattle.pg_draw.specs.Courses.{farthest}
 use Rattle.pg_draw.specs.Places.{at, columns_of, radius_of}
 use Rattle.pg_draw.specs.Shapes.{courses_of, item_shapes, plan_of, vertices_shapes}
 use Rattle.pg_draw.specs.declared.course.Course.{Course}
-use Rattle.pg_draw.specs.declared.measures.TheConstants.{APART, CELL, HALF, LEADING, MARGIN, MAX_COUNTED_LETTERS, MOST_ON_RING, ROW, TOP}
+use Rattle.pg_draw.specs.declared.measures.TheConstants.{APART, CELL, HALF, LEADING, MARGIN, MAX_COUNTED_LETTERS, MAX_ON_RING, ROW, TOP}
 use Rattle.pg_draw.specs.declared.vertices.Plan.{Plan}
 
 -- ---- how far a board reaches
@@ -42,7 +42,7 @@ row_reach width height = at (MARGIN + CELL * width) (TOP + CELL * height)
 -- the cells, discs or vertices of a board
 abbrev pub reach_of : Board → Place
 reach_of (Grid width height) = row_reach width height
-reach_of (Ring points) = if nat_le points MOST_ON_RING then circle_reach points else row_reach ROW (points / ROW + 1)
+reach_of (Ring points) = if nat_le points MAX_ON_RING then circle_reach points else row_reach ROW (points / ROW + 1)
 reach_of (Graph vertices ends terminals bridge) = plan_reach (plan_of vertices bridge)
 
 -- a board with its edges

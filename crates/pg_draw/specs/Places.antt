@@ -2,7 +2,7 @@
 use Rattle.std.specs.Prelude.{ℕ, ◌+◌, ◌*◌, ◌-◌, ◌/◌, ◌%◌, ◌<◌, ◌≤◌, ◌==◌, max, nat_le, if◌then◌else◌, Option, Some, None, IfSome, slice_index}
 use Rattle.pg_game.specs.declared.bounds.TheConstants.{MAX_VERTICES}
 use Rattle.pg_picture.specs.declared.shape.Place.{Place}
-use Rattle.pg_draw.specs.declared.measures.TheConstants.{APART, CELL, HALF, MARGIN, MOST_ON_RING, ROW, TOP}
+use Rattle.pg_draw.specs.declared.measures.TheConstants.{APART, CELL, HALF, MARGIN, MAX_ON_RING, ROW, TOP}
 use Rattle.pg_draw.specs.declared.vertices.Plan.{Plan}
 use Rattle.pg_draw.specs.declared.sines.TheConstants.{SINES}
 use Rattle.pg_gen.specs.declared.limits.TheConstants.{MAX_BRIDGE_ROWS}
@@ -59,7 +59,7 @@ place_on_circle count index = place_after (radius_of count) (index * 512 / max c
 
 -- the place of one of so many points that have no place of their own: on a circle, and in rows where there are more
 abbrev pub place_on_ring : ℕ → ℕ → Place
-place_on_ring points point = if nat_le points MOST_ON_RING then place_on_circle points point else place_on_grid ROW point
+place_on_ring points point = if nat_le points MAX_ON_RING then place_on_circle points point else place_on_grid ROW point
 
 -- ---- boards of Bridg-It
 

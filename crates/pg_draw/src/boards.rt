@@ -7,7 +7,7 @@ ghost use Rattle.pg_draw.specs.Shapes.{courses_of, place_of};
 use crate::circle::place_on_circle;
 use crate::courses::Courses;
 use crate::grid::place_on_grid;
-use crate::measures::{MOST_ON_RING, ROW};
+use crate::measures::{MAX_ON_RING, ROW};
 use crate::vertices::Plan;
 use pg_base::Memory;
 use pg_picture::Place;
@@ -53,7 +53,7 @@ pub(crate) fn place_on_ring(points: u32, point: u16) -> Place
     ensures place { result ≡ place_on_ring points point }
     ensures near { IsWithin 4194304 result }
 {
-    if points <= MOST_ON_RING {
+    if points <= MAX_ON_RING {
         place_on_circle(points, point)
     } else {
         place_on_grid(ROW, point)

@@ -22,7 +22,7 @@ pub(crate) const BEND: u32 = 36;
 pub(crate) const LOOP: u32 = 30;
 
 /// The most points that lie on a circle.
-pub(crate) const MOST_ON_RING: u32 = 48;
+pub(crate) const MAX_ON_RING: u32 = 48;
 
 /// How many points lie in a row where there are more.
 pub(crate) const ROW: u32 = 16;

@@ -9,7 +9,7 @@ ghost use Rattle.pg_gen.specs.declared.limits.TheConstants.{MAX_BRIDGE_ROWS};
 use crate::bridge::columns_of;
 use crate::circle::radius_of;
 use crate::courses::Courses;
-use crate::measures::{APART, CELL, HALF, MARGIN, MAX_COUNTED_LETTERS, MOST_ON_RING, ROW, TOP};
+use crate::measures::{APART, CELL, HALF, MARGIN, MAX_COUNTED_LETTERS, MAX_ON_RING, ROW, TOP};
 use crate::vertices::Plan;
 use pg_picture::Place;
 use pg_scene::{Board, Text};
@@ -76,7 +76,7 @@ fn reach_of(board: &Board) -> Place
     match board {
         Board::Grid { width, height } => row_reach(*width, *height),
         Board::Ring { points } => {
-            if *points <= MOST_ON_RING {
+            if *points <= MAX_ON_RING {
                 circle_reach(*points)
             } else {
                 row_reach(ROW, *points / ROW + 1)

@@ -1,4 +1,4 @@
-//! The limits that every game keeps.
+//! The limits that every game keeps, and a search of one.
 
 /// The most points of a field of lines.
 pub const MAX_POINTS: usize = 256;
@@ -20,3 +20,6 @@ pub const MAX_VERTICES: u16 = 500;
 
 /// The most points that Y claims in a turn.
 pub const MAX_BIAS: u8 = 7;
+
+/// The largest number of distinct undecided positions that a search may be asked to examine.
+pub const MAX_POSITIONS: u32 = 100_000;

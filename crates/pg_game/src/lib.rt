@@ -15,8 +15,8 @@ mod value;
 mod weights;
 
 pub use bounds::{
-    MAX_BIAS, MAX_BIASED_LINE_POINTS, MAX_LINE_POINTS, MAX_LINES, MAX_POINTS, MAX_SUMMED_POINTS,
-    MAX_VERTICES,
+    MAX_BIAS, MAX_BIASED_LINE_POINTS, MAX_LINE_POINTS, MAX_LINES, MAX_POINTS, MAX_POSITIONS,
+    MAX_SUMMED_POINTS, MAX_VERTICES,
 };
 pub use ending::{
     at_least, breaker_of, defender, is_over_by, may_attack, outcome_by, x_takes_last,

@@ -12,6 +12,9 @@ use pg_base::{Kind, Line, LineFault, Lines, Memory, PointSet, Side};
 use pg_game::{Field, Game, LineField, MAX_LINE_POINTS, MAX_LINES, MAX_POINTS, MAX_SUMMED_POINTS};
 use std::alloc::Global;
 
+/// What a state is divided by for the number that is drawn: its lower bits recur soon.
+pub const DRAW_DIVISOR: u32 = 65_536;
+
 /// The state after a draw.
 #[tactic(auto, unfolding(crate::specs::Scatter::next_state))]
 pub(crate) fn next_state(state: u32) -> u32
@@ -45,7 +48,7 @@ fn mix(points: &mut [u16], k: usize, state: u32) -> u32
     let mut state = state;
     for i in 0..k {
         state = next_state(state);
-        points.swap(i, i + (state / 65_536) as usize % (n - i));
+        points.swap(i, i + (state / DRAW_DIVISOR) as usize % (n - i));
     }
     state
 }

@@ -7,8 +7,8 @@ use std::io::{ErrorKind, Read, Write};
 use std::rt::Files as FileSystem;
 use std::{fs, io};
 
-/// How many names are tried for a file that isn't finished.
-const PARTS: u8 = 100;
+/// The most names that are tried for a file that isn't finished.
+pub const MAX_PART_NAMES: u8 = 100;
 
 /// The file that is being made.
 #[derive(Drop)]
@@ -67,7 +67,7 @@ impl<'a, R: FileSystem + Alloc> HostFiles<'a, R> {
 
     /// Begins an empty file beside the name, under a name that isn't there.
     fn begin_beside(&self, name: &str) -> io::Result<Draft<R>> {
-        for number in 0..PARTS {
+        for number in 0..MAX_PART_NAMES {
             let path = format!(in self.rt.alloc(); "{name}.posgame-part{number}")?;
             let kept = String::from_str(self.rt.alloc(), name)?;
             match fs::File::create_new(self.rt, path.as_str()) {

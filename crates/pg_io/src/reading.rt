@@ -9,14 +9,14 @@ use crate::sink::Sink;
 use crate::stop::Stop;
 use std::alloc::{AllocError, Global};
 
-/// How many bytes are asked for at a time.
-const PIECE: usize = 65_536;
+/// The most bytes that are asked for at a time.
+pub const MAX_PIECE_BYTES: usize = 65_536;
 
 /// Room for a piece of a file. The length is told by a limit alone, so that no proof unfolds the list.
 fn piece(alloc: Global) -> Result<Vec<u8>, AllocError>
     ensures { IfOk result (λ buf. 0 < length buf.items) }
 {
-    vec![in alloc; 0; PIECE]
+    vec![in alloc; 0; MAX_PIECE_BYTES]
 }
 
 /// Pours the open file into the sink, to its end or to one byte more than the limit.
@@ -52,7 +52,7 @@ fn pour_open<F: Files, S: Sink>(
 
 /// Pours the file of this name into a sink as it comes, to its end or to one byte more than the limit.
 ///
-/// The sink gets pieces of up to 65,536 bytes, and more bytes than the limit only where the file is too long. `Stop::Read`
+/// The sink gets pieces of up to `MAX_PIECE_BYTES` bytes, and more bytes than the limit only where the file is too long. `Stop::Read`
 /// means that a call has failed, or that the name isn't held; `Stop::Memory` means that memory was refused.
 pub fn pour<F: Files, S: Sink>(
     alloc: Global,

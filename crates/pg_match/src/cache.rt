@@ -12,6 +12,9 @@ use std::hash::{Hash, Hasher};
 use std::marker::Model;
 use std::num::NonZeroUsize;
 
+/// The most answers that a cache may be asked to keep.
+pub const MAX_CACHED_ANSWERS: u32 = 65_536;
+
 /// What the matching is asked: the wanted lines and the free points.
 #[derive(Drop)]
 struct Question {
@@ -92,14 +95,14 @@ impl Model for PairCache {
 }
 
 impl PairCache {
-    /// A cache that keeps so many answers at most, 1 to 65,536, and none yet.
+    /// A cache that keeps so many answers at most, 1 to `MAX_CACHED_ANSWERS`, and none yet.
     ///
     /// # Errors
     ///
     /// `Memory` where no memory is found.
     pub fn new(alloc: Global, capacity: u32) -> Result<PairCache, Memory>
         requires some { 1 ≤ capacity }
-        requires few { capacity ≤ 65536 }
+        requires few { capacity ≤ MAX_CACHED_ANSWERS }
         ensures { IfOk result (λ cache. cache ≡ record { capacity = capacity; hits = 0; kept = [] }) }
     {
         let Some(room) = NonZeroUsize::new(capacity as usize) else {

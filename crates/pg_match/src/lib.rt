@@ -10,7 +10,7 @@ mod meant;
 mod rest;
 mod seats;
 
-pub use cache::PairCache;
+pub use cache::{MAX_CACHED_ANSWERS, PairCache};
 pub use leaf::pairs_leaf;
 pub use matching::{Matching, private_pairs};
 pub use meant::lines_without;

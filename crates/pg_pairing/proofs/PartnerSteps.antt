@@ -7,6 +7,7 @@ use Rattle.std.specs.List.{All, AllPairs, Any, Contains}
 use Rattle.std.specs.FinSet.{FinSet, contains, insert}
 use Rattle.std.specs.Ordering.{nat_cmp}
 use Rattle.pg_base.specs.WordLemmas.{in_insert}
+use Rattle.pg_base.specs.declared.limits.TheConstants.{MAX_MEMBERS}
 use Rattle.pg_base.specs.declared.pair.Pair.{Pair}
 use Rattle.pg_game.specs.declared.game.Game.{Game}
 use Rattle.pg_game.specs.Game.{is_touched}
@@ -14,7 +15,7 @@ use Rattle.pg_game.specs.Pairs.{HoldsPair, IsInGame, IsSafe, SharesNone}
 use Rattle.pg_game.proofs.Limits.{point_count-le}
 use Rattle.pg_game.proofs.Members.{list_any-none, list_any-one}
 use Rattle.pg_pairing.specs.Partners.{AreSmall, ArePartners, IsPairOf}
-use Rattle.pg_pairing.specs.declared.partners.TheConstants.{NO_POINT, TABLE_LEN}
+use Rattle.pg_pairing.specs.declared.partners.TheConstants.{NO_POINT}
 
 or_first : (a b : Bool) → a ≡ true → (a || b) ≡ true
 or_first a b e = rw e refl
@@ -119,9 +120,9 @@ unsafe-end own line partners i seen pairs end h are safe =
 pub record HasPaired (partners : List ℕ) (pairs : List Pair) (i : ℕ) : Type 0 where
   pub small : AreSmall partners
   pub paired : (j : ℕ) (d : Pair) → j < i → (get_or partners (get_or pairs j d).a 0 ≡ (get_or pairs j d).b) × (get_or partners (get_or pairs j d).b 0 ≡ (get_or pairs j d).a)
-  pub told : (v : ℕ) → v < TABLE_LEN → get_or partners v 0 < NO_POINT → Any (IsPairOf v (get_or partners v 0)) pairs
+  pub told : (v : ℕ) → v < MAX_MEMBERS → get_or partners v 0 < NO_POINT → Any (IsPairOf v (get_or partners v 0)) pairs
 
-pub paired-none : (partners : List ℕ) (pairs : List Pair) → length partners ≡ TABLE_LEN → ((v : ℕ) → v < TABLE_LEN → get_or partners v 0 ≡ NO_POINT) → HasPaired partners pairs 0
+pub paired-none : (partners : List ℕ) (pairs : List Pair) → length partners ≡ MAX_MEMBERS → ((v : ℕ) → v < MAX_MEMBERS → get_or partners v 0 ≡ NO_POINT) → HasPaired partners pairs 0
 paired-none partners pairs count none = record {
   small = record { count = count; small = λ v lt. let e = none v lt in omega (arith, e) };
   paired = λ j d lt. absurd (omega (arith, lt));

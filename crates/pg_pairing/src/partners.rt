@@ -5,23 +5,20 @@ ghost use Rattle.pg_base.specs.declared.pair.Pair.{Pair};
 ghost use Rattle.pg_game.specs.Pairs.{SharesNone, IsSafe};
 ghost use Rattle.pg_pairing.specs.Partners.{ArePartners, AreSmall};
 
-use pg_base::{Line, Pair, PointSet};
-
-/// How many numbers a table of partners has: one for each point that a set can hold.
-const TABLE_LEN: usize = 1024;
+use pg_base::{Line, MAX_MEMBERS, Pair, PointSet};
 
 /// What stands for the partner of a point in no pair: no game has this point.
-const NO_POINT: u16 = 1023;
+const NO_POINT: u16 = MAX_MEMBERS - 1;
 
-/// For each point the other point of its pair.
-pub(crate) fn partners_of(pairs: &[Pair]) -> [u16; TABLE_LEN]
+/// For each point that a set can hold the other point of its pair.
+pub(crate) fn partners_of(pairs: &[Pair]) -> [u16; MAX_MEMBERS as usize]
     requires range { All (λ s. (s.a < NO_POINT) × (s.b < NO_POINT)) pairs.now }
     requires different { All (λ s. s.a ≢ s.b) pairs.now }
     requires disjoint { AllPairs SharesNone pairs.now }
     ensures small { AreSmall result }
     ensures partners { ArePartners result pairs.now }
 {
-    let mut partners = [NO_POINT; TABLE_LEN];
+    let mut partners = [NO_POINT; MAX_MEMBERS as usize];
     for s in pairs {
         partners[usize::from(s.a)] = s.b;
         partners[usize::from(s.b)] = s.a;
@@ -31,7 +28,7 @@ pub(crate) fn partners_of(pairs: &[Pair]) -> [u16; TABLE_LEN]
 
 /// Whether the line has one of the points, or holds both points of some pair. Where it holds a pair, the second of its
 /// points is reached when the first has been seen.
-pub(crate) fn is_safe(own: &PointSet, line: &Line, partners: &[u16; TABLE_LEN]) -> bool
+pub(crate) fn is_safe(own: &PointSet, line: &Line, partners: &[u16; MAX_MEMBERS as usize]) -> bool
     requires range { All (λ v. v < NO_POINT) line.now }
     requires small { AreSmall partners.now }
     ensures { (pairs : List Pair) → ArePartners partners.now pairs → IsTrue result ↔ IsSafe own.now pairs line.now }

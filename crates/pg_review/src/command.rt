@@ -1,8 +1,9 @@
 //! Reviewing the record of a game.
 ghost use Rattle.std.specs.Prelude.{◌≡◌, ◌≤◌, [], Err, ⊤};
+ghost use Rattle.pg_game.specs.declared.bounds.TheConstants.{MAX_POSITIONS};
 ghost use Rattle.pg_io.specs.Console.{Grows};
 ghost use Rattle.pg_io.specs.Files.{ReadsOnly};
-ghost use Rattle.pg_solve.specs.declared.solving.TheConstants.{MAX_POSITIONS, MIN_POSITIONS};
+ghost use Rattle.pg_solve.specs.declared.solving.TheConstants.{MIN_POSITIONS};
 ghost use Rattle.pg_talk.specs.Halts.{BothCauses};
 ghost use Rattle.pg_talk.specs.Reading.{IsLackingOne};
 ghost use Rattle.pg_talk.specs.Runs.{QuietsBy, Runs};
@@ -12,11 +13,11 @@ ghost use Rattle.pg_solve.specs.Left.{LeavesSearch};
 
 use crate::opening::open_moves;
 use crate::reviewing::review_moves;
-use pg_game::Game;
+use pg_game::{Game, MAX_POSITIONS};
 use pg_io::{Console, Files};
 use pg_opening::open_game;
 use pg_pns::Work;
-use pg_solve::{MAX_POSITIONS, MIN_POSITIONS};
+use pg_solve::MIN_POSITIONS;
 use pg_talk::Halt;
 use std::alloc::Global;
 

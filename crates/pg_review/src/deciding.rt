@@ -5,17 +5,18 @@ ghost use Rattle.pg_cert.specs.Limits.{IsWithinLimits};
 ghost use Rattle.pg_cert.specs.Valid.{IsValid};
 ghost use Rattle.pg_game.specs.Fit.{is_switching};
 ghost use Rattle.pg_game.specs.Game.{start};
+ghost use Rattle.pg_game.specs.declared.bounds.TheConstants.{MAX_POSITIONS};
 ghost use Rattle.pg_solve.specs.Left.{budget, IsLeft, IsLeftOpen};
-ghost use Rattle.pg_solve.specs.declared.solving.TheConstants.{MAX_POSITIONS, MIN_POSITIONS};
+ghost use Rattle.pg_solve.specs.declared.solving.TheConstants.{MIN_POSITIONS};
 ghost use Rattle.pg_review.specs.Known.{IsKnown};
 
 use crate::known::{Known, known_by};
 use pg_base::Memory;
 use pg_cert::Cert;
 use pg_check::{CheckFault, check};
-use pg_game::Game;
+use pg_game::{Game, MAX_POSITIONS};
 use pg_pns::Work;
-use pg_solve::{MAX_POSITIONS, MIN_POSITIONS, solve};
+use pg_solve::{MIN_POSITIONS, solve};
 use std::alloc::Global;
 
 /// Checks a certificate that solving has found: it is accepted.

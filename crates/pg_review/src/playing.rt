@@ -3,8 +3,9 @@ ghost use Rattle.std.specs.Prelude.{◌≡◌, ◌<◌, ◌≤◌, Ok, true, fal
 ghost use Rattle.pg_game.specs.Fit.{is_switching};
 ghost use Rattle.pg_game.specs.Game.{after, point_count, start, IsPosition};
 ghost use Rattle.pg_game.specs.Position.{is_free};
+ghost use Rattle.pg_game.specs.declared.bounds.TheConstants.{MAX_POSITIONS};
 ghost use Rattle.pg_solve.specs.Left.{budget, IsLeftOpen, LeavesSearch};
-ghost use Rattle.pg_solve.specs.declared.solving.TheConstants.{MAX_POSITIONS, MIN_POSITIONS};
+ghost use Rattle.pg_solve.specs.declared.solving.TheConstants.{MIN_POSITIONS};
 ghost use Rattle.pg_review.specs.Known.{IsKnown};
 ghost use Rattle.pg_review.specs.Review.{IsGameAt};
 

@@ -2,9 +2,10 @@
 ghost use Rattle.std.specs.Prelude.{◌≡◌, ◌≤◌, IfErr, IfOk, length};
 ghost use Rattle.pg_game.specs.Game.{start};
 ghost use Rattle.pg_game.specs.Play.{IsLegalPlay};
+ghost use Rattle.pg_game.specs.declared.bounds.TheConstants.{MAX_POSITIONS};
 ghost use Rattle.pg_io.specs.Stop.{Causes};
 ghost use Rattle.pg_record.specs.declared.event.TheConstants.{MAX_EVENTS};
-ghost use Rattle.pg_solve.specs.declared.solving.TheConstants.{MAX_POSITIONS, MIN_POSITIONS};
+ghost use Rattle.pg_solve.specs.declared.solving.TheConstants.{MIN_POSITIONS};
 ghost use Rattle.pg_talk.specs.Done.{Performs};
 ghost use Rattle.pg_talk.specs.Halts.{HaltCauses, IsWriteHalt};
 ghost use Rattle.pg_review.specs.Review.{IsReviewEnd, ReviewsMoves};

@@ -9,4 +9,4 @@ mod solution;
 mod solving;
 
 pub use solution::{Class, Solution};
-pub use solving::{MAX_POSITIONS, MIN_POSITIONS, solve};
+pub use solving::{MIN_POSITIONS, solve};

@@ -3,10 +3,10 @@ ghost use Rattle.std.specs.Prelude.{◌≡◌, ◌≢◌, ◌≤◌, ◌*◌, le
 ghost use Rattle.pg_base.specs.declared.kind.Kind.TheVariants.{MakerMaker, Switching};
 ghost use Rattle.pg_base.specs.declared.score.Score.TheVariants.{XWins};
 ghost use Rattle.pg_game.specs.Game.{free_points, start};
+ghost use Rattle.pg_game.specs.declared.bounds.TheConstants.{MAX_POSITIONS};
 ghost use Rattle.pg_solve.specs.Left.{IsLeft};
 ghost use Rattle.pg_solve.specs.Searched.{IsSearched};
 ghost use Rattle.pg_solve.specs.Solved.{IsFoundBy};
-ghost use Rattle.pg_solve.specs.declared.solving.TheConstants.{MAX_POSITIONS};
 
 use crate::solution::Solution;
 use pg_base::{Kind, Memory, Score};

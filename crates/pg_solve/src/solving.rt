@@ -13,15 +13,12 @@ use crate::classes::classified;
 use crate::questions::ask_first;
 use crate::solution::Solution;
 use pg_base::{Kind, Memory};
-use pg_game::Game;
+use pg_game::{Game, MAX_POSITIONS};
 use pg_pns::{Work, budget_of};
 use std::alloc::Global;
 
 /// The least number of positions that may be asked for.
 pub const MIN_POSITIONS: u32 = 1;
-
-/// The greatest number of positions that may be asked for.
-pub const MAX_POSITIONS: u32 = 100_000;
 
 /// Decides the game, with the certificate that shows it, which is of version 1.
 ///

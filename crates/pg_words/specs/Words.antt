@@ -13,9 +13,8 @@ use Rattle.pg_words.specs.declared.family.FamilyTask.{FamilyTask}
 use Rattle.pg_words.specs.declared.family.FamilyTask.TheVariants as tasks
 use Rattle.pg_words.specs.declared.source.Source.{Source}
 use Rattle.pg_words.specs.declared.source.Source.TheVariants.{Rows, Bridge, Scatter}
-use Rattle.pg_game.specs.declared.bounds.TheConstants.{MAX_POINTS, MAX_LINES, MAX_LINE_POINTS, MAX_SUMMED_POINTS}
+use Rattle.pg_game.specs.declared.bounds.TheConstants.{MAX_POINTS, MAX_LINES, MAX_LINE_POINTS, MAX_POSITIONS, MAX_SUMMED_POINTS}
 use Rattle.pg_gen.specs.declared.limits.TheConstants.{MAX_BRIDGE_ROWS, MAX_SQUARE_SIDE}
-use Rattle.pg_words.specs.declared.limits.TheConstants.{MAX_POSITIONS}
 
 -- what the program is asked to do, with the names of files
 pub data Command : Type 0 where

@@ -4,7 +4,6 @@
 mod command;
 mod family;
 mod key;
-mod limits;
 mod matching;
 mod number;
 mod order;
@@ -14,6 +13,5 @@ mod table;
 
 pub use command::Command;
 pub use family::{Family, FamilyTask};
-pub use limits::MAX_POSITIONS;
 pub use reading::meaning;
 pub use source::Source;

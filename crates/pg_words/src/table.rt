@@ -5,11 +5,10 @@ ghost use Rattle.pg_words.specs.Words.{asked_by, bridge, check, generate, limit_
 
 use crate::command::Command;
 use crate::family::{Family, FamilyTask};
-use crate::limits::MAX_POSITIONS;
 use crate::number::{number_in, seed as read_seed};
 use crate::source::Source;
 use pg_base::{Memory, Side};
-use pg_game::{MAX_LINE_POINTS, MAX_LINES, MAX_POINTS, MAX_SUMMED_POINTS};
+use pg_game::{MAX_LINE_POINTS, MAX_LINES, MAX_POINTS, MAX_POSITIONS, MAX_SUMMED_POINTS};
 use pg_gen::{MAX_BRIDGE_ROWS, MAX_SQUARE_SIDE};
 use std::alloc::Global;
 
