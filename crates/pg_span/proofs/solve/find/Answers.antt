@@ -76,8 +76,8 @@ returns-then-is_some-clause-holds c =
     let w = some_member c.take.new.self c.first_from-2.result (sym c.is_some.ensures ∙ c.if-is_some.true) c.first_from-2.ensures.found in
     let wm = minus_parts (contains c.without-common.result) v w.0 (subst (λ (q : ℕ → Bool). q w.0 ≡ true) (without_point c.without-common.result c.take.new.self v c.take.ensures) w.1) in
     let bw : both (contains b.one) (contains b.two) w.0 ≡ true = subst (λ (q : ℕ → Bool). q w.0 ≡ true) is wm.0 in
-    let lv = small g b.one b.two b.near s v (s.first.within v (both_parts (contains b.one) (contains b.two) v bv).0) in
-    let lw = small g b.one b.two b.near s w.0 (s.first.within w.0 (both_parts (contains b.one) (contains b.two) w.0 bw).0) in
+    let lv = small g b.one b.two b.near s v (s.first_base.within v (both_parts (contains b.one) (contains b.two) v bv).0) in
+    let lw = small g b.one b.two b.near s w.0 (s.first_base.within w.0 (both_parts (contains b.one) (contains b.two) w.0 bw).0) in
     let two = shared_two g b.one b.two b.near s v w.0 bv bw wm.1 lv lw in
     subst (λ (q : List ℕ). ArePartsOfGame g (marks_at g X) q × ArePartsOfGame g (marks_at g Y) q) (sym c.from_vec-parts-2.ensures) (
       parts_shared g b.one b.two b.near s c.in_ok-parts.parts.items c.in_ok-whole.whole.items named wholly X (omega (arith, two)),
@@ -97,7 +97,7 @@ returns-clause-holds c =
     let v = c.in-Some.first in
     let bv : both (contains b.one) (contains b.two) v ≡ true = subst (λ (q : ℕ → Bool). q v ≡ true) is c.in-Some.ensures.found.member in
     let own = both_parts (contains b.one) (contains b.two) v bv in
-    let lv = small g b.one b.two b.near s v (s.first.within v own.0) in
+    let lv = small g b.one b.two b.near s v (s.first_base.within v own.0) in
     let one = shared_one g b.one b.two b.near s v bv lv in
     let others = no_member c.take.new.self c.first_from-2.result (sym c.is_some.ensures ∙ c.if-is_some.false) c.first_from-2.ensures.none in
     let only : (f : ℕ) → both (contains b.one) (contains b.two) f ≡ true → v ≡ f = λ f h.
