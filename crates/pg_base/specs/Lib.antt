@@ -7,3 +7,4 @@ pub mod Side
 pub mod Goal
 pub mod Kind
 pub mod Line
+pub mod Texts

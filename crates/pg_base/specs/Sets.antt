@@ -1,5 +1,5 @@
 -- Sets of numbers as tests: one member more or less, both, either, outside, and how many there are below a number.
-use Rattle.std.specs.Prelude.{◌≡◌, ℕ, ◌+◌, Bool, true, false, not, ◌&&◌, ◌||◌, ◌==◌, ◌<◌, zero, suc, nat_lt}
+use Rattle.std.specs.Prelude.{◌≡◌, ℕ, ◌+◌, Bool, true, false, not, ◌&&◌, ◌||◌, ◌==◌, ◌<◌, zero, suc, nat_lt, List, slice_get, Some}
 
 -- the set with one more member
 unfoldable pub plus : (ℕ → Bool) → ℕ → ℕ → Bool
@@ -27,6 +27,10 @@ IsWithin a b = (z : ℕ) → a z ≡ true → b z ≡ true
 
 abbrev pub IsBelow : (ℕ → Bool) → ℕ → Type 0
 IsBelow a n = (z : ℕ) → a z ≡ true → z < n
+
+-- the number is marked in a table of marks
+abbrev pub IsMarked : List Bool → ℕ → Type 0
+IsMarked marks k = slice_get marks k ≡ Some true
 
 -- 1 where the test holds, and 0 where it doesn't
 abbrev pub one_if : Bool → ℕ

@@ -14,6 +14,7 @@ use Rattle.std.specs.Cmp.{nat_cmp_total, unsigned_tied}
 use Rattle.std.specs.FinSet.{FinSet, empty, insert, remove, contains, contains-empty, contains-insert, contains-remove, same_set, len, len-insert, len-empty, nat_cmp-IsAntisymmetric}
 use Rattle.pg_base.specs.Points.{AreBelow}
 use Rattle.pg_base.specs.Words.{has_bit, members_below, AreWords, word_below, word_of, words_of}
+use Rattle.pg_base.specs.declared.limits.TheConstants.{MAX_MEMBERS}
 
 -- ---- sets of numbers
 
@@ -88,10 +89,10 @@ word_of-members ws rows i fits lt =
     ∙ ap (λ b. cond b 1 0) (in_members_below ws (64 * rows) (64 * i + j) ∙ ap (λ b. b && has_bit ws (64 * i + j)) (lt-ltb (64 * i + j) (64 * rows) (omega arith)) ∙ has_bit-at ws i j in_word)
     ∙ bit_from_test _ (bit_at-lt (get_or ws i 0) j))
 
-pub words_of-members : (ws : List ℕ) → AreWords ws → words_of (members_below ws 1024) ≡ ws
+pub words_of-members : (ws : List ℕ) → AreWords ws → words_of (members_below ws MAX_MEMBERS) ≡ ws
 unfolding words_of
 words_of-members ws h =
-    let s = members_below ws 1024 in
+    let s = members_below ws MAX_MEMBERS in
     let len : length (words_of s) ≡ 16 = length-map-range_with_len (word_of s) 0 16 in
     ext_get_or 0 _ _ (len ∙ sym h.count) (λ i lt.
     let within : i < 16 = omega arith in
@@ -147,7 +148,7 @@ without_bit ws v = set ws (v / 64) (bit_and (get_or ws (v / 64) 0) (bit_not w64 
 column_below : (v : ℕ) → v % 64 < 64
 column_below v = omega arith
 
-pub row_below : (v : ℕ) → v < 1024 → v / 64 < 16
+pub row_below : (v : ℕ) → v < MAX_MEMBERS → v / 64 < 16
 row_below v h = omega arith
 
 other_column : (v q : ℕ) → q ≢ v → q / 64 ≡ v / 64 → q % 64 ≢ v % 64
@@ -190,27 +191,27 @@ has_bit-without_other ws v q lt ne =
       | inr apart ↦ ap (λ w. nat_eq (bit_at w (q % 64)) 1) (get_or-set_other ws (v / 64) (q / 64) _ 0 apart)
     ]
 
-pub members-with : (ws : List ℕ) (v : ℕ) → AreWords ws → v < 1024 → members_below (with_bit ws v) 1024 ≡ insert (members_below ws 1024) v
+pub members-with : (ws : List ℕ) (v : ℕ) → AreWords ws → v < MAX_MEMBERS → members_below (with_bit ws v) MAX_MEMBERS ≡ insert (members_below ws MAX_MEMBERS) v
 members-with ws v h lt =
     let row : v / 64 < length ws = omega (arith, h.count, row_below v lt) in
     same_points _ _ (λ q.
-    in_members_below (with_bit ws v) 1024 q
-    ∙ elim (cases_eq q v) as (λ _. (ltb q 1024 && has_bit (with_bit ws v) q) ≡ (eqb q v || (ltb q 1024 && has_bit ws q))) [
-      | inl e ↦ rw e (rw (has_bit-with_same ws v row, lt-ltb v 1024 lt, eq-eqb v v refl) refl)
+    in_members_below (with_bit ws v) MAX_MEMBERS q
+    ∙ elim (cases_eq q v) as (λ _. (ltb q MAX_MEMBERS && has_bit (with_bit ws v) q) ≡ (eqb q v || (ltb q MAX_MEMBERS && has_bit ws q))) [
+      | inl e ↦ rw e (rw (has_bit-with_same ws v row, lt-ltb v MAX_MEMBERS lt, eq-eqb v v refl) refl)
       | inr ne ↦ rw (has_bit-with_other ws v q row ne, ne_eqb q v ne) refl
     ]
-    ∙ sym (in_insert (members_below ws 1024) v q ∙ ap (λ b. eqb q v || b) (in_members_below ws 1024 q)))
+    ∙ sym (in_insert (members_below ws MAX_MEMBERS) v q ∙ ap (λ b. eqb q v || b) (in_members_below ws MAX_MEMBERS q)))
 
-pub members-without : (ws : List ℕ) (v : ℕ) → AreWords ws → v < 1024 → members_below (without_bit ws v) 1024 ≡ remove (members_below ws 1024) v
+pub members-without : (ws : List ℕ) (v : ℕ) → AreWords ws → v < MAX_MEMBERS → members_below (without_bit ws v) MAX_MEMBERS ≡ remove (members_below ws MAX_MEMBERS) v
 members-without ws v h lt =
     let row : v / 64 < length ws = omega (arith, h.count, row_below v lt) in
     same_points _ _ (λ q.
-    in_members_below (without_bit ws v) 1024 q
-    ∙ elim (cases_eq q v) as (λ _. (ltb q 1024 && has_bit (without_bit ws v) q) ≡ (not (eqb q v) && (ltb q 1024 && has_bit ws q))) [
-      | inl e ↦ rw e (rw (has_bit-without_same ws v row, lt-ltb v 1024 lt, eq-eqb v v refl) refl)
+    in_members_below (without_bit ws v) MAX_MEMBERS q
+    ∙ elim (cases_eq q v) as (λ _. (ltb q MAX_MEMBERS && has_bit (without_bit ws v) q) ≡ (not (eqb q v) && (ltb q MAX_MEMBERS && has_bit ws q))) [
+      | inl e ↦ rw e (rw (has_bit-without_same ws v row, lt-ltb v MAX_MEMBERS lt, eq-eqb v v refl) refl)
       | inr ne ↦ rw (has_bit-without_other ws v q row ne, ne_eqb q v ne) refl
     ]
-    ∙ sym (in_remove (members_below ws 1024) v q ∙ ap (λ b. not (eqb q v) && b) (in_members_below ws 1024 q)))
+    ∙ sym (in_remove (members_below ws MAX_MEMBERS) v q ∙ ap (λ b. not (eqb q v) && b) (in_members_below ws MAX_MEMBERS q)))
 
 fit-set : (ws : List ℕ) (k w : ℕ) → AreWords ws → k < 16 → w < 2 ^ 64 → AreWords (set ws k w)
 fit-set ws k w h lt below = record {
@@ -221,25 +222,25 @@ fit-set ws k w h lt below = record {
   ];
 }
 
-pub AreWords-with : (ws : List ℕ) (v : ℕ) → AreWords ws → v < 1024 → AreWords (with_bit ws v)
+pub AreWords-with : (ws : List ℕ) (v : ℕ) → AreWords ws → v < MAX_MEMBERS → AreWords (with_bit ws v)
 AreWords-with ws v h lt = fit-set ws (v / 64) _ h (row_below v lt) (or_lt 64 _ _ (h.fit (v / 64)) (mod-lt _ (lit< tt)))
 
-pub members-none : (ws : List ℕ) → ((q : ℕ) → has_bit ws q ≡ false) → members_below ws 1024 ≡ empty
-members-none ws h = same_points _ _ (λ q. in_members_below ws 1024 q ∙ ap (λ b. ltb q 1024 && b) (h q) ∙ and_right (ltb q 1024) false refl ∙ sym (contains-empty nat_cmp q))
+pub members-none : (ws : List ℕ) → ((q : ℕ) → has_bit ws q ≡ false) → members_below ws MAX_MEMBERS ≡ empty
+members-none ws h = same_points _ _ (λ q. in_members_below ws MAX_MEMBERS q ∙ ap (λ b. ltb q MAX_MEMBERS && b) (h q) ∙ and_right (ltb q MAX_MEMBERS) false refl ∙ sym (contains-empty nat_cmp q))
 
 pub has_bit-shift : (ws : List ℕ) (v : ℕ) → nat_eq (bit_and (get_or ws (v / 64) 0 / 2 ^ (v % 64)) 1) 1 ≡ has_bit ws v
 unfolding has_bit
 has_bit-shift ws v = ap (λ n. nat_eq n 1) (shr_and_one (get_or ws (v / 64) 0) (v % 64))
 
-pub has-members : (ws : List ℕ) (v : ℕ) → v < 1024 → nat_eq (bit_and (get_or ws (v / 64) 0 / 2 ^ (v % 64)) 1) 1 ≡ contains (members_below ws 1024) v
-has-members ws v lt = has_bit-shift ws v ∙ sym (in_members_below ws 1024 v ∙ ap (λ b. b && has_bit ws v) (lt-ltb v 1024 lt))
+pub has-members : (ws : List ℕ) (v : ℕ) → v < MAX_MEMBERS → nat_eq (bit_and (get_or ws (v / 64) 0 / 2 ^ (v % 64)) 1) 1 ≡ contains (members_below ws MAX_MEMBERS) v
+has-members ws v lt = has_bit-shift ws v ∙ sym (in_members_below ws MAX_MEMBERS v ∙ ap (λ b. b && has_bit ws v) (lt-ltb v MAX_MEMBERS lt))
 
 get_or-replicate_zero : (n i : ℕ) → get_or {A = ℕ} (replicate n 0) i 0 ≡ 0
 get_or-replicate_zero zero i = refl
 get_or-replicate_zero (suc n) zero = refl
 get_or-replicate_zero (suc n) (suc i) = get_or-replicate_zero n i
 
-pub members-zeros : members_below (replicate {A = ℕ} 16 0) 1024 ≡ empty
+pub members-zeros : members_below (replicate {A = ℕ} 16 0) MAX_MEMBERS ≡ empty
 unfolding has_bit
 members-zeros = members-none (replicate {A = ℕ} 16 0) (λ q. rw (get_or-replicate_zero 16 (q / 64)) (rw (bit_at-zero (q % 64)) refl))
 
@@ -290,5 +291,5 @@ pub len-members_start : (ws : List ℕ) → len (members_below ws 0) ≡ 0
 unfolding members_below
 len-members_start ws = len-empty nat_cmp
 
-pub members-beyond : (ws : List ℕ) (q : ℕ) → 1024 ≤ q → contains (members_below ws 1024) q ≡ false
-members-beyond ws q h = in_members_below ws 1024 q ∙ ap (λ b. b && has_bit ws q) (le-ltb q 1024 h)
+pub members-beyond : (ws : List ℕ) (q : ℕ) → MAX_MEMBERS ≤ q → contains (members_below ws MAX_MEMBERS) q ≡ false
+members-beyond ws q h = in_members_below ws MAX_MEMBERS q ∙ ap (λ b. b && has_bit ws q) (le-ltb q MAX_MEMBERS h)

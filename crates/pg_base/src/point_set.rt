@@ -21,13 +21,14 @@ impl Model for PointSet {
     ghost use Rattle.std.specs.Ordering.{nat_cmp};
     ghost use Rattle.std.specs.Coded.{coded_ℕ};
     ghost use Rattle.pg_base.specs.Words.{members_below, AreWords, words_of};
+    ghost use Rattle.pg_base.specs.declared.limits.TheConstants.{MAX_MEMBERS};
     ghost use Rattle.pg_base.specs.WordLemmas.{words_of-members};
 
     ghost Value = { set.FinSet nat_cmp };
 
     ghost coded = { set.code coded_ℕ };
 
-    ghost view = { λ a. members_below a.words 1024 };
+    ghost view = { λ a. members_below a.words MAX_MEMBERS };
 
     ghost invariant = { λ a. AreWords a.words };
 

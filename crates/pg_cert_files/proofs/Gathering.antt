@@ -9,10 +9,11 @@ use Rattle.std.proofs.lemmas.List.{append-nil}
 use Rattle.std.proofs.lemmas.Bool.Decides.{nat_tests}
 use Rattle.pg_text.specs.Faults.{and_then, onto, each_of}
 use Rattle.pg_text.specs.Text.{Bytes, ascend_from}
+use Rattle.pg_game.specs.Game.{is_touched}
 use Rattle.pg_cert.specs.declared.node.Body.{Body}
 use Rattle.pg_cert.specs.declared.node.Node.{Node}
 use Rattle.pg_cert_files.specs.Form.{Shape}
-use Rattle.pg_cert_files.specs.NodeLine.{point_of, if_ascending, ascending_of, field_words, meets, node_with}
+use Rattle.pg_cert_files.specs.NodeLine.{point_of, if_ascending, ascending_of, field_words, node_with}
 use Rattle.pg_cert_files.specs.Outline.{gathered_from, read_fields}
 use Rattle.pg_cert_files.specs.declared.fault.Fault.{Fault}
 use Rattle.pg_cert_files.specs.declared.fault.Fault.TheVariants as faults
@@ -36,7 +37,7 @@ put_behind (p ∷ ps) xs =
 
 -- the set of points that ascend and aren't in the other set
 abbrev chosen_set : FinSet nat_cmp → FinSet nat_cmp → ℕ → List ℕ → Result (FinSet nat_cmp) Fault
-chosen_set other s least ps = if ascend_from least ps && not (meets other ps) then Ok (put_all s ps) else Err faults.Number
+chosen_set other s least ps = if ascend_from least ps && not (is_touched other ps) then Ok (put_all s ps) else Err faults.Number
 
 no_and : (a b : Bool) → b ≡ false → (a && b) ≡ false
 no_and true b e = e
@@ -47,8 +48,8 @@ refused other s least p ps on = elim (cases_Bool (nat_lt p least)) [
   | inl below ↦ let le : nat_le least p ≡ false = grind (arith, nat_tests, below) in rw le refl
   | inr above ↦ elim (cases_Bool (contains other p)) [
     | inl inside ↦
-        let out : not (meets other (p ∷ ps)) ≡ false = rw inside refl in
-        let off = no_and (ascend_from least (p ∷ ps)) (not (meets other (p ∷ ps))) out in
+        let out : not (is_touched other (p ∷ ps)) ≡ false = rw inside refl in
+        let off = no_and (ascend_from least (p ∷ ps)) (not (is_touched other (p ∷ ps))) out in
         ap (λ b. if b then Ok (put_all s (p ∷ ps)) else Err faults.Number) off
     | inr outside ↦ absurd (none above outside on)
   ]
@@ -85,14 +86,14 @@ gathered-from other s least (w ∷ ws) = one (point_of w) (each_of point_of ws) 
 
 -- what is left of a list of points
 abbrev apart_set : FinSet nat_cmp → List ℕ → Result (FinSet nat_cmp) Fault
-apart_set other ps = if meets other ps then Err faults.Number else Ok (from_list ps)
+apart_set other ps = if is_touched other ps then Err faults.Number else Ok (from_list ps)
 
 gathered : (other : FinSet nat_cmp) (ws : List Bytes) → gathered_from other empty 0 ws ≡ and_then (ascending_of ws) (apart_set other)
 gathered other ws = gathered-from other empty 0 ws ∙ each (each_of point_of ws)
   where
     listed : (ps : List ℕ) → chosen_set other empty 0 ps ≡ and_then (if_ascending ps ps) (apart_set other)
     listed ps = elim (cases_Bool (ascend_from 0 ps)) [
-      | inl on ↦ elim (cases_Bool (meets other ps)) [
+      | inl on ↦ elim (cases_Bool (is_touched other ps)) [
         | inl inside ↦ rw (on, inside) refl
         | inr outside ↦ rw (on, outside) (ap Ok (put_behind ps []))
       ]
@@ -103,21 +104,21 @@ gathered other ws = gathered-from other empty 0 ws ∙ each (each_of point_of ws
     each (Err fault) = refl
     each (Ok ps) = listed ps
 
-meets-empty : (ps : List ℕ) → meets empty ps ≡ false
-meets-empty [] = refl
-meets-empty (p ∷ ps) = let none = contains-empty nat_cmp p in rw none (meets-empty ps)
+touched-empty : (ps : List ℕ) → is_touched empty ps ≡ false
+touched-empty [] = refl
+touched-empty (p ∷ ps) = let none = contains-empty nat_cmp p in rw none (touched-empty ps)
 
 gathered-first : (ws : List Bytes) → gathered_from empty empty 0 ws ≡ and_then (ascending_of ws) (λ ps. Ok (from_list ps))
 gathered-first ws = gathered empty ws ∙ each (ascending_of ws)
   where
     each : (rs : Result (List ℕ) Fault) → and_then rs (apart_set empty) ≡ and_then rs (λ ps. Ok (from_list ps))
     each (Err fault) = refl
-    each (Ok ps) = let none = meets-empty ps in rw none refl
+    each (Ok ps) = let none = touched-empty ps in rw none refl
 
 -- ---- the node
 
 both : (shape : Shape) (body : Body) (xs ys : List ℕ) → and_then (apart_set (from_list xs) ys) (λ y. node_is shape body (from_list xs) y) ≡ node_with shape xs ys (Ok body)
-both shape body xs ys = elim (cases_Bool (meets (from_list xs) ys)) [ inl on ↦ rw on refl | inr off ↦ rw off refl ]
+both shape body xs ys = elim (cases_Bool (is_touched (from_list xs) ys)) [ inl on ↦ rw on refl | inr off ↦ rw off refl ]
 
 second : (shape : Shape) (body : Body) (xs : List ℕ) (gy : Result (FinSet nat_cmp) Fault) (ay : Result (List ℕ) Fault) → gy ≡ and_then ay (apart_set (from_list xs))
     → and_then gy (λ y. node_is shape body (from_list xs) y) ≡ and_then ay (λ ys. node_with shape xs ys (Ok body))

@@ -6,11 +6,12 @@ use Rattle.std.proofs.lemmas.Bool.{cases_Bool}
 use Rattle.pg_text.specs.Faults.{and_then, each_of, onto, least}
 use Rattle.pg_text.specs.Text.{Bytes, pair_of, two_parts, number}
 use Rattle.pg_text.specs.Text.{ascend_from}
+use Rattle.pg_game.specs.Game.{is_touched}
 use Rattle.pg_cert.specs.declared.cert.Version.{Version}
 use Rattle.pg_cert.specs.declared.node.Body.{Body}
 use Rattle.pg_cert.specs.declared.node.Body.TheVariants as bodies
 use Rattle.pg_cert_files.specs.Form.{has_bar, only_word, Shape, shape_of}
-use Rattle.pg_cert_files.specs.NodeLine.{below, point_of, child_of, both_of, if_ascending, ascending_of, field_words, reply_of, points_pair, move_of, weaker_of, word_reply, word_pair, replies_of, begins_with_e, after_e, before_slash, after_slash, edges_with, edges_of, body_of, meets, node_with, node_of, formed, node_line}
+use Rattle.pg_cert_files.specs.NodeLine.{below, point_of, child_of, both_of, if_ascending, ascending_of, field_words, reply_of, points_pair, move_of, weaker_of, word_reply, word_pair, replies_of, begins_with_e, after_e, before_slash, after_slash, edges_with, edges_of, body_of, node_with, node_of, formed, node_line}
 use Rattle.pg_cert_files.specs.Lines.{version_of, head_of, count_of}
 use Rattle.pg_cert_files.specs.CertFile.{headed, claimed, claim_step, numbered, counted, behind, step_due, step}
 use Rattle.pg_cert_files.specs.FirstFault.{counted_number, is_no_count, is_too_many, has_wrong_number, line_faults}
@@ -97,7 +98,7 @@ only_body forms.Weaker ws = only_weaker (only_word ws)
 
 only_node_with : (shape : Shape) (x y : List ℕ) (body : Result Body Fault) → OnlyNumber body → OnlyNumber (node_with shape x y body)
 only_node_with shape x y (Err fault) h = h
-only_node_with shape x y (Ok body) h = elim (cases_Bool (meets (from_list x) y)) [ inl on ↦ rw on refl | inr off ↦ rw off tt ]
+only_node_with shape x y (Ok body) h = elim (cases_Bool (is_touched (from_list x) y)) [ inl on ↦ rw on refl | inr off ↦ rw off tt ]
 
 pub only_node : (shape : Shape) → OnlyNumber (node_of shape)
 only_node shape = only_then (ascending_of (field_words shape.x)) _ (only_points (field_words shape.x)) (λ x. only_then (ascending_of (field_words shape.y)) _ (only_points (field_words shape.y)) (λ y. only_node_with shape x y (body_of shape.form shape.words) (only_body shape.form shape.words)))

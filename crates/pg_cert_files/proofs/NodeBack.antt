@@ -18,8 +18,9 @@ use Rattle.pg_base.specs.declared.pair.Pair.{Pair}
 use Rattle.pg_base.specs.Points.{members}
 use Rattle.pg_base.proofs.MemberLemmas.{points_below-each, points_below-small, points_below-ascend, from_list-points_below}
 use Rattle.pg_text.specs.Text.{Bytes, Lacks, parts, two_parts, four_parts, spaced, behind_spaces}
+use Rattle.pg_game.specs.Game.{is_touched}
 use Rattle.pg_cert_files.specs.Form.{has_form, named_form, of_version, form_of, are_odd, each_has_one, is_slash, has_one_slash, fits, Shape, with_fields, turn_of, shape_of}
-use Rattle.pg_cert_files.specs.NodeLine.{ascending_of, field_words, reply_of, points_pair, word_reply, word_pair, is_e, begins_with_e, after_e, before_slash, after_slash, edges_with, edges_of, body_of, meets, node_of, node_line}
+use Rattle.pg_cert_files.specs.NodeLine.{ascending_of, field_words, reply_of, points_pair, word_reply, word_pair, is_e, begins_with_e, after_e, before_slash, after_slash, edges_with, edges_of, body_of, node_of, node_line}
 use Rattle.pg_cert.specs.Limits.{ArePoints, IsReply, IsPair, IsBody, IsTurn, IsNode, has_body}
 use Rattle.pg_text.specs.Text.{ascend_from}
 use Rattle.pg_base.specs.Side.{side_word}
@@ -88,7 +89,7 @@ not_in s t v h on = elim (cases_Bool (contains s v)) [
   | inr off ↦ off
 ]
 
-apart_back : (s t : FinSet nat_cmp) → ((v : ℕ) → contains s v ≡ true → contains t v ≡ false) → meets s (members t) ≡ false
+apart_back : (s t : FinSet nat_cmp) → ((v : ℕ) → contains s v ≡ true → contains t v ≡ false) → is_touched s (members t) ≡ false
 apart_back s t h = none_met s (members t) (points_below-each (λ v. contains s v ≡ false) t 1024 (λ v on lt. not_in s t v (h v) on))
 
 -- ---- bodies

@@ -14,8 +14,9 @@ use Rattle.pg_text.specs.Faults.{Gives, and_then, each_of, onto}
 use Rattle.pg_base.specs.declared.side.Side.TheVariants as sides
 use Rattle.pg_base.specs.declared.pair.Pair.{Pair}
 use Rattle.pg_text.specs.Text.{Bytes, Four, parts, pair_of, two_parts, four_parts, number}
+use Rattle.pg_game.specs.Game.{is_touched}
 use Rattle.pg_cert_files.specs.Form.{several_of, turn_of, has_form, named_form, of_version, form_of, only_word, are_odd, fits, Shape, with_form, with_body, with_fields, shape_of, has_bar}
-use Rattle.pg_cert_files.specs.NodeLine.{below, point_of, child_of, both_of, if_ascending, ascending_of, field_words, reply_of, points_pair, move_of, weaker_of, word_reply, word_pair, replies_of, begins_with_e, after_e, before_slash, after_slash, edges_of, body_of, meets, node_with, node_of, formed, node_line}
+use Rattle.pg_cert_files.specs.NodeLine.{below, point_of, child_of, both_of, if_ascending, ascending_of, field_words, reply_of, points_pair, move_of, weaker_of, word_reply, word_pair, replies_of, begins_with_e, after_e, before_slash, after_slash, edges_of, body_of, node_with, node_of, formed, node_line}
 use Rattle.pg_cert.specs.Limits.{ArePoints, IsReply, IsPair, IsBody, IsTurn, IsNode, has_body}
 use Rattle.pg_text.specs.Text.{ascend_from}
 use Rattle.pg_cert_files.specs.declared.fault.Fault.{Fault}
@@ -156,7 +157,7 @@ not_met : (s : FinSet nat_cmp) (ys : List ℕ) → list_any (contains s) ys ≡ 
 not_met s [] e = tt
 not_met s (y ∷ ys) e = let both = or_parts (contains s y) (list_any (contains s) ys) e in (both.0, not_met s ys both.1)
 
-apart_ok : (s : FinSet nat_cmp) (ys : List ℕ) → meets s ys ≡ false → (v : ℕ) → contains s v ≡ true → contains (set_from ys) v ≡ false
+apart_ok : (s : FinSet nat_cmp) (ys : List ℕ) → is_touched s ys ≡ false → (v : ℕ) → contains s v ≡ true → contains (set_from ys) v ≡ false
 apart_ok s ys e v on = elim (cases_Bool (contains (set_from ys) v)) [
   | inl there ↦ absurd (false≢true (sym (in_set (λ q. contains s q ≡ false) ys v (not_met s ys e) there) ∙ on))
   | inr off ↦ off
@@ -311,7 +312,7 @@ with_ok : (version : Version) (shape : Shape) (x y : List ℕ) (r : Result Body 
 with_ok version shape x y (Err fault) node told hx hy h e = absurd cc
 with_ok version shape x y (Ok body) node told hx hy h e =
     let made : Node = record { x = from_list x; y = from_list y; turn = shape.turn.side; left = shape.turn.left; body = body } in
-    elim (chosen (meets (from_list x) y) (Err faults.Number) (done made) (Ok node) e) [
+    elim (chosen (is_touched (from_list x) y) (Err faults.Number) (done made) (Ok node) e) [
       | inl bad ↦ err_not faults.Number node (IsRead version node) bad.1
       | inr good ↦ let fit = h body refl in subst (IsRead version) (ok_is made node good.1) (record { x = set_ok x hx; y = set_ok y hy; apart = apart_ok (from_list x) y good.0; turn = told; body = fit.0 }, fit.1)
     ]

@@ -1,14 +1,13 @@
 -- What a node line says.
 use Rattle.std.specs.Prelude.{ℕ, Bool, false, not, nat_lt, ◌==◌, if◌then◌else◌, List, [], ◌∷◌, length, map, Option, Some, None, Result, Ok, Err, codes}
-use Rattle.std.specs.List.{list_any}
 use Rattle.std.specs.Str.{bytes_eq}
-use Rattle.std.specs.FinSet.{FinSet, contains, from_list}
-use Rattle.std.specs.Ordering.{nat_cmp}
+use Rattle.std.specs.FinSet.{from_list}
 use Rattle.pg_base.specs.declared.signs.TheConstants.{SPACE}
 use Rattle.pg_text.specs.Faults.{and_then, each_of}
 use Rattle.pg_base.specs.declared.limits.TheConstants.{MAX_MEMBERS}
 use Rattle.pg_base.specs.declared.pair.Pair.{Pair}
 use Rattle.pg_text.specs.Text.{Bytes, parts, pair_of, two_parts, number, ascend_from}
+use Rattle.pg_game.specs.Game.{is_touched}
 use Rattle.pg_cert.specs.declared.limits.TheConstants.{MAX_CLAIM_NODES}
 use Rattle.pg_cert.specs.declared.cert.Version.{Version}
 use Rattle.pg_cert_files.specs.Form.{has_bar, only_word, is_slash, Shape, shape_of}
@@ -129,14 +128,10 @@ body_of forms.Cuts ws = and_then (edges_of ws) (λ e. Ok (bodies.Cuts e.with_e e
 body_of forms.Threat ws = and_then (each_of point_of ws) (λ ps. Ok (bodies.Threat ps))
 body_of forms.Weaker ws = weaker_of (only_word ws)
 
--- some of the points is in the set
-abbrev pub meets : FinSet nat_cmp → List ℕ → Bool
-meets s ps = list_any (contains s) ps
-
 -- the node of these points
 abbrev pub node_with : Shape → List ℕ → List ℕ → Result Body Fault → Result Node Fault
 node_with shape x y (Err fault) = Err fault
-node_with shape x y (Ok body) = if meets (from_list x) y then Err faults.Number else Ok (record { x = from_list x; y = from_list y; turn = shape.turn.side; left = shape.turn.left; body = body })
+node_with shape x y (Ok body) = if is_touched (from_list x) y then Err faults.Number else Ok (record { x = from_list x; y = from_list y; turn = shape.turn.side; left = shape.turn.left; body = body })
 
 -- the node of a line of the right form
 abbrev pub node_of : Shape → Result Node Fault

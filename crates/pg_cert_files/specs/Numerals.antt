@@ -3,6 +3,7 @@ use Rattle.std.specs.Prelude.{◌≡◌, ℕ, ◌≤◌, true, is_some, ◌∷�
 use Rattle.std.specs.Char.{is_ascii_digit}
 use Rattle.std.specs.List.{list_all}
 use Rattle.std.specs.Str.Parse.{digits_value}
+use Rattle.pg_base.specs.declared.signs.TheConstants.{SPACE}
 use Rattle.pg_text.specs.Text.{Bytes, parts, words_of, number, two_parts}
 use Rattle.pg_text.specs.declared.numbers.TheConstants.{MAX_DIGITS}
 use Rattle.pg_cert_files.specs.declared.fault.Fault.{Fault}
@@ -23,7 +24,7 @@ pub record IsLeading (text : Bytes) (count value : ℕ) : Type 0 where
 -- a word, and the text of the others behind a space, if there are any
 abbrev pub with_others : Bytes → Option Bytes → Bytes
 with_others word None = word
-with_others word (Some others) = word ++ 32 ∷ others
+with_others word (Some others) = word ++ SPACE ∷ others
 
 -- the first word spells the number
 pub record IsFirstNumber (text : Bytes) (n : ℕ) (others : Option Bytes) : Type 0 where
@@ -43,7 +44,7 @@ pub record IsNumberBefore (sign : ℕ) (text : Bytes) (n : ℕ) (behind : Bytes)
 pub record AreTwoNumbers (sign : ℕ) (text : Bytes) (a b : ℕ) (others : Option Bytes) : Type 0 where
   pub first : Bytes
   pub second : Bytes
-  pub cut : parts 32 text ≡ (first ++ sign ∷ second) ∷ words_of others
+  pub cut : parts SPACE text ≡ (first ++ sign ∷ second) ∷ words_of others
   pub two : two_parts sign (first ++ sign ∷ second) ≡ Some (first, second)
   pub a_number : number first ≡ Some a
   pub b_number : number second ≡ Some b
@@ -51,6 +52,6 @@ pub record AreTwoNumbers (sign : ℕ) (text : Bytes) (a b : ℕ) (others : Optio
 -- the first word has the sign once, and this is what it says
 pub record SaysFirst {A : Type 0} (sign : ℕ) (read : Bytes → Result A Fault) (text : Bytes) (a : A) (others : Option Bytes) : Type 0 where
   pub word : Bytes
-  pub cut : parts 32 text ≡ word ∷ words_of others
+  pub cut : parts SPACE text ≡ word ∷ words_of others
   pub form : is_some (two_parts sign word) ≡ true
   pub says : read word ≡ Ok a

@@ -3,6 +3,7 @@ use Rattle.std.specs.Borrow.{Bor}
 use Rattle.std.specs.Prelude.{◌≡◌, ℕ, ◌+◌, ◌||◌, nat_lt, if◌then◌else◌, List, [], ◌∷◌, map, Option, Some, None, option_map, Result, Ok, Err}
 use Rattle.std.specs.FinSet.{FinSet, contains, empty, insert}
 use Rattle.std.specs.Ordering.{nat_cmp}
+use Rattle.pg_base.specs.declared.signs.TheConstants.{BAR, SPACE}
 use Rattle.pg_cert.specs.declared.cert.Version.{Version}
 use Rattle.pg_cert.specs.declared.node.Body.{Body}
 use Rattle.pg_cert.specs.declared.node.Node.{Node}
@@ -31,12 +32,12 @@ outline_body version x y _ _ = None
 
 -- the same by the four fields
 abbrev pub outline_fields : Version → Option Four → Option Shape
-outline_fields version (Some f) = outline_body version f.first f.second (turn_of f.third) (parts 32 f.fourth)
+outline_fields version (Some f) = outline_body version f.first f.second (turn_of f.third) (parts SPACE f.fourth)
 outline_fields version None = None
 
 -- a line whose body may not have its form
 unfoldable pub outline_of : Version → Bytes → Option Shape
-outline_of version line = outline_fields version (four_parts 124 line)
+outline_of version line = outline_fields version (four_parts BAR line)
 
 -- what each word says, where each has the sign once
 abbrev pub formed_each : {A : Type 0} → ℕ → (Bytes → Result A Fault) → List Bytes → Result (List A) Fault

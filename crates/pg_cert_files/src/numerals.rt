@@ -2,12 +2,13 @@
 
 ghost use Rattle.std.specs.Prelude.{◌≡◌, ◌≢◌, ◌<◌, ◌-◌, true, false, Some, IfSome, length, get_or, option_map};
 ghost use Rattle.std.specs.Char.{is_ascii_digit};
+ghost use Rattle.pg_base.specs.declared.signs.TheConstants.{SPACE};
 ghost use Rattle.pg_cert_files.specs.Numerals.{BeginsWith, IsLeading, IsFirstNumber, IsNumberBefore, AreTwoNumbers};
 
 use pg_text::MAX_DIGITS;
 
 /// Digits at the front of a text.
-#[derive(Clone, Copy, Debug)]
+#[derive(Clone, Copy)]
 struct Digits {
     /// The number that they write.
     value: u32,
@@ -107,7 +108,7 @@ fn number_before(sign: u8, text: &[u8]) -> Option<(u32, &[u8])>
 /// The sign is neither a digit nor a space.
 pub(crate) fn two_numbers(sign: u8, text: &[u8]) -> Option<(u32, u32, Option<&[u8]>)>
     requires digit { is_ascii_digit sign ≡ false }
-    requires space { sign ≢ 32 }
+    requires space { sign ≢ SPACE }
     ensures { IfSome result (λ t. AreTwoNumbers sign text.now t.0 t.1 (option_map (λ w. w.now) t.2)) }
 {
     let (a, behind) = number_before(sign, text)?;

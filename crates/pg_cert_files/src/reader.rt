@@ -1,6 +1,7 @@
 //! Reading in pieces.
 
 ghost use Rattle.std.specs.Prelude.{◌≡◌, ◌+◌, ◌-◌, ◌<◌, ◌≤◌, ◌^◌, ◌++◌, ◌∷◌, [], List, ℕ, take, length, IfOk, IfSome, IfNone};
+ghost use Rattle.pg_base.specs.declared.signs.TheConstants.{LINE_FEED};
 ghost use Rattle.pg_text.specs.Text.{Lacks};
 ghost use Rattle.pg_cert_files.specs.Steps.{Steps};
 ghost use Rattle.pg_cert_files.specs.CertFile.{step, listed, outcome, fault_of, text_parts};
@@ -15,7 +16,7 @@ use pg_text::{FileError, LineError, cut_at};
 use std::alloc::Global;
 
 /// Lines that come in pieces: what the whole ones have said, and the line in hand.
-#[derive(Debug, Drop)]
+#[derive(Drop)]
 pub(crate) struct LineReader {
     /// The bytes of the line in hand.
     pub(crate) pending: Vec<u8>,
@@ -43,7 +44,7 @@ impl LineReader {
 
     /// Keeps bytes of a line that isn't whole yet.
     fn keep(&mut self, bytes: &[u8]) -> Result<(), Memory>
-        requires { Lacks 10 bytes.now }
+        requires { Lacks LINE_FEED bytes.now }
         ensures count { self.new.count ≡ self.old.count }
         ensures stands { IfOk result (λ _. (text : List ℕ) → StandsFor self.old text → StandsFor self.new (text ++ bytes.now) × (told (text ++ bytes.now) ≡ told text)) }
     {
@@ -72,11 +73,11 @@ impl LineReader {
     /// Ends the line in hand, whose last bytes these are.
     fn end_line(&mut self, alloc: Global, last: &[u8]) -> Result<Option<Part>, Memory>
         requires room { self.old.count < 2 ^ 31 }
-        requires line { Lacks 10 last.now }
+        requires line { Lacks LINE_FEED last.now }
         ensures count { self.new.count ≤ self.old.count + 1 }
         ensures stands { IfOk result (λ part. (text : List ℕ) → StandsFor self.old text
-            → StandsFor self.new (text ++ (last.now ++ 10 ∷ []))
-            × ((told (text ++ (last.now ++ 10 ∷ []))).parts ≡ (told text).parts ++ listed part)) }
+            → StandsFor self.new (text ++ (last.now ++ LINE_FEED ∷ []))
+            × ((told (text ++ (last.now ++ LINE_FEED ∷ []))).parts ≡ (told text).parts ++ listed part)) }
     {
         if self.fault.is_some() {
             return Ok(None);

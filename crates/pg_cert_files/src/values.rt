@@ -5,6 +5,7 @@ ghost use Rattle.std.specs.FinSet.{empty};
 ghost use Rattle.std.specs.List.{All};
 ghost use Rattle.pg_text.specs.Text.{number, parts, two_parts, words_of, ascend_from};
 ghost use Rattle.pg_base.specs.declared.limits.TheConstants.{MAX_MEMBERS};
+ghost use Rattle.pg_base.specs.declared.signs.TheConstants.{SPACE};
 ghost use Rattle.pg_text.specs.Faults.{Gives, each_of};
 ghost use Rattle.pg_cert_files.specs.NodeLine.{below, point_of, child_of, ascending_of, field_words, word_reply, word_pair, begins_with_e, after_e, before_slash, after_slash, edges_of};
 ghost use Rattle.pg_cert_files.specs.Numerals.{SaysFirst};
@@ -19,7 +20,7 @@ use pg_text::{LineError, Words, ascend, first_word, number, two_parts};
 use std::alloc::Global;
 
 /// Two sets of edges.
-#[derive(Debug, Drop)]
+#[derive(Drop)]
 pub(crate) struct Edges {
     /// Whether the first set holds the further edge.
     pub(crate) with_e: bool,
@@ -96,7 +97,7 @@ pub(crate) fn words_in(text: Option<&[u8]>) -> Words
 
 /// The point that the first word names, and the text of the other words if there are any.
 fn first_point(text: &[u8]) -> Result<(u16, Option<&[u8]>), LineError<Fault>>
-    ensures { IsFirstPoint result (parts 32 text.now) }
+    ensures { IsFirstPoint result (parts SPACE text.now) }
 {
     if let Some((n, others)) = first_number(text) {
         if n < u32::from(MAX_MEMBERS) {

@@ -15,7 +15,7 @@ use pg_unfold::{ImageFault, Sources, Unfolded, unfold};
 use std::alloc::Global;
 
 /// The certificate of plain nodes for which one as its file says it stands.
-#[derive(Debug, Drop)]
+#[derive(Drop)]
 pub struct Standing {
     /// The certificate.
     pub cert: Cert,

@@ -2,7 +2,7 @@ use Rattle.std.specs.Prelude.{◌≡◌, ℕ, ◌+◌, ◌<◌, ◌≤◌, ◌==
 use Rattle.pg_base.specs.declared.limits.TheConstants.{MAX_MEMBERS}
 use Rattle.pg_base.specs.Sets.{IsWithin, either, both, outside, count, one_if}
 use Rattle.pg_exchange.specs.Matroid.{Matroid}
-use Rattle.pg_graph.specs.Span.{IsBase, circuit}
+use Rattle.pg_graph.specs.Span.{IsBase, IsReached, circuit}
 
 -- Chains of links between two bases, and what shifts along them do.
 
@@ -135,6 +135,12 @@ pub record IsShift (b c b' c' from to : ℕ → Bool) (x y : ℕ) : Type 0 where
 -- no chain leads from an element in neither base to one in both
 abbrev pub IsSettled : Matroid → (ℕ → Bool) → (ℕ → Bool) → Type 0
 IsSettled m b c = (y : ℕ) → LeadsFrom m b c (outside (outside m.elements b) c) y → both b c y ≡ false
+
+-- two bases, with what is reached from the elements in neither
+pub record AreBases (m : Matroid) (b c r : ℕ → Bool) : Type 0 where
+  pub first_base : IsBase m.spans m.elements b
+  pub second_base : IsBase m.spans m.elements c
+  pub reached : IsReached m.spans m.elements b c r
 
 -- a search goes level by level: how many links lead to what it has seen, up to those that lead to the level that is being
 -- followed; whatever so few links lead to is seen; and what is in `to` was seen at its first sight

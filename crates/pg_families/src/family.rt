@@ -29,9 +29,11 @@ pub fn carry_out_in_family<F: Files, C: Console>(
     ensures ran { Runs (λ held. RefusesFamily family task (held game.now) (held certificate.now))
         (λ held. ActsInFamily family task (held game.now) (held certificate.now) certificate.now)
         (F.told files.old) (F.told files.new) (C.told console.old) (C.told console.new) result }
-    ensures causes { BothCauses (IsLackingInFamily family task (F.told files.old).held game.now certificate.now)
+    ensures causes { BothCauses
+        (IsLackingInFamily family task (F.told files.old).held game.now certificate.now)
         (F.told files.old) (F.told files.new) (C.told console.old) (C.told console.new) result }
-    ensures quiet { QuietsBy (QuietAtReadInFamily task (C.told console.old) (C.told console.new)) (Grows (C.told console.old).log (C.told console.new).log [])
+    ensures quiet { QuietsBy (QuietAtReadInFamily task (C.told console.old) (C.told console.new))
+        (Grows (C.told console.old).log (C.told console.new).log [])
         (C.told console.old) (C.told console.new) result }
     ensures files { LeavesFamilyFiles task certificate.now (F.told files.old) (F.told files.new) }
     ensures gives { GivesInFamily task result }

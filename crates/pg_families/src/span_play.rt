@@ -26,7 +26,8 @@ fn play_checked<C: Console>(
     side: Side,
 ) -> Result<u8, Halt>
     requires { IsSpanValid checked.game.now checked.cert.now }
-    ensures played { Performs (RefusesSpanPlay side (Ok (span_pair (checked.entry.game.now, checked.entry.cert.now))))
+    ensures played { Performs
+        (RefusesSpanPlay side (Ok (span_pair (checked.entry.game.now, checked.entry.cert.now))))
         (PlaysSpan side (Ok (span_pair (checked.entry.game.now, checked.entry.cert.now))))
         (C.told console.old) (C.told console.new) result }
     ensures causes { HaltCauses ⊥ (C.told console.old).faults (C.told console.new).faults result }
@@ -79,7 +80,8 @@ pub fn play_span<F: Files, C: Console>(
     console: &mut C,
 ) -> Result<u8, Halt>
     ensures ran { Runs (λ held. RefusesSpanPlay side (span_both_held (held game.now) (held certificate.now)))
-        (λ held done end. PlaysSpan side (span_both_held (held game.now) (held certificate.now)) done.entries end × (done.stored ≡ []))
+        (λ held done end. PlaysSpan side (span_both_held (held game.now) (held certificate.now))
+        done.entries end × (done.stored ≡ []))
         (F.told files.old) (F.told files.new) (C.told console.old) (C.told console.new) result }
     ensures causes { BothCauses (AreSpansLacking (F.told files.old).held game.now certificate.now)
         (F.told files.old) (F.told files.new) (C.told console.old) (C.told console.new) result }

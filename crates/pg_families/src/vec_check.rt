@@ -46,9 +46,11 @@ fn judge_vectors<C: Console>(
     certificate: &Cert,
 ) -> Result<u8, Halt>
     requires { IsWithinLimits certificate.now }
-    ensures judged { Performs (RefusesVectorCheck (Ok (vectors_pair (game.now, certificate.now)))) (AcceptsVectors (Ok (vectors_pair (game.now, certificate.now))))
+    ensures judged { Performs (RefusesVectorCheck (Ok (vectors_pair (game.now, certificate.now))))
+        (AcceptsVectors (Ok (vectors_pair (game.now, certificate.now))))
         (C.told console.old) (C.told console.new) result }
-    ensures quiet { QuietsBy (Grows (C.told console.old).log (C.told console.new).log []) (Grows (C.told console.old).log (C.told console.new).log [])
+    ensures quiet { QuietsBy (Grows (C.told console.old).log (C.told console.new).log [])
+        (Grows (C.told console.old).log (C.told console.new).log [])
         (C.told console.old) (C.told console.new) result }
     ensures causes { HaltCauses ⊥ (C.told console.old).faults (C.told console.new).faults result }
     ensures done { IfOk result (λ status. status ≡ DONE) }
@@ -80,11 +82,13 @@ pub fn check_vectors<F: Files, C: Console>(
     console: &mut C,
 ) -> Result<u8, Halt>
     ensures ran { Runs (λ held. RefusesVectorCheck (vectors_both_held (held game.now) (held certificate.now)))
-        (λ held done end. AcceptsVectors (vectors_both_held (held game.now) (held certificate.now)) done.entries end × (done.stored ≡ []))
+        (λ held done end. AcceptsVectors (vectors_both_held (held game.now) (held certificate.now))
+        done.entries end × (done.stored ≡ []))
         (F.told files.old) (F.told files.new) (C.told console.old) (C.told console.new) result }
     ensures causes { BothCauses (AreVectorsLacking (F.told files.old).held game.now certificate.now)
         (F.told files.old) (F.told files.new) (C.told console.old) (C.told console.new) result }
-    ensures quiet { QuietsBy (Grows (C.told console.old).log (C.told console.new).log []) (Grows (C.told console.old).log (C.told console.new).log [])
+    ensures quiet { QuietsBy (Grows (C.told console.old).log (C.told console.new).log [])
+        (Grows (C.told console.old).log (C.told console.new).log [])
         (C.told console.old) (C.told console.new) result }
     ensures kept { ReadsOnly (F.told files.old) (F.told files.new) }
     ensures done { IfOk result (λ status. status ≡ DONE) }

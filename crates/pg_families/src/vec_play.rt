@@ -28,7 +28,8 @@ fn play_accepted<C: Console>(
     side: Side,
 ) -> Result<u8, Halt>
     requires { IsVecValid checked.game.now checked.cert.now }
-    ensures played { Performs (RefusesVectorPlay side (Ok (vectors_pair (checked.entry.game.now, checked.entry.cert.now))))
+    ensures played { Performs
+        (RefusesVectorPlay side (Ok (vectors_pair (checked.entry.game.now, checked.entry.cert.now))))
         (PlaysVectors side (Ok (vectors_pair (checked.entry.game.now, checked.entry.cert.now))))
         (C.told console.old) (C.told console.new) result }
     ensures causes { HaltCauses ⊥ (C.told console.old).faults (C.told console.new).faults result }
@@ -83,8 +84,10 @@ pub fn play_vectors<F: Files, C: Console>(
     files: &mut F,
     console: &mut C,
 ) -> Result<u8, Halt>
-    ensures ran { Runs (λ held. RefusesVectorPlay side (vectors_both_held (held game.now) (held certificate.now)))
-        (λ held done end. PlaysVectors side (vectors_both_held (held game.now) (held certificate.now)) done.entries end × (done.stored ≡ []))
+    ensures ran { Runs
+        (λ held. RefusesVectorPlay side (vectors_both_held (held game.now) (held certificate.now)))
+        (λ held done end. PlaysVectors side (vectors_both_held (held game.now) (held certificate.now))
+        done.entries end × (done.stored ≡ []))
         (F.told files.old) (F.told files.new) (C.told console.old) (C.told console.new) result }
     ensures causes { BothCauses (AreVectorsLacking (F.told files.old).held game.now certificate.now)
         (F.told files.old) (F.told files.new) (C.told console.old) (C.told console.new) result }

@@ -73,7 +73,8 @@ pub fn solve_vectors<F: Files, C: Console>(
         (F.told files.old) (F.told files.new) (C.told console.old) (C.told console.new) result }
     ensures causes { BothCauses (IsVectorLacking (F.told files.old).held game.now)
         (F.told files.old) (F.told files.new) (C.told console.old) (C.told console.new) result }
-    ensures quiet { QuietsBy (Grows (C.told console.old).log (C.told console.new).log []) (Grows (C.told console.old).log (C.told console.new).log [])
+    ensures quiet { QuietsBy (Grows (C.told console.old).log (C.told console.new).log [])
+        (Grows (C.told console.old).log (C.told console.new).log [])
         (C.told console.old) (C.told console.new) result }
     ensures files { StoresAt (certificate.now ∷ []) (F.told files.old) (F.told files.new) }
     ensures done { IfOk result (λ status. status ≡ DONE) }

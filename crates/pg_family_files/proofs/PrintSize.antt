@@ -11,8 +11,7 @@ use Rattle.std.proofs.lemmas.List.Concat.{flat_map-append}
 use Rattle.pg_base.specs.Side.{side_word}
 use Rattle.pg_base.specs.declared.side.Side.{Side}
 use Rattle.pg_base.specs.declared.side.Side.TheVariants as sides
-use Rattle.pg_text.specs.Text.{Bytes}
-use Rattle.pg_files.specs.Print.{spelled}
+use Rattle.pg_text.specs.Text.{Bytes, spelled}
 use Rattle.pg_files.proofs.Words.{is_word, decimals_are_words}
 use Rattle.pg_files.proofs.RoundTrip.{AreSmall}
 use Rattle.pg_files.proofs.PrintSize.{AreWords}

@@ -4,8 +4,7 @@ use Rattle.std.specs.List.{flat_map}
 use Rattle.std.specs.Fmt.{decimal}
 use Rattle.std.proofs.lemmas.List.Concat.{flat_map-append}
 use Rattle.std.proofs.lemmas.List.{append-nil}
-use Rattle.pg_text.specs.Text.{Bytes}
-use Rattle.pg_files.specs.Print.{spelled}
+use Rattle.pg_text.specs.Text.{Bytes, spelled}
 use Rattle.pg_files.proofs.PrintLemmas.{spaced_numbers}
 use Rattle.pg_family_files.specs.Family.{key_name}
 use Rattle.pg_family_files.specs.Print.{numbered, signs_of}

@@ -14,11 +14,10 @@ use Rattle.pg_base.proofs.MemberLemmas.{points_below-ascend, from_list-points_be
 use Rattle.pg_base.specs.Side.{side_word, side_of}
 use Rattle.pg_base.specs.declared.side.Side.{Side}
 use Rattle.pg_base.specs.declared.side.Side.TheVariants as sides
-use Rattle.pg_text.specs.Text.{Bytes, spaced, lines, words}
+use Rattle.pg_text.specs.Text.{Bytes, spaced, lines, words, spelled}
 use Rattle.pg_text.specs.Faults.{reading}
 use Rattle.pg_files.specs.Sets.{set_of, repeats}
 use Rattle.pg_files.specs.GameFile.{is_outside, begins_comment}
-use Rattle.pg_files.specs.Print.{spelled}
 use Rattle.pg_files.proofs.Words.{is_word, words_again, numbers_decimals, spaced_printable, decimals_are_words, lines_spelled}
 use Rattle.pg_files.proofs.SetLaws.{repeats_none, below-members, members-apart}
 use Rattle.pg_files.proofs.RoundTrip.{AreSmall, smaller, one_small, two_small, side_is_word}

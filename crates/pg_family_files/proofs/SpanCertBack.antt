@@ -15,7 +15,7 @@ use Rattle.pg_base.specs.declared.side.Side.{Side}
 use Rattle.pg_base.specs.declared.side.Side.TheVariants as sides
 use Rattle.pg_base.proofs.MemberLemmas.{points_below-each, points_below-small, points_below-ascend, from_list-points_below}
 use Rattle.pg_text.specs.Faults.{each_of, reading}
-use Rattle.pg_text.specs.Text.{Bytes, ascend_from, lines, spaced}
+use Rattle.pg_text.specs.Text.{Bytes, ascend_from, lines, spaced, spelled}
 use Rattle.pg_text.proofs.Decimals.{IsDigit, all_append, all_map, decimal_digits, decimal_not, number_decimal}
 use Rattle.pg_text.proofs.FirstLine.{lines_feed}
 use Rattle.pg_text.proofs.PlainWords.{IsWord, decimal_is_word, spaced_quiet, words_spaced, quiet_lacks_feed}
@@ -23,7 +23,6 @@ use Rattle.pg_text.proofs.Reading.{reads_on, is_over}
 use Rattle.pg_cert.specs.Print.{set_words}
 use Rattle.pg_cert_files.specs.Form.{is_slash, has_one_slash}
 use Rattle.pg_cert_files.specs.NodeLine.{before_slash, after_slash}
-use Rattle.pg_files.specs.Print.{spelled}
 use Rattle.pg_span.specs.declared.cert.SpanBody.{SpanBody}
 use Rattle.pg_span.specs.declared.cert.SpanBody.TheVariants as bodies
 use Rattle.pg_span.specs.declared.cert.SpanCert.{SpanCert}

@@ -2,8 +2,7 @@
 use Rattle.std.proofs.Common.{◌≡◌, List, [], ◌∷◌, ◌++◌, refl, ap}
 use Rattle.std.specs.List.{flat_map}
 use Rattle.std.proofs.lemmas.List.Concat.{flat_map-append}
-use Rattle.pg_text.specs.Text.{Bytes}
-use Rattle.pg_files.specs.Print.{spelled}
+use Rattle.pg_text.specs.Text.{Bytes, spelled}
 use Rattle.pg_span.specs.declared.cert.SpanClaim.{SpanClaim}
 use Rattle.pg_family_files.specs.SpanCertPrint.{claim_lines}
 

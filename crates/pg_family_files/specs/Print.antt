@@ -7,8 +7,7 @@ use Rattle.std.specs.Ordering.{nat_cmp}
 use Rattle.pg_base.specs.Points.{members}
 use Rattle.pg_base.specs.Side.{side_word}
 use Rattle.pg_base.specs.declared.side.Side.{Side}
-use Rattle.pg_text.specs.Text.{Bytes}
-use Rattle.pg_files.specs.Print.{spelled}
+use Rattle.pg_text.specs.Text.{Bytes, spelled}
 use Rattle.pg_span.specs.declared.game.SpanGame.{SpanGame}
 use Rattle.pg_gf2.specs.declared.game.VecGame.{VecGame}
 use Rattle.pg_family_files.specs.Family.{header_word, key_name}

@@ -5,8 +5,7 @@ use Rattle.std.specs.Fmt.{decimal}
 use Rattle.std.specs.List.{All, flat_map}
 use Rattle.std.specs.Ordering.{nat_cmp}
 use Rattle.pg_base.specs.Side.{side_word}
-use Rattle.pg_text.specs.Text.{Bytes}
-use Rattle.pg_files.specs.Print.{spelled}
+use Rattle.pg_text.specs.Text.{Bytes, spelled}
 use Rattle.pg_cert.specs.Print.{set_words}
 use Rattle.pg_cert.specs.declared.limits.TheConstants.{MAX_CLAIMS}
 use Rattle.pg_span.specs.declared.cert.SpanBody.{SpanBody}

@@ -7,8 +7,7 @@ ghost use Rattle.pg_base.specs.Points.{one_where};
 ghost use Rattle.pg_base.specs.declared.limits.TheConstants.{MAX_MEMBERS};
 ghost use Rattle.pg_cert.specs.Print.{separated, set_words};
 ghost use Rattle.pg_family_files.specs.SpanCertPrint.{IsWithinRanges, body_words, claim_lines, first_words, printed_span};
-ghost use Rattle.pg_files.specs.Print.{spelled};
-ghost use Rattle.pg_text.specs.Text.{behind_spaces};
+ghost use Rattle.pg_text.specs.Text.{behind_spaces, spelled};
 
 use pg_base::{MAX_MEMBERS, Memory, PointSet};
 use pg_span::{SpanBody, SpanCert, SpanClaim};

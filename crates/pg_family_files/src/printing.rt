@@ -2,7 +2,7 @@
 ghost use Rattle.std.specs.Prelude.{◌≡◌, ◌+◌, ◌%◌, ◌++◌, [], ◌∷◌, OnOk, IfOk, string_bytes};
 ghost use Rattle.std.specs.List.{flat_map};
 ghost use Rattle.pg_base.specs.Points.{members};
-ghost use Rattle.pg_files.specs.Print.{spelled};
+ghost use Rattle.pg_text.specs.Text.{spelled};
 ghost use Rattle.pg_family_files.specs.Print.{header, numbered, worded, marked, signs_of, edge_words, vector_words, last_lines, printed_span, printed_vectors};
 
 use crate::family::{Family, Key};

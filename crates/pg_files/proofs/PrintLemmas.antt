@@ -4,9 +4,9 @@ use Rattle.std.specs.List.{flat_map}
 use Rattle.std.proofs.lemmas.List.Concat.{flat_map-append}
 use Rattle.std.proofs.lemmas.List.{append-nil}
 use Rattle.std.specs.Fmt.{decimal}
-use Rattle.pg_text.specs.Text.{Bytes}
+use Rattle.pg_text.specs.Text.{Bytes, spelled}
 use Rattle.pg_files.specs.Key.{key_name}
-use Rattle.pg_files.specs.Print.{spelled, numbered, edge_words}
+use Rattle.pg_files.specs.Print.{numbered, edge_words}
 use Rattle.pg_files.specs.declared.key.Key.{Key}
 use Rattle.pg_files.specs.declared.key.Key.TheVariants as keys
 

@@ -20,9 +20,9 @@ use Rattle.pg_game.specs.declared.field.Field.TheVariants as fields
 use Rattle.pg_game.specs.declared.field.LineField.{LineField}
 use Rattle.pg_game.specs.Field.{field_points}
 use Rattle.pg_game.specs.Fit.{greatest_bias, IsLineOf, AreLinesOf, IsBoard, IsFit}
-use Rattle.pg_text.specs.Text.{Bytes, spaced}
+use Rattle.pg_text.specs.Text.{Bytes, spaced, spelled}
 use Rattle.pg_base.specs.Points.{members}
-use Rattle.pg_files.specs.Print.{spelled, header, numbered, worded, marked, size_words, bias_words, edge_words, field_words, printed, printed_lines}
+use Rattle.pg_files.specs.Print.{header, numbered, worded, marked, size_words, bias_words, edge_words, field_words, printed, printed_lines}
 use Rattle.pg_base.specs.Kind.{kind_word}
 use Rattle.pg_base.specs.Side.{side_word}
 use Rattle.pg_files.specs.Key.{key_name}

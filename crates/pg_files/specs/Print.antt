@@ -2,11 +2,10 @@
 use Rattle.std.specs.Prelude.{ℕ, nat_lt, if◌then◌else◌, List, [], ◌∷◌, ◌++◌, map, codes, Option, Some, None}
 use Rattle.std.specs.List.{flat_map}
 use Rattle.std.specs.Fmt.{decimal}
-use Rattle.pg_base.specs.declared.signs.TheConstants.{LINE_FEED}
 use Rattle.pg_base.specs.declared.grid.Grid.{Grid}
 use Rattle.pg_game.specs.declared.field.Field.{Field}
 use Rattle.pg_game.specs.declared.field.Field.TheVariants as fields
-use Rattle.pg_text.specs.Text.{Bytes, spaced}
+use Rattle.pg_text.specs.Text.{Bytes, spelled}
 use Rattle.pg_base.specs.Points.{members}
 use Rattle.pg_base.specs.Kind.{kind_word}
 use Rattle.pg_base.specs.Side.{side_word}
@@ -14,10 +13,6 @@ use Rattle.pg_files.specs.Key.{key_name}
 use Rattle.pg_files.specs.GameFile.{Entry}
 use Rattle.pg_files.specs.declared.key.Key.{Key}
 use Rattle.pg_files.specs.declared.key.Key.TheVariants as keys
-
--- a line of words with its line feed
-abbrev pub spelled : List Bytes → Bytes
-spelled ws = spaced ws ++ LINE_FEED ∷ []
 
 -- the words of a key and numbers
 abbrev pub numbered : Key → List ℕ → List Bytes

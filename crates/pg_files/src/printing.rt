@@ -2,7 +2,8 @@
 ghost use Rattle.std.specs.Prelude.{◌≡◌, ◌++◌, OnOk, IfOk, string_bytes};
 ghost use Rattle.std.specs.List.{flat_map};
 ghost use Rattle.pg_base.specs.Points.{members};
-ghost use Rattle.pg_files.specs.Print.{spelled, numbered, worded, marked, size_words, bias_words, edge_words, field_words, printed};
+ghost use Rattle.pg_text.specs.Text.{spelled};
+ghost use Rattle.pg_files.specs.Print.{numbered, worded, marked, size_words, bias_words, edge_words, field_words, printed};
 ghost use Rattle.pg_files.specs.declared.key.Key.TheVariants as keys;
 ghost use Rattle.pg_game.specs.declared.field.Field.TheVariants as fields;
 ghost use Rattle.pg_files.specs.Views.{entry};

@@ -18,6 +18,10 @@ module _ {X : Type 0} where
         | inr off ↦ rw off tail
       ]
 
+  pub find_all : (f : X → Bool) (xs : List X) → find (λ x. true) (filter f xs) ≡ find f xs
+  find_all f [] = refl
+  find_all f (x ∷ xs) = elim (cases_Bool (f x)) [ inl on ↦ rw on refl | inr off ↦ rw off (find_all f xs) ]
+
   pub any_both : (t f : X → Bool) (xs : List X) → list_any t (filter f xs) ≡ list_any (λ x. f x && t x) xs
   any_both t f [] = refl
   any_both t f (x ∷ xs) =
@@ -68,6 +72,11 @@ first_below t f v n high on none =
 
 pub none_below : (t f : ℕ → Bool) (n : ℕ) → ((w : ℕ) → w < n → (f w && t w) ≡ false) → find t (filter f (range_with_len 0 n)) ≡ None
 none_below t f n none = find_both t f (range_with_len 0 n) ∙ none_from (λ w. f w && t w) 0 n (λ w above below. none w (omega arith))
+
+-- the first free point
+pub lowest-free : (g : Game) (p : Position) → find (λ v. true) (free_points g p) ≡ find (is_free p) (range_with_len 0 (point_count g))
+unfolding free_points
+lowest-free g p = find_all (is_free p) (range_with_len 0 (point_count g))
 
 -- the first free point that passes
 pub lowest-found : (g : Game) (p : Position) (t : ℕ → Bool) (v : ℕ) → v < point_count g → (is_free p v && t v) ≡ true → ((w : ℕ) → w < v → (is_free p w && t w) ≡ false) → find t (free_points g p) ≡ Some v

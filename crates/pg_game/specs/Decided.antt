@@ -56,7 +56,7 @@ defender MakerMaker XWins = Y
 defender MakerMaker _ = X
 defender Switching t = Y
 
--- the answer that a side's criterion gives: yes for X
+-- the answer that a side wants, which its criterion gives: yes for X
 abbrev pub answer_for : Side → Bool
 answer_for X = true
 answer_for Y = false

@@ -2,6 +2,7 @@ pub mod Field
 pub mod Fit
 pub mod Position
 pub mod Rules
+pub mod Judging
 pub mod Game
 pub mod Value
 pub mod Play

@@ -4,13 +4,12 @@ use Rattle.std.specs.List.{list_any, list_all, Contains}
 use Rattle.std.specs.Option.{option_or}
 use Rattle.pg_base.specs.declared.score.Score.{Score}
 use Rattle.pg_base.specs.declared.side.Side.{Side}
-use Rattle.pg_base.specs.declared.side.Side.TheVariants.{X, Y}
 use Rattle.pg_game.specs.declared.game.Game.{Game}
 use Rattle.pg_game.specs.declared.position.Position.{Position}
 use Rattle.pg_game.specs.PositionLemmas.{equal_positions}
 use Rattle.pg_game.specs.Position.{is_free}
 use Rattle.pg_game.specs.Game.{free_points, point_count, start, after}
-use Rattle.pg_game.specs.Decided.{decided}
+use Rattle.pg_game.specs.Decided.{answer_for, decided}
 
 -- whether the answer is known to be this one
 abbrev pub is_answer : Bool → Option Bool → Bool
@@ -18,16 +17,11 @@ is_answer b None = false
 is_answer true (Some a) = a
 is_answer false (Some a) = not a
 
--- the answer that the side to move wants
-abbrev pub wanted : Side → Bool
-wanted X = true
-wanted Y = false
-
 -- what is known from the answers of the moves: what the side to move wants where some move has it, the other answer where all moves have that
 unfoldable pub by_moves : Side → List (Option Bool) → Option Bool
 by_moves side answers =
-    if list_any (is_answer (wanted side)) answers then Some (wanted side)
-    else (if list_all (is_answer (not (wanted side))) answers then Some (not (wanted side)) else None)
+    if list_any (is_answer (answer_for side)) answers then Some (answer_for side)
+    else (if list_all (is_answer (not (answer_for side))) answers then Some (not (answer_for side)) else None)
 
 -- whether the position is one of the list
 abbrev pub is_listed : List Position → Position → Bool

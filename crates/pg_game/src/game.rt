@@ -110,12 +110,7 @@ impl Game {
     pub fn lowest_free(&self, p: &Position) -> Option<u16>
         ensures { result ≡ lowest_free self.now p.now }
     {
-        for v in 0..self.points() {
-            if p.is_free(v) {
-                return Some(v);
-            }
-        }
-        None
+        p.lowest_free_below(self.points())
     }
 
     /// Whether no point is free.

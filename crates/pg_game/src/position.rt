@@ -1,5 +1,6 @@
 //! Positions, and why a move is refused.
-ghost use Rattle.std.specs.Prelude.{◌≡◌, ◌<◌, ◌↔◌, IsTrue};
+ghost use Rattle.std.specs.Prelude.{◌≡◌, ◌<◌, ◌≤◌, ◌↔◌, IsTrue};
+ghost use Rattle.std.specs.List.{find, range_with_len};
 ghost use Rattle.pg_game.specs.Position.{is_free, points_of, claims_in_turn, after_with};
 
 use pg_base::{MAX_MEMBERS, PointSet, Side};
@@ -35,6 +36,19 @@ impl Position {
         ensures { result ≡ is_free self.now v }
     {
         !self.x.has(v) && !self.y.has(v)
+    }
+
+    /// The lowest point below `n` that neither side has, and None exactly where each of them is taken.
+    pub fn lowest_free_below(&self, n: u16) -> Option<u16>
+        requires { n ≤ MAX_MEMBERS }
+        ensures { result ≡ find (is_free self.now) (range_with_len 0 n) }
+    {
+        for v in 0..n {
+            if self.is_free(v) {
+                return Some(v);
+            }
+        }
+        None
     }
 
     /// The points that a side has.

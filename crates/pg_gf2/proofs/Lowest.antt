@@ -45,12 +45,6 @@ find_below-cases t n = elim (find_from t 0 n) [
 
 -- ---- free vectors
 
-pub free-first : (n : ℕ) (p : Position) (v : ℕ) → v < n → is_free p v ≡ true → ((w : ℕ) → w < v → is_free p w ≡ false) → lowest_free n p ≡ v
-free-first n p v low free none = ap (λ (r : Option ℕ). unwrap_or r 0) (first_below (is_free p) v n low free none)
-
-pub free-none : (n : ℕ) (p : Position) → ((w : ℕ) → w < n → is_free p w ≡ false) → lowest_free n p ≡ 0
-free-none n p none = ap (λ (r : Option ℕ). unwrap_or r 0) (none_below (is_free p) n none)
-
 -- where some vector is free, the lowest is one
 pub free-free : (n : ℕ) (p : Position) (z : ℕ) → z < n → is_free p z ≡ true → (lowest_free n p < n) × (is_free p (lowest_free n p) ≡ true)
 free-free n p z low free = elim (find_below-cases (is_free p) n) [

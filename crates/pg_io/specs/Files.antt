@@ -1,10 +1,7 @@
 -- What calls on files do, where it is told which bytes stand under which names.
-use Rattle.std.specs.Prelude.{◌≡◌, ◌≢◌, ◌⊎◌, ℕ, Bool, List, [], ◌++◌, take, Option, Some, None, Result, Ok, Err, IsSome, ⊤}
+use Rattle.std.specs.Prelude.{◌≡◌, ◌≢◌, ◌⊎◌, ℕ, Bool, [], ◌++◌, take, Option, Some, None, Result, Ok, Err, IsSome, ⊤}
+pub use Rattle.pg_base.specs.Texts.{Bytes}
 use Rattle.pg_io.specs.Causes.{Faults}
-
--- a list of bytes
-abbrev pub Bytes : Type 0
-Bytes = List ℕ
 
 -- the bytes that a name holds; none where it isn't held
 abbrev pub Holding : Type 0

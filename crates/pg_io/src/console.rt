@@ -32,6 +32,7 @@ pub trait Console {
     /// `Failed` means a fault of reading; then nothing is added.
     fn hear(&mut self, buf: &mut [u8]) -> Result<Heard, Failed>
         requires { 0 < length buf.old }
-        ensures heard { Hears (told self.old).log (told self.new).log (told self.old).left (told self.new).left buf.new result }
+        ensures heard { Hears (told self.old).log (told self.new).log
+            (told self.old).left (told self.new).left buf.new result }
         ensures cause { BlamesReads (told self.old).faults (told self.new).faults result };
 }

@@ -24,7 +24,8 @@ pub trait Files {
     /// that is known not to be held is no fault, and isn't counted.
     fn open(&mut self, name: &str) -> Result<(), Failed>
         ensures opened { Opens (told self.old).held name.now (told self.new).left result }
-        ensures cause { BlamesOpen (IsAbsent (told self.old).held name.now) (told self.old).faults (told self.new).faults result }
+        ensures cause { BlamesOpen (IsAbsent (told self.old).held name.now)
+            (told self.old).faults (told self.new).faults result }
         ensures kept { ReadsOnly (told self.old) (told self.new) };
 
     /// Moves the next bytes of the open file to the front of the buffer, and answers how many: none
@@ -54,7 +55,8 @@ pub trait Files {
     /// `Failed` means a fault of writing; then no file is being made.
     fn append(&mut self, bytes: &[u8]) -> Result<(), Failed>
         requires { IsTrue (told self.old).busy }
-        ensures added { OnOk result (Adds (told self.old).held (told self.old).making bytes.now (told self.new).making) }
+        ensures added { OnOk result
+            (Adds (told self.old).held (told self.old).making bytes.now (told self.new).making) }
         ensures cause { BlamesWrites (told self.old).faults (told self.new).faults result }
         ensures held { (told self.new).held ≡ (told self.old).held }
         ensures busy { OnOk result ((told self.new).busy ≡ true) }

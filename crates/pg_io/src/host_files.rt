@@ -117,7 +117,13 @@ impl<'a, R: FileSystem + Alloc> Files for HostFiles<'a, R> {
     ghost use Rattle.std.specs.Prelude.{None, is_some};
     ghost use Rattle.pg_io.specs.Causes.{faults};
 
-    ghost told = { λ h. record { held = None; left = None; making = None; busy = is_some h.draft; faults = faults h.reads h.writes } };
+    ghost told = { λ h. record {
+      held = None;
+      left = None;
+      making = None;
+      busy = is_some h.draft;
+      faults = faults h.reads h.writes;
+    } };
 
     fn open(&mut self, name: &str) -> Result<(), Failed> {
         match fs::File::open(self.rt, name) {

@@ -176,7 +176,8 @@ impl Console for MemConsole {
     /// A listed call fails, and another only for want of memory.
     fn hear(&mut self, buf: &mut [u8]) -> Result<Heard, Failed>
         requires { 0 < length buf.old }
-        ensures heard { Hears (told_by self.old).log (told_by self.new).log (told_by self.old).left (told_by self.new).left buf.new result }
+        ensures heard { Hears (told_by self.old).log (told_by self.new).log
+            (told_by self.old).left (told_by self.new).left buf.new result }
         ensures cause { BlamesReads (told_by self.old).faults (told_by self.new).faults result }
         ensures kept { OnErr result (left_in self.new ≡ left_in self.old) }
         ensures listed { FailsNext self.old.failing → IsErr result }

@@ -115,11 +115,13 @@ impl Files for MemFiles {
     /// A listed call fails, and another only at a name that isn't held. A file that is open stays open then.
     fn open(&mut self, name: &str) -> Result<(), Failed>
         ensures opened { Opens (told_by self.old).held name.now (told_by self.new).left result }
-        ensures cause { BlamesOpen (IsAbsent (told_by self.old).held name.now) (told_by self.old).faults (told_by self.new).faults result }
+        ensures cause { BlamesOpen (IsAbsent (told_by self.old).held name.now)
+            (told_by self.old).faults (told_by self.new).faults result }
         ensures kept { ReadsOnly (told_by self.old) (told_by self.new) }
         ensures left { OnErr result (left_in self.new ≡ left_in self.old) }
         ensures listed { FailsNext self.old.failing → IsErr result }
-        ensures unlisted { OnErr result (FailsNext self.old.failing ⊎ IsAbsent (told_by self.old).held name.now) }
+        ensures unlisted { OnErr result
+            (FailsNext self.old.failing ⊎ IsAbsent (told_by self.old).held name.now) }
         ensures counted { CountsOne self.old.failing self.new.failing }
     {
         let is_listed = self.failing.is_next();
@@ -187,7 +189,8 @@ impl Files for MemFiles {
     /// A listed call fails, and another only for want of memory.
     fn append(&mut self, bytes: &[u8]) -> Result<(), Failed>
         requires { IsTrue (told_by self.old).busy }
-        ensures added { OnOk result (Adds (told_by self.old).held (told_by self.old).making bytes.now (told_by self.new).making) }
+        ensures added { OnOk result
+            (Adds (told_by self.old).held (told_by self.old).making bytes.now (told_by self.new).making) }
         ensures cause { BlamesWrites (told_by self.old).faults (told_by self.new).faults result }
         ensures held { (told_by self.new).held ≡ (told_by self.old).held }
         ensures busy { OnOk result ((told_by self.new).busy ≡ true) }
@@ -210,7 +213,8 @@ impl Files for MemFiles {
     /// A listed call fails, and another only for want of memory.
     fn finish(&mut self) -> Result<(), Failed>
         requires { IsTrue (told_by self.old).busy }
-        ensures stored { Finishes (told_by self.old).held (told_by self.old).making (told_by self.new).held result }
+        ensures stored { Finishes (told_by self.old).held (told_by self.old).making
+            (told_by self.new).held result }
         ensures cause { BlamesWrites (told_by self.old).faults (told_by self.new).faults result }
         ensures idle { (told_by self.new).busy ≡ false }
         ensures listed { FailsNext self.old.failing → IsErr result }

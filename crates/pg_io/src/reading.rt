@@ -30,7 +30,8 @@ fn pour_open<F: Files, S: Sink>(
     requires room { 0 < length buf.old }
     requires ready { S.ready sink.old }
     ensures ready { IfOk result (λ _. S.ready sink.new) }
-    ensures poured { IfOk result (λ _. IfSome (F.told files.old).left (λ left. Goes S.took sink.old sink.new (take (limit + 1) left))) }
+    ensures poured { IfOk result (λ _. IfSome (F.told files.old).left
+        (λ left. Goes S.took sink.old sink.new (take (limit + 1) left))) }
     ensures causes { Causes ⊥ (F.told files.old).faults (F.told files.new).faults result }
     ensures kept { ReadsOnly (F.told files.old) (F.told files.new) }
 {
@@ -62,8 +63,10 @@ pub fn pour<F: Files, S: Sink>(
 ) -> Result<(), Stop>
     requires { S.ready sink.old }
     ensures ready { IfOk result (λ _. S.ready sink.new) }
-    ensures poured { IfOk result (λ _. Pours (F.told files.old).held name.now limit S.took sink.old sink.new) }
-    ensures causes { Causes (IsAbsent (F.told files.old).held name.now) (F.told files.old).faults (F.told files.new).faults result }
+    ensures poured { IfOk result
+        (λ _. Pours (F.told files.old).held name.now limit S.took sink.old sink.new) }
+    ensures causes { Causes (IsAbsent (F.told files.old).held name.now)
+        (F.told files.old).faults (F.told files.new).faults result }
     ensures kept { ReadsOnly (F.told files.old) (F.told files.new) }
 {
     let mut buf = piece(alloc)?;
@@ -84,7 +87,8 @@ pub fn read_whole<F: Files>(
     limit: usize,
 ) -> Result<Vec<u8>, Stop>
     ensures bytes { IfOk result (λ bytes. IsFile (F.told files.old).held name.now limit bytes.items) }
-    ensures causes { Causes (IsAbsent (F.told files.old).held name.now) (F.told files.old).faults (F.told files.new).faults result }
+    ensures causes { Causes (IsAbsent (F.told files.old).held name.now)
+        (F.told files.old).faults (F.told files.new).faults result }
     ensures kept { ReadsOnly (F.told files.old) (F.told files.new) }
 {
     let mut bytes = Vec::new(alloc);

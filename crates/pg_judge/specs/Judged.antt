@@ -1,5 +1,6 @@
 -- What there is to say of a text that comes piece by piece.
-use Rattle.std.specs.Prelude.{◌≡◌, ℕ, List, [], ◌∷◌, ◌++◌, Ok, IsErrAnd, ⊤}
+use Rattle.std.specs.Prelude.{◌≡◌, List, [], ◌∷◌, ◌++◌, Ok, IsErrAnd, ⊤}
+use Rattle.pg_base.specs.Texts.{Bytes}
 use Rattle.pg_text.specs.declared.error.FileError.{FileError}
 use Rattle.pg_text.specs.declared.error.FileError.TheVariants as outcomes
 use Rattle.pg_game.specs.declared.game.Game.{Game}
@@ -19,10 +20,6 @@ use Rattle.pg_judge.specs.declared.fault.JudgeFault.{JudgeFault}
 use Rattle.pg_judge.specs.declared.fault.JudgeFault.TheVariants as faults
 use Rattle.pg_judge.specs.declared.judging.Judging.{Judging}
 use Rattle.pg_judge.specs.declared.told.Told.{Told}
-
--- a list of bytes
-abbrev pub Bytes : Type 0
-Bytes = List ℕ
 
 -- a fault of a text
 abbrev pub of_form : FileError → JudgeFault

@@ -15,6 +15,7 @@ use Rattle.pg_base.proofs.BelowLemmas.{below_parts, below_from, same_sets}
 use Rattle.pg_graph.specs.Span.{IsSpan, IsTrees, IsCuts}
 use Rattle.pg_graph.proofs.Swap.{spans_mono}
 use Rattle.pg_graph.proofs.Classes.{IsTrees-reached, IsCuts-unreached}
+use Rattle.pg_exchange.specs.Chain.{AreBases}
 use Rattle.pg_exchange.specs.Matroid.{Matroid}
 use Rattle.pg_game.specs.declared.position.Position.{Position}
 use Rattle.pg_game.specs.Class.{class_by}
@@ -26,7 +27,7 @@ use Rattle.pg_lehman.specs.declared.class.Class.{Class}
 use Rattle.pg_lehman.specs.declared.class.Class.TheVariants.{Short, Cut, First}
 use Rattle.pg_lehman.specs.Sets.{named}
 use Rattle.pg_lehman.specs.SpanSets.{free_with_e, SpanSetsHold}
-use Rattle.pg_lehman.specs.Taken.{AreBases, IsTakenShort, IsTakenCut, IsTakenFirst, IsTaken}
+use Rattle.pg_lehman.specs.Taken.{IsTakenShort, IsTakenCut, IsTakenFirst, IsTaken}
 
 -- the elements, and what a set of them spans together with x
 abbrev matroid_over : ((ℕ → Bool) → ℕ → Bool) → (ℕ → Bool) → (ℕ → Bool) → Matroid

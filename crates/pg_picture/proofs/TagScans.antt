@@ -2,7 +2,8 @@
 use Rattle.std.proofs.Common.{◌≡◌, ℕ, zero, suc, ◌+◌, ◌<◌, ◌%◌, ◌/◌, ◌==◌, ◌&&◌, nat_le, nat_lt, Bool, true, false, if◌then◌else◌, List, [], ◌∷◌, ◌++◌, codes, decimal, refl, ap, ◌∙◌, arith, lt-ltb}
 use Rattle.std.specs.List.{flat_map}
 use Rattle.std.specs.Fmt.{digits_onto, digit_glyph, digits}
-use Rattle.pg_picture.specs.Svg.{Bytes, Attribute, attribute_text, begun, class_name, escaped, escaped_byte, filled, head, inside_of, lone, numbered, painted, path_of, picture_text, place_text, shape_text}
+use Rattle.pg_base.specs.Texts.{Bytes}
+use Rattle.pg_picture.specs.Svg.{Attribute, attribute_text, begun, class_name, escaped, escaped_byte, filled, head, inside_of, lone, numbered, painted, path_of, picture_text, place_text, shape_text}
 use Rattle.pg_picture.specs.Tags.{CloseInOrder, Scan, next, scan}
 use Rattle.pg_picture.specs.Tags.Scan.{Between, Begun, Opening, Within, Quoted, Closing}
 use Rattle.pg_picture.specs.declared.paint.Paint.{Paint}

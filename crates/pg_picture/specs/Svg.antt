@@ -1,6 +1,7 @@
 -- The text of a picture: SVG 1.1, in ASCII.
 use Rattle.std.specs.Prelude.{ℕ, ◌%◌, ◌==◌, ◌&&◌, nat_lt, nat_le, if◌then◌else◌, List, [], ◌∷◌, ◌++◌, codes, decimal}
 use Rattle.std.specs.List.{flat_map}
+use Rattle.pg_base.specs.Texts.{Bytes}
 use Rattle.pg_picture.specs.declared.paint.Paint.{Paint}
 use Rattle.pg_picture.specs.declared.paint.Paint.TheVariants.{Free, OfX, OfY, Terminal, Vertex, Line, Edge, EdgeOfX, EdgeOfY, Pair, First, Second, Extra, Step, Move, Reply, Fault, Number, Mark, Weight, Legend, Heading}
 use Rattle.pg_picture.specs.declared.picture.Picture.{Picture}
@@ -8,10 +9,6 @@ use Rattle.pg_picture.specs.declared.shape.Place.{Place}
 use Rattle.pg_picture.specs.declared.shape.Shape.{Shape}
 use Rattle.pg_picture.specs.declared.shape.Shape.TheVariants.{Square, Disc, Stroke, Bow, Words}
 use Rattle.pg_picture.specs.declared.style.TheConstants.{NAME_SPACE, STYLE}
-
--- the bytes of a text
-abbrev pub Bytes : Type 0
-Bytes = List ℕ
 
 -- ---- words
 

@@ -1,6 +1,6 @@
 -- Whether each tag of a text that is opened is closed, the last opened first.
 use Rattle.std.specs.Prelude.{◌≡◌, ℕ, Bool, ◌==◌, ◌&&◌, nat_le, if◌then◌else◌, List, [], ◌∷◌, ◌++◌}
-use Rattle.pg_picture.specs.Svg.{Bytes}
+use Rattle.pg_base.specs.Texts.{Bytes}
 
 -- where a scan stands, with the names of the open tags, the last opened first
 pub data Scan : Type 0 where

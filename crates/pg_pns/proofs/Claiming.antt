@@ -23,7 +23,8 @@ use Rattle.pg_cert.specs.declared.cert.Claim.{Claim}
 use Rattle.pg_pns.specs.Claims.{nodes_of}
 use Rattle.pg_game.specs.Decided.{claimer, claimed_goal, first_criterion}
 use Rattle.pg_leaf.specs.Leaf.{criterion_of}
-use Rattle.pg_prune.specs.Pruned.{AreMarked, IsMarked, IsMoved, IsPruned, IsUsed, Renumbers}
+use Rattle.pg_base.specs.Sets.{IsMarked}
+use Rattle.pg_prune.specs.Pruned.{AreMarked, IsMoved, IsPruned, IsUsed, Renumbers}
 use Rattle.pg_pns.specs.Search.{Follows, IsSearch}
 use Rattle.pg_pns.specs.Found.{IsClaimOf}
 use Rattle.pg_prune.proofs.KeptNodes.{names-earlier, renumbers-names}

@@ -31,8 +31,7 @@ use Rattle.pg_cert.specs.Node.{position_of}
 use Rattle.pg_game.specs.Game.{is_over, free_points, point_count, after}
 use Rattle.pg_pns.specs.declared.known.Answered.{Answered}
 use Rattle.pg_pns.specs.declared.claims.Claims.{Claims}
-use Rattle.pg_game.specs.Decided.{decided, claimer, claimed_goal}
-use Rattle.pg_game.specs.Settled.{wanted}
+use Rattle.pg_game.specs.Decided.{decided, claimer, claimed_goal, answer_for}
 use Rattle.pg_pns.specs.Known.{answer_of, IsShown, IsBodyBy, HaveReplies}
 use Rattle.pg_pns.specs.Claims.{nodes_of}
 use Rattle.pg_pns.specs.Settles.{IsSettledAt, IsLeftOpen}
@@ -43,13 +42,13 @@ use Rattle.pg_base.proofs.Stands.{at_push, at_old, at_new, at_contains, at_set_o
 
 -- ---- the body that an answer by moves gives holds
 
-turn-wanted : (b : Bool) (turn : Side) → b ≡ wanted turn → turn ≡ claimer b
+turn-wanted : (b : Bool) (turn : Side) → b ≡ answer_for turn → turn ≡ claimer b
 turn-wanted true X h = refl
 turn-wanted true Y h = absurd (false≢true (sym h))
 turn-wanted false X h = absurd (false≢true h)
 turn-wanted false Y h = refl
 
-turn-other : (b : Bool) (turn : Side) → b ≡ not (wanted turn) → turn ≡ other (claimer b)
+turn-other : (b : Bool) (turn : Side) → b ≡ not (answer_for turn) → turn ≡ other (claimer b)
 turn-other true X h = absurd (false≢true (sym h))
 turn-other true Y h = refl
 turn-other false X h = refl

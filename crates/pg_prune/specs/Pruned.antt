@@ -1,6 +1,7 @@
 -- The nodes of a claim that its root reaches, and the others left out.
 use Rattle.std.specs.Prelude.{◌≡◌, ℕ, suc, ◌<◌, ◌≤◌, ◌+◌, Bool, true, false, List, [], ◌∷◌, ◌++◌, length, slice_get, Some, ◌⊎◌}
 use Rattle.std.specs.List.{Contains}
+use Rattle.pg_base.specs.Sets.{IsMarked}
 use Rattle.pg_base.specs.declared.goal.Goal.{Goal}
 use Rattle.pg_base.specs.declared.side.Side.{Side}
 use Rattle.pg_game.specs.declared.game.Game.{Game}
@@ -23,10 +24,6 @@ Names (Move point child) i = child ≡ i
 Names (All replies) i = AreNamed replies i
 Names (Weaker child) i = child ≡ i
 Names _ i = ⊥
-
--- the number is marked
-abbrev pub IsMarked : List Bool → ℕ → Type 0
-IsMarked marks i = slice_get marks i ≡ Some true
 
 -- the marks, and those of some numbers more
 pub record MarksMore (named : ℕ → Type 0) (old new : List Bool) : Type 0 where

@@ -2,8 +2,7 @@
 use Rattle.std.specs.Prelude.{List, [], ◌∷◌, ◌++◌, codes}
 use Rattle.std.specs.Fmt.{decimal}
 use Rattle.std.specs.List.{flat_map}
-use Rattle.pg_base.specs.declared.signs.TheConstants.{LINE_FEED}
-use Rattle.pg_text.specs.Text.{Bytes, spaced}
+use Rattle.pg_text.specs.Text.{Bytes, spelled}
 use Rattle.pg_record.specs.declared.event.Event.{Event}
 use Rattle.pg_record.specs.declared.event.Event.TheVariants.{Play, Back}
 
@@ -16,10 +15,6 @@ abbrev pub event_words : Event → List Bytes
 event_words (Play v) = codes "move" ∷ decimal v ∷ []
 event_words Back = codes "back" ∷ []
 
--- a line of words
-abbrev pub line_of : List Bytes → Bytes
-line_of words = spaced words ++ LINE_FEED ∷ []
-
 -- the text of a record: a first line, and a line for each event
 unfoldable pub printed_record : List Event → Bytes
-printed_record events = line_of header ++ flat_map (λ e. line_of (event_words e)) events
+printed_record events = spelled header ++ flat_map (λ e. spelled (event_words e)) events

@@ -1,7 +1,8 @@
 //! The text of a record.
 ghost use Rattle.std.specs.Prelude.{◌≡◌, ◌++◌, OnOk, IfOk, string_bytes};
 ghost use Rattle.std.specs.List.{flat_map};
-ghost use Rattle.pg_record.specs.Print.{event_words, line_of, printed_record};
+ghost use Rattle.pg_text.specs.Text.{spelled};
+ghost use Rattle.pg_record.specs.Print.{event_words, printed_record};
 ghost use Rattle.pg_record.specs.Replay.{IsRecord};
 
 use crate::event::Event;
@@ -12,7 +13,7 @@ use std::fmt::Write;
 
 /// Puts the line of an event.
 fn put_event(out: &mut String, event: Event) -> Result<(), AllocError>
-    ensures { OnOk result (string_bytes out.new ≡ string_bytes out.old ++ line_of (event_words event)) }
+    ensures { OnOk result (string_bytes out.new ≡ string_bytes out.old ++ spelled (event_words event)) }
 {
     match event {
         Event::Play(v) => {
@@ -25,7 +26,7 @@ fn put_event(out: &mut String, event: Event) -> Result<(), AllocError>
 
 /// Puts the lines of events.
 fn put_events(out: &mut String, events: &[Event]) -> Result<(), AllocError>
-    ensures { OnOk result (string_bytes out.new ≡ string_bytes out.old ++ flat_map (λ e. line_of (event_words e)) events.now) }
+    ensures { OnOk result (string_bytes out.new ≡ string_bytes out.old ++ flat_map (λ e. spelled (event_words e)) events.now) }
 {
     for event in events {
         put_event(out, *event)?;

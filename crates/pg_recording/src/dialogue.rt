@@ -16,7 +16,7 @@ use pg_talk::{MAX_REFUSALS, MAX_REPLY, say};
 use pg_texts::{Message, ReplyFault};
 
 /// What came of a line.
-#[derive(Clone, Copy, Debug, PartialEq, Eq)]
+#[derive(Clone, Copy, PartialEq, Eq)]
 pub enum Turn {
     /// A move was played or taken back.
     Changed,
@@ -27,7 +27,7 @@ pub enum Turn {
 }
 
 /// How a session ended.
-#[derive(Clone, Copy, Debug, PartialEq, Eq)]
+#[derive(Clone, Copy, PartialEq, Eq)]
 pub enum Close {
     /// By a line, by the end of the input, or for want of room for a further event.
     Ended,
@@ -49,7 +49,8 @@ fn reason_of(why: Illegal) -> ReplyFault
 /// Refuses a line.
 fn refuse<C: Console>(console: &mut C, fault: ReplyFault) -> Result<Turn, Stop>
     ensures course { (g : Game) → (events : List Event) → (refusals : ℕ)
-        → Goes (Steps g) IsOpen (C.told console.old) (C.told console.new) (Refuses events refusals fault) result
+        → Goes (Steps g) IsOpen (C.told console.old) (C.told console.new)
+        (Refuses events refusals fault) result
         (λ turn. turned events refusals turn) }
     ensures turn { IfOk result (λ turn. turn ≡ Turn.Refused) }
     ensures causes { Causes ⊥ (C.told console.old).faults (C.told console.new).faults result }
@@ -62,7 +63,8 @@ fn refuse<C: Console>(console: &mut C, fault: ReplyFault) -> Result<Turn, Stop>
 /// Tells how many moves stand after an event.
 fn tell_standing<C: Console>(session: &Session<'_>, console: &mut C) -> Result<Turn, Stop>
     ensures course { (refusals : ℕ)
-        → Goes (Steps session.now.game) IsOpen (C.told console.old) (C.told console.new) (Stands session.now.events refusals) result
+        → Goes (Steps session.now.game) IsOpen (C.told console.old) (C.told console.new)
+        (Stands session.now.events refusals) result
         (λ turn. turned session.now.events refusals turn) }
     ensures turn { IfOk result (λ turn. turn ≡ Turn.Changed) }
     ensures causes { Causes ⊥ (C.told console.old).faults (C.told console.new).faults result }
@@ -159,7 +161,8 @@ pub(crate) fn hear_session<C: Console>(
     console: &mut C,
 ) -> Result<Close, Stop>
     requires { session.old.events ≡ [] }
-    ensures course { Goes (Steps session.old.game) IsOpen (C.told console.old) (C.told console.new) (Listens [] 0) result
+    ensures course { Goes (Steps session.old.game) IsOpen (C.told console.old) (C.told console.new)
+        (Listens [] 0) result
         (λ close. closed session.new.events close) }
     ensures game { IfOk result (λ _. session.new.game ≡ session.old.game) }
     ensures causes { Causes ⊥ (C.told console.old).faults (C.told console.new).faults result }

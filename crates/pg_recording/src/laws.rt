@@ -10,12 +10,14 @@ ghost use Rattle.pg_recording.specs.SessionLog.{EndsWith, IsLogTo, IsWholeLog, S
 
 /// The log alone tells which session it is of, and where it stands.
 pub fn logs_tell_their_session()
-    ensures { (g : Game) (entries : List Entry) (s t : Stage) → IsLogTo g entries s → IsLogTo g entries t → s ≡ t }
+    ensures { (g : Game) (entries : List Entry) (s t : Stage)
+        → IsLogTo g entries s → IsLogTo g entries t → s ≡ t }
 {}
 
 /// The session that a log gives is a record of the game: each event may follow those before it, and there aren't too many.
 pub fn logged_sessions_are_records()
-    ensures { (g : Game) (entries : List Entry) (stage : Stage) → IsLogTo g entries stage → IsRecord g (events_at stage) }
+    ensures { (g : Game) (entries : List Entry) (stage : Stage)
+        → IsLogTo g entries stage → IsRecord g (events_at stage) }
 {}
 
 /// What is printed of the session that a log gives is read back as this session.
@@ -26,6 +28,7 @@ pub fn logged_sessions_are_read_back()
 
 /// A log ends with 9 where as many lines were refused as may be; otherwise it ends with 0, and fewer were.
 pub fn refusals_end_sessions()
-    ensures { (g : Game) (entries : List Entry) (events : List Event) (status : ℕ) → IsWholeLog g entries events status
+    ensures { (g : Game) (entries : List Entry) (events : List Event) (status : ℕ)
+        → IsWholeLog g entries events status
         → EndsWith (count_by is_refusal entries) status }
 {}

@@ -28,7 +28,8 @@ fn store_record<F: Files, C: Console>(
     files: &mut F,
     console: &mut C,
 ) -> Result<u8, Halt>
-    ensures delivered { Does (Delivers (record_file name.now session.now.events) (recorded_text (standing_count session.now.game session.now.events) ∷ []))
+    ensures delivered { Does (Delivers (record_file name.now session.now.events)
+        (recorded_text (standing_count session.now.game session.now.events) ∷ []))
         (F.told files.old) (F.told files.new) (C.told console.old) (C.told console.new) result }
     ensures files { StoresAt (name.now ∷ []) (F.told files.old) (F.told files.new) }
     ensures causes { BothCauses ⊥ (F.told files.old) (F.told files.new)

@@ -34,7 +34,8 @@ fn review_record<F: Files, C: Console>(
     requires some { MIN_POSITIONS ≤ positions }
     requires most { positions ≤ MAX_POSITIONS }
     ensures ran { Runs (λ held refusal. moves_held game.old (held record.now) ≡ Err (Refused refusal))
-        (λ held done end. ReviewsRecord game.old (held record.now) positions work.new done.entries end × (done.stored ≡ []))
+        (λ held done end. ReviewsRecord game.old (held record.now) positions work.new done.entries end
+        × (done.stored ≡ []))
         (F.told files.old) (F.told files.new) (C.told console.old) (C.told console.new) result }
     ensures causes { BothCauses (IsLackingOne (moves_held game.old) (F.told files.old).held record.now)
         (F.told files.old) (F.told files.new) (C.told console.old) (C.told console.new) result }
@@ -73,7 +74,8 @@ pub fn review<F: Files, C: Console>(
     requires some { MIN_POSITIONS ≤ positions }
     requires most { positions ≤ MAX_POSITIONS }
     ensures ran { Runs (λ held. RefusesReview (held game.now) (held record.now))
-        (λ held done end. Reviews (held game.now) (held record.now) positions work.new done end × (done.stored ≡ []))
+        (λ held done end. Reviews (held game.now) (held record.now) positions work.new done end
+        × (done.stored ≡ []))
         (F.told files.old) (F.told files.new) (C.told console.old) (C.told console.new) result }
     ensures causes { BothCauses (IsReviewLacking (F.told files.old).held game.now record.now)
         (F.told files.old) (F.told files.new) (C.told console.old) (C.told console.new) result }

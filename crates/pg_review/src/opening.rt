@@ -57,7 +57,8 @@ pub(crate) fn open_moves<F: Files>(
     name: &str,
     game: &Game,
 ) -> Result<Vec<u16>, Halt>
-    ensures opened { Opens (λ moves. moves.items) (moves_held game.now) (F.told files.old).held name.now result }
+    ensures opened { Opens (λ moves. moves.items) (moves_held game.now)
+        (F.told files.old).held name.now result }
     ensures single { IfOk result (λ _. game.now.bias ≡ 1) }
     ensures legal { IfOk result (λ moves. IsLegalPlay game.now (start game.now) moves.items) }
     ensures few { IfOk result (λ moves. length moves.items ≤ MAX_EVENTS) }

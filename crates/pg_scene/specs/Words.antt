@@ -4,6 +4,7 @@ use Rattle.std.specs.Fmt.{decimal}
 use Rattle.pg_base.specs.Goal.{goal_word}
 use Rattle.pg_base.specs.Kind.{kind_word}
 use Rattle.pg_base.specs.Side.{side_word}
+use Rattle.pg_base.specs.Texts.{count_text}
 use Rattle.pg_base.specs.declared.kind.Kind.{Kind}
 use Rattle.pg_base.specs.declared.side.Side.{Side}
 use Rattle.pg_cert.specs.declared.cert.Claim.{Claim}
@@ -15,10 +16,6 @@ use Rattle.pg_game.specs.declared.field.Field.TheVariants.{Lines, Graph}
 use Rattle.pg_game.specs.declared.game.Game.{Game}
 use Rattle.pg_game.specs.declared.position.Position.{Position}
 use Rattle.pg_scene.specs.Items.{are_drawn, base_of, most_free, own_of}
-
--- a number between words
-abbrev pub count_text : List ℕ → ℕ → List ℕ → List ℕ
-count_text first count last = first ++ (decimal count ++ last)
 
 -- ---- titles
 

@@ -18,9 +18,10 @@ use Rattle.pg_claims.specs.Span.{joins_below, joins_pairs}
 use Rattle.pg_claims.proofs.PartLemmas.{joined_pairs}
 use Rattle.pg_base.specs.declared.score.Score.TheVariants.{YWins}
 use Rattle.pg_game.specs.declared.position.Position.{Position}
+use Rattle.pg_game.specs.Judging.{ending_by}
 use Rattle.pg_claims.specs.Claims.{kept}
 use Rattle.pg_span.specs.declared.game.SpanGame.{SpanGame}
-use Rattle.pg_span.specs.Judge.{connects, ending_by}
+use Rattle.pg_span.specs.Judge.{connects}
 use Rattle.pg_span.specs.Game.{span_rules_of}
 
 -- walks of the set's edges lead from each vertex to each

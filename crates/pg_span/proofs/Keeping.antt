@@ -21,6 +21,7 @@ use Rattle.pg_game.specs.declared.position.Illegal.{Illegal}
 use Rattle.pg_game.specs.declared.position.Illegal.TheVariants.{Range, Taken, Over}
 use Rattle.pg_game.specs.declared.position.Position.{Position}
 use Rattle.pg_game.specs.Position.{is_free}
+use Rattle.pg_game.specs.Judging.{ending_by, judged_by}
 use Rattle.pg_game.specs.Rules.{Rules, moved, reaches, IsEnding, IsPlayBy, played_by, ForcesBy}
 use Rattle.pg_game.specs.Trees.{IsFreeEdge, answered_edge, short_edge, trees_answer}
 use Rattle.pg_game.proofs.RulesLaws.{some_free, value_by-over, ForcesBy-all-from}
@@ -35,7 +36,7 @@ use Rattle.pg_span.specs.declared.cert.SpanBody.TheVariants.{Trees, Parts}
 use Rattle.pg_span.specs.declared.game.SpanGame.{SpanGame}
 use Rattle.pg_span.specs.declared.judge.SpanJudge.{SpanJudge}
 use Rattle.pg_span.specs.Answers.{SpanMove, span_move, parts_edge}
-use Rattle.pg_span.specs.Judge.{ending_by, judged_by, connects, IsJudgeOf}
+use Rattle.pg_span.specs.Judge.{connects, IsJudgeOf}
 use Rattle.pg_span.specs.Plan.{IsMovable}
 use Rattle.pg_span.specs.Player.{span_start, IsSpanReached, IsOnPlan, SpanPlay, SpanWaits}
 use Rattle.pg_span.specs.Playing.{HeldUntil, IsDue, IsSpanPlaying}

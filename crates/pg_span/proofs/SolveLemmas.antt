@@ -18,13 +18,14 @@ use Rattle.pg_graph.specs.Labels.{AreLabels}
 use Rattle.pg_graph.specs.Span.{IsBase}
 use Rattle.pg_graph.proofs.GraphLemmas.{ends_in_range, joins_in-complete, loops_after}
 use Rattle.pg_graph.proofs.WalkLemmas.{joins_sound}
+use Rattle.pg_exchange.specs.Chain.{AreBases}
 use Rattle.pg_exchange.specs.Forest.{elements_of}
 use Rattle.pg_game.specs.Position.{is_free}
 use Rattle.pg_claims.specs.Span.{joins_all, spare}
 use Rattle.pg_claims.proofs.Settled.{AreParts-shared, AreParts-apart, joined_by_base, AreJoiningTrees-none, AreJoiningTrees-one}
 use Rattle.pg_span.specs.declared.game.SpanGame.{SpanGame}
 use Rattle.pg_span.specs.Game.{marks_at}
-use Rattle.pg_span.specs.Settled.{AreSettled, free_matroid}
+use Rattle.pg_span.specs.FreeEdges.{free_matroid}
 use Rattle.pg_span.specs.Solved.{ArePartsBelow, HavePartsBelow, SolvedIsSmall, claims_of, parts_claim, trees_claim}
 use Rattle.pg_span.specs.Valid.{AreTreesOfGame, ArePartsOfGame}
 use Rattle.pg_span.specs.declared.cert.SpanClaim.{SpanClaim}
@@ -52,7 +53,7 @@ label-joined h set names named u v lu lv same = joins_sound (first_end_of h) (se
 joined-label : (h : Graph) (set : ℕ → Bool) (names : List ℕ) → AreLabels h set names → IsBelow set (edge_count h) → (u v : ℕ) → u < h.vertices → v < h.vertices → IsJoinedIn h set u v → slice_index names u ≡ slice_index names v
 joined-label h set names named small u v lu lv joined = (named.same u v lu lv).1 (joins_in-complete h set u v (λ z k. let l = small z k in omega (arith, l)) joined)
 
-module _ (g : SpanGame) (one two near : FinSet nat_cmp) (s : AreSettled (free_matroid g) (contains one) (contains two) (contains near)) where
+module _ (g : SpanGame) (one two near : FinSet nat_cmp) (s : AreBases (free_matroid g) (contains one) (contains two) (contains near)) where
   abbrev h : Graph
   h = g.graph
 
@@ -106,7 +107,7 @@ module _ (g : SpanGame) (one two near : FinSet nat_cmp) (s : AreSettled (free_ma
       elim (find_below (λ v. not (eqb (slice_index whole v) (slice_index whole 0))) h.vertices) [
         | inr none ↦ absurd (others (λ v l. eqb-true _ _ (true_from_ne_false _ (λ o. both_ways _ (none v (subst (λ (k : ℕ). v < k) wholly.size l)) (not_from_false _ o)))))
         | inl w ↦ AreParts-apart (first_end_of h) (second_end_of h) (edge_count h) h.vertices (suc (edge_count h)) PART_NUMBERS (omega arith) (loops_after h) ends some x elements g.fits.x_range small
-            (contains one) (contains two) (contains near) s.first s.second s.reached (slice_index names) few_numbers (label-joined h (either x (contains near)) names named) (joined-label h (either x (contains near)) names named near_small)
+            (contains one) (contains two) (contains near) s.first_base s.second_base s.reached (slice_index names) few_numbers (label-joined h (either x (contains near)) names named) (joined-label h (either x (contains near)) names named near_small)
             (marks_at g turn) refl (all_elements turn) w.0 0 w.1 some (λ j. eqb-false _ _ (not-true _ w.2) (joined-label h (either x elements) whole wholly whole_small w.0 0 w.1 some j))
       ],
     )
@@ -115,7 +116,7 @@ module _ (g : SpanGame) (one two near : FinSet nat_cmp) (s : AreSettled (free_ma
     parts_shared turn enough = (
       named.size,
       AreParts-shared (first_end_of h) (second_end_of h) (edge_count h) h.vertices (suc (edge_count h)) PART_NUMBERS (omega arith) (loops_after h) ends some x elements g.fits.x_range small
-          (contains one) (contains two) (contains near) s.first s.second s.reached (slice_index names) few_numbers (label-joined h (either x (contains near)) names named) (joined-label h (either x (contains near)) names named near_small)
+          (contains one) (contains two) (contains near) s.first_base s.second_base s.reached (slice_index names) few_numbers (label-joined h (either x (contains near)) names named) (joined-label h (either x (contains near)) names named near_small)
           (marks_at g turn) refl (all_elements turn) enough (few turn),
     )
       where
@@ -137,11 +138,11 @@ module _ (g : SpanGame) (one two near : FinSet nat_cmp) (s : AreSettled (free_ma
       free_base turn base pb f k = free_element turn f (pb.within f k)
 
       pub trees_none : (turn : Side) → ((f : ℕ) → both (contains one) (contains two) f ≡ false) → AreTreesOfGame g (marks_at g turn) None one two
-      trees_none turn none = AreJoiningTrees-none (first_end_of h) (second_end_of h) (edge_count h) h.vertices (marks_at g turn) one two (free_base turn one s.first) (free_base turn two s.second) none (base_joins one s.first) (base_joins two s.second)
+      trees_none turn none = AreJoiningTrees-none (first_end_of h) (second_end_of h) (edge_count h) h.vertices (marks_at g turn) one two (free_base turn one s.first_base) (free_base turn two s.second_base) none (base_joins one s.first_base) (base_joins two s.second_base)
 
       pub trees_one : (a1 a2 : FinSet nat_cmp) (v : ℕ) → contains one v ≡ true → ((f : ℕ) → both (contains one) (contains two) f ≡ true → v ≡ f) → contains a1 ≡ minus (contains one) v → contains a2 ≡ minus (contains two) v → AreTreesOfGame g (marks_at g X) (Some v) a1 a2
       trees_one a1 a2 v own only is1 is2 =
-          AreJoiningTrees-one (first_end_of h) (second_end_of h) (edge_count h) h.vertices (marks_at g X) one two a1 a2 v refl (free_base X one s.first) (free_base X two s.second) own only is1 is2 (base_joins one s.first) (base_joins two s.second)
+          AreJoiningTrees-one (first_end_of h) (second_end_of h) (edge_count h) h.vertices (marks_at g X) one two a1 a2 v refl (free_base X one s.first_base) (free_base X two s.second_base) own only is1 is2 (base_joins one s.first_base) (base_joins two s.second_base)
 
   -- how many common elements there are at least
   pub shared_one : (v : ℕ) → both (contains one) (contains two) v ≡ true → v < edge_count h → 1 ≤ count (both (contains one) (contains two)) (edge_count h)

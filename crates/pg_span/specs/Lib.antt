@@ -4,7 +4,7 @@ pub mod Game
 pub mod Valid
 pub mod Judge
 pub mod Conditions
-pub mod Settled
+pub mod FreeEdges
 pub mod Solved
 pub mod Answers
 pub mod Plan

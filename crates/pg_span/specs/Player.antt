@@ -6,6 +6,7 @@ use Rattle.pg_base.specs.declared.side.Side.{Side}
 use Rattle.pg_graph.specs.Graph.{edge_count}
 use Rattle.pg_game.specs.declared.position.Position.{Position}
 use Rattle.pg_game.specs.Position.{is_free}
+use Rattle.pg_game.specs.Judging.{judged_by}
 use Rattle.pg_game.specs.Rules.{moved, IsPlayBy, played_by, ForcesBy}
 use Rattle.pg_claims.specs.Claims.{IsPlace}
 use Rattle.pg_span.specs.declared.cert.SpanBody.{SpanBody}
@@ -13,7 +14,6 @@ use Rattle.pg_span.specs.declared.cert.SpanCert.{SpanCert}
 use Rattle.pg_span.specs.declared.cert.SpanClaim.{SpanClaim}
 use Rattle.pg_span.specs.declared.game.SpanGame.{SpanGame}
 use Rattle.pg_span.specs.Answers.{span_move}
-use Rattle.pg_span.specs.Judge.{judged_by}
 use Rattle.pg_span.specs.Game.{span_rules_of, marks_at}
 use Rattle.pg_span.specs.Valid.{IsBodyAt}
 

@@ -5,13 +5,14 @@ use Rattle.pg_base.specs.declared.score.Score.{Score}
 use Rattle.pg_base.specs.declared.side.Side.{Side}
 use Rattle.pg_graph.specs.Graph.{edge_count}
 use Rattle.pg_game.specs.declared.position.Position.{Position}
+use Rattle.pg_game.specs.Judging.{ending_by}
 use Rattle.pg_game.specs.Position.{is_free}
 use Rattle.pg_game.specs.Rules.{moved}
 use Rattle.pg_claims.specs.Claims.{IsPlace}
 use Rattle.pg_span.specs.declared.cert.SpanBody.{SpanBody}
 use Rattle.pg_span.specs.declared.game.SpanGame.{SpanGame}
 use Rattle.pg_span.specs.declared.judge.SpanJudge.{SpanJudge}
-use Rattle.pg_span.specs.Judge.{ending_by, IsJudgeOf}
+use Rattle.pg_span.specs.Judge.{IsJudgeOf}
 use Rattle.pg_span.specs.Player.{IsSpanReached, IsOnPlan}
 use Rattle.pg_span.specs.Game.{span_rules_of}
 use Rattle.pg_span.specs.Valid.{IsBodyAt}

@@ -1,8 +1,9 @@
 //! Who wins a connectivity game.
 ghost use Rattle.std.specs.Prelude.{◌≡◌, ◌<◌, ◌↔◌, ℕ, length, slice_index, Some, IfOk, IsTrue};
 ghost use Rattle.std.specs.FinSet.{contains};
+ghost use Rattle.pg_exchange.specs.Chain.{AreBases};
+ghost use Rattle.pg_span.specs.FreeEdges.{free_matroid};
 ghost use Rattle.pg_span.specs.Game.{span_class};
-ghost use Rattle.pg_span.specs.Settled.{AreSettled, free_matroid};
 ghost use Rattle.pg_span.specs.Solved.{AreDueClaims, HavePartsBelow, SolvedHolds, SolvedIsSmall, named};
 ghost use Rattle.pg_span.specs.Valid.{IsSpanValid};
 
@@ -38,7 +39,7 @@ struct Bases {
 
 /// Two bases of the free edges with fewest common ones.
 fn settled_bases(alloc: Global, g: &SpanGame) -> Result<Bases, Memory>
-    ensures settled { IfOk result (λ s. AreSettled (free_matroid g.now) (contains s.one) (contains s.two) (contains s.near)) }
+    ensures settled { IfOk result (λ s. AreBases (free_matroid g.now) (contains s.one) (contains s.two) (contains s.near)) }
     ensures elements { IfOk result (λ s. contains s.elements ≡ (free_matroid g.now).elements) }
 {
     let mut bases = Trees::new(alloc, &g.graph, &g.x, &g.y, false)?;

@@ -11,7 +11,8 @@ use Rattle.pg_span.specs.declared.cert.SpanClaim.{SpanClaim}
 use Rattle.pg_span.specs.declared.game.SpanGame.{SpanGame}
 use Rattle.pg_scene.specs.Items.{fault_items, member_items, numbered, point_items, seen_if}
 use Rattle.pg_scene.specs.Scenes.{IsDrawnGraph}
-use Rattle.pg_scene.specs.Words.{count_text, size_text, turn_line}
+use Rattle.pg_base.specs.Texts.{count_text}
+use Rattle.pg_scene.specs.Words.{size_text, turn_line}
 use Rattle.pg_scene.specs.declared.item.Item.{Item}
 use Rattle.pg_scene.specs.declared.item.Item.TheVariants.{Step, Part}
 use Rattle.pg_scene.specs.declared.item.Set.TheVariants.{First, Second}

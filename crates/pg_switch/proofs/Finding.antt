@@ -53,12 +53,6 @@ find_below-cases t n = elim (find_from t 0 n) [
 
 -- ---- free edges
 
-pub lowest_free-first : (h : Graph) (p : Position) (v : ℕ) → v < edge_count h → is_free p v ≡ true → ((w : ℕ) → w < v → is_free p w ≡ false) → lowest_free_edge h p ≡ v
-lowest_free-first h p v low free none = ap (λ (r : Option ℕ). unwrap_or r 0) (first_below (is_free p) v (edge_count h) low free none)
-
-pub lowest_free-none : (h : Graph) (p : Position) → ((w : ℕ) → w < edge_count h → is_free p w ≡ false) → lowest_free_edge h p ≡ 0
-lowest_free-none h p none = ap (λ (r : Option ℕ). unwrap_or r 0) (none_below (is_free p) (edge_count h) none)
-
 -- where some edge is free, the lowest is one
 pub lowest_free-free : (h : Graph) (p : Position) (z : ℕ) → IsFreeEdge h p z → IsFreeEdge h p (lowest_free_edge h p)
 lowest_free-free h p z free = elim (find_below-cases (is_free p) (edge_count h)) [

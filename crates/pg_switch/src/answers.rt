@@ -17,12 +17,7 @@ pub fn lowest_free(graph: &Graph, p: &Position) -> u16
     requires { IsGraph graph.now }
     ensures { result ≡ lowest_free_edge graph.now p.now }
 {
-    for v in 0..graph.edge_count() {
-        if p.is_free(v) {
-            return v;
-        }
-    }
-    0
+    p.lowest_free_below(graph.edge_count()).unwrap_or(0)
 }
 
 /// The set without x.

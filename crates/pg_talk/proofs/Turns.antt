@@ -11,13 +11,14 @@ use Rattle.pg_game.specs.declared.position.Illegal.{Illegal}
 use Rattle.pg_game.specs.declared.position.Illegal.TheVariants.{Range, Taken, Over as OverNow}
 use Rattle.pg_game.specs.declared.position.Position.{Position}
 use Rattle.pg_game.specs.Position.{is_free}
+use Rattle.pg_game.specs.Judging.{ending_by, judged_by}
 use Rattle.pg_game.specs.Rules.{Rules, moved}
 use Rattle.pg_texts.specs.Texts.{move_text, result_text}
 use Rattle.pg_texts.specs.declared.message.ReplyFault.{ReplyFault}
 use Rattle.pg_texts.specs.declared.message.ReplyFault.TheVariants.{NoPoint, Taken as IsTaken}
 use Rattle.pg_texts.specs.declared.statuses.TheConstants.{DONE, OUT_OF_REPLIES}
-use Rattle.pg_talk.specs.Contender.{Contender, MakesMove, TakesReply, at, ending}
-use Rattle.pg_talk.specs.Contest.{Contest, judged_by}
+use Rattle.pg_talk.specs.Contender.{Contender, MakesMove, TakesReply, at}
+use Rattle.pg_talk.specs.Contest.{Contest}
 use Rattle.pg_talk.specs.Dialogue.{Stage, At, Owes, Over, Steps, IsOpen, after_refusal, after_reply}
 use Rattle.pg_talk.specs.Reply.{point_or_refusal}
 use Rattle.pg_talk.specs.Talk.{Talk, BreaksOff, Talks, answered, free_count, turned}
@@ -124,18 +125,18 @@ over_at : (over : Bool) (outcome score : Score) → Some score ≡ (if over then
 over_at true outcome score e = (refl, cc e)
 over_at false outcome score e = absurd (cc e)
 
-pub is_over_at : (c : Contender) (score : Score) → Some score ≡ ending c.contest.rules c.position → (c.contest.rules.over c.position ≡ true) × (score ≡ c.contest.rules.outcome c.position)
+pub is_over_at : (c : Contender) (score : Score) → Some score ≡ ending_by c.contest.rules c.position → (c.contest.rules.over c.position ≡ true) × (score ≡ c.contest.rules.outcome c.position)
 is_over_at c score is = over_at (c.contest.rules.over c.position) (c.contest.rules.outcome c.position) score is
 
 -- where none is given, it goes on
-pub goes_at : (c : Contender) → None ≡ ending c.contest.rules c.position → c.contest.rules.over c.position ≡ false
+pub goes_at : (c : Contender) → None ≡ ending_by c.contest.rules c.position → c.contest.rules.over c.position ≡ false
 goes_at c is = go (c.contest.rules.over c.position) is where
   go : (over : Bool) → None ≡ (if over then Some (c.contest.rules.outcome c.position) else None) → over ≡ false
   go true e = absurd (cc e)
   go false e = refl
 
 -- the result is said
-pub result_step : (c : Contender) (refused : ℕ) (kind : Kind) (score : Score) → kind ≡ c.contest.kind → Some score ≡ ending c.contest.rules c.position
+pub result_step : (c : Contender) (refused : ℕ) (kind : Kind) (score : Score) → kind ≡ c.contest.kind → Some score ≡ ending_by c.contest.rules c.position
     → Steps c.contest c.side (At c.position refused) (Said (result_text kind score)) (Over c.position DONE)
 result_step c refused kind score same is =
     let over = is_over_at c score is in
@@ -147,7 +148,7 @@ module _ (begun old : Contender) (same : old ≡ at begun old.position) (a b c :
   same_play {T} s r to talks = subst (λ (k : Contender). Talks {T = T} k.contest k.side b c s r to) same talks
 
   -- the result is said at the end
-  pub result_ends : (kind : Kind) (score : Score) → kind ≡ old.contest.kind → Some score ≡ ending old.contest.rules old.position → Grows b.log c.log (Said (result_text kind score) ∷ []) → c.left ≡ b.left
+  pub result_ends : (kind : Kind) (score : Score) → kind ≡ old.contest.kind → Some score ≡ ending_by old.contest.rules old.position → Grows b.log c.log (Said (result_text kind score) ∷ []) → c.left ≡ b.left
       → Talk begun.contest begun.side a c (At begun.position 0) (Over old.position DONE)
   result_ends kind score kind_is is says left =
       let last = Talk-said old.contest old.side b c (result_text kind score) (At old.position refused) (Over old.position DONE) says left (result_step old refused kind score kind_is is) in

@@ -1,15 +1,15 @@
 -- What is seen of a player of one side, and what it does.
-use Rattle.std.specs.Prelude.{◌≡◌, ◌⊎◌, ◌<◌, ℕ, true, false, Option, Some, None, Ok, if◌then◌else◌}
+use Rattle.std.specs.Prelude.{◌≡◌, ◌⊎◌, ◌<◌, ℕ, true, false, Option, Some, None, Ok}
 use Rattle.pg_base.specs.Side.{other}
 use Rattle.pg_base.specs.declared.goal.Goal.{Goal}
-use Rattle.pg_base.specs.declared.score.Score.{Score}
 use Rattle.pg_base.specs.declared.side.Side.{Side}
 use Rattle.pg_game.specs.declared.game.Game.{Game}
 use Rattle.pg_game.specs.declared.position.Position.{Position}
 use Rattle.pg_game.specs.Position.{is_free}
-use Rattle.pg_game.specs.Rules.{Rules, moved}
+use Rattle.pg_game.specs.Judging.{judged_by}
+use Rattle.pg_game.specs.Rules.{moved}
 use Rattle.pg_player.specs.Player.{Play}
-use Rattle.pg_talk.specs.Contest.{Contest, contest_of, judged_by}
+use Rattle.pg_talk.specs.Contest.{Contest, contest_of}
 
 -- the contest, the side that is played, the goal that it reaches, and the position
 pub record Contender : Type 0 where
@@ -48,10 +48,6 @@ Moves before now (Some v) = MakesMove before now v
 abbrev pub Answers : Contender → Contender → ℕ → Option ℕ → Type 0
 Answers before now v None = TakesReply before now v × Waits now
 Answers before now v (Some w) = (between : Contender) × TakesReply before between v × MakesMove between now w
-
--- the outcome of the position, and None where the game goes on
-abbrev pub ending : Rules → Position → Option Score
-ending r p = if r.over p then Some (r.outcome p) else None
 
 -- ---- players of a game by a claim of a certificate
 

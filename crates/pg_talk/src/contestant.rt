@@ -1,9 +1,9 @@
 //! Players of one side of a contest.
 ghost use Rattle.std.specs.Prelude.{◌≡◌, ◌≤◌, true, Err, IfErr, IfOk, IfSome};
+ghost use Rattle.pg_game.specs.Judging.{ending_by, judged_by};
 ghost use Rattle.pg_game.specs.Rules.{reaches};
 ghost use Rattle.pg_base.specs.declared.limits.TheConstants.{MAX_MEMBERS};
-ghost use Rattle.pg_talk.specs.Contender.{Answers, Contender, Moves, Waits, ending};
-ghost use Rattle.pg_talk.specs.Contest.{judged_by};
+ghost use Rattle.pg_talk.specs.Contender.{Answers, Contender, Moves, Waits};
 
 use pg_base::{Goal, Kind, Score, Side};
 use pg_game::Illegal;
@@ -30,8 +30,9 @@ pub trait Contestant {
 
     /// The outcome of the position, and None exactly where the game isn't over. It reaches the goal for the side.
     fn outcome(&self) -> Option<Score>
-        ensures exact { result ≡ ending (contender self.now).contest.rules (contender self.now).position }
-        ensures reached { IfSome result (λ score. reaches (contender self.now).side (contender self.now).goal score ≡ true) };
+        ensures exact { result ≡ ending_by (contender self.now).contest.rules (contender self.now).position }
+        ensures reached { IfSome result
+            (λ score. reaches (contender self.now).side (contender self.now).goal score ≡ true) };
 
     /// Makes one move of the player where it is to move, and tells it. None comes exactly where the game is over or the
     /// other side is to move; then nothing changes. In a turn of several points it may be to move again.
@@ -48,7 +49,9 @@ pub trait Contestant {
     fn answer(&mut self, v: u16) -> Result<Option<u16>, Illegal>
         requires { Waits (contender self.old) }
         ensures answered { IfOk result (λ own. Answers (contender self.old) (contender self.new) v own) }
-        ensures refused { IfErr result (λ fault. judged_by (contender self.old).contest.rules (contender self.old).position v ≡ Err fault) }
+        ensures refused { IfErr result
+            (λ fault. judged_by (contender self.old).contest.rules (contender self.old).position v
+            ≡ Err fault) }
         ensures same { IfErr result (λ _. contender self.new ≡ contender self.old) };
 
     // The law: a contest has few points.

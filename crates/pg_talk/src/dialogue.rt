@@ -28,7 +28,7 @@ pub const MAX_REPLY: usize = 64;
 pub const MAX_REFUSALS: u8 = 100;
 
 /// What came of a turn, or of one of its points where it has several.
-#[derive(Clone, Copy, Debug, PartialEq, Eq)]
+#[derive(Clone, Copy, PartialEq, Eq)]
 pub enum Turn {
     /// A point was taken.
     Played,
@@ -58,7 +58,8 @@ fn take_point<P: Contestant, C: Console>(
     v: u16,
 ) -> Result<Turn, Stop>
     requires { IsTheirTurn (P.contender player.old) }
-    ensures talk { (refused : ℕ) → TalksFrom (P.contender player.old) (C.told console.old) (C.told console.new)
+    ensures talk { (refused : ℕ)
+        → TalksFrom (P.contender player.old) (C.told console.old) (C.told console.new)
         (answered (P.contender player.old) refused (Some v)) result
         (λ turn. turned (P.contender player.new).position refused turn) }
     ensures goes { Goes (P.contender player.old) (P.contender player.new) result }
@@ -83,7 +84,8 @@ fn answer_line<P: Contestant, C: Console>(
     line: &[u8],
 ) -> Result<Turn, Stop>
     requires { IsTheirTurn (P.contender player.old) }
-    ensures talk { (refused : ℕ) → TalksFrom (P.contender player.old) (C.told console.old) (C.told console.new)
+    ensures talk { (refused : ℕ)
+        → TalksFrom (P.contender player.old) (C.told console.old) (C.told console.new)
         (answered (P.contender player.old) refused (said_number line.now)) result
         (λ turn. turned (P.contender player.new).position refused turn) }
     ensures goes { Goes (P.contender player.old) (P.contender player.new) result }
@@ -102,8 +104,10 @@ fn answer_line<P: Contestant, C: Console>(
 /// Hears a reply, and answers it.
 fn hear_reply<P: Contestant, C: Console>(player: &mut P, console: &mut C) -> Result<Turn, Stop>
     requires { IsTheirTurn (P.contender player.old) }
-    ensures talk { (refused : ℕ) → TalksFrom (P.contender player.old) (C.told console.old) (C.told console.new)
-        (At (P.contender player.old).position refused) result (λ turn. turned (P.contender player.new).position refused turn) }
+    ensures talk { (refused : ℕ)
+        → TalksFrom (P.contender player.old) (C.told console.old) (C.told console.new)
+        (At (P.contender player.old).position refused) result
+        (λ turn. turned (P.contender player.new).position refused turn) }
     ensures goes { Goes (P.contender player.old) (P.contender player.new) result }
     ensures causes { Causes ⊥ (C.told console.old).faults (C.told console.new).faults result }
     ensures memory { result ≢ Err Stop.Memory }
@@ -121,8 +125,10 @@ fn hear_reply<P: Contestant, C: Console>(player: &mut P, console: &mut C) -> Res
 /// of several.
 fn take_turn<P: Contestant, C: Console>(player: &mut P, console: &mut C) -> Result<Turn, Stop>
     requires { (P.contender player.old).contest.rules.over (P.contender player.old).position ≡ false }
-    ensures talk { (refused : ℕ) → TalksFrom (P.contender player.old) (C.told console.old) (C.told console.new)
-        (At (P.contender player.old).position refused) result (λ turn. turned (P.contender player.new).position refused turn) }
+    ensures talk { (refused : ℕ)
+        → TalksFrom (P.contender player.old) (C.told console.old) (C.told console.new)
+        (At (P.contender player.old).position refused) result
+        (λ turn. turned (P.contender player.new).position refused turn) }
     ensures goes { Goes (P.contender player.old) (P.contender player.new) result }
     ensures causes { Causes ⊥ (C.told console.old).faults (C.told console.new).faults result }
     ensures memory { result ≢ Err Stop.Memory }
@@ -143,7 +149,8 @@ pub fn play_to_the_end<P: Contestant, C: Console>(
     console: &mut C,
 ) -> Result<u8, Stop>
     ensures talk { TalksFrom (P.contender player.old) (C.told console.old) (C.told console.new)
-        (At (P.contender player.old).position 0) result (λ status. Over (P.contender player.new).position status) }
+        (At (P.contender player.old).position 0) result
+        (λ status. Over (P.contender player.new).position status) }
     ensures reached { IfOk result (λ status. status ≡ DONE →
         IsTrue (reaches (P.contender player.old).side (P.contender player.old).goal
         ((P.contender player.old).contest.rules.outcome (P.contender player.new).position))) }
@@ -173,7 +180,8 @@ pub fn play_to_the_end<P: Contestant, C: Console>(
 
 /// Says the claim of a player, and plays its side to the end.
 pub fn play_claim<P: Contestant, C: Console>(player: &mut P, console: &mut C) -> Result<u8, Halt>
-    ensures played { Performs (λ _. ⊥) (IsPlay (P.contender player.old)) (C.told console.old) (C.told console.new) result }
+    ensures played { Performs (λ _. ⊥) (IsPlay (P.contender player.old))
+        (C.told console.old) (C.told console.new) result }
     ensures causes { HaltCauses ⊥ (C.told console.old).faults (C.told console.new).faults result }
     ensures done { IfOk result IsPlayEnd }
     ensures halts { IfErr result IsTalkHalt }

@@ -12,7 +12,8 @@ ghost use Rattle.pg_talk.specs.declared.dialogue.TheConstants.{MAX_REFUSALS};
 /// is heard before it.
 pub fn own_moves_come_first()
     ensures { (c : Contest) (side : Side) (p : Position) (refusals : ℕ) (entry : Entry) (next : Stage)
-        → c.rules.over p ≡ false → p.turn ≡ side → Steps c side (At p refusals) entry next → IsOwnMove c p entry }
+        → c.rules.over p ≡ false → p.turn ≡ side
+        → Steps c side (At p refusals) entry next → IsOwnMove c p entry }
 {}
 
 /// However the other side replies, a dialogue is a legal play: the moves of both sides lead from its position

@@ -3,12 +3,9 @@ use Rattle.std.specs.Prelude.{◌≡◌, ℕ, ◌+◌, Bool, true, false, ◌&&�
 use Rattle.std.specs.Char.{is_ascii_digit}
 use Rattle.std.specs.List.{slice_split, list_all, flat_map, All}
 use Rattle.std.specs.Str.Parse.{digits_value}
+pub use Rattle.pg_base.specs.Texts.{Bytes}
 use Rattle.pg_base.specs.declared.signs.TheConstants.{LINE_FEED, SPACE}
 use Rattle.pg_text.specs.declared.numbers.TheConstants.{MAX_DIGITS}
-
--- the bytes of a text
-abbrev pub Bytes : Type 0
-Bytes = List ℕ
 
 -- what stands between the signs, empty parts too
 abbrev pub parts : ℕ → Bytes → List Bytes
@@ -94,3 +91,7 @@ behind_spaces ws = flat_map (λ w. SPACE ∷ w) ws
 abbrev pub spaced : List Bytes → Bytes
 spaced [] = []
 spaced (word ∷ others) = word ++ behind_spaces others
+
+-- a line of words with its line feed
+abbrev pub spelled : List Bytes → Bytes
+spelled ws = spaced ws ++ LINE_FEED ∷ []

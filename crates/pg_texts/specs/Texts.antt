@@ -2,6 +2,7 @@
 use Rattle.std.specs.Prelude.{ℕ, List, ◌++◌, codes, decimal}
 use Rattle.pg_base.specs.Goal.{goal_word}
 use Rattle.pg_base.specs.Side.{side_word}
+use Rattle.pg_base.specs.Texts.{count_text}
 use Rattle.pg_base.specs.declared.goal.Goal.{Goal}
 use Rattle.pg_base.specs.declared.kind.Kind.{Kind}
 use Rattle.pg_base.specs.declared.kind.Kind.TheVariants.{MakerBreaker, MakerMaker, AvoiderEnforcer, Switching}
@@ -132,10 +133,6 @@ class_breaker_text = codes "class breaker\n"
 
 abbrev pub class_first_mover_text : List ℕ
 class_first_mover_text = codes "class first-mover\n"
-
--- a number between words
-abbrev pub count_text : List ℕ → ℕ → List ℕ → List ℕ
-count_text first count last = first ++ (decimal count ++ last)
 
 -- so many positions were expanded, and the question is open
 abbrev pub unknown_text : ℕ → List ℕ

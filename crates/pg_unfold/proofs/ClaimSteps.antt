@@ -20,7 +20,8 @@ use Rattle.pg_maps.proofs.Boards.{Fits-identity, Fits-followed, cells}
 use Rattle.pg_unfold.specs.Copies.{Copy, LeadsTo, IsMet, IsMetBy, AreCopies}
 use Rattle.pg_unfold.specs.Flaws.{IsSoundClaim, HasUsable, HasSize}
 use Rattle.pg_unfold.specs.Gathered.{IsTaken, IsTooMuch}
-use Rattle.pg_unfold.specs.Marks.{key_of, copy_at, IsMarked, AreEarlier, AreMet, ArePlaces, IsBoardMap, AreBoardMaps, copies_of}
+use Rattle.pg_base.specs.Sets.{IsMarked}
+use Rattle.pg_unfold.specs.Marks.{key_of, copy_at, AreEarlier, AreMet, ArePlaces, IsBoardMap, AreBoardMaps, copies_of}
 use Rattle.pg_unfold.specs.Unfolded.{BecomesUnder, IsCopied}
 use Rattle.pg_unfold.specs.declared.flaw.Flaw.TheVariants as flaws
 use Rattle.pg_unfold.proofs.CopyLimits.{IsNode-image}

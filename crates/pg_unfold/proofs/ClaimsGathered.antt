@@ -22,6 +22,7 @@ use Rattle.pg_unfold.specs.Unfolded.{IsCopied, IsUnfolded, AreUnfolded}
 use Rattle.pg_unfold.specs.declared.unfolding.Gathered.{Gathered}
 use Rattle.pg_unfold.proofs.ClaimSteps.{zip-length}
 use Rattle.pg_unfold.proofs.CopySteps.{push-zip}
+use Rattle.pg_unfold.proofs.Rooms.{counted-room}
 
 unfolded-push : (g : Game) (cs : List ImageClaim) (claims : List Claim) (sources : List (List ℕ)) (c : ImageClaim) (claim : Claim) (origins : List ℕ) → AreUnfolded g cs claims sources → IsUnfolded g c claim origins
     → AreUnfolded g (cs ++ c ∷ []) (claims ++ claim ∷ []) (sources ++ origins ∷ [])
@@ -52,43 +53,42 @@ module _ (g : Game) where
   gathered-none gathered claims sources room = record {
     unfolded = subst (λ ds. AreUnfolded g [] ds gathered.sources.items) (sym claims) (subst (AreUnfolded g [] []) (sym sources) tt);
     limits = subst (Each IsClaim) (sym claims) (All-nil IsClaim);
-    sizes = [];
-    are = tt;
-    each = All-nil (λ size. size ≤ 100000);
+    counted = record { sizes = []; are = tt; each = All-nil (λ size. size ≤ 100000); together = omega (arith, room) };
     lengths = ap (map (λ (claim : Claim). length claim.nodes)) (sym claims);
-    together = omega (arith, room);
   }
 
   pub gathered-more : (cs : List ImageClaim) (c : ImageClaim) (old new : Gathered) → AreGathered g cs old → IsGatheredNext g c old new → AreGathered g (cs ++ c ∷ []) new
   gathered-more cs c old new h now =
       let size = length now.claim.nodes in
-      let more = sum_by_push (λ (n : ℕ). n) h.sizes size in
-      let before = h.together in
+      let more = sum_by_push (λ (n : ℕ). n) h.counted.sizes size in
+      let before = h.counted.together in
       let room = now.room in
       record {
         unfolded = subst (λ ds. AreUnfolded g (cs ++ c ∷ []) ds new.sources.items) (sym now.claims)
             (subst (AreUnfolded g (cs ++ c ∷ []) (old.claims.items ++ now.claim ∷ [])) (sym now.sources)
             (unfolded-push g cs old.claims.items old.sources.items c now.claim now.origins h.unfolded now.taken.unfolded));
         limits = subst (Each IsClaim) (sym now.claims) (All-push IsClaim old.claims.items now.claim h.limits now.taken.limits);
-        sizes = h.sizes ++ size ∷ [];
-        are = push-zip HasSize cs h.sizes c size h.are (HasSize-unfolded g c now.claim now.origins now.taken.unfolded);
-        each = All-push (λ n. n ≤ 100000) h.sizes size h.each now.taken.few;
+        counted = record {
+          sizes = h.counted.sizes ++ size ∷ [];
+          are = push-zip HasSize cs h.counted.sizes c size h.counted.are (HasSize-unfolded g c now.claim now.origins now.taken.unfolded);
+          each = All-push (λ n. n ≤ 100000) h.counted.sizes size h.counted.each now.taken.few;
+          together = omega (arith, more, before, room);
+        };
         lengths = ap (λ ns. ns ++ size ∷ []) h.lengths ∙ sym (map_push (λ (claim : Claim). length claim.nodes) old.claims.items now.claim) ∙ ap (map (λ (claim : Claim). length claim.nodes)) (sym now.claims);
-        together = omega (arith, more, before, room);
       }
 
   pub room-of : (cs : List ImageClaim) (gathered : Gathered) → AreGathered g cs gathered → HaveRoom cs
-  room-of cs gathered h = record { sizes = h.sizes; are = h.are; few = record { each = h.each; together = let all = h.together in omega (arith, all) } }
+  room-of cs gathered h = counted-room cs gathered.room h.counted
 
   pub too_large : (claims : List ImageClaim) (i node : ℕ) (c : ImageClaim) (gathered : Gathered) → AreGathered g (take i claims) gathered → slice_get claims i ≡ Some c → node + 1 ≡ length c.nodes → IsTooMuch c gathered.room → IsFirstTooLarge claims i node
   too_large claims i node c gathered h at last much = record {
-    before = record { sizes = h.sizes; are = h.are; few = record { each = h.each; together = let all = h.together in omega (arith, all) } };
+    before = record { sizes = h.counted.sizes; are = h.counted.are; few = record { each = h.counted.each; together = let all = h.counted.together in omega (arith, all) } };
     large = c;
     claim_at = at;
     last = last;
     size = much.size;
     is = much.is;
-    much = elim much.much [ inl many ↦ inl many | inr full ↦ inr (let all = h.together in omega (arith, all, full)) ];
+    much = elim much.much [ inl many ↦ inl many | inr full ↦ inr (let all = h.counted.together in omega (arith, all, full)) ];
   }
 
   of_second : (body : Body) → has_body Two body ≡ true
@@ -99,8 +99,8 @@ module _ (g : Game) where
       let count = ap length claims ∙ unfolded-length g c.claims gathered.claims.items gathered.sources.items h.unfolded in
       let some = limits.some in
       let few = limits.few in
-      let all = h.together in
-      let total : node_count cert.claims ≡ sum h.sizes =
+      let all = h.counted.together in
+      let total : node_count cert.claims ≡ sum h.counted.sizes =
       ap node_count claims ∙ sym (sum-through (λ (claim : Claim). length claim.nodes) (λ (n : ℕ). n) gathered.claims.items) ∙ ap sum (sym h.lengths) in
       record {
         some = omega (arith, count, some);

@@ -14,7 +14,8 @@ use Rattle.pg_image.specs.declared.node.ImageNode.TheVariants.{Plain}
 use Rattle.pg_maps.specs.GridMaps.{numbered, number_of}
 use Rattle.pg_maps.specs.Images.{image_on, image_position}
 use Rattle.pg_unfold.specs.Copies.{Copy, NamesChild, IsPlaced}
-use Rattle.pg_unfold.specs.Marks.{copy_at, key_of, IsMarked, AreMet, ArePlaces, IsPlaceOf, copies_below, copies_of, is_kept}
+use Rattle.pg_base.specs.Sets.{IsMarked}
+use Rattle.pg_unfold.specs.Marks.{copy_at, key_of, AreMet, ArePlaces, IsPlaceOf, copies_below, copies_of, is_kept}
 use Rattle.pg_unfold.specs.Unfolded.{IsReplyImage, IsBodyImage, BecomesUnder, IsCopied}
 use Rattle.pg_unfold.proofs.Keys.{copy_at-key}
 use Rattle.pg_unfold.proofs.Placing.{kept-at, below-kept, below-left}

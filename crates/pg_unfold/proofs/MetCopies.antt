@@ -6,7 +6,8 @@ use Rattle.std.proofs.lemmas.Option.{slice_get_within}
 use Rattle.pg_image.specs.declared.node.ImageNode.{ImageNode}
 use Rattle.pg_maps.specs.GridMaps.{numbered, number_of}
 use Rattle.pg_unfold.specs.Copies.{Copy, LeadsTo, IsAt, IsMetBy}
-use Rattle.pg_unfold.specs.Marks.{key_of, copy_at, IsMarked, AreAdded, Hands, AreEarlier, AreMet, HasPassed}
+use Rattle.pg_base.specs.Sets.{IsMarked}
+use Rattle.pg_unfold.specs.Marks.{key_of, copy_at, AreAdded, Hands, AreEarlier, AreMet, HasPassed}
 use Rattle.pg_unfold.proofs.Keys.{copy_at-key}
 use Rattle.pg_unfold.proofs.Marking.{marked_set, from_set}
 use Rattle.pg_unfold.proofs.Handing.{hands-down}

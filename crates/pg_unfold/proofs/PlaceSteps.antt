@@ -12,7 +12,8 @@ use Rattle.pg_image.specs.declared.node.ImageNode.TheVariants.{Plain, Image}
 use Rattle.pg_maps.specs.GridMaps.{numbered, number_of, followed_by}
 use Rattle.pg_maps.specs.declared.grid_map.GridMap.{GridMap}
 use Rattle.pg_unfold.specs.Copies.{IsPlaced}
-use Rattle.pg_unfold.specs.Marks.{copy_at, IsMarked, AreMet, copies_below, copies_of, ArePlacedBelow}
+use Rattle.pg_base.specs.Sets.{IsMarked}
+use Rattle.pg_unfold.specs.Marks.{copy_at, AreMet, copies_below, copies_of, ArePlacedBelow}
 use Rattle.pg_unfold.proofs.Placing.{at_push, kept-at, kept-unmarked, kept-image, below-kept, below-left, placed-plain, placed-image, marked-next}
 
 module _ (nodes : List ImageNode) (marks : List Bool) (met : AreMet nodes marks) (places more : List ℕ) (key count : ℕ) (h : ArePlacedBelow nodes marks places key count) where

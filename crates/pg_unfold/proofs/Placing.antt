@@ -16,7 +16,8 @@ use Rattle.pg_maps.specs.GridMaps.{numbered, number_of, followed_by}
 use Rattle.pg_maps.specs.declared.grid_map.GridMap.{GridMap}
 use Rattle.pg_maps.proofs.Numbers.{number-numbered}
 use Rattle.pg_unfold.specs.Copies.{Copy, IsPlain, IsAt, IsMet, ComesBefore, AreCopies, IsPlaced}
-use Rattle.pg_unfold.specs.Marks.{key_of, copy_at, IsMarked, AreMet, is_plain, is_true, is_kept, copies_below, copies_of}
+use Rattle.pg_base.specs.Sets.{IsMarked}
+use Rattle.pg_unfold.specs.Marks.{key_of, copy_at, AreMet, is_plain, is_true, is_kept, copies_below, copies_of}
 use Rattle.pg_unfold.proofs.Keys.{copy_at-key}
 
 -- ---- elements of lists by their places

@@ -48,24 +48,21 @@ abbrev pub TakesNext : Game → ImageClaim → Gathered → Gathered → Option 
 TakesNext g c old new None = IsGatheredNext g c old new
 TakesNext g c old new (Some last) = IsFull c old.room last
 
--- these claims have been unfolded
-pub record AreGathered (g : Game) (claims : List ImageClaim) (gathered : Gathered) : Type 0 where
-  pub unfolded : AreUnfolded g claims gathered.claims.items gathered.sources.items
-  pub limits : All IsClaim gathered.claims.items
-  pub sizes : List ℕ
-  pub are : AllZip HasSize claims sizes
-  pub each : All (λ size. size ≤ MAX_CLAIM_NODES) sizes
-  pub lengths : sizes ≡ map (λ (claim : Claim). length claim.nodes) gathered.claims.items
-  pub together : sum sizes + gathered.room ≡ MAX_NODES
-
-abbrev pub TellsUnfolded : Game → List ImageClaim → Result Gathered ImageFault → Type 0
-TellsUnfolded g claims (Ok gathered) = AreGathered g claims gathered
-TellsUnfolded g claims (Err (Bad claim node why)) = (why ≡ 4) × IsFirstTooLarge claims claim node
-TellsUnfolded g claims (Err Memory) = Unit {0}
-
 -- these claims have so many nodes unfolded that a certificate may have that many more
 pub record AreCounted (claims : List ImageClaim) (room : ℕ) : Type 0 where
   pub sizes : List ℕ
   pub are : AllZip HasSize claims sizes
   pub each : All (λ size. size ≤ MAX_CLAIM_NODES) sizes
   pub together : sum sizes + room ≡ MAX_NODES
+
+-- these claims have been unfolded
+pub record AreGathered (g : Game) (claims : List ImageClaim) (gathered : Gathered) : Type 0 where
+  pub unfolded : AreUnfolded g claims gathered.claims.items gathered.sources.items
+  pub limits : All IsClaim gathered.claims.items
+  pub counted : AreCounted claims gathered.room
+  pub lengths : counted.sizes ≡ map (λ (claim : Claim). length claim.nodes) gathered.claims.items
+
+abbrev pub TellsUnfolded : Game → List ImageClaim → Result Gathered ImageFault → Type 0
+TellsUnfolded g claims (Ok gathered) = AreGathered g claims gathered
+TellsUnfolded g claims (Err (Bad claim node why)) = (why ≡ 4) × IsFirstTooLarge claims claim node
+TellsUnfolded g claims (Err Memory) = Unit {0}

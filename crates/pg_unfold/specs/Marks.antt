@@ -1,6 +1,7 @@
 -- The table of marks in which an unfolding notes what is met: eight places for each node, one for each map.
 use Rattle.std.specs.Prelude.{◌≡◌, ℕ, zero, suc, ◌+◌, ◌*◌, ◌-◌, ◌/◌, ◌%◌, ◌≤◌, ◌⊎◌, Bool, true, false, ◌&&◌, List, [], ◌∷◌, ◌++◌, length, slice_get, Option, Some, None, if◌then◌else◌}
 use Rattle.std.specs.List.{All}
+use Rattle.pg_base.specs.Sets.{IsMarked}
 use Rattle.pg_base.specs.declared.grid.Grid.{Grid}
 use Rattle.pg_base.specs.declared.limits.TheConstants.{MAX_MEMBERS}
 use Rattle.pg_cert.specs.declared.node.Body.{Body}
@@ -19,10 +20,6 @@ key_of c = 8 * c.node + number_of c.map
 
 abbrev pub copy_at : ℕ → Copy
 copy_at key = record { node = key / 8; map = numbered (key % 8) }
-
--- the place is marked
-abbrev pub IsMarked : List Bool → ℕ → Type 0
-IsMarked marks key = slice_get marks key ≡ Some true
 
 -- those marks were added
 pub record AreAdded (P : ℕ → Type 0) (old new : List Bool) : Type 0 where

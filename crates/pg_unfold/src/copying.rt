@@ -4,7 +4,8 @@ ghost use Rattle.std.specs.List.{All, AllZip};
 ghost use Rattle.pg_cert.specs.declared.limits.TheConstants.{MAX_CLAIM_NODES};
 ghost use Rattle.pg_image.specs.Limits.{IsImageNode};
 ghost use Rattle.pg_image.specs.declared.node.ImageNode.TheVariants.{Plain};
-ghost use Rattle.pg_unfold.specs.Marks.{AreBoardMaps, AreEarlier, AreMet, ArePlaces, IsMarked, copies_of, is_kept};
+ghost use Rattle.pg_base.specs.Sets.{IsMarked};
+ghost use Rattle.pg_unfold.specs.Marks.{AreBoardMaps, AreEarlier, AreMet, ArePlaces, copies_of, is_kept};
 ghost use Rattle.pg_unfold.specs.Unfolded.{IsCopied};
 
 use crate::bodies::image_node;

@@ -9,10 +9,10 @@ use Rattle.pg_base.specs.declared.score.Score.TheVariants.{YWins}
 use Rattle.pg_base.proofs.BelowLemmas.{same_sets, below_parts, below_from}
 use Rattle.pg_base.proofs.PointSetLaws.{contains-union_either, contains-difference_outside}
 use Rattle.pg_game.specs.declared.position.Position.{Position}
+use Rattle.pg_game.specs.Judging.{ending_by}
 use Rattle.pg_claims.specs.Claims.{kept, left_without}
 use Rattle.pg_gf2.specs.declared.game.VecGame.{VecGame}
 use Rattle.pg_gf2.specs.Classes.{with_target, vector_rules}
-use Rattle.pg_vec_player.specs.Judge.{ending_by}
 use Rattle.pg_gf2.specs.Vectors.{vector_spans}
 
 pub kept-is : (p : Position) (all left : FinSet nat_cmp) (limit : ℕ) → ((v : ℕ) → contains all v ≡ nat_lt v limit) → ((v : ℕ) → contains left v ≡ (contains all v && not (contains p.y v))) → contains left ≡ kept limit p

@@ -19,6 +19,7 @@ use Rattle.pg_game.specs.declared.position.Illegal.{Illegal}
 use Rattle.pg_game.specs.declared.position.Illegal.TheVariants.{Range, Taken, Over}
 use Rattle.pg_game.specs.declared.position.Position.{Position}
 use Rattle.pg_game.specs.Position.{is_free}
+use Rattle.pg_game.specs.Judging.{ending_by, judged_by}
 use Rattle.pg_game.specs.Rules.{Rules, moved, reaches, IsEnding, IsPlayBy, played_by, ForcesBy}
 use Rattle.pg_game.proofs.RulesLaws.{some_free, value_by-over, ForcesBy-all-from}
 use Rattle.pg_game.proofs.Sides.{side≢other, other_other}
@@ -31,7 +32,7 @@ use Rattle.pg_gf2.specs.declared.plan.VecPlan.{VecPlan}
 use Rattle.pg_gf2.specs.Answers.{VecMove, vec_move, answer_vector, lost_vector, plan_without}
 use Rattle.pg_gf2.specs.Classes.{with_target, vector_rules}
 use Rattle.pg_gf2.specs.GroundLaws.{IsSpan-vectors}
-use Rattle.pg_vec_player.specs.Judge.{ending_by, judged_by, IsVecJudgeOf}
+use Rattle.pg_vec_player.specs.Judge.{IsVecJudgeOf}
 use Rattle.pg_vec_player.specs.Player.{vec_start, VecPlanHolds, IsVecReached, IsOnVecPlan, IsVecPlaying, VecPlay, VecWaits, HeldUntil, IsVecDue}
 use Rattle.pg_gf2.specs.Vectors.{vector_spans}
 use Rattle.pg_vec_player.proofs.VecSteps.{AreLeft, SetsDue, SetsStand, IsAnswer, remove-both, answer-kept}

@@ -8,6 +8,7 @@ use Rattle.pg_base.specs.declared.side.Side.{Side}
 use Rattle.pg_base.specs.declared.side.Side.TheVariants.{X, Y}
 use Rattle.pg_game.specs.declared.position.Position.{Position}
 use Rattle.pg_game.specs.Position.{is_free}
+use Rattle.pg_game.specs.Judging.{ending_by, judged_by}
 use Rattle.pg_game.specs.Rules.{moved, IsPlayBy, played_by, ForcesBy}
 use Rattle.pg_claims.specs.Claims.{IsPlace, AreSpanTrees, AreSpanCuts}
 use Rattle.pg_cert.specs.declared.cert.Cert.{Cert}
@@ -21,7 +22,7 @@ use Rattle.pg_gf2.specs.declared.plan.VecPlan.{VecPlan}
 use Rattle.pg_gf2.specs.Answers.{vec_move}
 use Rattle.pg_gf2.specs.Check.{with_e_named}
 use Rattle.pg_gf2.specs.Classes.{with_target, vector_rules, at_turn}
-use Rattle.pg_vec_player.specs.Judge.{ending_by, judged_by, IsVecJudgeOf}
+use Rattle.pg_vec_player.specs.Judge.{IsVecJudgeOf}
 use Rattle.pg_gf2.specs.Vectors.{vector_spans}
 
 -- the game, the side that is played, the position, and the plan: X's trees or Y's cuts

@@ -2,11 +2,12 @@
 ghost use Rattle.std.specs.Prelude.{◌≡◌, ◌<◌, ◌≤◌, ◌+◌, length, IfOk};
 ghost use Rattle.std.specs.FinSet.{contains, remove};
 ghost use Rattle.pg_base.specs.Sets.{either};
+ghost use Rattle.pg_game.specs.Judging.{ending_by, judged_by};
 ghost use Rattle.pg_claims.specs.Claims.{kept, left_without};
 ghost use Rattle.pg_gf2.specs.declared.game.TheConstants.{MAX_VECTORS};
 ghost use Rattle.pg_gf2.specs.Answers.{lowest_free, reply_vector, answer_vector};
 ghost use Rattle.pg_gf2.specs.Classes.{with_target, vector_rules};
-ghost use Rattle.pg_vec_player.specs.Judge.{ending_by, judged_by, IsVecJudgeOf};
+ghost use Rattle.pg_vec_player.specs.Judge.{IsVecJudgeOf};
 ghost use Rattle.pg_gf2.specs.Vectors.{vector_spans};
 
 use pg_base::{Memory, PointSet, Score, Side};
@@ -64,12 +65,7 @@ fn lowest_free(n: u16, p: &Position) -> u16
     requires { n ≤ MAX_VECTORS }
     ensures { result ≡ lowest_free n p.now }
 {
-    for v in 0..n {
-        if p.is_free(v) {
-            return v;
-        }
-    }
-    0
+    p.lowest_free_below(n).unwrap_or(0)
 }
 
 impl VecJudge {

@@ -1,9 +1,9 @@
 //! A player of one side of a game on vectors by a checked claim.
 ghost use Rattle.std.specs.Prelude.{◌≡◌, ℕ, List, Some, None, Err, true, false, IfOk, IfErr, IfSome, IsTrue, ◌↔◌, option_map};
 ghost use Rattle.pg_base.specs.declared.goal.Goal.TheVariants.{Win};
+ghost use Rattle.pg_game.specs.Judging.{ending_by, judged_by};
 ghost use Rattle.pg_game.specs.Rules.{reaches, ForcesBy, IsPlayBy, played_by};
 ghost use Rattle.pg_gf2.specs.Classes.{vector_rules};
-ghost use Rattle.pg_vec_player.specs.Judge.{ending_by, judged_by};
 ghost use Rattle.pg_vec_player.specs.Player.{is_vec_claim_of, chosen_vec_claim, plan_of_claim, plan_of_body, vec_start, VecWaits, MakesVecMove, MovesOnVectors, AnswersOnVectors, VecPlanHolds, IsVecDue};
 
 use crate::judge::{BIAS, VecJudge, play};
@@ -53,7 +53,7 @@ impl<'a> Model for VecPlayer<'a> {
 }
 
 /// Why no player can be opened.
-#[derive(Clone, Copy, Debug, PartialEq, Eq)]
+#[derive(Clone, Copy, PartialEq, Eq)]
 pub enum VecOpen {
     /// No claim has that side and the game's turn.
     NoClaim,

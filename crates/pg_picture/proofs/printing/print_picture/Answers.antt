@@ -1,6 +1,7 @@
 use Rattle.std.proofs.Common.{◌≡◌, [], ◌++◌, codes, append_assoc}
 use Rattle.std.specs.List.{flat_map}
-use Rattle.pg_picture.specs.Svg.{Bytes, escaped, filled, head, inside_of, picture_text, shape_text}
+use Rattle.pg_base.specs.Texts.{Bytes}
+use Rattle.pg_picture.specs.Svg.{escaped, filled, head, inside_of, picture_text, shape_text}
 use Rattle.pg_picture.specs.declared.style.TheConstants.{STYLE}
 use Rattle.pg_picture.proofs.printing.print_picture.Goals as goal
 

@@ -2,8 +2,7 @@ use Rattle.std.proofs.Common.{ℕ, Bool, subst, subst₂, sym}
 use Rattle.std.specs.FinSet.{contains}
 use Rattle.pg_graph.specs.Span.{IsBase}
 use Rattle.pg_exchange.specs.Matroid.{Matroid}
-use Rattle.pg_exchange.specs.Chain.{IsSettled}
-use Rattle.pg_span.specs.Settled.{AreSettled}
+use Rattle.pg_exchange.specs.Chain.{AreBases, IsSettled}
 use Rattle.pg_span.proofs.bases.settled.Goals as goal
 
 pub returns-clause-settled : goal.returns-clause-settled
@@ -14,6 +13,6 @@ returns-clause-settled g c =
     let d = g.G.Ground.base s.second in
     let base2 : IsBase m.spans m.elements d = subst (λ (q : Matroid). IsBase q.spans q.elements d) (sym s.same) (g.met.G.Ground.is_base s.second) in
     let none : IsSettled m b d = subst (λ (q : Matroid). IsSettled q b d) (sym c.settle.ensures.kept) c.settle.ensures.none in
-    let all : AreSettled m b d (contains c.reached.result) = record { first = g.met.G.Ground.is_base s.first; second = base2; reached = c.reached.ensures.reached none } in
-    subst₂ (λ (p q : ℕ → Bool). AreSettled (g.G.Ground.matroid c.args.bases.now.first) p q (contains c.reached.result)) (sym c.reached.ensures.kept_base) (sym c.reached.ensures.kept_second_base)
-    (subst (λ (q : Matroid). AreSettled q b d (contains c.reached.result)) c.settle.ensures.kept all)
+    let all : AreBases m b d (contains c.reached.result) = record { first_base = g.met.G.Ground.is_base s.first; second_base = base2; reached = c.reached.ensures.reached none } in
+    subst₂ (λ (p q : ℕ → Bool). AreBases (g.G.Ground.matroid c.args.bases.now.first) p q (contains c.reached.result)) (sym c.reached.ensures.kept_base) (sym c.reached.ensures.kept_second_base)
+    (subst (λ (q : Matroid). AreBases q b d (contains c.reached.result)) c.settle.ensures.kept all)

@@ -1,12 +1,9 @@
-use Rattle.std.proofs.Common.{◌<◌, sym, ◌∙◌, arith}
-use Rattle.pg_graph.specs.Graph.{edge_count}
-use Rattle.pg_switch.proofs.Finding.{lowest_free-first, lowest_free-none}
+use Rattle.std.proofs.Common.{ℕ, Option, unwrap_or, ap, ◌∙◌}
+use Rattle.std.specs.List.{find, range_with_len}
+use Rattle.pg_game.specs.Position.{is_free}
 use Rattle.pg_switch.proofs.answers.lowest_free.Goals as goal
 
-pub returns-then-is_free : goal.returns-then-is_free
-returns-then-is_free c =
-    let low : c.loop-v.v < edge_count c.args.graph.now = omega (arith, c.loop-v-test.true, c.edge_count-v-end.ensures) in
-    sym (lowest_free-first c.args.graph.now c.args.p.now c.loop-v.v low (sym c.is_free.ensures ∙ c.if-is_free.true) c.loop-v.invariant)
-
 pub returns : goal.returns
-returns c = sym (lowest_free-none c.args.graph.now c.args.p.now (λ w low. c.loop-v.invariant w (omega (arith, low, c.loop-v-test.false, c.edge_count-v-end.ensures))))
+returns c =
+    c.unwrap_or.ensures
+    ∙ ap (λ (o : Option ℕ). unwrap_or o 0) (c.lowest_free_below.ensures ∙ ap (λ (n : ℕ). find (is_free c.args.p.now) (range_with_len 0 n)) c.edge_count.ensures)

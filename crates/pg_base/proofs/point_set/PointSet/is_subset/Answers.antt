@@ -6,12 +6,13 @@ use Rattle.pg_base.specs.Words.{members_below}
 use Rattle.pg_base.specs.Points.{AreWithin}
 use Rattle.pg_base.proofs.RowLemmas.{AreWithin-from_rows, row-from_AreWithin}
 use Rattle.pg_base.proofs.point_set.PointSet.is_subset.Goals as goal
+use Rattle.pg_base.specs.declared.limits.TheConstants.{MAX_MEMBERS}
 
 pub returns-then-mine-row-ne0 : goal.returns-then-mine-row-ne0
 returns-then-mine-row-ne0 c = (
   λ no. absurd (false≢true no),
   λ each.
-      let inside = subst (λ (s : FinSet nat_cmp). AreWithin s (members_below c.other.inside.words 1024)) (sym c.self.view_is) (subst (λ (t : FinSet nat_cmp). AreWithin c.args.self.now t) (sym c.other.view_is) each) in
+      let inside = subst (λ (s : FinSet nat_cmp). AreWithin s (members_below c.other.inside.words MAX_MEMBERS)) (sym c.self.view_is) (subst (λ (t : FinSet nat_cmp). AreWithin c.args.self.now t) (sym c.other.view_is) each) in
       absurd (c.if-mine-row-ne0.true (row-from_AreWithin c.self.inside.words c.other.inside.words c.self.invariant c.other.invariant inside c.loop-row.row c.loop-row-test.true)),
 )
 
@@ -19,6 +20,6 @@ pub returns : goal.returns
 returns c = (
   λ _.
       let inside = AreWithin-from_rows c.self.inside.words c.other.inside.words c.self.invariant c.other.invariant (λ i row. c.loop-row.invariant i (omega arith)) in
-      subst (λ (t : FinSet nat_cmp). AreWithin c.args.self.now t) c.other.view_is (subst (λ (s : FinSet nat_cmp). AreWithin s (members_below c.other.inside.words 1024)) c.self.view_is inside),
+      subst (λ (t : FinSet nat_cmp). AreWithin c.args.self.now t) c.other.view_is (subst (λ (s : FinSet nat_cmp). AreWithin s (members_below c.other.inside.words MAX_MEMBERS)) c.self.view_is inside),
   λ _. refl,
 )

@@ -4,6 +4,7 @@ use Rattle.std.proofs.lemmas.Nat.{ones-le}
 use Rattle.pg_base.specs.Words.{members_below}
 use Rattle.pg_base.specs.WordLemmas.{len-members_start, len-members_row}
 use Rattle.pg_base.proofs.point_set.PointSet.len.Goals as goal
+use Rattle.pg_base.specs.declared.limits.TheConstants.{MAX_MEMBERS}
 
 pub loop-word-init : goal.loop-word-init
 loop-word-init c = record { counted = sym (len-members_start c.self.inside.words); bound = omega arith }
@@ -19,7 +20,7 @@ loop-word-preserved c = record {
 
 pub returns-clause-exact : goal.returns-clause-exact
 returns-clause-exact c =
-    let end : 64 * c.loop-word.word-index ≡ 1024 = omega arith in
+    let end : 64 * c.loop-word.word-index ≡ MAX_MEMBERS = omega arith in
     c.loop-word.invariant.counted ∙ ap (λ n. len (members_below c.self.inside.words n)) end ∙ ap len c.self.view_is
 
 pub returns-clause-few : goal.returns-clause-few

@@ -10,6 +10,7 @@ use Rattle.pg_base.specs.Words.{members_below}
 use Rattle.pg_base.specs.WordLemmas.{same_points}
 use Rattle.pg_base.proofs.RowLemmas.{contains-cleared_rows, cleared}
 use Rattle.pg_base.proofs.point_set.PointSet.without.Goals as goal
+use Rattle.pg_base.specs.declared.limits.TheConstants.{MAX_MEMBERS}
 
 pub loop-row-init : goal.loop-row-init
 loop-row-init c = record { long = c.self.told; done = λ i none. absurd (omega arith); left = λ i _. refl }
@@ -38,7 +39,7 @@ invariant_of-result c = record {
 pub returns-clause-members : goal.returns-clause-members
 returns-clause-members c v =
     contains-cleared_rows c.self.inside.words c.other.inside.words c.loop-row.words c.self.invariant c.other.invariant (λ i row. c.loop-row.invariant.done i (omega arith)) v
-    ∙ ap (λ (s : FinSet nat_cmp). (contains s v && not (contains (members_below c.other.inside.words 1024) v))) c.self.view_is
+    ∙ ap (λ (s : FinSet nat_cmp). (contains s v && not (contains (members_below c.other.inside.words MAX_MEMBERS) v))) c.self.view_is
     ∙ ap (λ (t : FinSet nat_cmp). (contains c.args.self.now v && not (contains t v))) c.other.view_is
 
 pub returns-clause-difference : goal.returns-clause-difference
