@@ -11,7 +11,7 @@ use Rattle.pg_draw.specs.Laws.{IsDrawnBetween, last_shapes}
 use Rattle.pg_draw.specs.Pictures.{picture_of}
 use Rattle.pg_draw.specs.Places.{at}
 use Rattle.pg_draw.specs.Shapes.{courses_of, item_shapes}
-use Rattle.pg_draw.specs.declared.measures.TheConstants.{MARGIN}
+use Rattle.pg_draw.specs.declared.measures.TheConstants.{HEADING_DOWN, MARGIN}
 
 parts_of : {A B : Type 0} (f : A → List B) (before after : List A) (x : A) (last : List B) → flat_map f (before ++ x ∷ after) ++ last ≡ flat_map f before ++ (f x ++ (flat_map f after ++ last))
 parts_of f before after x last =
@@ -22,4 +22,4 @@ pub drawn_between : (scene : Scene) (before after : List Item) (item : Item) →
 unfolding picture_of
 drawn_between scene before after item is =
     let f = item_shapes scene.board (courses_of scene.board) in
-    ap (λ xs. Words (at MARGIN 28) scene.title paints.Heading ∷ xs) (ap (λ (all : List Item). flat_map f all ++ last_shapes scene) is ∙ parts_of f before after item (last_shapes scene))
+    ap (λ xs. Words (at MARGIN HEADING_DOWN) scene.title paints.Heading ∷ xs) (ap (λ (all : List Item). flat_map f all ++ last_shapes scene) is ∙ parts_of f before after item (last_shapes scene))

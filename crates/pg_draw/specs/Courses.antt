@@ -5,7 +5,7 @@ use Rattle.std.specs.List.{count_by}
 use Rattle.pg_picture.specs.declared.shape.Place.{Place}
 use Rattle.pg_draw.specs.declared.course.Course.{Course}
 use Rattle.pg_draw.specs.declared.course.Course.TheVariants.{Straight, Bent, Around}
-use Rattle.pg_draw.specs.declared.measures.TheConstants.{BEND, LOOP, MARGIN, TOP}
+use Rattle.pg_draw.specs.declared.measures.TheConstants.{BEND, LOOP, MARGIN, MAX_MIDDLE_REACH, TOP}
 use Rattle.pg_draw.specs.declared.vertices.Plan.{Plan}
 use Rattle.pg_draw.specs.Places.{IsWithin, at, place_of_end}
 
@@ -21,7 +21,7 @@ middle_of (Around centre) = centre
 
 -- the middle of an edge is within the numbers that places may have
 abbrev pub HasNearMiddle : Course → Type 0
-HasNearMiddle course = IsWithin 4300000 (middle_of course)
+HasNearMiddle course = IsWithin MAX_MIDDLE_REACH (middle_of course)
 
 -- two edges have the same two ends
 abbrev pub have_same_ends : ℕ × ℕ → ℕ × ℕ → Bool

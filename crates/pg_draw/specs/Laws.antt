@@ -13,7 +13,7 @@ use Rattle.pg_scene.specs.declared.scene.Scene.{Scene}
 use Rattle.pg_draw.specs.Pictures.{far_corner, legend_shapes, picture_of}
 use Rattle.pg_draw.specs.Places.{at, place_of_end}
 use Rattle.pg_draw.specs.Shapes.{courses_of, item_shapes, plan_of, vertices_shapes}
-use Rattle.pg_draw.specs.declared.measures.TheConstants.{HALF, MARGIN, TOP}
+use Rattle.pg_draw.specs.declared.measures.TheConstants.{HALF, HEADING_DOWN, MARGIN, TOP}
 
 -- the shapes of items on a scene's board
 abbrev pub shapes_on : Scene → List Item → List Shape
@@ -26,7 +26,7 @@ last_shapes scene = vertices_shapes scene.board ++ legend_shapes (far_corner sce
 -- the item's shapes stand between those of the items before and after it, which stand between the heading and the rest
 abbrev pub IsDrawnBetween : Scene → List Item → Item → List Item → Type 0
 IsDrawnBetween scene before item after =
-    (picture_of scene).shapes ≡ Words (at MARGIN 28) scene.title paints.Heading ∷ shapes_on scene before ++ (item_shapes scene.board (courses_of scene.board) item ++ (shapes_on scene after ++ last_shapes scene))
+    (picture_of scene).shapes ≡ Words (at MARGIN HEADING_DOWN) scene.title paints.Heading ∷ shapes_on scene before ++ (item_shapes scene.board (courses_of scene.board) item ++ (shapes_on scene after ++ last_shapes scene))
 
 -- a place is so far from the corner that half a cell is left in both directions
 abbrev pub IsUpTo : Place → Place → Type 0

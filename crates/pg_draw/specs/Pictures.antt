@@ -13,7 +13,7 @@ use Rattle.pg_draw.specs.Courses.{farthest}
 use Rattle.pg_draw.specs.Places.{at, columns_of, radius_of}
 use Rattle.pg_draw.specs.Shapes.{courses_of, item_shapes, plan_of, vertices_shapes}
 use Rattle.pg_draw.specs.declared.course.Course.{Course}
-use Rattle.pg_draw.specs.declared.measures.TheConstants.{APART, CELL, HALF, LEADING, MARGIN, MAX_COUNTED_LETTERS, MAX_ON_RING, ROW, TOP}
+use Rattle.pg_draw.specs.declared.measures.TheConstants.{APART, CELL, HALF, HEADING_DOWN, HEADING_LETTER, LEADING, LEGEND_LETTER, MARGIN, MAX_COUNTED_LETTERS, MAX_ON_RING, ROW, TOP}
 use Rattle.pg_draw.specs.declared.vertices.Plan.{Plan}
 
 -- ---- how far a board reaches
@@ -57,7 +57,7 @@ text_width letter words = MARGIN + letter * min (length words) MAX_COUNTED_LETTE
 
 -- how far the widest line of a legend reaches
 abbrev pub widest : List (List ℕ) → ℕ
-widest texts = fold (λ width words. max width (text_width 8 words)) 0 texts
+widest texts = fold (λ width words. max width (text_width LEGEND_LETTER words)) 0 texts
 
 -- the lines of a legend below a place
 abbrev pub legend_shapes : ℕ → List (List ℕ) → List Shape
@@ -69,11 +69,11 @@ legend_shapes down (line ∷ lines) = Words (at MARGIN (down + LEADING)) line pa
 -- the heading, the shapes of each item in the order of the items, the vertices, and the legend below that place
 abbrev pub shapes_of : Scene → List Course → ℕ → List Shape
 shapes_of scene courses bottom =
-    Words (at MARGIN 28) scene.title paints.Heading ∷ flat_map (item_shapes scene.board courses) scene.items ++ (vertices_shapes scene.board ++ legend_shapes bottom scene.legend)
+    Words (at MARGIN HEADING_DOWN) scene.title paints.Heading ∷ flat_map (item_shapes scene.board courses) scene.items ++ (vertices_shapes scene.board ++ legend_shapes bottom scene.legend)
 
 -- how wide a picture is whose board reaches so far: no less than its title and its legend
 abbrev pub width_of : Scene → ℕ → ℕ
-width_of scene across = MARGIN + max (max across (text_width 11 scene.title)) (widest scene.legend)
+width_of scene across = MARGIN + max (max across (text_width HEADING_LETTER scene.title)) (widest scene.legend)
 
 -- the picture of a scene
 unfoldable pub picture_of : Scene → Picture

@@ -18,7 +18,7 @@ use Rattle.pg_draw.specs.Courses.{bend_of, courses_behind, have_same_ends, middl
 use Rattle.pg_draw.specs.Places.{at, lower, place_of_end, place_on_bridge, place_on_grid, place_on_ring, upper_left, upper_right}
 use Rattle.pg_draw.specs.declared.course.Course.{Course}
 use Rattle.pg_draw.specs.declared.course.Course.TheVariants.{Straight, Bent, Around}
-use Rattle.pg_draw.specs.declared.measures.TheConstants.{CELL, HALF}
+use Rattle.pg_draw.specs.declared.measures.TheConstants.{BADGE_RADIUS, BADGE_RIGHT, BADGE_UP, CELL, CELL_MARK_DOWN, CELL_NUMBER_LEFT, CELL_NUMBER_UP, CHILD_RADIUS, CROSS_BOTTOM, CROSS_LEFT, CROSS_RIGHT, CROSS_TOP, DISC_MARK_DOWN, DISC_NUMBER_UP, HALF, LINE_DOT_RADIUS, LOOP_RADIUS, MEMBER_RADIUS, NOTE_DOWN, PAIR_DOT_RADIUS, POINT_RADIUS, VERTEX_RADIUS}
 use Rattle.pg_draw.specs.declared.vertices.Plan.{Plan}
 
 -- ---- paints
@@ -77,17 +77,17 @@ mark_shapes place (Some Y) = Words place (codes "Y") paints.Mark ∷ []
 -- a point's cell, with its number and mark
 unfoldable pub cell_shapes : Place → ℕ → Option Side → List Shape
 cell_shapes place point mark =
-    Square (upper_left place HALF HALF) CELL (point_paint mark) ∷ number_at (upper_left place 11 13) point ∷ mark_shapes (lower place 5) mark
+    Square (upper_left place HALF HALF) CELL (point_paint mark) ∷ number_at (upper_left place CELL_NUMBER_LEFT CELL_NUMBER_UP) point ∷ mark_shapes (lower place CELL_MARK_DOWN) mark
 
 -- a point's disc, with its number and mark
 unfoldable pub disc_shapes : Place → ℕ → Option Side → List Shape
-disc_shapes place point mark = Disc place 20 (point_paint mark) ∷ number_at (upper_left place 0 8) point ∷ mark_shapes (lower place 8) mark
+disc_shapes place point mark = Disc place POINT_RADIUS (point_paint mark) ∷ number_at (upper_left place 0 DISC_NUMBER_UP) point ∷ mark_shapes (lower place DISC_MARK_DOWN) mark
 
 -- the shape of an edge: a stroke, a bow, or a ring for a loop
 abbrev pub course_shape : Course → Paint → Shape
 course_shape (Straight from to) paint = Stroke from to paint
 course_shape (Bent from bend to) paint = Bow from bend to paint
-course_shape (Around centre) paint = Disc centre 14 paint
+course_shape (Around centre) paint = Disc centre LOOP_RADIUS paint
 
 -- the shape of an edge, where there is one
 abbrev pub course_shapes : Option Course → Paint → List Shape
@@ -114,22 +114,22 @@ strokes_behind place from (v ∷ vs) = Stroke from (place v) paints.Line ∷ str
 -- a dot at the first point, and strokes from each to the next
 abbrev pub line_shapes : (ℕ → Place) → List ℕ → List Shape
 line_shapes place [] = []
-line_shapes place (v ∷ vs) = Disc (place v) 3 paints.Line ∷ strokes_behind place (place v) vs
+line_shapes place (v ∷ vs) = Disc (place v) LINE_DOT_RADIUS paints.Line ∷ strokes_behind place (place v) vs
 
 -- a stroke with a dot at both its ends
 unfoldable pub pair_shapes : Place → Place → Paint → List Shape
-pair_shapes from to paint = Stroke from to paint ∷ Disc from 5 paint ∷ Disc to 5 paint ∷ []
+pair_shapes from to paint = Stroke from to paint ∷ Disc from PAIR_DOT_RADIUS paint ∷ Disc to PAIR_DOT_RADIUS paint ∷ []
 
 -- a weight below a place
 abbrev pub weight_shapes : Place → List ℕ → List Shape
-weight_shapes place weight = Words (lower place 14) weight paints.Weight ∷ []
+weight_shapes place weight = Words (lower place NOTE_DOWN) weight paints.Weight ∷ []
 
 -- ---- sets
 
 -- a member of a set: its edge once more, or a ring around the point
 abbrev pub member_shapes : Board → List Course → ℕ → Set → List Shape
-member_shapes (Grid width height) courses point set = Disc (place_on_grid width point) 16 (set_paint set) ∷ []
-member_shapes (Ring points) courses point set = Disc (place_on_ring points point) 16 (set_paint set) ∷ []
+member_shapes (Grid width height) courses point set = Disc (place_on_grid width point) MEMBER_RADIUS (set_paint set) ∷ []
+member_shapes (Ring points) courses point set = Disc (place_on_ring points point) MEMBER_RADIUS (set_paint set) ∷ []
 member_shapes (Graph vertices ends terminals bridge) courses point set = edge_shapes courses point (set_paint set)
 
 -- the further edge between two terminals: bent further than all edges between them, and dashed
@@ -151,7 +151,7 @@ extra_shapes (Graph vertices ends terminals bridge) set =
 
 -- a number in a ring beside a place
 unfoldable pub badge_shapes : Place → ℕ → Paint → List Shape
-badge_shapes place number paint = Disc (upper_right place 15 14) 10 paint ∷ number_at (upper_right place 15 14) number ∷ []
+badge_shapes place number paint = Disc (upper_right place BADGE_RIGHT BADGE_UP) BADGE_RADIUS paint ∷ number_at (upper_right place BADGE_RIGHT BADGE_UP) number ∷ []
 
 -- the number of a vertex's part
 abbrev pub part_shapes : Board → ℕ → ℕ → List Shape
@@ -165,11 +165,11 @@ child_text child = codes "-> " ++ decimal child
 
 -- a ring around a place, with the node that follows
 unfoldable pub reached_shapes : Place → ℕ → Paint → List Shape
-reached_shapes place child paint = Disc place 21 paint ∷ Words (lower place 14) (child_text child) paint ∷ []
+reached_shapes place child paint = Disc place CHILD_RADIUS paint ∷ Words (lower place NOTE_DOWN) (child_text child) paint ∷ []
 
 -- a cross beside the heading
 unfoldable pub fault_shapes : List Shape
-fault_shapes = Stroke (at 6 22) (at 18 34) paints.Fault ∷ Stroke (at 18 22) (at 6 34) paints.Fault ∷ []
+fault_shapes = Stroke (at CROSS_LEFT CROSS_TOP) (at CROSS_RIGHT CROSS_BOTTOM) paints.Fault ∷ Stroke (at CROSS_RIGHT CROSS_TOP) (at CROSS_LEFT CROSS_BOTTOM) paints.Fault ∷ []
 
 -- ---- items
 
@@ -201,7 +201,7 @@ vertex_paint terminals vertex = if list_any (nat_eq vertex) terminals then paint
 -- a vertex with its number
 unfoldable pub vertex_shapes : Plan → List ℕ → ℕ → List Shape
 vertex_shapes plan terminals vertex =
-    bar_shapes plan.bridge vertex ++ Disc (place_of_end plan vertex vertex) 12 (vertex_paint terminals vertex) ∷ number_at (place_of_end plan vertex vertex) vertex ∷ []
+    bar_shapes plan.bridge vertex ++ Disc (place_of_end plan vertex vertex) VERTEX_RADIUS (vertex_paint terminals vertex) ∷ number_at (place_of_end plan vertex vertex) vertex ∷ []
 
 -- the vertices of a board
 abbrev pub vertices_shapes : Board → List Shape

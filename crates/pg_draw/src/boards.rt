@@ -7,7 +7,7 @@ ghost use Rattle.pg_draw.specs.Shapes.{courses_of, place_of};
 use crate::circle::place_on_circle;
 use crate::courses::Courses;
 use crate::grid::place_on_grid;
-use crate::measures::{MAX_ON_RING, ROW};
+use crate::measures::{MAX_END_REACH, MAX_MIDDLE_REACH, MAX_ON_RING, MAX_SHIFT, ROW};
 use crate::vertices::Plan;
 use pg_base::Memory;
 use pg_picture::Place;
@@ -26,8 +26,8 @@ pub(crate) fn upper_left(place: Place, left: u32, up: u32) -> Place
 
 /// The place so far up and to the right.
 pub(crate) fn upper_right(place: Place, right: u32, up: u32) -> Place
-    requires near { IsWithin 4300000 place }
-    requires right { right ≤ 100 }
+    requires near { IsWithin MAX_MIDDLE_REACH place }
+    requires right { right ≤ MAX_SHIFT }
     ensures { result ≡ upper_right place right up }
 {
     Place {
@@ -38,8 +38,8 @@ pub(crate) fn upper_right(place: Place, right: u32, up: u32) -> Place
 
 /// The place so far down.
 pub(crate) fn lower(place: Place, down: u32) -> Place
-    requires near { IsWithin 4300000 place }
-    requires down { down ≤ 100 }
+    requires near { IsWithin MAX_MIDDLE_REACH place }
+    requires down { down ≤ MAX_SHIFT }
     ensures { result ≡ lower place down }
 {
     Place {
@@ -51,7 +51,7 @@ pub(crate) fn lower(place: Place, down: u32) -> Place
 /// The place of one of so many points that have no place of their own.
 pub(crate) fn place_on_ring(points: u32, point: u16) -> Place
     ensures place { result ≡ place_on_ring points point }
-    ensures near { IsWithin 4194304 result }
+    ensures near { IsWithin MAX_END_REACH result }
 {
     if points <= MAX_ON_RING {
         place_on_circle(points, point)
@@ -85,7 +85,7 @@ pub(crate) fn courses_of(alloc: Global, board: &Board) -> Result<Courses, Memory
 /// The place of a point.
 pub(crate) fn place_of(board: &Board, courses: &Courses, point: u16) -> Place
     ensures place { result ≡ place_of board.now courses.now point }
-    ensures near { IsWithin 4300000 result }
+    ensures near { IsWithin MAX_MIDDLE_REACH result }
 {
     match board {
         Board::Grid { width, .. } => place_on_grid(*width, point),

@@ -1,9 +1,9 @@
 //! Places on the boards of Bridg-It.
-ghost use Rattle.std.specs.Prelude.{◌≡◌, ◌≤◌, ◌<◌};
+ghost use Rattle.std.specs.Prelude.{◌≡◌, ◌+◌, ◌≤◌, ◌<◌, ◌^◌};
 ghost use Rattle.pg_draw.specs.Places.{IsWithin, columns_of, column_of, place_on_bridge, row_of};
 ghost use Rattle.pg_gen.specs.declared.limits.TheConstants.{MAX_BRIDGE_ROWS};
 
-use crate::measures::{APART, HALF, MARGIN, TOP};
+use crate::measures::{APART, HALF, MARGIN, MAX_END_REACH, TOP};
 use pg_picture::Place;
 
 /// How many columns of inner vertices there are.
@@ -20,7 +20,7 @@ pub(crate) fn columns_of(rows: u32) -> u32
 fn column_of(rows: u32, vertex: u16) -> u32
     requires { rows ≤ MAX_BRIDGE_ROWS }
     ensures column { result ≡ column_of rows vertex }
-    ensures few { result ≤ 501 }
+    ensures few { result ≤ MAX_BRIDGE_ROWS + 1 }
 {
     let columns = columns_of(rows);
     if vertex == 0 {
@@ -36,7 +36,7 @@ fn column_of(rows: u32, vertex: u16) -> u32
 fn row_of(rows: u32, vertex: u16, other: u16) -> u32
     requires { rows ≤ MAX_BRIDGE_ROWS }
     ensures row { result ≡ row_of rows vertex other }
-    ensures few { result < 65536 }
+    ensures few { result < 2 ^ 16 }
 {
     let columns = columns_of(rows);
     if vertex >= 2 {
@@ -53,7 +53,7 @@ fn row_of(rows: u32, vertex: u16, other: u16) -> u32
 pub(crate) fn place_on_bridge(rows: u32, vertex: u16, other: u16) -> Place
     requires { rows ≤ MAX_BRIDGE_ROWS }
     ensures place { result ≡ place_on_bridge rows vertex other }
-    ensures near { IsWithin 4194304 result }
+    ensures near { IsWithin MAX_END_REACH result }
 {
     Place {
         across: MARGIN + HALF + APART * column_of(rows, vertex),

@@ -1,27 +1,27 @@
 //! Places on a circle.
-ghost use Rattle.std.specs.Prelude.{◌≡◌, ◌≤◌, ◌<◌};
+ghost use Rattle.std.specs.Prelude.{◌≡◌, ◌≤◌, ◌<◌, ◌^◌};
 ghost use Rattle.pg_draw.specs.Places.{IsWithin, part_of, place_after, place_on_circle, radius_of};
 ghost use Rattle.pg_game.specs.declared.bounds.TheConstants.{MAX_VERTICES};
 
-use crate::measures::{HALF, MARGIN, TOP};
+use crate::measures::{HALF, MARGIN, MAX_CIRCLE_REACH, MAX_RADIUS, TOP};
 use crate::sines::SINES;
 use pg_picture::Place;
 
 /// The sine of so many 128ths of a quarter of a turn, times the radius.
 fn part_of(radius: u32, part: usize) -> u32
-    requires small { radius ≤ 4000 }
+    requires small { radius ≤ MAX_RADIUS }
     requires part { part ≤ 128 }
     ensures part { result ≡ part_of radius part }
-    ensures small { result < 65536 }
+    ensures small { result < 2 ^ 16 }
 {
     radius * u32::from(SINES[part]) / 10_000
 }
 
 /// The place on a circle after so many 512ths of a turn, from the top and clockwise.
 fn place_after(radius: u32, step: u32) -> Place
-    requires small { radius ≤ 4000 }
+    requires small { radius ≤ MAX_RADIUS }
     ensures place { result ≡ place_after radius step }
-    ensures near { IsWithin 131072 result }
+    ensures near { IsWithin MAX_CIRCLE_REACH result }
 {
     let sine = part_of(radius, (step % 128) as usize);
     let cosine = part_of(radius, 128 - (step % 128) as usize);
@@ -51,7 +51,7 @@ fn place_after(radius: u32, step: u32) -> Place
 pub(crate) fn radius_of(count: u32) -> u32
     requires { count ≤ MAX_VERTICES }
     ensures radius { result ≡ radius_of count }
-    ensures small { result ≤ 4000 }
+    ensures small { result ≤ MAX_RADIUS }
 {
     (8 * count).max(100)
 }
@@ -61,7 +61,7 @@ pub(crate) fn radius_of(count: u32) -> u32
 pub(crate) fn place_on_circle(count: u32, index: u16) -> Place
     requires { count ≤ MAX_VERTICES }
     ensures place { result ≡ place_on_circle count index }
-    ensures near { IsWithin 131072 result }
+    ensures near { IsWithin MAX_CIRCLE_REACH result }
 {
     place_after(radius_of(count), u32::from(index) * 512 / count.max(1))
 }

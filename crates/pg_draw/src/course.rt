@@ -5,7 +5,7 @@ ghost use Rattle.pg_draw.specs.Places.{IsPlan, IsWithin};
 ghost use Rattle.pg_draw.specs.Courses.{beside, bend_of, course_of, have_same_ends, middle_of, midway};
 ghost use Rattle.pg_base.specs.declared.limits.TheConstants.{MAX_EDGES};
 
-use crate::measures::{BEND, LOOP};
+use crate::measures::{BEND, LOOP, MAX_END_REACH, MAX_MIDDLE_REACH};
 use crate::vertices::Plan;
 use pg_picture::Place;
 
@@ -81,11 +81,11 @@ pub(crate) fn parallels(ends: &[(u16, u16)], edge: (u16, u16)) -> u32
 /// The place towards which an edge is bent: down from its middle where it leads rather across, else to the right.
 #[tactic(auto, unfolding(crate::specs::Courses::bend_of))]
 pub(crate) fn bend_of(from: Place, to: Place, steps: u32) -> Place
-    requires from { IsWithin 4194304 from }
-    requires to { IsWithin 4194304 to }
+    requires from { IsWithin MAX_END_REACH from }
+    requires to { IsWithin MAX_END_REACH to }
     requires few { steps ≤ MAX_EDGES + 1 }
     ensures bend { result ≡ bend_of from to steps }
-    ensures near { IsWithin 4300000 result }
+    ensures near { IsWithin MAX_MIDDLE_REACH result }
 {
     let middle = midway(from, to);
     if from.down.abs_diff(to.down) <= from.across.abs_diff(to.across) {
@@ -104,10 +104,10 @@ pub(crate) fn bend_of(from: Place, to: Place, steps: u32) -> Place
 /// The middle of a loop at a place, where so many lie nearer.
 #[tactic(auto, unfolding(crate::specs::Courses::beside))]
 fn beside(place: Place, steps: u32) -> Place
-    requires near { IsWithin 4194304 place }
+    requires near { IsWithin MAX_END_REACH place }
     requires few { steps ≤ MAX_EDGES }
     ensures place { result ≡ beside place steps }
-    ensures near { IsWithin 4300000 result }
+    ensures near { IsWithin MAX_MIDDLE_REACH result }
 {
     Place {
         across: place.across + LOOP * (steps + 1),
@@ -121,7 +121,7 @@ pub(crate) fn course_of(plan: Plan, steps: u32, edge: (u16, u16)) -> Course
     requires plan { IsPlan plan }
     requires few { steps ≤ MAX_EDGES }
     ensures course { result ≡ course_of plan steps edge }
-    ensures near { IsWithin 4300000 (middle_of result) }
+    ensures near { IsWithin MAX_MIDDLE_REACH (middle_of result) }
 {
     let from = plan.place_of_end(edge.0, edge.1);
     let to = plan.place_of_end(edge.1, edge.0);

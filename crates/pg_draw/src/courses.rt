@@ -5,7 +5,7 @@ ghost use Rattle.pg_draw.specs.Courses.{courses_behind, farthest, place_of_edge}
 ghost use Rattle.pg_base.specs.declared.limits.TheConstants.{MAX_EDGES};
 
 use crate::course::{Course, course_of, middle_of, parallels};
-use crate::measures::{MARGIN, TOP};
+use crate::measures::{MARGIN, MAX_MIDDLE_REACH, TOP};
 use crate::vertices::Plan;
 use pg_base::Memory;
 use pg_picture::Place;
@@ -70,7 +70,7 @@ impl Courses {
     /// The middle of an edge.
     pub(crate) fn place_of(&self, edge: u16) -> Place
         ensures place { result ≡ place_of_edge self.now edge }
-        ensures near { IsWithin 4300000 result }
+        ensures near { IsWithin MAX_MIDDLE_REACH result }
     {
         match self.members.get(edge as usize) {
             Some(course) => middle_of(*course),
@@ -84,7 +84,7 @@ impl Courses {
     /// How far the middles of edges reach.
     pub(crate) fn farthest(&self) -> Place
         ensures place { result ≡ farthest self.now }
-        ensures near { IsWithin 4300000 result }
+        ensures near { IsWithin MAX_MIDDLE_REACH result }
     {
         let mut far = Place { across: 0, down: 0 };
         for course in &self.members {

@@ -11,7 +11,9 @@ use crate::boards::courses_of;
 use crate::bridge::place_on_bridge;
 use crate::courses::Courses;
 use crate::items::push_items;
-use crate::measures::{LEADING, MARGIN};
+use crate::measures::{
+    HEADING_DOWN, HEADING_LETTER, LEADING, MARGIN, MAX_CORNER_REACH, VERTEX_RADIUS,
+};
 use crate::size::{far_corner, text_width, widest};
 use crate::vertices::Plan;
 use crate::words::{push_number, push_words, text_of};
@@ -65,7 +67,7 @@ fn push_vertex(
     let paint = vertex_paint(terminals, vertex);
     shapes.push(Shape::Disc {
         centre,
-        radius: 12,
+        radius: VERTEX_RADIUS,
         paint,
     })?;
     push_number(alloc, shapes, centre, vertex as usize, Paint::Number)
@@ -116,7 +118,7 @@ fn push_legend(
     bottom: u32,
     legend: &[Text],
 ) -> Result<(), Memory>
-    requires bottom { bottom ≤ 4400000 }
+    requires bottom { bottom ≤ MAX_CORNER_REACH }
     requires few { length legend.now ≤ MAX_LEGEND_LINES }
     ensures { OnOk result (shapes.new.items ≡ shapes.old.items ++ legend_shapes bottom legend.now) }
 {
@@ -140,14 +142,14 @@ fn shapes_of(
     bottom: u32,
 ) -> Result<Vec<Shape>, Memory>
     requires board { IsBoard scene.now.board }
-    requires bottom { bottom ≤ 4400000 }
+    requires bottom { bottom ≤ MAX_CORNER_REACH }
     requires few { length scene.now.legend ≤ MAX_LEGEND_LINES }
     ensures { IfOk result (λ shapes. shapes.items ≡ shapes_of scene.now courses.now bottom) }
 {
     let mut shapes = Vec::new(alloc);
     let at = Place {
         across: MARGIN,
-        down: 28,
+        down: HEADING_DOWN,
     };
     push_words(alloc, &mut shapes, at, scene.title.as_str(), Paint::Heading)?;
     push_items(
@@ -164,10 +166,10 @@ fn shapes_of(
 
 /// How wide the picture of a scene is whose board reaches so far.
 fn width_of(scene: &Scene, across: u32) -> u32
-    requires { across ≤ 4400000 }
+    requires { across ≤ MAX_CORNER_REACH }
     ensures { result ≡ width_of scene.now across }
 {
-    let title = text_width(11, scene.title.as_str());
+    let title = text_width(HEADING_LETTER, scene.title.as_str());
     let legend = widest(scene.legend.as_slice());
     MARGIN + across.max(title).max(legend)
 }

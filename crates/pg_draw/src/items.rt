@@ -10,6 +10,10 @@ use crate::boards::{lower, place_of, upper_right};
 use crate::course::{Course, bend_of, middle_of, parallels};
 use crate::courses::Courses;
 use crate::marks::{push_edge, push_point};
+use crate::measures::{
+    BADGE_RADIUS, BADGE_RIGHT, BADGE_UP, CHILD_RADIUS, CROSS_BOTTOM, CROSS_LEFT, CROSS_RIGHT,
+    CROSS_TOP, LINE_DOT_RADIUS, MAX_MIDDLE_REACH, MEMBER_RADIUS, NOTE_DOWN, PAIR_DOT_RADIUS,
+};
 use crate::paints::{pair_paint, set_paint};
 use crate::vertices::Plan;
 use crate::words::{push_child, push_number, push_words};
@@ -33,7 +37,7 @@ fn push_line(
     let mut from = place_of(board, courses, *first);
     shapes.push(Shape::Disc {
         centre: from,
-        radius: 3,
+        radius: LINE_DOT_RADIUS,
         paint: Paint::Line,
     })?;
     for point in others {
@@ -56,12 +60,12 @@ fn push_pair(shapes: &mut Vec<Shape>, from: Place, to: Place, paint: Paint) -> R
     shapes.push(Shape::Stroke { from, to, paint })?;
     shapes.push(Shape::Disc {
         centre: from,
-        radius: 5,
+        radius: PAIR_DOT_RADIUS,
         paint,
     })?;
     shapes.push(Shape::Disc {
         centre: to,
-        radius: 5,
+        radius: PAIR_DOT_RADIUS,
         paint,
     })?;
     Ok(())
@@ -74,10 +78,10 @@ fn push_weight(
     place: Place,
     weight: &Text,
 ) -> Result<(), Memory>
-    requires { IsWithin 4300000 place }
+    requires { IsWithin MAX_MIDDLE_REACH place }
     ensures { OnOk result (shapes.new.items ≡ shapes.old.items ++ weight_shapes place weight.now) }
 {
-    let under = lower(place, 14);
+    let under = lower(place, NOTE_DOWN);
     push_words(alloc, shapes, under, weight.as_str(), Paint::Weight)
 }
 
@@ -99,7 +103,7 @@ fn push_member(
     let centre = place_of(board, courses, point);
     shapes.push(Shape::Disc {
         centre,
-        radius: 16,
+        radius: MEMBER_RADIUS,
         paint,
     })?;
     Ok(())
@@ -180,13 +184,13 @@ fn push_badge(
     number: usize,
     paint: Paint,
 ) -> Result<(), Memory>
-    requires { IsWithin 4300000 place }
+    requires { IsWithin MAX_MIDDLE_REACH place }
     ensures { OnOk result (shapes.new.items ≡ shapes.old.items ++ badge_shapes place number paint) }
 {
-    let centre = upper_right(place, 15, 14);
+    let centre = upper_right(place, BADGE_RIGHT, BADGE_UP);
     shapes.push(Shape::Disc {
         centre,
-        radius: 10,
+        radius: BADGE_RADIUS,
         paint,
     })?;
     push_number(alloc, shapes, centre, number, Paint::Number)
@@ -234,15 +238,15 @@ fn push_reached(
     child: u32,
     paint: Paint,
 ) -> Result<(), Memory>
-    requires { IsWithin 4300000 place }
+    requires { IsWithin MAX_MIDDLE_REACH place }
     ensures { OnOk result (shapes.new.items ≡ shapes.old.items ++ reached_shapes place child paint) }
 {
     shapes.push(Shape::Disc {
         centre: place,
-        radius: 21,
+        radius: CHILD_RADIUS,
         paint,
     })?;
-    push_child(alloc, shapes, lower(place, 14), child, paint)
+    push_child(alloc, shapes, lower(place, NOTE_DOWN), child, paint)
 }
 
 /// Adds the cross of a fault.
@@ -252,23 +256,23 @@ fn push_fault(shapes: &mut Vec<Shape>) -> Result<(), Memory>
 {
     shapes.push(Shape::Stroke {
         from: Place {
-            across: 6,
-            down: 22,
+            across: CROSS_LEFT,
+            down: CROSS_TOP,
         },
         to: Place {
-            across: 18,
-            down: 34,
+            across: CROSS_RIGHT,
+            down: CROSS_BOTTOM,
         },
         paint: Paint::Fault,
     })?;
     shapes.push(Shape::Stroke {
         from: Place {
-            across: 18,
-            down: 22,
+            across: CROSS_RIGHT,
+            down: CROSS_TOP,
         },
         to: Place {
-            across: 6,
-            down: 34,
+            across: CROSS_LEFT,
+            down: CROSS_BOTTOM,
         },
         paint: Paint::Fault,
     })?;

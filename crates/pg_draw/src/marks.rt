@@ -6,7 +6,10 @@ ghost use Rattle.pg_draw.specs.Shapes.{cell_shapes, course_shape, disc_shapes, e
 use crate::boards::{lower, place_of, upper_left};
 use crate::course::Course;
 use crate::courses::Courses;
-use crate::measures::{CELL, HALF};
+use crate::measures::{
+    CELL, CELL_MARK_DOWN, CELL_NUMBER_LEFT, CELL_NUMBER_UP, DISC_MARK_DOWN, DISC_NUMBER_UP, HALF,
+    LOOP_RADIUS, MAX_MIDDLE_REACH, POINT_RADIUS,
+};
 use crate::paints::{edge_paint, point_paint};
 use crate::words::{push_number, push_words};
 use pg_base::{Memory, Side};
@@ -39,7 +42,7 @@ fn push_cell(
     point: u16,
     mark: Option<Side>,
 ) -> Result<(), Memory>
-    requires { IsWithin 4300000 place }
+    requires { IsWithin MAX_MIDDLE_REACH place }
     ensures { OnOk result (shapes.new.items ≡ shapes.old.items ++ cell_shapes place point mark) }
 {
     let corner = upper_left(place, HALF, HALF);
@@ -49,9 +52,9 @@ fn push_cell(
         side: CELL,
         paint,
     })?;
-    let above = upper_left(place, 11, 13);
+    let above = upper_left(place, CELL_NUMBER_LEFT, CELL_NUMBER_UP);
     push_number(alloc, shapes, above, point as usize, Paint::Number)?;
-    push_mark(alloc, shapes, lower(place, 5), mark)
+    push_mark(alloc, shapes, lower(place, CELL_MARK_DOWN), mark)
 }
 
 /// Adds the disc of a point, with its number and mark.
@@ -63,18 +66,18 @@ fn push_disc(
     point: u16,
     mark: Option<Side>,
 ) -> Result<(), Memory>
-    requires { IsWithin 4300000 centre }
+    requires { IsWithin MAX_MIDDLE_REACH centre }
     ensures { OnOk result (shapes.new.items ≡ shapes.old.items ++ disc_shapes centre point mark) }
 {
     let paint = point_paint(mark);
     shapes.push(Shape::Disc {
         centre,
-        radius: 20,
+        radius: POINT_RADIUS,
         paint,
     })?;
-    let above = upper_left(centre, 0, 8);
+    let above = upper_left(centre, 0, DISC_NUMBER_UP);
     push_number(alloc, shapes, above, point as usize, Paint::Number)?;
-    push_mark(alloc, shapes, lower(centre, 8), mark)
+    push_mark(alloc, shapes, lower(centre, DISC_MARK_DOWN), mark)
 }
 
 /// The shape of an edge.
@@ -91,7 +94,7 @@ fn course_shape(course: Course, paint: Paint) -> Shape
         },
         Course::Around { centre } => Shape::Disc {
             centre,
-            radius: 14,
+            radius: LOOP_RADIUS,
             paint,
         },
     }

@@ -32,3 +32,99 @@ pub(crate) const LEADING: u32 = 18;
 
 /// How many letters of a text count for the width of a picture.
 pub(crate) const MAX_COUNTED_LETTERS: usize = 1000;
+
+/// The radius of a point's disc.
+pub(crate) const POINT_RADIUS: u32 = 20;
+
+/// How far above the middle of a disc its number stands.
+pub(crate) const DISC_NUMBER_UP: u32 = 8;
+
+/// How far below the middle of a disc its mark stands.
+pub(crate) const DISC_MARK_DOWN: u32 = 8;
+
+/// How far left of the middle of a cell its number stands.
+pub(crate) const CELL_NUMBER_LEFT: u32 = 11;
+
+/// How far above the middle of a cell its number stands.
+pub(crate) const CELL_NUMBER_UP: u32 = 13;
+
+/// How far below the middle of a cell its mark stands.
+pub(crate) const CELL_MARK_DOWN: u32 = 5;
+
+/// How far below a place its weight stands, or the node that follows.
+pub(crate) const NOTE_DOWN: u32 = 14;
+
+/// The radius of a loop.
+pub(crate) const LOOP_RADIUS: u32 = 14;
+
+/// The radius of a vertex.
+pub(crate) const VERTEX_RADIUS: u32 = 12;
+
+/// The radius of the dot at a line's first point.
+pub(crate) const LINE_DOT_RADIUS: u32 = 3;
+
+/// The radius of the dots at a pair's points.
+pub(crate) const PAIR_DOT_RADIUS: u32 = 5;
+
+/// The radius of the ring around a member of a set.
+pub(crate) const MEMBER_RADIUS: u32 = 16;
+
+/// The radius of the ring around a point at which a node follows.
+pub(crate) const CHILD_RADIUS: u32 = 21;
+
+/// The radius of the ring around a number beside a place.
+pub(crate) const BADGE_RADIUS: u32 = 10;
+
+/// How far right of a place such a ring is.
+pub(crate) const BADGE_RIGHT: u32 = 15;
+
+/// How far above a place such a ring is.
+pub(crate) const BADGE_UP: u32 = 14;
+
+/// How far from the top of its picture the heading stands.
+pub(crate) const HEADING_DOWN: u32 = 28;
+
+/// How wide a letter of the heading is.
+pub(crate) const HEADING_LETTER: u32 = 11;
+
+/// How wide a letter of the legend is.
+pub(crate) const LEGEND_LETTER: u32 = 8;
+
+/// How far from the left side of its picture the cross of a fault begins.
+pub(crate) const CROSS_LEFT: u32 = 6;
+
+/// How far from the left side of its picture the cross of a fault ends.
+pub(crate) const CROSS_RIGHT: u32 = 18;
+
+/// How far from the top of its picture the cross of a fault begins.
+pub(crate) const CROSS_TOP: u32 = 22;
+
+/// How far from the top of its picture the cross of a fault ends.
+pub(crate) const CROSS_BOTTOM: u32 = 34;
+
+/// The furthest that something stands beside its place.
+pub(crate) const MAX_SHIFT: u32 = 100;
+
+/// The greatest radius of a circle.
+pub(crate) const MAX_RADIUS: u32 = 4_000;
+
+/// Both numbers of a place on a circle are below this.
+pub(crate) const MAX_CIRCLE_REACH: u32 = 131_072;
+
+/// Both numbers of the corner of a board without its edges are below this.
+pub(crate) const MAX_BOARD_REACH: u32 = 100_000;
+
+/// Both numbers of the place of a vertex, or of a point on a board without edges, are below this.
+pub(crate) const MAX_END_REACH: u32 = 4_194_304;
+
+/// Both numbers of the middle of an edge are below this.
+pub(crate) const MAX_MIDDLE_REACH: u32 = 4_300_000;
+
+/// Both numbers of the corner of a board with its edges are below this.
+pub(crate) const MAX_CORNER_REACH: u32 = 4_400_000;
+
+/// The width of words is below this.
+pub(crate) const MAX_TEXT_WIDTH: u32 = 200_000;
+
+/// The greatest width of a letter.
+pub(crate) const MAX_LETTER_WIDTH: u32 = 100;

@@ -9,7 +9,10 @@ ghost use Rattle.pg_gen.specs.declared.limits.TheConstants.{MAX_BRIDGE_ROWS};
 use crate::bridge::columns_of;
 use crate::circle::radius_of;
 use crate::courses::Courses;
-use crate::measures::{APART, CELL, HALF, MARGIN, MAX_COUNTED_LETTERS, MAX_ON_RING, ROW, TOP};
+use crate::measures::{
+    APART, CELL, HALF, LEGEND_LETTER, MARGIN, MAX_BOARD_REACH, MAX_CORNER_REACH,
+    MAX_COUNTED_LETTERS, MAX_LETTER_WIDTH, MAX_ON_RING, MAX_TEXT_WIDTH, ROW, TOP,
+};
 use crate::vertices::Plan;
 use pg_picture::Place;
 use pg_scene::{Board, Text};
@@ -19,7 +22,7 @@ use pg_scene::{Board, Text};
 fn circle_reach(count: u32) -> Place
     requires { count ≤ MAX_VERTICES }
     ensures place { result ≡ circle_reach count }
-    ensures near { IsWithin 100000 result }
+    ensures near { IsWithin MAX_BOARD_REACH result }
 {
     let width = CELL + 2 * radius_of(count);
     Place {
@@ -33,7 +36,7 @@ fn circle_reach(count: u32) -> Place
 fn bridge_reach(rows: u32) -> Place
     requires { rows ≤ MAX_BRIDGE_ROWS }
     ensures place { result ≡ bridge_reach rows }
-    ensures near { IsWithin 100000 result }
+    ensures near { IsWithin MAX_BOARD_REACH result }
 {
     Place {
         across: MARGIN + CELL + APART * (columns_of(rows) + 1),
@@ -45,7 +48,7 @@ fn bridge_reach(rows: u32) -> Place
 fn plan_reach(plan: Plan) -> Place
     requires { IsPlan plan }
     ensures place { result ≡ plan_reach plan }
-    ensures near { IsWithin 100000 result }
+    ensures near { IsWithin MAX_BOARD_REACH result }
 {
     match plan.bridge {
         Some(rows) => bridge_reach(rows),
@@ -59,7 +62,7 @@ fn row_reach(width: u32, height: u32) -> Place
     requires width { width ≤ MAX_POINTS }
     requires height { height ≤ MAX_POINTS }
     ensures place { result ≡ row_reach width height }
-    ensures near { IsWithin 100000 result }
+    ensures near { IsWithin MAX_BOARD_REACH result }
 {
     Place {
         across: MARGIN + CELL * width,
@@ -71,7 +74,7 @@ fn row_reach(width: u32, height: u32) -> Place
 fn reach_of(board: &Board) -> Place
     requires { IsBoard board.now }
     ensures place { result ≡ reach_of board.now }
-    ensures near { IsWithin 100000 result }
+    ensures near { IsWithin MAX_BOARD_REACH result }
 {
     match board {
         Board::Grid { width, height } => row_reach(*width, *height),
@@ -97,7 +100,7 @@ fn reach_of(board: &Board) -> Place
 pub(crate) fn far_corner(board: &Board, courses: &Courses) -> Place
     requires { IsBoard board.now }
     ensures place { result ≡ far_corner board.now courses.now }
-    ensures near { IsWithin 4400000 result }
+    ensures near { IsWithin MAX_CORNER_REACH result }
 {
     let reach = reach_of(board);
     let far = courses.farthest();
@@ -109,9 +112,9 @@ pub(crate) fn far_corner(board: &Board, courses: &Courses) -> Place
 
 /// How far words reach whose letters are so wide.
 pub(crate) fn text_width(letter: u32, words: &str) -> u32
-    requires { letter ≤ 100 }
+    requires { letter ≤ MAX_LETTER_WIDTH }
     ensures width { result ≡ text_width letter words.now }
-    ensures small { result < 200000 }
+    ensures small { result < MAX_TEXT_WIDTH }
 {
     MARGIN + letter * words.len().min(MAX_COUNTED_LETTERS) as u32
 }
@@ -119,11 +122,11 @@ pub(crate) fn text_width(letter: u32, words: &str) -> u32
 /// How far the widest of these texts reaches.
 pub(crate) fn widest(texts: &[Text]) -> u32
     ensures width { result ≡ widest texts.now }
-    ensures small { result < 200000 }
+    ensures small { result < MAX_TEXT_WIDTH }
 {
     let mut width = 0;
     for text in texts {
-        width = width.max(text_width(8, text.as_str()));
+        width = width.max(text_width(LEGEND_LETTER, text.as_str()));
     }
     width
 }

@@ -4,6 +4,7 @@ ghost use Rattle.pg_draw.specs.Places.{IsPlan, IsWithin, place_of_end};
 
 use crate::bridge::place_on_bridge;
 use crate::circle::place_on_circle;
+use crate::measures::MAX_END_REACH;
 use pg_picture::Place;
 
 /// What the places of a graph's vertices rest on.
@@ -20,7 +21,7 @@ impl Plan {
     pub(crate) fn place_of_end(self, vertex: u16, other: u16) -> Place
         requires { IsPlan self }
         ensures place { result ≡ place_of_end self vertex other }
-        ensures near { IsWithin 4194304 result }
+        ensures near { IsWithin MAX_END_REACH result }
     {
         match self.bridge {
             Some(rows) => place_on_bridge(rows, vertex, other),

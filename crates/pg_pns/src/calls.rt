@@ -10,6 +10,7 @@ ghost use Rattle.pg_pns.specs.Found.{IsAnswer};
 ghost use Rattle.pg_cert.specs.declared.limits.TheConstants.{MAX_CLAIM_NODES};
 
 use crate::expansion::explore;
+use crate::limits::{MAX_EXPANDED_MOVES, MAX_SEARCH_ANSWERS};
 use crate::work::{Found, Work};
 use pg_base::{Memory, Score};
 use pg_game::Game;
@@ -21,9 +22,9 @@ fn most_for(free: u32) -> u32
     ensures { result ≡ most_for free }
 {
     if free == 0 {
-        return 99_999;
+        return MAX_EXPANDED_MOVES;
     }
-    99_999 / free
+    MAX_EXPANDED_MOVES / free
 }
 
 /// How many positions a search may expand, where so many are asked for: so few that a claim stays within the limits of the
@@ -32,7 +33,7 @@ pub fn budget_of(g: &Game, positions: u32) -> u32
     ensures exact { result ≡ budget_for (length (free_points g.now (start g.now))) positions }
     ensures most { result ≤ positions }
     ensures some { 1 ≤ positions → 1 ≤ result }
-    ensures few { result * length (free_points g.now (start g.now)) ≤ 99999 }
+    ensures few { result * length (free_points g.now (start g.now)) ≤ MAX_EXPANDED_MOVES }
 {
     let most = most_for(g.free_points(&g.start()).len());
     if positions < most { positions } else { most }
@@ -58,14 +59,14 @@ pub fn search(
     requires lines { g.now.kind ≢ Switching }
     requires some { 1 ≤ budget }
     requires limit { budget ≤ MAX_CLAIM_NODES }
-    requires few { budget * length (free_points g.now (start g.now)) ≤ 99999 }
+    requires few { budget * length (free_points g.now (start g.now)) ≤ MAX_EXPANDED_MOVES }
     ensures answer { IfOk result (λ found. IsAnswer g.now question budget work.new.positions found) }
     ensures question { work.new.question ≡ Some question }
     ensures rules { IsTable g.now question work.new.positions }
     ensures count { length work.new.positions ≤ budget }
 {
     work.begin(question);
-    let mut cache = PairCache::new(alloc, 1024)?;
+    let mut cache = PairCache::new(alloc, MAX_SEARCH_ANSWERS)?;
     search_with(alloc, g, question, budget, work, &mut cache)
 }
 
@@ -87,7 +88,7 @@ pub fn search_with(
     requires lines { g.now.kind ≢ Switching }
     requires some { 1 ≤ budget }
     requires limit { budget ≤ MAX_CLAIM_NODES }
-    requires few { budget * length (free_points g.now (start g.now)) ≤ 99999 }
+    requires few { budget * length (free_points g.now (start g.now)) ≤ MAX_EXPANDED_MOVES }
     requires fits { Fits cache.old (lines_of g.now) }
     ensures fits { Fits cache.new (lines_of g.now) }
     ensures answer { IfOk result (λ found. IsAnswer g.now question budget work.new.positions found) }

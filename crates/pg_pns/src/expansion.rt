@@ -18,6 +18,7 @@ ghost use Rattle.std.specs.List.{Contains};
 ghost use Rattle.pg_pns.specs.Search.{IsSearch, CanGrow, IsGrowing};
 ghost use Rattle.pg_cert.specs.declared.limits.TheConstants.{MAX_CLAIM_NODES};
 ghost use Rattle.pg_base.specs.declared.limits.TheConstants.{MAX_MEMBERS};
+ghost use Rattle.pg_pns.specs.declared.limits.TheConstants.{MAX_EXPANDED_MOVES};
 
 use crate::descent::{go_down, go_up};
 use crate::guide::Guide;
@@ -247,7 +248,7 @@ fn find_answer(
     requires lines { g.now.kind ≢ Switching }
     requires starts { IsAtStart g.now board.old }
     requires fits { Fits cache.old (lines_of g.now) }
-    requires few { budget * length (free_points g.now (start g.now)) ≤ 99999 }
+    requires few { budget * length (free_points g.now (start g.now)) ≤ MAX_EXPANDED_MOVES }
     requires empty { (keys_of expanded.old.entries) ≡ [] }
     requires search { IsSearch g.now question [] [] table.old }
     ensures fits { Fits cache.new (lines_of g.now) }
@@ -285,7 +286,7 @@ fn explore_on(
     requires lines { g.now.kind ≢ Switching }
     requires starts { IsAtStart g.now board.old }
     requires fits { Fits cache.old (lines_of g.now) }
-    requires few { budget * length (free_points g.now (start g.now)) ≤ 99999 }
+    requires few { budget * length (free_points g.now (start g.now)) ≤ MAX_EXPANDED_MOVES }
     requires empty { (keys_of expanded.old.entries) ≡ [] }
     ensures fits { Fits cache.new (lines_of g.now) }
     ensures answer { IfOk result (λ found. IsAnswer g.now question budget (keys_of expanded.new.entries) found) }
@@ -314,7 +315,7 @@ pub(crate) fn explore(
     requires asked { IsQuestion g.now.kind question }
     requires lines { g.now.kind ≢ Switching }
     requires fits { Fits cache.old (lines_of g.now) }
-    requires few { budget * length (free_points g.now (start g.now)) ≤ 99999 }
+    requires few { budget * length (free_points g.now (start g.now)) ≤ MAX_EXPANDED_MOVES }
     requires empty { (keys_of expanded.old.entries) ≡ [] }
     ensures fits { Fits cache.new (lines_of g.now) }
     ensures answer { IfOk result (λ found. IsAnswer g.now question budget (keys_of expanded.new.entries) found) }

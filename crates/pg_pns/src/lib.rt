@@ -8,6 +8,7 @@ mod expansion;
 mod guide;
 mod known;
 pub mod laws;
+mod limits;
 mod lists;
 mod numbers;
 mod settle;
@@ -15,4 +16,5 @@ mod table;
 mod work;
 
 pub use calls::{budget_of, search, search_with};
+pub use limits::{MAX_EXPANDED_MOVES, MAX_SEARCH_ANSWERS};
 pub use work::{Found, Work};

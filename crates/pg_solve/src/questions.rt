@@ -4,6 +4,7 @@ ghost use Rattle.pg_base.specs.declared.kind.Kind.TheVariants.{MakerMaker, Switc
 ghost use Rattle.pg_base.specs.declared.score.Score.TheVariants.{XWins};
 ghost use Rattle.pg_game.specs.Game.{free_points, start};
 ghost use Rattle.pg_game.specs.declared.bounds.TheConstants.{MAX_POSITIONS};
+ghost use Rattle.pg_pns.specs.declared.limits.TheConstants.{MAX_EXPANDED_MOVES};
 ghost use Rattle.pg_solve.specs.Left.{IsLeft};
 ghost use Rattle.pg_solve.specs.Searched.{IsSearched};
 ghost use Rattle.pg_solve.specs.Solved.{IsFoundBy};
@@ -27,7 +28,7 @@ fn ask_second(
     requires kind { game.now.kind ≡ MakerMaker }
     requires some { 1 ≤ budget }
     requires limit { budget ≤ MAX_POSITIONS }
-    requires few { budget * length (free_points game.now (start game.now)) ≤ 99999 }
+    requires few { budget * length (free_points game.now (start game.now)) ≤ MAX_EXPANDED_MOVES }
     requires denied { IsSearched game.now budget XWins false denial }
     ensures found { IfOk result (IsFoundBy game.now budget work.new) }
     ensures left { IsLeft game.now budget work.new }
@@ -55,7 +56,7 @@ pub(crate) fn ask_first(
     requires lines { game.now.kind ≢ Switching }
     requires some { 1 ≤ budget }
     requires limit { budget ≤ MAX_POSITIONS }
-    requires few { budget * length (free_points game.now (start game.now)) ≤ 99999 }
+    requires few { budget * length (free_points game.now (start game.now)) ≤ MAX_EXPANDED_MOVES }
     ensures found { IfOk result (IsFoundBy game.now budget work.new) }
     ensures left { IsLeft game.now budget work.new }
 {

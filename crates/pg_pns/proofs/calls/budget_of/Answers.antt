@@ -8,22 +8,23 @@ use Rattle.pg_game.specs.declared.game.Game.{Game}
 use Rattle.pg_game.specs.declared.position.Position.{Position}
 use Rattle.pg_game.specs.Game.{free_points, start}
 use Rattle.pg_pns.specs.Budget.{budget_for, most_for}
+use Rattle.pg_pns.specs.declared.limits.TheConstants.{MAX_EXPANDED_MOVES}
 use Rattle.pg_pns.proofs.calls.budget_of.Goals as goal
 
 -- the count of the set is that of the free points
 counted : (g : Game) (p : Position) (free : FinSet nat_cmp) (n : ℕ) → p ≡ start g → len free ≡ length (free_points g p) → n ≡ len free → n ≡ length (free_points g (start g))
 counted g p free n e is count = count ∙ is ∙ ap (λ (q : Position). length (free_points g q)) e
 
-product : (n f : ℕ) → n ≤ most_for f → n * f ≤ 99999
+product : (n f : ℕ) → n ≤ most_for f → n * f ≤ MAX_EXPANDED_MOVES
 product n zero le = omega arith
 product n (suc f) le =
     let most = mul-le-mul_right (suc f) le in
-    let whole = div-mul-le_self 99999 (suc f) in
+    let whole = div-mul-le_self MAX_EXPANDED_MOVES (suc f) in
     omega (arith, most, whole)
 
 some-most : (f : ℕ) → f ≤ 1024 → 1 ≤ most_for f
 some-most zero few = omega arith
-some-most (suc f) few = le-div 1 99999 (suc f) (omega arith) (omega arith)
+some-most (suc f) few = le-div 1 MAX_EXPANDED_MOVES (suc f) (omega arith) (omega arith)
 
 asked : (f n most : ℕ) → most ≡ most_for f → n < most → n ≡ budget_for f n
 asked f n most e lt = sym (cond-true _ _ _ (lt-ltb n (most_for f) (subst (λ (m : ℕ). n < m) e lt)))

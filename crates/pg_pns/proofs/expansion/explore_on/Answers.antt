@@ -3,10 +3,11 @@ use Rattle.std.specs.Option.{IfNone}
 use Rattle.pg_base.proofs.Stands.{some≢none}
 use Rattle.std.proofs.Math.Nat.{mul-le-mul_right}
 use Rattle.std.specs.Map.{keys_of}
+use Rattle.pg_pns.specs.declared.limits.TheConstants.{MAX_EXPANDED_MOVES}
 use Rattle.pg_pns.proofs.Searching.{open-table}
 use Rattle.pg_pns.proofs.expansion.explore_on.Goals as goal
 
-met-few : (met listed budget free : ℕ) → met ≤ 1 + listed * free → listed ≤ budget → budget * free ≤ 99999 → met ≤ 100000
+met-few : (met listed budget free : ℕ) → met ≤ 1 + listed * free → listed ≤ budget → budget * free ≤ MAX_EXPANDED_MOVES → met ≤ 100000
 met-few met listed budget free most le few = let product : listed * free ≤ budget * free = mul-le-mul_right free le in omega (arith, product, most, few)
 
 -- what holds where nothing was found, where nothing was
