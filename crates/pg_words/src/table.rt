@@ -19,6 +19,14 @@ fn named(alloc: Global, name: &str) -> Result<String, Memory>
     Ok(String::from_str(alloc, name)?)
 }
 
+/// A game and what goes with it, under their names.
+fn named_pair(alloc: Global, game: &str, other: &str) -> Result<(String, String), Memory>
+    ensures game { IfOk result (λ names. string_bytes names.0 ≡ game.now) }
+    ensures other { IfOk result (λ names. string_bytes names.1 ≡ other.now) }
+{
+    Ok((named(alloc, game)?, named(alloc, other)?))
+}
+
 /// A number of positions, where one is given.
 fn limit(positions: Option<&str>) -> Option<Option<u32>>
     ensures { result ≡ limit_of (text positions.entry) }
@@ -48,9 +56,10 @@ fn solve(
     let Some(positions) = limit(positions) else {
         return Ok(None);
     };
+    let (game, certificate) = named_pair(alloc, game, certificate)?;
     Ok(Some(Command::Solve {
-        game: named(alloc, game)?,
-        certificate: named(alloc, certificate)?,
+        game,
+        certificate,
         positions,
         images,
     }))
@@ -68,10 +77,8 @@ fn record(
     let ([game, record], None, None) = (others, positions, side) else {
         return Ok(None);
     };
-    Ok(Some(Command::Record {
-        game: named(alloc, game)?,
-        record: named(alloc, record)?,
-    }))
+    let (game, record) = named_pair(alloc, game, record)?;
+    Ok(Some(Command::Record { game, record }))
 }
 
 /// `review`, a game and a record, perhaps with `--positions`.
@@ -89,9 +96,10 @@ fn review(
     let Some(positions) = limit(positions) else {
         return Ok(None);
     };
+    let (game, record) = named_pair(alloc, game, record)?;
     Ok(Some(Command::Review {
-        game: named(alloc, game)?,
-        record: named(alloc, record)?,
+        game,
+        record,
         positions,
     }))
 }
@@ -108,10 +116,8 @@ fn check(
     let ([game, certificate], None, None) = (others, positions, side) else {
         return Ok(None);
     };
-    Ok(Some(Command::Check {
-        game: named(alloc, game)?,
-        certificate: named(alloc, certificate)?,
-    }))
+    let (game, certificate) = named_pair(alloc, game, certificate)?;
+    Ok(Some(Command::Check { game, certificate }))
 }
 
 /// `play`, a game and a certificate, with `--side`.
@@ -129,9 +135,10 @@ fn play(
     let Some(side) = Side::from_word(word.as_bytes()) else {
         return Ok(None);
     };
+    let (game, certificate) = named_pair(alloc, game, certificate)?;
     Ok(Some(Command::Play {
-        game: named(alloc, game)?,
-        certificate: named(alloc, certificate)?,
+        game,
+        certificate,
         side,
     }))
 }
@@ -148,10 +155,8 @@ fn report(
     let ([game, certificate], None, None) = (others, positions, side) else {
         return Ok(None);
     };
-    Ok(Some(Command::Report {
-        game: named(alloc, game)?,
-        certificate: named(alloc, certificate)?,
-    }))
+    let (game, certificate) = named_pair(alloc, game, certificate)?;
+    Ok(Some(Command::Report { game, certificate }))
 }
 
 /// A game that is made and, where wanted, a certificate, under these names.
@@ -164,11 +169,14 @@ fn made(alloc: Global, names: &[&str], which: Source) -> Result<Option<Command>,
             game: named(alloc, game)?,
             certificate: None,
         })),
-        [game, certificate] => Ok(Some(Command::Gen {
-            which,
-            game: named(alloc, game)?,
-            certificate: Some(named(alloc, certificate)?),
-        })),
+        [game, certificate] => {
+            let (game, certificate) = named_pair(alloc, game, certificate)?;
+            Ok(Some(Command::Gen {
+                which,
+                game,
+                certificate: Some(certificate),
+            }))
+        }
         _ => Ok(None),
     }
 }
@@ -283,11 +291,12 @@ fn of_family(
     let Some(task) = task(name, side) else {
         return Ok(None);
     };
+    let (game, certificate) = named_pair(alloc, game, certificate)?;
     Ok(Some(Command::OfFamily {
         family,
         task,
-        game: named(alloc, game)?,
-        certificate: named(alloc, certificate)?,
+        game,
+        certificate,
     }))
 }
 
