@@ -64,33 +64,27 @@ fn family_text(
     })
 }
 
+/// The words behind a command's names: how many positions a search may expand, and whether it may store images.
+fn options_text(alloc: Global, positions: Option<u32>, images: bool) -> Result<String, AllocError> {
+    let images = if images { " images" } else { "" };
+    Ok(match positions {
+        Some(n) => format!(in alloc; " {n}{images}")?,
+        None => format!(in alloc; "{images}")?,
+    })
+}
+
 /// A command, with its names in angle brackets.
 fn command_text(alloc: Global, command: &Command) -> Result<String, AllocError> {
     Ok(match command {
         Command::Solve {
             game,
             certificate,
-            positions: None,
-            images: false,
-        } => format!(in alloc; "solve <{game}> <{certificate}>")?,
-        Command::Solve {
-            game,
-            certificate,
-            positions: Some(n),
-            images: false,
-        } => format!(in alloc; "solve <{game}> <{certificate}> {n}")?,
-        Command::Solve {
-            game,
-            certificate,
-            positions: None,
-            images: true,
-        } => format!(in alloc; "solve <{game}> <{certificate}> images")?,
-        Command::Solve {
-            game,
-            certificate,
-            positions: Some(n),
-            images: true,
-        } => format!(in alloc; "solve <{game}> <{certificate}> {n} images")?,
+            positions,
+            images,
+        } => {
+            let options = options_text(alloc, *positions, *images)?;
+            format!(in alloc; "solve <{game}> <{certificate}>{options}")?
+        }
         Command::Check { game, certificate } => {
             format!(in alloc; "check <{game}> <{certificate}>")?
         }
@@ -117,13 +111,11 @@ fn command_text(alloc: Global, command: &Command) -> Result<String, AllocError> 
         Command::Review {
             game,
             record,
-            positions: None,
-        } => format!(in alloc; "review <{game}> <{record}>")?,
-        Command::Review {
-            game,
-            record,
-            positions: Some(n),
-        } => format!(in alloc; "review <{game}> <{record}> {n}")?,
+            positions,
+        } => {
+            let options = options_text(alloc, *positions, false)?;
+            format!(in alloc; "review <{game}> <{record}>{options}")?
+        }
     })
 }
 
