@@ -17,16 +17,16 @@ fn words(alloc: Global, row: &str) -> Result<Vec<String>, AllocError> {
 
 /// A game that is made from numbers, by its words.
 fn source_text(alloc: Global, source: Source) -> Result<String, AllocError> {
-    Ok(match source {
-        Source::Rows { length } => format!(in alloc; "rows {length}")?,
-        Source::Bridge { rows } => format!(in alloc; "bridge {rows}")?,
+    match source {
+        Source::Rows { length } => format!(in alloc; "rows {length}"),
+        Source::Bridge { rows } => format!(in alloc; "bridge {rows}"),
         Source::Scatter {
             seed,
             points,
             lines,
             size,
-        } => format!(in alloc; "scatter {seed} {points} {lines} {size}")?,
-    })
+        } => format!(in alloc; "scatter {seed} {points} {lines} {size}"),
+    }
 }
 
 /// A game that is made, and the certificate where one is.
@@ -37,10 +37,10 @@ fn made_text(
     certificate: Option<&str>,
 ) -> Result<String, AllocError> {
     let source = source_text(alloc, which)?;
-    Ok(match certificate {
-        None => format!(in alloc; "{source} <{game}>")?,
-        Some(certificate) => format!(in alloc; "{source} <{game}> <{certificate}>")?,
-    })
+    match certificate {
+        None => format!(in alloc; "{source} <{game}>"),
+        Some(certificate) => format!(in alloc; "{source} <{game}> <{certificate}>"),
+    }
 }
 
 /// What is to be done with a game of a family.
@@ -55,27 +55,27 @@ fn family_text(
         Family::Connectivity => "connectivity",
         Family::Vectors => "vectors",
     };
-    Ok(match task {
-        FamilyTask::Solve => format!(in alloc; "{name} solve <{game}> <{certificate}>")?,
-        FamilyTask::Check => format!(in alloc; "{name} check <{game}> <{certificate}>")?,
+    match task {
+        FamilyTask::Solve => format!(in alloc; "{name} solve <{game}> <{certificate}>"),
+        FamilyTask::Check => format!(in alloc; "{name} check <{game}> <{certificate}>"),
         FamilyTask::Play { side } => {
-            format!(in alloc; "{name} play <{game}> <{certificate}> {}", side.word())?
+            format!(in alloc; "{name} play <{game}> <{certificate}> {}", side.word())
         }
-    })
+    }
 }
 
 /// The words behind a command's names: how many positions a search may expand, and whether it may store images.
 fn options_text(alloc: Global, positions: Option<u32>, images: bool) -> Result<String, AllocError> {
     let images = if images { " images" } else { "" };
-    Ok(match positions {
-        Some(n) => format!(in alloc; " {n}{images}")?,
-        None => format!(in alloc; "{images}")?,
-    })
+    match positions {
+        Some(n) => format!(in alloc; " {n}{images}"),
+        None => format!(in alloc; "{images}"),
+    }
 }
 
 /// A command, with its names in angle brackets.
 fn command_text(alloc: Global, command: &Command) -> Result<String, AllocError> {
-    Ok(match command {
+    match command {
         Command::Solve {
             game,
             certificate,
@@ -83,40 +83,40 @@ fn command_text(alloc: Global, command: &Command) -> Result<String, AllocError> 
             images,
         } => {
             let options = options_text(alloc, *positions, *images)?;
-            format!(in alloc; "solve <{game}> <{certificate}>{options}")?
+            format!(in alloc; "solve <{game}> <{certificate}>{options}")
         }
         Command::Check { game, certificate } => {
-            format!(in alloc; "check <{game}> <{certificate}>")?
+            format!(in alloc; "check <{game}> <{certificate}>")
         }
         Command::Play {
             game,
             certificate,
             side,
-        } => format!(in alloc; "play <{game}> <{certificate}> {}", side.word())?,
+        } => format!(in alloc; "play <{game}> <{certificate}> {}", side.word()),
         Command::Gen {
             which,
             game,
             certificate,
-        } => made_text(alloc, *which, game, certificate.as_deref())?,
+        } => made_text(alloc, *which, game, certificate.as_deref()),
         Command::Report { game, certificate } => {
-            format!(in alloc; "report <{game}> <{certificate}>")?
+            format!(in alloc; "report <{game}> <{certificate}>")
         }
         Command::OfFamily {
             family,
             task,
             game,
             certificate,
-        } => family_text(alloc, *family, *task, game, certificate)?,
-        Command::Record { game, record } => format!(in alloc; "record <{game}> <{record}>")?,
+        } => family_text(alloc, *family, *task, game, certificate),
+        Command::Record { game, record } => format!(in alloc; "record <{game}> <{record}>"),
         Command::Review {
             game,
             record,
             positions,
         } => {
             let options = options_text(alloc, *positions, false)?;
-            format!(in alloc; "review <{game}> <{record}>{options}")?
+            format!(in alloc; "review <{game}> <{record}>{options}")
         }
-    })
+    }
 }
 
 /// What the words of a row mean; `none` where they have no meaning.
