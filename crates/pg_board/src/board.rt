@@ -28,7 +28,7 @@ use std::alloc::Global;
 use std::marker::Model;
 
 /// A board of a game on lines, on which moves are played and taken back.
-#[derive(Drop)]
+#[derive(Debug, Drop)]
 pub struct Board<'a> {
     game: &'a Game,
     layout: Layout,

@@ -13,7 +13,7 @@ use std::alloc::Global;
 use std::marker::Model;
 
 /// The lines, and for each point those that hold it. Nothing of it changes.
-#[derive(Drop)]
+#[derive(Debug, Drop)]
 pub(crate) struct Layout {
     points: u16,
     /// The length of the longest line.

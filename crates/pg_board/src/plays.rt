@@ -13,7 +13,7 @@ use pg_links::Ring;
 use pg_trail::Trail;
 
 /// A play: its point, and how many entries the trail had before it.
-#[derive(Clone, Copy)]
+#[derive(Clone, Copy, Debug)]
 pub(crate) struct Played {
     pub(crate) point: u16,
     pub(crate) level: usize,

@@ -7,7 +7,7 @@ use std::alloc::Global;
 use std::marker::Model;
 
 /// Rows of numbers.
-#[derive(Drop)]
+#[derive(Debug, Drop)]
 pub(crate) struct Rows {
     /// Where each row begins, and where the last one ends.
     starts: Vec<usize>,
@@ -78,7 +78,7 @@ impl Rows {
 }
 
 /// A row that grows.
-#[derive(Drop)]
+#[derive(Debug, Drop)]
 pub(crate) struct Row {
     items: Vec<u32>,
 }

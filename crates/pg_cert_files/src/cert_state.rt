@@ -8,7 +8,7 @@ use crate::reader::LineReader;
 /// A certificate that comes in pieces. Feed it bytes with `feed` until all have been used, and then call `end`.
 ///
 /// It keeps the line in hand and no part that it gave.
-#[derive(Drop)]
+#[derive(Debug, Drop)]
 pub struct CertReader {
     /// What the lines have said.
     pub(crate) lines: LineReader,

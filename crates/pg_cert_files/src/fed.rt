@@ -3,7 +3,7 @@
 use pg_cert::Part;
 
 /// How many bytes were used, and the part that is whole with them.
-#[derive(Drop)]
+#[derive(Debug, Drop)]
 pub struct Fed {
     /// How many bytes of the piece were used.
     pub used: usize,

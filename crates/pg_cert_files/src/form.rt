@@ -11,7 +11,7 @@ use pg_cert::Version;
 use pg_text::{Words, first_word, four_parts, two_parts};
 
 /// The nine bodies of a node line.
-#[derive(Clone, Copy, PartialEq, Eq)]
+#[derive(Clone, Copy, Debug, PartialEq, Eq)]
 pub enum Form {
     /// `over`.
     Over,

@@ -3,7 +3,7 @@
 use pg_base::{Goal, Side};
 
 /// What a claim line says.
-#[derive(Clone, Copy, PartialEq, Eq)]
+#[derive(Clone, Copy, Debug, PartialEq, Eq)]
 pub struct Head {
     /// The side to move first.
     pub turn: Side,

@@ -8,7 +8,7 @@ ghost use Rattle.pg_cert_files.specs.Numerals.{BeginsWith, IsLeading, IsFirstNum
 use pg_text::MAX_DIGITS;
 
 /// Digits at the front of a text.
-#[derive(Clone, Copy)]
+#[derive(Clone, Copy, Debug)]
 struct Digits {
     /// The number that they write.
     value: u32,

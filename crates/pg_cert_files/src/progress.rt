@@ -12,7 +12,7 @@ use pg_text::{LineError, number};
 use std::alloc::Global;
 
 /// The line that is due.
-#[derive(Clone, Copy, PartialEq, Eq)]
+#[derive(Clone, Copy, Debug, PartialEq, Eq)]
 pub enum Due {
     /// The first line.
     Header,
@@ -25,7 +25,7 @@ pub enum Due {
 }
 
 /// Which line is due, the version, and how many claims and nodes have been told.
-#[derive(Clone, Copy)]
+#[derive(Clone, Copy, Debug)]
 pub struct Progress {
     /// The line that is due.
     pub due: Due,

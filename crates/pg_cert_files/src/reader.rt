@@ -16,7 +16,7 @@ use pg_text::{FileError, LineError, cut_at};
 use std::alloc::Global;
 
 /// Lines that come in pieces: what the whole ones have said, and the line in hand.
-#[derive(Drop)]
+#[derive(Debug, Drop)]
 pub(crate) struct LineReader {
     /// The bytes of the line in hand.
     pub(crate) pending: Vec<u8>,

@@ -13,7 +13,7 @@ use pg_text::FileError;
 use std::alloc::{AllocError, Global};
 
 /// The claims of parts, in order: those that are whole, and one whose nodes are gathered.
-#[derive(Drop)]
+#[derive(Debug, Drop)]
 pub(crate) struct Gatherer {
     /// The claims that are whole.
     pub(crate) claims: Vec<Claim>,

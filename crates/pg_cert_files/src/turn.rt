@@ -6,7 +6,7 @@ ghost use Rattle.pg_cert_files.specs.Form.{turn_of};
 use pg_base::Side;
 
 /// The side to move, and how many points it still claims.
-#[derive(Clone, Copy, PartialEq, Eq)]
+#[derive(Clone, Copy, Debug, PartialEq, Eq)]
 pub struct Turn {
     /// The side to move.
     pub side: Side,

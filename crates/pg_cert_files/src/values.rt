@@ -20,7 +20,7 @@ use pg_text::{LineError, Words, ascend, first_word, number, two_parts};
 use std::alloc::Global;
 
 /// Two sets of edges.
-#[derive(Drop)]
+#[derive(Debug, Drop)]
 pub(crate) struct Edges {
     /// Whether the first set holds the further edge.
     pub(crate) with_e: bool,

@@ -17,7 +17,7 @@ use pg_game::Game;
 use std::alloc::Global;
 
 /// A game and a certificate that is valid for it. It can be had from `check` alone.
-#[derive(Clone, Copy)]
+#[derive(Clone, Copy, Debug)]
 pub struct Checked<'a> {
     /// The game.
     pub game: &'a Game,
@@ -29,7 +29,7 @@ pub struct Checked<'a> {
 }
 
 /// Why a certificate isn't accepted.
-#[derive(Clone, Copy, PartialEq, Eq)]
+#[derive(Clone, Copy, Debug, PartialEq, Eq)]
 pub enum CheckFault {
     /// A node is faulty.
     Reject {

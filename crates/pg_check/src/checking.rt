@@ -16,7 +16,7 @@ use pg_game::Game;
 use std::alloc::Global;
 
 /// Where a certificate isn't valid, and why.
-#[derive(Clone, Copy, PartialEq, Eq)]
+#[derive(Clone, Copy, Debug, PartialEq, Eq)]
 pub struct Rejected {
     /// The first faulty claim, counted from 0.
     pub claim: u32,
@@ -28,7 +28,7 @@ pub struct Rejected {
 
 /// A certificate that is checked as its parts come. Of earlier nodes it keeps marks and turns alone, and only those of
 /// the claim in hand.
-#[derive(Drop)]
+#[derive(Debug, Drop)]
 pub struct Checking<'a> {
     /// The game.
     pub(crate) game: &'a Game,

@@ -9,7 +9,7 @@ use pg_game::{Game, Position};
 use std::alloc::Global;
 
 /// Who is to move, and how many points that side still claims in its turn.
-#[derive(Clone, Copy)]
+#[derive(Clone, Copy, Debug)]
 pub(crate) struct Turn {
     /// The side to move.
     pub(crate) side: Side,
@@ -18,7 +18,7 @@ pub(crate) struct Turn {
 }
 
 /// Positions by number, in the order in which they came. A set of points takes as many words as the game's points need.
-#[derive(Drop)]
+#[derive(Debug, Drop)]
 pub(crate) struct Marks {
     /// How many words a set of points takes.
     pub(crate) width: usize,

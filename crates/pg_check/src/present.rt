@@ -4,7 +4,7 @@ use crate::marks::Marks;
 use pg_base::{Goal, Side};
 
 /// What a claim says, how many nodes it has, and the positions of those that have been checked.
-#[derive(Drop)]
+#[derive(Debug, Drop)]
 pub(crate) struct Present {
     /// The side to move first.
     pub(crate) turn: Side,

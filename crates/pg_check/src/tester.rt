@@ -8,7 +8,7 @@ use pg_graph::Joiner;
 use std::alloc::Global;
 
 /// A judge, for a game on a graph a joiner, and the game's points.
-#[derive(Drop)]
+#[derive(Debug, Drop)]
 pub(crate) struct Tester {
     /// Says whether the game is over.
     pub(crate) judge: Judge,

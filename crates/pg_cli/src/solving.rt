@@ -33,7 +33,7 @@ use std::alloc::Global;
 pub const DEFAULT_POSITIONS: u32 = 20_000;
 
 /// How a game is to be solved.
-#[derive(Clone, Copy)]
+#[derive(Clone, Copy, Debug)]
 pub struct Options {
     /// How many positions may be expanded.
     pub positions: u32,

@@ -10,7 +10,7 @@ use crate::vertices::Plan;
 use pg_picture::Place;
 
 /// How an edge runs.
-#[derive(Clone, Copy, PartialEq, Eq)]
+#[derive(Clone, Copy, Debug, PartialEq, Eq)]
 pub(crate) enum Course {
     /// Straight from one place to another.
     Straight {

@@ -13,7 +13,7 @@ use std::alloc::Global;
 use std::marker::Model;
 
 /// How each edge of a graph runs.
-#[derive(Drop)]
+#[derive(Debug, Drop)]
 pub(crate) struct Courses {
     members: Vec<Course>,
 }

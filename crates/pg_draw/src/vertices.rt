@@ -8,7 +8,7 @@ use crate::measures::MAX_END_REACH;
 use pg_picture::Place;
 
 /// What the places of a graph's vertices rest on.
-#[derive(Clone, Copy, PartialEq, Eq)]
+#[derive(Clone, Copy, Debug, PartialEq, Eq)]
 pub(crate) struct Plan {
     /// How many vertices there are.
     pub(crate) vertices: u32,

@@ -3,7 +3,7 @@ use pg_game::Game;
 use pg_span::SpanGame;
 
 /// A game whose board can be drawn.
-#[derive(Drop)]
+#[derive(Debug, Drop)]
 pub enum Board {
     /// A game on lines of points, or a switching game.
     Positional(Game),

@@ -10,7 +10,7 @@ use pg_text::{number, two_parts};
 pub const DOT: u8 = b'.';
 
 /// A node of a certificate.
-#[derive(Clone, Copy, PartialEq, Eq)]
+#[derive(Clone, Copy, Debug, PartialEq, Eq)]
 pub struct NodeName {
     /// The number of its claim, from 0.
     pub claim: u32,

@@ -21,7 +21,7 @@ use std::alloc::Global;
 pub const NO_NODE: &str = "words: no such node\n";
 
 /// What there is to say, and the status that goes with it.
-#[derive(Drop)]
+#[derive(Debug, Drop)]
 pub struct Telling {
     /// The text.
     pub words: String,

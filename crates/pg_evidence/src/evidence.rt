@@ -3,7 +3,7 @@ use pg_cert::Cert;
 use pg_image::ImageCert;
 
 /// A certificate as its file says it.
-#[derive(Drop)]
+#[derive(Debug, Drop)]
 pub enum Evidence {
     /// All its nodes are plain.
     Plain(Cert),

@@ -15,7 +15,7 @@ use pg_unfold::{ImageFault, Sources, Unfolded, unfold};
 use std::alloc::Global;
 
 /// The certificate of plain nodes for which one as its file says it stands.
-#[derive(Drop)]
+#[derive(Debug, Drop)]
 pub struct Standing {
     /// The certificate.
     pub cert: Cert,

@@ -2,7 +2,7 @@
 use pg_judge::ClaimHead;
 
 /// What judging a certificate for a game finds.
-#[derive(Drop)]
+#[derive(Debug, Drop)]
 pub enum Verdict {
     /// The certificate for which it stands is valid, and its claims say this. Nodes are counted as the file has them.
     Valid(Vec<ClaimHead>),

@@ -5,7 +5,7 @@ use pg_span::SpanPlayer;
 use pg_talk::Contestant;
 
 /// A player of a connectivity game.
-#[derive(Drop)]
+#[derive(Debug, Drop)]
 pub(crate) struct SpanContestant<'a> {
     pub(crate) player: SpanPlayer<'a>,
 }

@@ -12,7 +12,7 @@ use pg_text::{FileError, LineError};
 use std::alloc::Global;
 
 /// The line that is due.
-#[derive(Clone, Copy, PartialEq, Eq)]
+#[derive(Clone, Copy, Debug, PartialEq, Eq)]
 pub(crate) enum Due {
     /// The first line.
     Header,
@@ -23,7 +23,7 @@ pub(crate) enum Due {
 }
 
 /// What the lines so far have said.
-#[derive(Drop)]
+#[derive(Debug, Drop)]
 pub(crate) struct CertDraft {
     /// The line that is due.
     pub(crate) due: Due,

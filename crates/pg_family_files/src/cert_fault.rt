@@ -4,7 +4,7 @@ ghost use Rattle.pg_family_files.specs.SpanCertViews.{number_of};
 use pg_text::Numbered;
 
 /// What is wrong with a line, in the order of the faults' numbers.
-#[derive(Clone, Copy, PartialEq, Eq)]
+#[derive(Clone, Copy, Debug, PartialEq, Eq)]
 pub(crate) enum Fault {
     /// C1: the file is too large.
     Size,

@@ -15,7 +15,7 @@ use pg_text::{LineError, Words, ascend, number};
 use std::alloc::Global;
 
 /// What a claim line says.
-#[derive(Clone, Copy, PartialEq, Eq)]
+#[derive(Clone, Copy, Debug, PartialEq, Eq)]
 pub(crate) struct Head {
     /// The side to move first.
     pub(crate) turn: Side,

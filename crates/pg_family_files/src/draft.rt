@@ -7,7 +7,7 @@ ghost use Rattle.pg_gf2.specs.declared.game.TheConstants.{MAX_ROWS, MAX_VECTORS}
 use pg_base::{PointSet, Side};
 
 /// What the lines of a file have said so far. Of the parts that one family alone has, the other says nothing.
-#[derive(Drop)]
+#[derive(Debug, Drop)]
 pub struct Draft {
     /// Whether the header has stood.
     pub begun: bool,

@@ -3,7 +3,7 @@ ghost use Rattle.std.specs.Prelude.{◌≡◌};
 ghost use Rattle.pg_family_files.specs.Family.{header_word, key_name, key_of, rank_of, has_key, needed_rank};
 
 /// A family of games.
-#[derive(Clone, Copy, PartialEq, Eq)]
+#[derive(Clone, Copy, Debug, PartialEq, Eq)]
 pub enum Family {
     /// Connectivity games.
     Connectivity,
@@ -35,7 +35,7 @@ impl Family {
 }
 
 /// What a line speaks of.
-#[derive(Clone, Copy, PartialEq, Eq)]
+#[derive(Clone, Copy, Debug, PartialEq, Eq)]
 pub enum Key {
     /// The number of vertices.
     Vertices,

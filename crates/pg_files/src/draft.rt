@@ -7,7 +7,7 @@ ghost use Rattle.pg_game.specs.declared.bounds.TheConstants.{MAX_POINTS, MAX_SUM
 use pg_base::{Grid, Kind, Line, PointSet, Side};
 
 /// What the lines of a game file have said so far.
-#[derive(Drop)]
+#[derive(Debug, Drop)]
 pub struct Draft {
     /// Whether the header has stood.
     pub begun: bool,

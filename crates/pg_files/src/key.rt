@@ -5,7 +5,7 @@ ghost use Rattle.pg_files.specs.Key.{key_name, key_of, rank_of, belongs, needed_
 use pg_base::Kind;
 
 /// What a line speaks of.
-#[derive(Clone, Copy, PartialEq, Eq)]
+#[derive(Clone, Copy, Debug, PartialEq, Eq)]
 pub enum Key {
     /// The kind of the game.
     Kind,

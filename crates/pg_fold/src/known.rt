@@ -20,7 +20,7 @@ const MIXER: u64 = 0x9e37_79b9_7f4a_7c15;
 const MARKS: usize = 32;
 
 /// The plain nodes so far.
-#[derive(Drop)]
+#[derive(Debug, Drop)]
 pub(crate) struct Known {
     /// Their numbers, by their positions.
     pub(crate) places: HashMap<Position, u32>,

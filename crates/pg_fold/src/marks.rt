@@ -7,7 +7,7 @@ use pg_game::Position;
 use std::alloc::Global;
 
 /// The points of each side, ascending.
-#[derive(Drop)]
+#[derive(Debug, Drop)]
 pub(crate) struct Marks {
     pub(crate) x: Vec<u16>,
     pub(crate) y: Vec<u16>,

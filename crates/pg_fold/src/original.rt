@@ -19,7 +19,7 @@ use pg_maps::GridMap;
 use std::alloc::Global;
 
 /// The node of which another is the image, and the map that takes its position to the other's.
-#[derive(Clone, Copy, PartialEq, Eq)]
+#[derive(Clone, Copy, Debug, PartialEq, Eq)]
 pub(crate) struct Original {
     pub(crate) node: u32,
     pub(crate) map: GridMap,

@@ -14,7 +14,7 @@ use pg_maps::{GridMap, fitting_maps};
 use std::alloc::Global;
 
 /// A map of a board, and for each cell the one that the map takes there.
-#[derive(Drop)]
+#[derive(Debug, Drop)]
 pub(crate) struct MapTable {
     /// The map.
     pub(crate) map: GridMap,

@@ -1,7 +1,7 @@
 //! Why a game can't be made.
 
 /// Why a game can't be made from numbers.
-#[derive(Clone, Copy, PartialEq, Eq)]
+#[derive(Clone, Copy, Debug, PartialEq, Eq)]
 pub enum GenFault {
     /// A number is outside its range.
     Range,

@@ -6,7 +6,7 @@ use pg_base::{Goal, Side};
 use std::marker::Model;
 
 /// That a side reaches a goal from a game's marks, and the nodes that show it, of which some may be images of others.
-#[derive(Drop)]
+#[derive(Debug, Drop)]
 pub struct ImageClaim {
     /// The side to move first.
     pub turn: Side,
@@ -19,7 +19,7 @@ pub struct ImageClaim {
 }
 
 /// A list of claims with images.
-#[derive(Drop)]
+#[derive(Debug, Drop)]
 pub struct ImageClaims {
     members: Vec<ImageClaim>,
 }
@@ -55,7 +55,7 @@ impl ImageClaims {
 }
 
 /// Claims of one game, in which nodes may be images of others: 1 to 8, with at most 200,000 nodes together.
-#[derive(Drop)]
+#[derive(Debug, Drop)]
 pub struct ImageCert {
     /// The claims.
     pub claims: ImageClaims,

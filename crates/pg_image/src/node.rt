@@ -9,7 +9,7 @@ use pg_maps::GridMap;
 use std::marker::Model;
 
 /// A node that shows by itself why its claimer reaches the goal, or the image of another.
-#[derive(Drop)]
+#[derive(Debug, Drop)]
 pub enum ImageNode {
     /// A node with a body of its own.
     Plain(Node),
@@ -54,7 +54,7 @@ impl ImageNode {
 }
 
 /// The nodes of a claim; the last is its root.
-#[derive(Drop)]
+#[derive(Debug, Drop)]
 pub struct ImageNodes {
     members: Vec<ImageNode>,
 }

@@ -14,7 +14,7 @@ use pg_text::{FileError, LineError};
 use std::alloc::{AllocError, Global};
 
 /// What the lines so far have said.
-#[derive(Drop)]
+#[derive(Debug, Drop)]
 pub(crate) struct ImageDraft {
     /// Which line is due, and how many claims and nodes have been told.
     pub(crate) progress: Progress,

@@ -3,7 +3,7 @@
 use pg_base::{Goal, Side};
 
 /// What a claim says before its nodes, and how many they are.
-#[derive(Clone, Copy, PartialEq, Eq)]
+#[derive(Clone, Copy, Debug, PartialEq, Eq)]
 pub struct ClaimHead {
     /// The side to move first.
     pub turn: Side,

@@ -5,7 +5,7 @@ use pg_check::Rejected;
 use std::alloc::AllocError;
 
 /// Why a text isn't accepted as a certificate for a game.
-#[derive(Clone, Copy, PartialEq, Eq)]
+#[derive(Clone, Copy, Debug, PartialEq, Eq)]
 pub enum JudgeFault {
     /// It has this fault of form.
     Form {

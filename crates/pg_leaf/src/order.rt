@@ -10,7 +10,7 @@ use pg_game::MAX_POINTS;
 use std::alloc::Global;
 
 /// The moves in their order so far, and those that are still to come, by their points.
-#[derive(Drop)]
+#[derive(Debug, Drop)]
 struct Order {
     /// Places of moves in the list of moves.
     members: Vec<u16>,

@@ -10,7 +10,7 @@ use std::marker::Model;
 /// The numbers below n in ascending order, from which members are taken out, and put back in reverse order.
 ///
 /// The number n stands for both ends: what follows it is the first member, and what precedes it is the last.
-#[derive(Drop)]
+#[derive(Debug, Drop)]
 pub struct Ring {
     /// The n with which the ring was made.
     end: u32,

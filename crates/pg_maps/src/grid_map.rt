@@ -10,7 +10,7 @@ pub const MAP_COUNT: u8 = 8;
 
 /// A symmetry of the square or of the rectangle, as a map of the cells of a board: rows and columns are exchanged first, where
 /// `exchange` says so, and then the rows, the columns or both may be put in reverse order.
-#[derive(Clone, Copy, PartialEq, Eq)]
+#[derive(Clone, Copy, Debug, PartialEq, Eq)]
 pub struct GridMap {
     /// Whether rows and columns are exchanged first.
     pub exchange: bool,

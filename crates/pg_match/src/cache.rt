@@ -16,7 +16,7 @@ use std::num::NonZeroUsize;
 pub const MAX_CACHED_ANSWERS: u32 = 65_536;
 
 /// What the matching is asked: the wanted lines and the free points.
-#[derive(Drop)]
+#[derive(Debug, Drop)]
 struct Question {
     wanted: Vec<u32>,
     free: PointSet,
@@ -74,7 +74,7 @@ fn copy_of(alloc: Global, answer: &Matching) -> Result<Matching, Memory>
 }
 
 /// Recent answers of the matching for one list of lines: those to the questions that were asked last.
-#[derive(Drop)]
+#[derive(Debug, Drop)]
 pub struct PairCache {
     kept: LruCache<Question, Matching>,
     hits: u64,

@@ -11,14 +11,14 @@ use pg_base::{Line, MAX_MEMBERS, Memory, PointSet};
 use std::alloc::Global;
 
 /// The seats that were reached from the next one, in order, and the places of their lines among the wanted ones.
-#[derive(Drop)]
+#[derive(Debug, Drop)]
 pub(crate) struct Chain {
     pub(crate) steps: Vec<Step>,
     pub(crate) entered: PointSet,
 }
 
 /// The end of a chain: a point that no seat holds, and the step whose line may have it.
-#[derive(Clone, Copy)]
+#[derive(Clone, Copy, Debug)]
 pub(crate) struct End {
     pub(crate) step: usize,
     pub(crate) point: u16,

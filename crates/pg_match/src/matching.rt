@@ -11,7 +11,7 @@ use pg_base::{Line, Lines, MAX_MEMBERS, Memory, Pair, PointSet};
 use std::alloc::Global;
 
 /// Private pairs, or lines that have none. Exactly one of the two can be, by Hall's theorem (1935) with two points a line.
-#[derive(Drop)]
+#[derive(Debug, Drop)]
 pub enum Matching {
     /// A pair for each wanted line in order, the lower point first. All points are different.
     Pairs(Vec<Pair>),

@@ -1,7 +1,7 @@
 //! What the shapes of a picture are there for.
 
 /// What a shape is there for, which says how it is painted: each is one class of the picture's style sheet.
-#[derive(Clone, Copy, PartialEq, Eq)]
+#[derive(Clone, Copy, Debug, PartialEq, Eq)]
 pub enum Paint {
     /// A free point.
     Free,

@@ -3,7 +3,7 @@ use crate::shape::Shapes;
 use crate::text::Text;
 
 /// A picture.
-#[derive(Drop)]
+#[derive(Debug, Drop)]
 pub struct Picture {
     /// How wide it is, in units.
     pub width: u32,

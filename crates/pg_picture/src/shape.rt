@@ -6,7 +6,7 @@ use crate::text::Text;
 use std::marker::Model;
 
 /// A place in a picture, in units.
-#[derive(Clone, Copy, PartialEq, Eq)]
+#[derive(Clone, Copy, Debug, PartialEq, Eq)]
 pub struct Place {
     /// How far from the left.
     pub across: u32,
@@ -15,7 +15,7 @@ pub struct Place {
 }
 
 /// A shape of a picture.
-#[derive(Drop)]
+#[derive(Debug, Drop)]
 pub enum Shape {
     /// A square.
     Square {
@@ -67,7 +67,7 @@ pub enum Shape {
 }
 
 /// A list of shapes.
-#[derive(Drop)]
+#[derive(Debug, Drop)]
 pub struct Shapes {
     members: Vec<Shape>,
 }

@@ -4,7 +4,7 @@ ghost use Rattle.std.specs.Prelude.{◌≡◌, string_bytes};
 use std::marker::Model;
 
 /// A text.
-#[derive(Drop)]
+#[derive(Debug, Drop)]
 pub struct Text {
     words: String,
 }

@@ -9,7 +9,7 @@ use pg_base::{Score, Side};
 use pg_game::{Game, Judge};
 
 /// Who wins a switching game (Lehman, 1964).
-#[derive(Clone, Copy, PartialEq, Eq)]
+#[derive(Clone, Copy, Debug, PartialEq, Eq)]
 pub enum Class {
     /// Short wins, whoever begins.
     Short,

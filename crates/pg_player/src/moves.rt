@@ -20,7 +20,7 @@ use pg_graph::Joiner;
 use pg_switch::{CutPlan, ShortPlan};
 
 /// An own move, and where the player stands after it.
-#[derive(Clone, Copy)]
+#[derive(Clone, Copy, Debug)]
 pub(crate) struct Made {
     /// The point.
     pub(crate) point: u16,

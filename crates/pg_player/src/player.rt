@@ -25,7 +25,7 @@ use std::marker::Model;
 /// true position is always one after a legal play from the game's marks, and the side forces the claim's goal from it. No
 /// call after `open` takes memory, and each takes a time linear, or near-linear, in the size of the game, but for nodes that
 /// rest on weaker positions one after the other, which it passes one by one.
-#[derive(Drop)]
+#[derive(Debug, Drop)]
 pub struct Player<'a> {
     game: &'a Game,
     claim: &'a Claim,
@@ -62,7 +62,7 @@ impl<'a> Model for Player<'a> {
 }
 
 /// Why no player can be opened.
-#[derive(Clone, Copy, PartialEq, Eq)]
+#[derive(Clone, Copy, Debug, PartialEq, Eq)]
 pub enum OpenFault {
     /// No claim has that side and the game's turn.
     NoClaim,

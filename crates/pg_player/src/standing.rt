@@ -13,7 +13,7 @@ use pg_game::{Game, Position};
 use pg_switch::{CutPlan, ShortPlan};
 
 /// What is left of the body of the node where the player stands.
-#[derive(Clone, Copy)]
+#[derive(Clone, Copy, Debug)]
 pub(crate) enum Rest {
     /// The body as the node of that number has it.
     Whole(usize),
@@ -30,7 +30,7 @@ pub(crate) enum Rest {
 }
 
 /// Where the player stands.
-#[derive(Clone, Copy)]
+#[derive(Clone, Copy, Debug)]
 pub(crate) struct Stand {
     /// What is left of the body.
     pub(crate) rest: Rest,

@@ -13,7 +13,7 @@ use std::alloc::Global;
 
 /// The numbers of the positions met, and the orders in which the moves of those that are expanded are gone through, all by
 /// place.
-#[derive(Drop)]
+#[derive(Debug, Drop)]
 pub(crate) struct Guide {
     numbers: Vec<Numbers>,
     /// An order has the places of the moves in the list of moves.

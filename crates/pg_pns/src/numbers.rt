@@ -3,7 +3,7 @@ use crate::known::Answered;
 use pg_base::Side;
 
 /// How many positions at least have to be settled before the answer is yes, and before it is no.
-#[derive(Clone, Copy, PartialEq, Eq)]
+#[derive(Clone, Copy, Debug, PartialEq, Eq)]
 pub(crate) struct Numbers {
     /// Before it is yes.
     pub(crate) proof: u32,

@@ -29,7 +29,7 @@ use std::alloc::Global;
 use std::collections::HashMap;
 
 /// The positions met, each at its place: their moves once they are expanded, the places before them, and their answers.
-#[derive(Drop)]
+#[derive(Debug, Drop)]
 pub(crate) struct Table {
     pub(crate) positions: Vec<Position>,
     pub(crate) places: HashMap<Position, u32>,

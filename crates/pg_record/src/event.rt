@@ -4,7 +4,7 @@
 pub const MAX_EVENTS: u32 = 10_000;
 
 /// What happens in a session.
-#[derive(Clone, Copy, PartialEq, Eq)]
+#[derive(Clone, Copy, Debug, PartialEq, Eq)]
 pub enum Event {
     /// The side to move takes the point.
     Play(u16),

@@ -17,7 +17,7 @@ use std::marker::Model;
 ///
 /// The standing moves are those that aren't taken back. A game on lines is played on one board, on which moves are made and
 /// undone; of a switching game the standing moves are played again from its position.
-#[derive(Drop)]
+#[derive(Debug, Drop)]
 pub struct Session<'a> {
     game: &'a Game,
     events: Vec<Event>,

@@ -13,7 +13,7 @@ use pg_game::{Game, Illegal, Judge, Position};
 use std::alloc::Global;
 
 /// What the standing moves are played on.
-#[derive(Drop)]
+#[derive(Debug, Drop)]
 pub(crate) enum Table<'a> {
     /// The board of a game on lines, on which they are played.
     Lines(Board<'a>),

@@ -7,7 +7,7 @@ use pg_text::Numbered;
 pub const MAX_RECORD_BYTES: usize = 1_048_576;
 
 /// What is wrong with a line, in the order of the faults' numbers.
-#[derive(Clone, Copy, PartialEq, Eq)]
+#[derive(Clone, Copy, Debug, PartialEq, Eq)]
 pub enum Fault {
     /// F1: the file is too large.
     Size,

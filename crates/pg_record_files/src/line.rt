@@ -7,7 +7,7 @@ use crate::fault::Fault;
 use pg_text::{LineError, Words, number};
 
 /// What a line says.
-#[derive(Clone, Copy, PartialEq, Eq)]
+#[derive(Clone, Copy, Debug, PartialEq, Eq)]
 pub(crate) enum Said {
     /// The point of this number is played, if the game has it.
     Move(u32),

@@ -16,7 +16,7 @@ use pg_talk::{MAX_REFUSALS, MAX_REPLY, say};
 use pg_texts::{Message, ReplyFault};
 
 /// What came of a line.
-#[derive(Clone, Copy, PartialEq, Eq)]
+#[derive(Clone, Copy, Debug, PartialEq, Eq)]
 pub enum Turn {
     /// A move was played or taken back.
     Changed,
@@ -27,7 +27,7 @@ pub enum Turn {
 }
 
 /// How a session ended.
-#[derive(Clone, Copy, PartialEq, Eq)]
+#[derive(Clone, Copy, Debug, PartialEq, Eq)]
 pub enum Close {
     /// By a line, by the end of the input, or for want of room for a further event.
     Ended,

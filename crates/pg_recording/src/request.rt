@@ -6,7 +6,7 @@ use pg_talk::trimmed;
 use pg_text::number;
 
 /// What a line asks of a session.
-#[derive(Clone, Copy, PartialEq, Eq)]
+#[derive(Clone, Copy, Debug, PartialEq, Eq)]
 pub enum Request {
     /// The text is `end`: the session is to end.
     End,

@@ -1,7 +1,7 @@
 //! The codes of faults.
 
 /// The code of a fault, as a report says it: a letter that tells whose fault it is, and the number that its table gives it.
-#[derive(Clone, Copy, PartialEq, Eq)]
+#[derive(Clone, Copy, Debug, PartialEq, Eq)]
 pub enum Code {
     /// A fault that the checker finds at a node, such as `J6`.
     Node(u8),

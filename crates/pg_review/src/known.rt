@@ -10,7 +10,7 @@ use pg_game::Position;
 use pg_solve::{Class, Solution};
 
 /// A value of a game, with the claims that show it: wherever each of them has a node, the value is the same.
-#[derive(Drop)]
+#[derive(Debug, Drop)]
 pub struct Known {
     /// The value.
     pub score: Score,

@@ -3,7 +3,7 @@ use pg_base::Points;
 use pg_graph::Ends;
 
 /// What a game's points are drawn as.
-#[derive(Drop)]
+#[derive(Debug, Drop)]
 pub enum Board {
     /// The cells of a board of squares: the point in row r and column c, both from 0, is `r * width + c`.
     Grid {

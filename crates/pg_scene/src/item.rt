@@ -6,7 +6,7 @@ use pg_base::{Points, Side};
 use std::marker::Model;
 
 /// One of two sets of edges.
-#[derive(Clone, Copy, PartialEq, Eq)]
+#[derive(Clone, Copy, Debug, PartialEq, Eq)]
 pub enum Set {
     /// The first set.
     First,
@@ -15,7 +15,7 @@ pub enum Set {
 }
 
 /// Something that is to be seen on a board.
-#[derive(Drop)]
+#[derive(Debug, Drop)]
 pub enum Item {
     /// A point of the game: a cell, a place on the ring, or an edge.
     Point {
@@ -90,7 +90,7 @@ pub enum Item {
 }
 
 /// A list of items.
-#[derive(Drop)]
+#[derive(Debug, Drop)]
 pub struct Items {
     members: Vec<Item>,
 }

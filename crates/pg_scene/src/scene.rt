@@ -4,7 +4,7 @@ use crate::item::Items;
 use crate::text::{Text, Texts};
 
 /// What is to be seen of a game or of a node.
-#[derive(Drop)]
+#[derive(Debug, Drop)]
 pub struct Scene {
     /// What it is.
     pub title: Text,

@@ -4,7 +4,7 @@ ghost use Rattle.std.specs.Prelude.{◌≡◌, string_bytes};
 use std::marker::Model;
 
 /// A text, in letters of ASCII where this crate makes it.
-#[derive(Drop)]
+#[derive(Debug, Drop)]
 pub struct Text {
     letters: String,
 }
@@ -35,7 +35,7 @@ impl Text {
 }
 
 /// A list of texts.
-#[derive(Drop)]
+#[derive(Debug, Drop)]
 pub struct Texts {
     members: Vec<Text>,
 }

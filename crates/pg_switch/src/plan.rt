@@ -16,7 +16,7 @@ use pg_game::{Field, Game, Position};
 use pg_graph::{Graph, Joiner};
 
 /// A plan for Short: two sets that are trees for X wherever Y is to move.
-#[derive(Clone, Copy)]
+#[derive(Clone, Copy, Debug)]
 pub struct ShortPlan {
     /// The one set, which may hold `e` before the first move.
     pub first: PointSet,
@@ -25,7 +25,7 @@ pub struct ShortPlan {
 }
 
 /// A plan for Cut: two sets that are cuts for Y wherever X is to move.
-#[derive(Clone, Copy)]
+#[derive(Clone, Copy, Debug)]
 pub struct CutPlan {
     /// The one set, which may hold `e` before the first move.
     pub first: PointSet,

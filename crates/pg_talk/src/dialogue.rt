@@ -28,7 +28,7 @@ pub const MAX_REPLY: usize = 64;
 pub const MAX_REFUSALS: u8 = 100;
 
 /// What came of a turn, or of one of its points where it has several.
-#[derive(Clone, Copy, PartialEq, Eq)]
+#[derive(Clone, Copy, Debug, PartialEq, Eq)]
 pub enum Turn {
     /// A point was taken.
     Played,

@@ -4,7 +4,7 @@ use pg_io::Stop;
 use pg_texts::Refusal;
 
 /// What ends a command before it is done.
-#[derive(Clone, Copy)]
+#[derive(Clone, Copy, Debug)]
 pub enum Halt {
     /// This stands against it, and is still to be said.
     Refused(Refusal),

@@ -11,7 +11,7 @@ use pg_base::{MAX_MEMBERS, PointSet, Side};
 use pg_board::Board;
 
 /// Points that a side lacks.
-#[derive(Clone, Copy)]
+#[derive(Clone, Copy, Debug)]
 pub(crate) struct Lacked {
     /// All of them.
     pub(crate) points: PointSet,

@@ -14,7 +14,7 @@ use pg_base::{Kind, MAX_MEMBERS, PointSet, Side};
 use pg_board::Board;
 
 /// The attacks that are tried at a position.
-#[derive(Clone, Copy)]
+#[derive(Clone, Copy, Debug)]
 struct Attacks {
     /// All of them.
     all: PointSet,

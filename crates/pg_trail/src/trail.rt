@@ -7,7 +7,7 @@ use std::alloc::Global;
 use std::marker::Model;
 
 /// Cells, and the list of the values that they had before each change.
-#[derive(Drop)]
+#[derive(Debug, Drop)]
 pub struct Trail {
     cells: Vec<u32>,
     /// Which cell changed, and what it was, the last change at the end.

@@ -3,7 +3,7 @@ ghost use Rattle.std.specs.Prelude.{◌≡◌};
 ghost use Rattle.pg_unfold.specs.Flaw.{flaw_number};
 
 /// What can be wrong with a node, the least first. The number of each is its code, I1 to I3.
-#[derive(Clone, Copy, PartialEq, Eq)]
+#[derive(Clone, Copy, Debug, PartialEq, Eq)]
 pub enum Flaw {
     /// I1: the node names a child whose number isn't below its own.
     Child,

@@ -9,7 +9,7 @@ use pg_image::ImageNode;
 use std::alloc::Global;
 
 /// The places of all copies in the unfolded claim, and how many nodes that has.
-#[derive(Drop)]
+#[derive(Debug, Drop)]
 pub(crate) struct Places {
     /// For each copy that is met the place at which it settles; for other copies any number.
     pub(crate) places: Vec<u32>,

@@ -17,7 +17,7 @@ use pg_maps::{GridMap, fitting_maps};
 use std::alloc::Global;
 
 /// The first faulty node of a claim, and the least of its flaws.
-#[derive(Clone, Copy, PartialEq, Eq)]
+#[derive(Clone, Copy, Debug, PartialEq, Eq)]
 struct FlawAt {
     /// The number of the node.
     node: u32,

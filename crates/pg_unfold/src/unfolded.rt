@@ -6,7 +6,7 @@ use pg_cert::Cert;
 use std::marker::Model;
 
 /// For each node of an unfolded claim the number of the node from which it came.
-#[derive(Drop)]
+#[derive(Debug, Drop)]
 pub struct Origins {
     members: Vec<u32>,
 }
@@ -37,7 +37,7 @@ impl Origins {
 }
 
 /// The origins of several claims' nodes.
-#[derive(Drop)]
+#[derive(Debug, Drop)]
 pub struct Sources {
     members: Vec<Origins>,
 }
@@ -68,7 +68,7 @@ impl Sources {
 }
 
 /// A certificate of plain nodes that stands for one in which nodes are images of others.
-#[derive(Drop)]
+#[derive(Debug, Drop)]
 pub struct Unfolded {
     /// The certificate.
     pub cert: Cert,
@@ -77,7 +77,7 @@ pub struct Unfolded {
 }
 
 /// Why a certificate with images can't be unfolded.
-#[derive(Clone, Copy, PartialEq, Eq)]
+#[derive(Clone, Copy, Debug, PartialEq, Eq)]
 pub enum ImageFault {
     /// A node is faulty, or a claim too large.
     Bad {

@@ -25,14 +25,14 @@ use std::alloc::Global;
 const TOO_LARGE: u8 = 4;
 
 /// A claim unfolded, and from which node each of its nodes came.
-#[derive(Drop)]
+#[derive(Debug, Drop)]
 struct UnfoldedClaim {
     claim: Claim,
     origins: Origins,
 }
 
 /// The claims that have been unfolded so far.
-#[derive(Drop)]
+#[derive(Debug, Drop)]
 struct Gathered {
     /// The claims.
     claims: Vec<Claim>,

@@ -12,7 +12,7 @@ use pg_game::Position;
 use pg_gf2::{VecGame, VecPlan};
 
 /// An own move, and the plan that is left.
-#[derive(Clone, Copy)]
+#[derive(Clone, Copy, Debug)]
 pub(crate) struct Made {
     /// The vector.
     pub(crate) vector: u16,

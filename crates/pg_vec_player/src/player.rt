@@ -53,7 +53,7 @@ impl<'a> Model for VecPlayer<'a> {
 }
 
 /// Why no player can be opened.
-#[derive(Clone, Copy, PartialEq, Eq)]
+#[derive(Clone, Copy, Debug, PartialEq, Eq)]
 pub enum VecOpen {
     /// No claim has that side and the game's turn.
     NoClaim,

@@ -4,7 +4,7 @@ use crate::source::Source;
 use pg_base::Side;
 
 /// What the words ask for, with the names of files.
-#[derive(Drop)]
+#[derive(Debug, Drop)]
 pub enum Command {
     /// Solve a game.
     Solve {

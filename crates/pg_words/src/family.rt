@@ -2,7 +2,7 @@
 use pg_base::Side;
 
 /// A further family of games, with files of its own.
-#[derive(Clone, Copy, PartialEq, Eq)]
+#[derive(Clone, Copy, Debug, PartialEq, Eq)]
 pub enum Family {
     /// Connectivity games: X wants to join every two vertices of a graph.
     Connectivity,
@@ -11,7 +11,7 @@ pub enum Family {
 }
 
 /// What is to be done with a game of a family.
-#[derive(Clone, Copy, PartialEq, Eq)]
+#[derive(Clone, Copy, Debug, PartialEq, Eq)]
 pub enum FamilyTask {
     /// Solve it.
     Solve,

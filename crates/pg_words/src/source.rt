@@ -1,7 +1,7 @@
 //! Games that are made from numbers.
 
 /// A game that is made from numbers.
-#[derive(Clone, Copy, PartialEq, Eq)]
+#[derive(Clone, Copy, Debug, PartialEq, Eq)]
 pub enum Source {
     /// The rows, columns and two diagonals of a square.
     Rows {
