@@ -21,5 +21,5 @@ pub const MAX_VERTICES: u16 = 500;
 /// The most points that Y claims in a turn.
 pub const MAX_BIAS: u8 = 7;
 
-/// The largest number of distinct undecided positions that a search may be asked to examine.
+/// The most distinct undecided positions that a search may be asked to expand.
 pub const MAX_POSITIONS: u32 = 100_000;
