@@ -1,5 +1,5 @@
 -- The steps of the walks over pairs and over the points of a line.
-use Rattle.std.proofs.Common.{◌≡◌, ◌≢◌, ◌∙◌, ℕ, ◌+◌, ◌<◌, ◌≤◌, Bool, true, false, ◌||◌, List, length, get_or, set, eqb, eqb-true, eq-eqb, refl, sym, ap, subst, inl, inr, arith}
+use Rattle.std.proofs.Common.{◌≡◌, ◌≢◌, ◌∙◌, ℕ, ◌+◌, ◌-◌, ◌<◌, ◌≤◌, Bool, true, false, ◌||◌, List, length, get_or, set, eqb, eqb-true, eq-eqb, refl, sym, ap, subst, inl, inr, arith}
 use Rattle.std.proofs.lemmas.Bool.{cases_eq, or_cases, false≢true}
 use Rattle.std.proofs.lemmas.List.{length-set, get_or-set_same, get_or-set_other, get_or_default}
 use Rattle.std.proofs.lemmas.List.Elements.{Contains-get_or, All-weaker}
@@ -26,50 +26,60 @@ or_second false b e = e
 
 -- ---- the points of a line
 
--- the points before a place have been seen, none of them is among the own, and no pair is among them
+-- one more than the one is one more than the other
+same-next : (v w : ℕ) → eqb (v + 1) (w + 1) ≡ true → v ≡ w
+same-next v w h = let e = eqb-true (v + 1) (w + 1) h in omega (arith, e)
+
+-- the points before a place have been seen, each kept as one more; none of them is among the own, and no pair is among them
 pub record HasPassed (own : FinSet nat_cmp) (line partners : List ℕ) (i : ℕ) (seen : FinSet nat_cmp) : Type 0 where
   pub untouched : (j : ℕ) → j < i → contains own (get_or line j 0) ≡ false
-  pub within : (q : ℕ) → contains seen q ≡ true → Contains line q
-  pub met : (j : ℕ) → j < i → contains seen (get_or line j 0) ≡ true
-  pub apart : (pairs : List Pair) → ArePartners partners pairs → (s : Pair) → Contains pairs s → contains seen s.a ≡ true → contains seen s.b ≡ true → ⊥
+  pub first : contains seen 0 ≡ true → ⊥
+  pub within : (q : ℕ) → contains seen (q + 1) ≡ true → Contains line q
+  pub met : (j : ℕ) → j < i → contains seen (get_or line j 0 + 1) ≡ true
+  pub apart : (pairs : List Pair) → ArePartners partners pairs → (s : Pair) → Contains pairs s → contains seen (s.a + 1) ≡ true → contains seen (s.b + 1) ≡ true → ⊥
 
 pub passed-none : (own : FinSet nat_cmp) (line partners : List ℕ) (seen : FinSet nat_cmp) → ((q : ℕ) → contains seen q ≡ false) → HasPassed own line partners 0 seen
 passed-none own line partners seen none = record {
   untouched = λ j lt. absurd (omega (arith, lt));
-  within = λ q on. absurd (false≢true (sym (none q) ∙ on));
+  first = λ on. false≢true (sym (none 0) ∙ on);
+  within = λ q on. absurd (false≢true (sym (none (q + 1)) ∙ on));
   met = λ j lt. absurd (omega (arith, lt));
-  apart = λ pairs are s c on_a on_b. false≢true (sym (none s.a) ∙ on_a);
+  apart = λ pairs are s c on_a on_b. false≢true (sym (none (s.a + 1)) ∙ on_a);
 }
 
 pub passed-more : (own : FinSet nat_cmp) (line partners : List ℕ) (i : ℕ) (seen next : FinSet nat_cmp) → i < length line
-    → contains own (get_or line i 0) ≡ false → contains seen (get_or partners (get_or line i 0) 0) ≡ false → next ≡ insert seen (get_or line i 0)
+    → contains own (get_or line i 0) ≡ false → contains seen (get_or partners (get_or line i 0) 0) ≡ false → next ≡ insert seen (get_or line i 0 + 1)
     → HasPassed own line partners i seen → HasPassed own line partners (i + 1) next
 passed-more own line partners i seen next lt off fresh next_is h =
     let x = get_or line i 0 in
     record {
       untouched = λ j below. elim (cases_eq j i) [ inl e ↦ ap (λ n. contains own (get_or line n 0)) e ∙ off | inr ne ↦ h.untouched j (omega (arith, below, ne)) ];
-      within = λ q on. elim (or_cases (eqb q x) (contains seen q) (sym (in_next q) ∙ on)) [
-        | inl e ↦ subst (λ n. Contains line n) (sym (eqb-true q x e)) (Contains-get_or line i 0 lt)
+      first = λ on. elim (or_cases (eqb 0 (x + 1)) (contains seen 0) (sym (in_next 0) ∙ on)) [
+        | inl e ↦ let none = eqb-true 0 (x + 1) e in omega (arith, none)
+        | inr old ↦ h.first old
+      ];
+      within = λ q on. elim (or_cases (eqb (q + 1) (x + 1)) (contains seen (q + 1)) (sym (in_next (q + 1)) ∙ on)) [
+        | inl e ↦ subst (λ n. Contains line n) (sym (same-next q x e)) (Contains-get_or line i 0 lt)
         | inr old ↦ h.within q old
       ];
-      met = λ j below. in_next (get_or line j 0) ∙ elim (cases_eq j i) [
-        | inl e ↦ or_first (eqb (get_or line j 0) x) (contains seen (get_or line j 0)) (eq-eqb (get_or line j 0) x (ap (λ n. get_or line n 0) e))
-        | inr ne ↦ or_second (eqb (get_or line j 0) x) (contains seen (get_or line j 0)) (h.met j (omega (arith, below, ne)))
+      met = λ j below. in_next (get_or line j 0 + 1) ∙ elim (cases_eq j i) [
+        | inl e ↦ or_first (eqb (get_or line j 0 + 1) (x + 1)) (contains seen (get_or line j 0 + 1)) (eq-eqb (get_or line j 0 + 1) (x + 1) (ap (λ n. get_or line n 0 + 1) e))
+        | inr ne ↦ or_second (eqb (get_or line j 0 + 1) (x + 1)) (contains seen (get_or line j 0 + 1)) (h.met j (omega (arith, below, ne)))
       ];
-      apart = λ pairs are s c on_a on_b. elim (or_cases (eqb s.a x) (contains seen s.a) (sym (in_next s.a) ∙ on_a)) [
-        | inl ea ↦ elim (or_cases (eqb s.b x) (contains seen s.b) (sym (in_next s.b) ∙ on_b)) [
-          | inl eb ↦ are.different s c (eqb-true s.a x ea ∙ sym (eqb-true s.b x eb))
-          | inr sb ↦ unseen s.a s.b (eqb-true s.a x ea) (are.paired s c).0 sb
+      apart = λ pairs are s c on_a on_b. elim (or_cases (eqb (s.a + 1) (x + 1)) (contains seen (s.a + 1)) (sym (in_next (s.a + 1)) ∙ on_a)) [
+        | inl ea ↦ elim (or_cases (eqb (s.b + 1) (x + 1)) (contains seen (s.b + 1)) (sym (in_next (s.b + 1)) ∙ on_b)) [
+          | inl eb ↦ are.different s c (same-next s.a x ea ∙ sym (same-next s.b x eb))
+          | inr sb ↦ unseen s.a (s.b + 1) (same-next s.a x ea) (are.paired s c).0 sb
         ]
-        | inr sa ↦ elim (or_cases (eqb s.b x) (contains seen s.b) (sym (in_next s.b) ∙ on_b)) [
-          | inl eb ↦ unseen s.b s.a (eqb-true s.b x eb) (are.paired s c).1 sa
+        | inr sa ↦ elim (or_cases (eqb (s.b + 1) (x + 1)) (contains seen (s.b + 1)) (sym (in_next (s.b + 1)) ∙ on_b)) [
+          | inl eb ↦ unseen s.b (s.a + 1) (same-next s.b x eb) (are.paired s c).1 sa
           | inr sb ↦ h.apart pairs are s c sa sb
         ]
       ];
     }
   where
-    in_next : (q : ℕ) → contains next q ≡ (eqb q (get_or line i 0) || contains seen q)
-    in_next q = ap (λ s. contains s q) next_is ∙ in_insert seen (get_or line i 0) q
+    in_next : (q : ℕ) → contains next q ≡ (eqb q (get_or line i 0 + 1) || contains seen q)
+    in_next q = ap (λ s. contains s q) next_is ∙ in_insert seen (get_or line i 0 + 1) q
 
     unseen : (v w : ℕ) → v ≡ get_or line i 0 → get_or partners v 0 ≡ w → contains seen w ≡ true → ⊥
     unseen v w is partner on =
@@ -85,12 +95,12 @@ pub holds-at : (own : FinSet nat_cmp) (line partners : List ℕ) (i : ℕ) (seen
     → contains seen (get_or partners (get_or line i 0) 0) ≡ true → HasPassed own line partners i seen → ArePartners partners pairs → Any (HoldsPair line) pairs
 holds-at own line partners i seen pairs lt range on h are =
     let x = get_or line i 0 in
-    let w = get_or partners x 0 in
+    let w = get_or partners x 0 - 1 in
+    let next : get_or partners x 0 ≡ w + 1 = elim (cases_eq (get_or partners x 0) 0) [ inl e ↦ absurd (h.first (sym (ap (contains seen) e) ∙ on)) | inr ne ↦ omega (arith, ne) ] in
     let mine : Contains line x = Contains-get_or line i 0 lt in
-    let other : Contains line w = h.within w on in
+    let other : Contains line w = h.within w (sym (ap (contains seen) next) ∙ on) in
     let x_small : x < NO_POINT = range i 0 lt in
-    let w_small : w < NO_POINT = subst (λ n. n < NO_POINT) other.2 (range other.0 w other.1) in
-    let found = are.told x (omega (arith, x_small)) w_small in (
+    let found = are.told x w (omega (arith, x_small)) next in (
       found.0,
       found.1,
       found.2,
@@ -111,32 +121,32 @@ unsafe-end own line partners i seen pairs end h are safe =
     at : (t : ℕ) (c : Contains line t) → t ≡ get_or line c.0 0
     at t c = sym c.2 ∙ get_or_default line c.0 t 0 c.1
 
-    in-seen : (t : ℕ) → Contains line t → contains seen t ≡ true
-    in-seen t c = ap (contains seen) (at t c) ∙ h.met c.0 (omega (arith, c.1, end))
+    in-seen : (t : ℕ) → Contains line t → contains seen (t + 1) ≡ true
+    in-seen t c = ap (λ n. contains seen (n + 1)) (at t c) ∙ h.met c.0 (omega (arith, c.1, end))
 
 -- ---- the pairs
 
 -- the pairs before a place have been told
 pub record HasPaired (partners : List ℕ) (pairs : List Pair) (i : ℕ) : Type 0 where
   pub small : AreSmall partners
-  pub paired : (j : ℕ) (d : Pair) → j < i → (get_or partners (get_or pairs j d).a 0 ≡ (get_or pairs j d).b) × (get_or partners (get_or pairs j d).b 0 ≡ (get_or pairs j d).a)
-  pub told : (v : ℕ) → v < MAX_MEMBERS → get_or partners v 0 < NO_POINT → Any (IsPairOf v (get_or partners v 0)) pairs
+  pub paired : (j : ℕ) (d : Pair) → j < i → (get_or partners (get_or pairs j d).a 0 ≡ (get_or pairs j d).b + 1) × (get_or partners (get_or pairs j d).b 0 ≡ (get_or pairs j d).a + 1)
+  pub told : (v w : ℕ) → v < MAX_MEMBERS → get_or partners v 0 ≡ w + 1 → Any (IsPairOf v w) pairs
 
-pub paired-none : (partners : List ℕ) (pairs : List Pair) → length partners ≡ MAX_MEMBERS → ((v : ℕ) → v < MAX_MEMBERS → get_or partners v 0 ≡ NO_POINT) → HasPaired partners pairs 0
+pub paired-none : (partners : List ℕ) (pairs : List Pair) → length partners ≡ MAX_MEMBERS → ((v : ℕ) → v < MAX_MEMBERS → get_or partners v 0 ≡ 0) → HasPaired partners pairs 0
 paired-none partners pairs count none = record {
   small = record { count = count; small = λ v lt. let e = none v lt in omega (arith, e) };
   paired = λ j d lt. absurd (omega (arith, lt));
-  told = λ v lt below. let e = none v lt in absurd (omega (arith, e, below));
+  told = λ v w lt is. let e = none v lt in absurd (omega (arith, e, is));
 }
 
 pub paired-more : (partners : List ℕ) (pairs : List Pair) (i ka kb : ℕ) (d : Pair) → i < length pairs → ka ≡ (get_or pairs i d).a → kb ≡ (get_or pairs i d).b
     → All (λ s. (s.a < NO_POINT) × (s.b < NO_POINT)) pairs → All (λ s. s.a ≢ s.b) pairs → AllPairs SharesNone pairs
-    → HasPaired partners pairs i → HasPaired (set (set partners ka (get_or pairs i d).b) kb (get_or pairs i d).a) pairs (i + 1)
+    → HasPaired partners pairs i → HasPaired (set (set partners ka ((get_or pairs i d).b + 1)) kb ((get_or pairs i d).a + 1)) pairs (i + 1)
 paired-more partners pairs i ka kb d lt ka_is kb_is range different disjoint h =
     let s = get_or pairs i d in
-    subst (λ n. HasPaired (set (set partners ka s.b) n s.a) pairs (i + 1)) (sym kb_is) (subst (λ n. HasPaired (set (set partners n s.b) s.b s.a) pairs (i + 1)) (sym ka_is) (record {
+    subst (λ n. HasPaired (set (set partners ka (s.b + 1)) n (s.a + 1)) pairs (i + 1)) (sym kb_is) (subst (λ n. HasPaired (set (set partners n (s.b + 1)) s.b (s.a + 1)) pairs (i + 1)) (sym ka_is) (record {
       small = record {
-        count = length-set (set partners s.a s.b) s.b s.a ∙ length-set partners s.a s.b ∙ h.small.count;
+        count = length-set (set partners s.a (s.b + 1)) s.b (s.a + 1) ∙ length-set partners s.a (s.b + 1) ∙ h.small.count;
         small = λ v below. elim (cases_eq v s.b) [
           | inl e ↦ let is = at-b v e in let few = (range i d lt).0 in omega (arith, is, few)
           | inr nb ↦ elim (cases_eq v s.a) [
@@ -148,7 +158,7 @@ paired-more partners pairs i ka kb d lt ka_is kb_is range different disjoint h =
       paired = λ j e below. elim (cases_eq j i) [
         | inl same ↦
             let is : get_or pairs j e ≡ s = ap (λ n. get_or pairs n e) same ∙ get_or_default pairs i e d lt in
-            subst (λ t. (get_or next t.a 0 ≡ t.b) × (get_or next t.b 0 ≡ t.a)) (sym is) (at-a s.a refl, at-b s.b refl)
+            subst (λ t. (get_or next t.a 0 ≡ t.b + 1) × (get_or next t.b 0 ≡ t.a + 1)) (sym is) (at-a s.a refl, at-b s.b refl)
         | inr ne ↦
             let before : j < i = omega (arith, below, ne) in
             let t = get_or pairs j e in
@@ -156,42 +166,40 @@ paired-more partners pairs i ka kb d lt ka_is kb_is range different disjoint h =
             let old = h.paired j e before in
             (at-other t.a shares.aa shares.ab ∙ old.0, at-other t.b shares.ba shares.bb ∙ old.1)
       ];
-      told = λ v few below. elim (cases_eq v s.b) [
-        | inl e ↦ (i, s, lt, get_or_default pairs i s d lt, inr (sym (at-b v e), sym e))
+      told = λ v w few is. elim (cases_eq v s.b) [
+        | inl e ↦ let here = at-b v e in (i, s, lt, get_or_default pairs i s d lt, inr (omega (arith, here, is), sym e))
         | inr nb ↦ elim (cases_eq v s.a) [
-          | inl e ↦ (i, s, lt, get_or_default pairs i s d lt, inl (sym e, sym (at-a v e)))
-          | inr na ↦
-              let is = at-other v na nb in
-              subst (λ w. Any (IsPairOf v w) pairs) (sym is) (h.told v few (subst (λ n. n < NO_POINT) is below))
+          | inl e ↦ let here = at-a v e in (i, s, lt, get_or_default pairs i s d lt, inl (sym e, omega (arith, here, is)))
+          | inr na ↦ h.told v w few (sym (at-other v na nb) ∙ is)
         ]
       ];
     }))
   where
     next : List ℕ
-    next = set (set partners (get_or pairs i d).a (get_or pairs i d).b) (get_or pairs i d).b (get_or pairs i d).a
+    next = set (set partners (get_or pairs i d).a ((get_or pairs i d).b + 1)) (get_or pairs i d).b ((get_or pairs i d).a + 1)
 
-    at-b : (v : ℕ) → v ≡ (get_or pairs i d).b → get_or next v 0 ≡ (get_or pairs i d).a
+    at-b : (v : ℕ) → v ≡ (get_or pairs i d).b → get_or next v 0 ≡ (get_or pairs i d).a + 1
     at-b v e =
-        let count = length-set partners (get_or pairs i d).a (get_or pairs i d).b ∙ h.small.count in
+        let count = length-set partners (get_or pairs i d).a ((get_or pairs i d).b + 1) ∙ h.small.count in
         let few = (range i d lt).1 in
-        ap (λ n. get_or next n 0) e ∙ get_or-set_same (set partners (get_or pairs i d).a (get_or pairs i d).b) (get_or pairs i d).b (get_or pairs i d).a 0 (omega (arith, count, few))
+        ap (λ n. get_or next n 0) e ∙ get_or-set_same (set partners (get_or pairs i d).a ((get_or pairs i d).b + 1)) (get_or pairs i d).b ((get_or pairs i d).a + 1) 0 (omega (arith, count, few))
 
-    at-a : (v : ℕ) → v ≡ (get_or pairs i d).a → get_or next v 0 ≡ (get_or pairs i d).b
+    at-a : (v : ℕ) → v ≡ (get_or pairs i d).a → get_or next v 0 ≡ (get_or pairs i d).b + 1
     at-a v e =
         let few = (range i d lt).0 in
-        ap (λ n. get_or next n 0) e ∙ get_or-set_other (set partners (get_or pairs i d).a (get_or pairs i d).b) (get_or pairs i d).b (get_or pairs i d).a (get_or pairs i d).a 0 (different i d lt)
-        ∙ get_or-set_same partners (get_or pairs i d).a (get_or pairs i d).b 0 (omega (arith, h.small.count, few))
+        ap (λ n. get_or next n 0) e ∙ get_or-set_other (set partners (get_or pairs i d).a ((get_or pairs i d).b + 1)) (get_or pairs i d).b (get_or pairs i d).a ((get_or pairs i d).a + 1) 0 (different i d lt)
+        ∙ get_or-set_same partners (get_or pairs i d).a ((get_or pairs i d).b + 1) 0 (omega (arith, h.small.count, few))
 
     at-other : (v : ℕ) → v ≢ (get_or pairs i d).a → v ≢ (get_or pairs i d).b → get_or next v 0 ≡ get_or partners v 0
     at-other v na nb =
-        get_or-set_other (set partners (get_or pairs i d).a (get_or pairs i d).b) (get_or pairs i d).b v (get_or pairs i d).a 0 nb
-        ∙ get_or-set_other partners (get_or pairs i d).a v (get_or pairs i d).b 0 na
+        get_or-set_other (set partners (get_or pairs i d).a ((get_or pairs i d).b + 1)) (get_or pairs i d).b v ((get_or pairs i d).a + 1) 0 nb
+        ∙ get_or-set_other partners (get_or pairs i d).a v ((get_or pairs i d).b + 1) 0 na
 
 -- all pairs told
 pub partners-end : (partners : List ℕ) (pairs : List Pair) (i : ℕ) → length pairs ≤ i → All (λ s. s.a ≢ s.b) pairs → HasPaired partners pairs i → ArePartners partners pairs
 partners-end partners pairs i end different h = record {
   different = λ s c. subst (λ t. t.a ≢ t.b) c.2 (different c.0 s c.1);
-  paired = λ s c. subst (λ t. (get_or partners t.a 0 ≡ t.b) × (get_or partners t.b 0 ≡ t.a)) c.2 (h.paired c.0 s (omega (arith, c.1, end)));
+  paired = λ s c. subst (λ t. (get_or partners t.a 0 ≡ t.b + 1) × (get_or partners t.b 0 ≡ t.a + 1)) c.2 (h.paired c.0 s (omega (arith, c.1, end)));
   told = h.told;
 }
 

@@ -1,4 +1,4 @@
-use Rattle.std.proofs.Common.{◌≡◌, ◌<◌, ◌≤◌, ◌∙◌, ℕ, List, true, false, length, get_or, refl, sym, ap, subst}
+use Rattle.std.proofs.Common.{◌≡◌, ◌+◌, ◌<◌, ◌≤◌, ◌∙◌, ℕ, List, true, false, length, get_or, refl, sym, ap, subst}
 use Rattle.std.proofs.lemmas.Bool.{false≢true}
 use Rattle.std.specs.FinSet.{contains, contains-empty, insert}
 use Rattle.std.specs.Ordering.{nat_cmp}
@@ -37,7 +37,7 @@ loop-v-preserved c =
     let seen_at = ap (λ (k : ℕ). contains c.loop-v.seen (get_or c.args.partners.now k 0)) is in
     passed-more c.args.own.now c.args.line.now c.args.partners.now i c.loop-v.seen c.put.new.self lt
     (sym own_at ∙ sym c.has.ensures ∙ c.if-has.false) (sym seen_at ∙ sym c.has-in-loop-v.ensures ∙ c.if-has-2.false)
-    (c.put.ensures ∙ ap (λ (xs : List ℕ). insert c.loop-v.seen (get_or xs i 0)) items) c.loop-v.invariant
+    (c.put.ensures ∙ ap (λ (xs : List ℕ). insert c.loop-v.seen (get_or xs i 0 + 1)) items) c.loop-v.invariant
 
 pub returns : goal.returns
 returns c = λ pairs are.

@@ -1,12 +1,11 @@
 use Rattle.std.proofs.Common.{refl}
 use Rattle.std.proofs.lemmas.List.{get_or-replicate}
 use Rattle.pg_base.specs.declared.limits.TheConstants.{MAX_MEMBERS}
-use Rattle.pg_pairing.specs.declared.partners.TheConstants.{NO_POINT}
 use Rattle.pg_pairing.proofs.PartnerSteps.{paired-none, paired-more, partners-end}
 use Rattle.pg_pairing.proofs.partners.partners_of.Goals as goal
 
 pub loop-s-init : goal.loop-s-init
-loop-s-init c = paired-none _ c.args.pairs.now refl (λ v lt. get_or-replicate MAX_MEMBERS v NO_POINT 0 lt)
+loop-s-init c = paired-none _ c.args.pairs.now refl (λ v lt. get_or-replicate MAX_MEMBERS v 0 0 lt)
 
 pub loop-s-preserved : goal.loop-s-preserved
 loop-s-preserved c =
