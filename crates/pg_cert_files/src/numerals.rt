@@ -64,10 +64,10 @@ fn leading(text: &[u8]) -> Option<Digits>
 fn first_digit(text: &[u8]) -> Option<(u32, &[u8])>
     ensures { IfSome result (λ p. IsFirstNumber text.now p.0 (Some p.1.now)) }
 {
-    let digit = digit_at(text, 0)?;
     if text.len() < 2 || text[1] != b' ' {
         return None;
     }
+    let digit = digit_at(text, 0)?;
     Some((digit, &text[2..]))
 }
 
