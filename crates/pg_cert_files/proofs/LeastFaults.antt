@@ -10,6 +10,7 @@ use Rattle.pg_game.specs.Game.{is_touched}
 use Rattle.pg_cert.specs.declared.cert.Version.{Version}
 use Rattle.pg_cert.specs.declared.node.Body.{Body}
 use Rattle.pg_cert.specs.declared.node.Body.TheVariants as bodies
+use Rattle.pg_cert_files.specs.declared.signs.TheConstants.{COLON, HYPHEN}
 use Rattle.pg_cert_files.specs.Form.{has_bar, only_word, Shape, shape_of}
 use Rattle.pg_cert_files.specs.NodeLine.{below, point_of, child_of, both_of, if_ascending, ascending_of, field_words, reply_of, points_pair, move_of, weaker_of, word_reply, word_pair, replies_of, begins_with_e, after_e, before_slash, after_slash, edges_with, edges_of, body_of, node_with, node_of, formed, node_line}
 use Rattle.pg_cert_files.specs.Lines.{version_of, head_of, count_of}
@@ -88,8 +89,8 @@ only_edges with_e ws = only_then (ascending_of (before_slash ws)) _ (only_points
 pub only_body : (form : Form) (ws : List Bytes) → OnlyNumber (body_of form ws)
 only_body forms.Over ws = tt
 only_body forms.Move ws = only_move (pair_of ws)
-only_body forms.All ws = only_then (replies_of ws) _ (only_then (each_of word_reply ws) _ (only_each word_reply (λ w. only_reply (two_parts 58 w)) ws) (λ rs. only_ascending (map (λ r. r.point) rs) rs)) (λ rs. tt)
-only_body forms.Pairs ws = only_then (each_of word_pair ws) _ (only_each word_pair (λ w. only_pair (two_parts 45 w)) ws) (λ ps. tt)
+only_body forms.All ws = only_then (replies_of ws) _ (only_then (each_of word_reply ws) _ (only_each word_reply (λ w. only_reply (two_parts COLON w)) ws) (λ rs. only_ascending (map (λ r. r.point) rs) rs)) (λ rs. tt)
+only_body forms.Pairs ws = only_then (each_of word_pair ws) _ (only_each word_pair (λ w. only_pair (two_parts HYPHEN w)) ws) (λ ps. tt)
 only_body forms.Potential ws = tt
 only_body forms.Trees ws = only_then (edges_of ws) _ (only_edges (begins_with_e ws) (after_e ws)) (λ e. tt)
 only_body forms.Cuts ws = only_then (edges_of ws) _ (only_edges (begins_with_e ws) (after_e ws)) (λ e. tt)

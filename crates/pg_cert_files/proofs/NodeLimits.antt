@@ -15,6 +15,8 @@ use Rattle.pg_base.specs.declared.side.Side.TheVariants as sides
 use Rattle.pg_base.specs.declared.pair.Pair.{Pair}
 use Rattle.pg_text.specs.Text.{Bytes, Four, parts, pair_of, two_parts, four_parts, number}
 use Rattle.pg_game.specs.Game.{is_touched}
+use Rattle.pg_cert_files.specs.declared.signs.TheConstants.{COLON, HYPHEN}
+use Rattle.pg_cert_files.specs.declared.turn.TheConstants.{FEWEST, LETTER, MOST, ZERO}
 use Rattle.pg_cert_files.specs.Form.{several_of, turn_of, has_form, named_form, of_version, form_of, only_word, are_odd, fits, Shape, with_form, with_body, with_fields, shape_of, has_bar}
 use Rattle.pg_cert_files.specs.NodeLine.{below, point_of, child_of, both_of, if_ascending, ascending_of, field_words, reply_of, points_pair, move_of, weaker_of, word_reply, word_pair, replies_of, begins_with_e, after_e, before_slash, after_slash, edges_of, body_of, node_with, node_of, formed, node_line}
 use Rattle.pg_cert.specs.Limits.{ArePoints, IsReply, IsPair, IsBody, IsTurn, IsNode, has_body}
@@ -129,7 +131,7 @@ replies_ok : (ws : List Bytes) (rs : List Reply) → replies_of ws ≡ Ok rs →
 replies_ok ws rs e =
     let t = then_ok (each_of word_reply ws) (λ qs. if_ascending (points_of_replies qs) qs) rs e in
     let a = ascending_is (points_of_replies t.0) t.0 rs t.2 in
-    let each : AllByRecursion IsReply t.0 = each_ok word_reply IsReply (λ w r f. reply_ok (two_parts 58 w) r f) ws t.0 t.1 in
+    let each : AllByRecursion IsReply t.0 = each_ok word_reply IsReply (λ w r f. reply_ok (two_parts COLON w) r f) ws t.0 t.1 in
     subst (λ (qs : List Reply). All IsReply qs × (ascend_from 0 (points_of_replies qs) ≡ true)) a.1 (All-from_recursion IsReply t.0 each, a.0)
 
 -- ---- sets
@@ -195,7 +197,7 @@ body_ok forms.All ws body fit e =
     subst IsBody (ok_is (bodies.All t.0) body t.2) (replies_ok ws t.0 t.1)
 body_ok forms.Pairs ws body fit e =
     let t = then_ok (each_of word_pair ws) (λ ps. done (bodies.Pairs ps)) body e in
-    subst IsBody (ok_is (bodies.Pairs t.0) body t.2) (All-from_recursion IsPair t.0 (each_ok word_pair IsPair (λ w r f. pair_ok (two_parts 45 w) r f) ws t.0 t.1))
+    subst IsBody (ok_is (bodies.Pairs t.0) body t.2) (All-from_recursion IsPair t.0 (each_ok word_pair IsPair (λ w r f. pair_ok (two_parts HYPHEN w) r f) ws t.0 t.1))
 body_ok forms.Potential ws body fit e = subst IsBody (ok_is bodies.Potential body e) tt
 body_ok forms.Trees ws body fit e =
     let t = then_ok (edges_of ws) (λ s. done (bodies.Trees s.with_e s.first s.second)) body e in
@@ -249,8 +251,8 @@ several_ok : (word : Bytes) (turn : Turn) → several_of word ≡ Some turn → 
 several_ok [] turn e = absurd cc
 several_ok (sign ∷ []) turn e = absurd cc
 several_ok (sign ∷ digit ∷ []) turn e =
-    let made : Turn = record { side = sides.Y; left = digit - 48 } in
-    elim (chosen (sign == 121 && nat_le 50 digit && nat_le digit 55) (Some made) None (Some turn) e) [
+    let made : Turn = record { side = sides.Y; left = digit - ZERO } in
+    elim (chosen (sign == LETTER && nat_le FEWEST digit && nat_le digit MOST) (Some made) None (Some turn) e) [
       | inl h ↦
           let low : 50 ≤ digit = grind (arith, nat_tests, h.0) in
           let high : digit ≤ 55 = grind (arith, nat_tests, h.0) in

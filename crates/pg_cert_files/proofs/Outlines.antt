@@ -19,6 +19,7 @@ use Rattle.pg_text.specs.declared.error.LineError.{LineError}
 use Rattle.pg_text.specs.declared.error.LineError.TheVariants as errors
 use Rattle.pg_text.proofs.Cuts.{four_none}
 use Rattle.pg_text.specs.Text.{Bytes, Four, parts, four_parts, words_of}
+use Rattle.pg_cert_files.specs.declared.signs.TheConstants.{COLON, HYPHEN}
 use Rattle.pg_cert_files.specs.Form.{has_bar, form_of, turn_of, each_has_one, fits, Shape, with_form, with_body, with_fields, shape_of}
 use Rattle.pg_cert_files.specs.NodeLine.{point_of, ascending_of, field_words, word_reply, word_pair, body_of, node_with, formed, node_line}
 use Rattle.pg_cert_files.specs.Numerals.{IsFirstNumber, AreTwoNumbers, SaysFirst}
@@ -143,23 +144,23 @@ module _ {A : Type 0} (sign : ℕ) (read : Bytes → Result A Fault) where
       let all_read : each_of read all ≡ Ok found = sym h.so_far ∙ ap Ok (append-nil found) in
       rw all_formed all_read
 
-pub says_pair : (text : Bytes) (a b : ℕ) (others : Option Bytes) → AreTwoNumbers 45 text a b others → a < 1024 → b < 1024 → SaysFirst 45 word_pair text (record { a = a; b = b }) others
+pub says_pair : (text : Bytes) (a b : ℕ) (others : Option Bytes) → AreTwoNumbers HYPHEN text a b others → a < 1024 → b < 1024 → SaysFirst HYPHEN word_pair text (record { a = a; b = b }) others
 says_pair text a b others h low high =
     let s : nat_lt a 1024 ≡ true = grind (arith, nat_tests) in
     let t : nat_lt b 1024 ≡ true = grind (arith, nat_tests) in
     let two = h.two in
     let first = h.a_number in
     let second = h.b_number in
-    record { word = h.first ++ 45 ∷ h.second; cut = h.cut; form = rw two refl; says = rw (two, first, second, s, t) refl }
+    record { word = h.first ++ HYPHEN ∷ h.second; cut = h.cut; form = rw two refl; says = rw (two, first, second, s, t) refl }
 
-pub says_reply : (text : Bytes) (point child : ℕ) (others : Option Bytes) → AreTwoNumbers 58 text point child others → point < 1024 → child < 100000 → SaysFirst 58 word_reply text (record { point = point; child = child }) others
+pub says_reply : (text : Bytes) (point child : ℕ) (others : Option Bytes) → AreTwoNumbers COLON text point child others → point < 1024 → child < 100000 → SaysFirst COLON word_reply text (record { point = point; child = child }) others
 says_reply text point child others h low high =
     let s : nat_lt point 1024 ≡ true = grind (arith, nat_tests) in
     let t : nat_lt child 100000 ≡ true = grind (arith, nat_tests) in
     let two = h.two in
     let first = h.a_number in
     let second = h.b_number in
-    record { word = h.first ++ 58 ∷ h.second; cut = h.cut; form = rw two refl; says = rw (two, first, second, s, t) refl }
+    record { word = h.first ++ COLON ∷ h.second; cut = h.cut; form = rw two refl; says = rw (two, first, second, s, t) refl }
 
 -- ---- points that are put into a set
 

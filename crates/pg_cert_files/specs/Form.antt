@@ -7,8 +7,10 @@ use Rattle.pg_base.specs.declared.side.Side.TheVariants.{X, Y}
 use Rattle.pg_cert.specs.declared.cert.Version.{Version}
 use Rattle.pg_cert.specs.declared.cert.Version.TheVariants.{One}
 use Rattle.pg_text.specs.Text.{Bytes, Four, parts, pair_of, two_parts, four_parts}
+use Rattle.pg_cert_files.specs.declared.signs.TheConstants.{COLON, HYPHEN}
 use Rattle.pg_cert_files.specs.declared.form.Form.{Form}
 use Rattle.pg_cert_files.specs.declared.form.Form.TheVariants as forms
+use Rattle.pg_cert_files.specs.declared.turn.TheConstants.{FEWEST, LETTER, MOST, ZERO}
 use Rattle.pg_cert_files.specs.declared.turn.Turn.{Turn}
 
 -- whether a bar stands in the line
@@ -17,7 +19,7 @@ has_bar line = list_any (λ b. b == BAR) line
 
 -- a turn in which Y still claims several points: its sign, and a digit from `2` to `7`
 abbrev pub several_of : Bytes → Option Turn
-several_of (sign ∷ digit ∷ []) = if sign == 121 && nat_le 50 digit && nat_le digit 55 then Some (record { side = Y; left = digit - 48 }) else None
+several_of (sign ∷ digit ∷ []) = if sign == LETTER && nat_le FEWEST digit && nat_le digit MOST then Some (record { side = Y; left = digit - ZERO }) else None
 several_of _ = None
 
 -- the turn that a word names
@@ -91,8 +93,8 @@ has_one_slash (w ∷ ws) = if is_slash w then not (list_any is_slash ws) else ha
 abbrev pub fits : Form → List Bytes → Bool
 fits forms.Over ws = are_none ws
 fits forms.Move ws = are_two ws
-fits forms.All ws = each_has_one 58 ws
-fits forms.Pairs ws = each_has_one 45 ws
+fits forms.All ws = each_has_one COLON ws
+fits forms.Pairs ws = each_has_one HYPHEN ws
 fits forms.Potential ws = are_none ws
 fits forms.Trees ws = has_one_slash ws
 fits forms.Cuts ws = has_one_slash ws

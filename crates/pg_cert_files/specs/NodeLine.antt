@@ -10,6 +10,7 @@ use Rattle.pg_text.specs.Text.{Bytes, parts, pair_of, two_parts, number, ascend_
 use Rattle.pg_game.specs.Game.{is_touched}
 use Rattle.pg_cert.specs.declared.limits.TheConstants.{MAX_CLAIM_NODES}
 use Rattle.pg_cert.specs.declared.cert.Version.{Version}
+use Rattle.pg_cert_files.specs.declared.signs.TheConstants.{COLON, HYPHEN}
 use Rattle.pg_cert_files.specs.Form.{has_bar, only_word, is_slash, Shape, shape_of}
 use Rattle.pg_cert_files.specs.declared.fault.Fault.{Fault}
 use Rattle.pg_cert_files.specs.declared.fault.Fault.TheVariants as faults
@@ -74,11 +75,11 @@ weaker_of (Some word) = and_then (child_of word) (λ j. Ok (bodies.Weaker j))
 
 -- what a word of replies says
 abbrev pub word_reply : Bytes → Result Reply Fault
-word_reply word = reply_of (two_parts 58 word)
+word_reply word = reply_of (two_parts COLON word)
 
 -- what a word of pairs says
 abbrev pub word_pair : Bytes → Result Pair Fault
-word_pair word = points_pair (two_parts 45 word)
+word_pair word = points_pair (two_parts HYPHEN word)
 
 -- replies whose points ascend
 abbrev pub replies_of : List Bytes → Result (List Reply) Fault

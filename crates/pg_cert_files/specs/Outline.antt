@@ -13,6 +13,7 @@ use Rattle.pg_cert.specs.declared.reply.Reply.{Reply}
 use Rattle.pg_text.specs.Faults.{Fails, and_then, each_of}
 use Rattle.pg_text.specs.Text.{Bytes, Four, parts, four_parts, words_of}
 use Rattle.pg_text.specs.declared.error.LineError.{LineError}
+use Rattle.pg_cert_files.specs.declared.signs.TheConstants.{COLON}
 use Rattle.pg_cert_files.specs.Form.{form_of, turn_of, each_has_one, fits, Shape}
 use Rattle.pg_cert_files.specs.NodeLine.{point_of, field_words, if_ascending, word_reply, body_of}
 use Rattle.pg_cert_files.specs.declared.fault.Fault.{Fault}
@@ -45,7 +46,7 @@ formed_each sign read ws = if each_has_one sign ws then each_of read ws else Err
 
 -- replies whose points ascend, where each word has the sign once
 abbrev pub formed_replies : List Bytes → Result (List Reply) Fault
-formed_replies ws = and_then (formed_each 58 word_reply ws) (λ rs. if_ascending (map (λ r. r.point) rs) rs)
+formed_replies ws = and_then (formed_each COLON word_reply ws) (λ rs. if_ascending (map (λ r. r.point) rs) rs)
 
 -- a body, where the words have its form
 abbrev pub formed_body : Form → List Bytes → Result Body Fault

@@ -14,6 +14,7 @@ mod numerals;
 mod progress;
 mod reader;
 mod reading;
+mod signs;
 mod turn;
 mod values;
 

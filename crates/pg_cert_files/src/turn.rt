@@ -5,6 +5,18 @@ ghost use Rattle.pg_cert_files.specs.Form.{turn_of};
 
 use pg_base::Side;
 
+/// The sign of Y before a number of points.
+const LETTER: u8 = b'y';
+
+/// The digit from which the value of a digit counts.
+const ZERO: u8 = b'0';
+
+/// The digit of the fewest points that are several.
+const FEWEST: u8 = b'2';
+
+/// The digit of the most points that Y claims in a turn.
+const MOST: u8 = b'7';
+
 /// The side to move, and how many points it still claims.
 #[derive(Clone, Copy, Debug, PartialEq, Eq)]
 pub struct Turn {
@@ -27,9 +39,9 @@ pub fn turn_of(word: &[u8]) -> Option<Turn>
             side: Side::Y,
             left: 1,
         }),
-        [b'y', digit @ b'2'..=b'7'] => Some(Turn {
+        [LETTER, digit @ FEWEST..=MOST] => Some(Turn {
             side: Side::Y,
-            left: *digit - b'0',
+            left: *digit - ZERO,
         }),
         _ => None,
     }

@@ -7,6 +7,7 @@ ghost use Rattle.pg_text.specs.Text.{number, parts, two_parts, words_of, ascend_
 ghost use Rattle.pg_base.specs.declared.limits.TheConstants.{MAX_MEMBERS};
 ghost use Rattle.pg_base.specs.declared.signs.TheConstants.{SPACE};
 ghost use Rattle.pg_text.specs.Faults.{Gives, each_of};
+ghost use Rattle.pg_cert_files.specs.declared.signs.TheConstants.{COLON, HYPHEN};
 ghost use Rattle.pg_cert_files.specs.NodeLine.{below, point_of, child_of, ascending_of, field_words, word_reply, word_pair, begins_with_e, after_e, before_slash, after_slash, edges_of};
 ghost use Rattle.pg_cert_files.specs.Numerals.{SaysFirst};
 ghost use Rattle.pg_cert_files.specs.Outline.{IsFirstPoint, formed_each, formed_replies, gathered_from};
@@ -14,6 +15,7 @@ ghost use Rattle.pg_cert_files.specs.Outline.{IsFirstPoint, formed_each, formed_
 use crate::fault::Fault;
 use crate::form::{each_has_one, is_slash};
 use crate::numerals::{first_number, two_numbers};
+use crate::signs::{COLON, HYPHEN};
 use pg_base::{MAX_MEMBERS, Pair, PointSet};
 use pg_cert::{EdgeSet, MAX_CLAIM_NODES, Reply};
 use pg_text::{LineError, Words, ascend, first_word, number, two_parts};
@@ -133,7 +135,7 @@ pub(crate) fn set_apart(other: &PointSet, field: &[u8]) -> Result<PointSet, Line
 fn reply(word: &[u8]) -> Result<Reply, LineError<Fault>>
     ensures { Gives (λ r. r) result (word_reply word.now) }
 {
-    let Some((first, second)) = two_parts(b':', word) else {
+    let Some((first, second)) = two_parts(COLON, word) else {
         return Err(LineError::Fault(Fault::Number));
     };
     let point = point(first)?;
@@ -145,7 +147,7 @@ fn reply(word: &[u8]) -> Result<Reply, LineError<Fault>>
 fn pair(word: &[u8]) -> Result<Pair, LineError<Fault>>
     ensures { Gives (λ p. p) result (word_pair word.now) }
 {
-    let Some((first, second)) = two_parts(b'-', word) else {
+    let Some((first, second)) = two_parts(HYPHEN, word) else {
         return Err(LineError::Fault(Fault::Number));
     };
     let a = point(first)?;
@@ -156,9 +158,9 @@ fn pair(word: &[u8]) -> Result<Pair, LineError<Fault>>
 /// The pair that the first word says, if it is two points with a sign between them, and the text of the other words.
 #[tactic(auto, using(crate::proofs::Outlines::says_pair))]
 fn first_pair(text: &[u8]) -> Option<(Pair, Option<&[u8]>)>
-    ensures { IfSome result (λ p. SaysFirst 45 word_pair text.now p.0 (option_map (λ w. w.now) p.1)) }
+    ensures { IfSome result (λ p. SaysFirst HYPHEN word_pair text.now p.0 (option_map (λ w. w.now) p.1)) }
 {
-    let (a, b, others) = two_numbers(b'-', text)?;
+    let (a, b, others) = two_numbers(HYPHEN, text)?;
     let limit = u32::from(MAX_MEMBERS);
     if a >= limit || b >= limit {
         return None;
@@ -172,9 +174,9 @@ fn first_pair(text: &[u8]) -> Option<(Pair, Option<&[u8]>)>
 
 /// The pairs that the words say, each read word by word.
 fn pairs_by_word(alloc: Global, words: Words) -> Result<Vec<Pair>, LineError<Fault>>
-    ensures { Gives (λ v. v.items) result (formed_each 45 word_pair words.entry) }
+    ensures { Gives (λ v. v.items) result (formed_each HYPHEN word_pair words.entry) }
 {
-    if !each_has_one(b'-', words.again()) {
+    if !each_has_one(HYPHEN, words.again()) {
         return Err(LineError::Fault(Fault::Form));
     }
     words.each(alloc, |word| pair(word))
@@ -183,7 +185,7 @@ fn pairs_by_word(alloc: Global, words: Words) -> Result<Vec<Pair>, LineError<Fau
 /// The pairs that the words of the text say. Where one isn't a pair of points, its fault is found word by word.
 #[tactic(auto, using(crate::proofs::Outlines::reads_begin, crate::proofs::Outlines::reads_on, crate::proofs::Outlines::reads_end))]
 pub(crate) fn pairs(alloc: Global, text: Option<&[u8]>) -> Result<Vec<Pair>, LineError<Fault>>
-    ensures { Gives (λ v. v.items) result (formed_each 45 word_pair (words_of (option_map (λ w. w.now) text.entry))) }
+    ensures { Gives (λ v. v.items) result (formed_each HYPHEN word_pair (words_of (option_map (λ w. w.now) text.entry))) }
 {
     let mut found = Vec::new(alloc);
     let mut rest = text;
@@ -201,9 +203,9 @@ pub(crate) fn pairs(alloc: Global, text: Option<&[u8]>) -> Result<Vec<Pair>, Lin
 /// words.
 #[tactic(auto, using(crate::proofs::Outlines::says_reply))]
 fn first_reply(text: &[u8]) -> Option<(Reply, Option<&[u8]>)>
-    ensures { IfSome result (λ r. SaysFirst 58 word_reply text.now r.0 (option_map (λ w. w.now) r.1)) }
+    ensures { IfSome result (λ r. SaysFirst COLON word_reply text.now r.0 (option_map (λ w. w.now) r.1)) }
 {
-    let (point, child, others) = two_numbers(b':', text)?;
+    let (point, child, others) = two_numbers(COLON, text)?;
     if point >= u32::from(MAX_MEMBERS) || child >= MAX_CLAIM_NODES {
         return None;
     }
@@ -216,9 +218,9 @@ fn first_reply(text: &[u8]) -> Option<(Reply, Option<&[u8]>)>
 
 /// The replies that the words say, each read word by word.
 fn replies_by_word(alloc: Global, words: Words) -> Result<Vec<Reply>, LineError<Fault>>
-    ensures { Gives (λ v. v.items) result (formed_each 58 word_reply words.entry) }
+    ensures { Gives (λ v. v.items) result (formed_each COLON word_reply words.entry) }
 {
-    if !each_has_one(b':', words.again()) {
+    if !each_has_one(COLON, words.again()) {
         return Err(LineError::Fault(Fault::Form));
     }
     words.each(alloc, |word| reply(word))
@@ -227,7 +229,7 @@ fn replies_by_word(alloc: Global, words: Words) -> Result<Vec<Reply>, LineError<
 /// The replies that the words of the text say. Where one isn't a reply, its fault is found word by word.
 #[tactic(auto, using(crate::proofs::Outlines::reads_begin, crate::proofs::Outlines::reads_on, crate::proofs::Outlines::reads_end))]
 fn reply_list(alloc: Global, text: Option<&[u8]>) -> Result<Vec<Reply>, LineError<Fault>>
-    ensures { Gives (λ v. v.items) result (formed_each 58 word_reply (words_of (option_map (λ w. w.now) text.entry))) }
+    ensures { Gives (λ v. v.items) result (formed_each COLON word_reply (words_of (option_map (λ w. w.now) text.entry))) }
 {
     let mut found = Vec::new(alloc);
     let mut rest = text;

@@ -2,7 +2,7 @@
 use Rattle.std.specs.Prelude.{ℕ, ◌+◌, ◌*◌, ◌-◌, ◌/◌, ◌%◌, ◌<◌, ◌≤◌, ◌==◌, max, nat_le, if◌then◌else◌, Option, Some, None, IfSome, slice_index}
 use Rattle.pg_game.specs.declared.bounds.TheConstants.{MAX_VERTICES}
 use Rattle.pg_picture.specs.declared.shape.Place.{Place}
-use Rattle.pg_draw.specs.declared.measures.TheConstants.{APART, CELL, HALF, MARGIN, MAX_ON_RING, ROW, TOP}
+use Rattle.pg_draw.specs.declared.measures.TheConstants.{APART, CELL, HALF, MARGIN, MAX_ON_RING, MIN_RADIUS, QUARTER, ROW, SINE_OF_QUARTER, SPREAD, TOP, TURN}
 use Rattle.pg_draw.specs.declared.vertices.Plan.{Plan}
 use Rattle.pg_draw.specs.declared.sines.TheConstants.{SINES}
 use Rattle.pg_gen.specs.declared.limits.TheConstants.{MAX_BRIDGE_ROWS}
@@ -33,29 +33,29 @@ place_on_grid width point = at (MARGIN + HALF + CELL * (point % max width 1)) (T
 
 -- ---- circles
 
--- the sine of so many 128ths of a quarter of a turn, times the radius
+-- the sine of so many steps, times the radius
 abbrev pub part_of : ℕ → ℕ → ℕ
-part_of radius part = radius * slice_index SINES part / 10000
+part_of radius part = radius * slice_index SINES part / SINE_OF_QUARTER
 
--- the place on a circle of that radius after so many 512ths of a turn, from the top and clockwise
+-- the place on a circle of that radius after so many steps, from the top and clockwise
 abbrev pub place_after : ℕ → ℕ → Place
 place_after radius step =
-    let sine = part_of radius (step % 128) in
-    let cosine = part_of radius (128 - step % 128) in
+    let sine = part_of radius (step % QUARTER) in
+    let cosine = part_of radius (QUARTER - step % QUARTER) in
     let across = MARGIN + HALF + radius in
     let down = TOP + HALF + radius in
-    if step / 128 == 0 then at (across + sine) (down - cosine)
-    else if step / 128 == 1 then at (across + cosine) (down + sine)
-    else if step / 128 == 2 then at (across - sine) (down + cosine)
+    if step / QUARTER == 0 then at (across + sine) (down - cosine)
+    else if step / QUARTER == 1 then at (across + cosine) (down + sine)
+    else if step / QUARTER == 2 then at (across - sine) (down + cosine)
     else at (across - cosine) (down - sine)
 
 -- the radius of a circle on which so many lie
 abbrev pub radius_of : ℕ → ℕ
-radius_of count = max (8 * count) 100
+radius_of count = max (SPREAD * count) MIN_RADIUS
 
 -- the place of one of so many on a circle
 unfoldable pub place_on_circle : ℕ → ℕ → Place
-place_on_circle count index = place_after (radius_of count) (index * 512 / max count 1)
+place_on_circle count index = place_after (radius_of count) (index * TURN / max count 1)
 
 -- the place of one of so many points that have no place of their own: on a circle, and in rows where there are more
 abbrev pub place_on_ring : ℕ → ℕ → Place

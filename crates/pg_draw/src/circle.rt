@@ -3,31 +3,34 @@ ghost use Rattle.std.specs.Prelude.{◌≡◌, ◌≤◌, ◌<◌, ◌^◌};
 ghost use Rattle.pg_draw.specs.Places.{IsWithin, part_of, place_after, place_on_circle, radius_of};
 ghost use Rattle.pg_game.specs.declared.bounds.TheConstants.{MAX_VERTICES};
 
-use crate::measures::{HALF, MARGIN, MAX_CIRCLE_REACH, MAX_RADIUS, TOP};
+use crate::measures::{
+    HALF, MARGIN, MAX_CIRCLE_REACH, MAX_RADIUS, MIN_RADIUS, QUARTER, SINE_OF_QUARTER, SPREAD, TOP,
+    TURN,
+};
 use crate::sines::SINES;
 use pg_picture::Place;
 
-/// The sine of so many 128ths of a quarter of a turn, times the radius.
+/// The sine of so many steps, times the radius.
 fn part_of(radius: u32, part: usize) -> u32
     requires small { radius ≤ MAX_RADIUS }
-    requires part { part ≤ 128 }
+    requires part { part ≤ QUARTER }
     ensures part { result ≡ part_of radius part }
     ensures small { result < 2 ^ 16 }
 {
-    radius * u32::from(SINES[part]) / 10_000
+    radius * u32::from(SINES[part]) / SINE_OF_QUARTER
 }
 
-/// The place on a circle after so many 512ths of a turn, from the top and clockwise.
+/// The place on a circle after so many steps, from the top and clockwise.
 fn place_after(radius: u32, step: u32) -> Place
     requires small { radius ≤ MAX_RADIUS }
     ensures place { result ≡ place_after radius step }
     ensures near { IsWithin MAX_CIRCLE_REACH result }
 {
-    let sine = part_of(radius, (step % 128) as usize);
-    let cosine = part_of(radius, 128 - (step % 128) as usize);
+    let sine = part_of(radius, (step % QUARTER) as usize);
+    let cosine = part_of(radius, (QUARTER - step % QUARTER) as usize);
     let across = MARGIN + HALF + radius;
     let down = TOP + HALF + radius;
-    match step / 128 {
+    match step / QUARTER {
         0 => Place {
             across: across + sine,
             down: down.saturating_sub(cosine),
@@ -53,7 +56,7 @@ pub(crate) fn radius_of(count: u32) -> u32
     ensures radius { result ≡ radius_of count }
     ensures small { result ≤ MAX_RADIUS }
 {
-    (8 * count).max(100)
+    (SPREAD * count).max(MIN_RADIUS)
 }
 
 /// The place of one of so many on a circle.
@@ -63,5 +66,5 @@ pub(crate) fn place_on_circle(count: u32, index: u16) -> Place
     ensures place { result ≡ place_on_circle count index }
     ensures near { IsWithin MAX_CIRCLE_REACH result }
 {
-    place_after(radius_of(count), u32::from(index) * 512 / count.max(1))
+    place_after(radius_of(count), u32::from(index) * TURN / count.max(1))
 }

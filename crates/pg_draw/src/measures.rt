@@ -105,6 +105,21 @@ pub(crate) const CROSS_BOTTOM: u32 = 34;
 /// The furthest that something stands beside its place.
 pub(crate) const MAX_SHIFT: u32 = 100;
 
+/// How many steps a quarter of a turn has.
+pub(crate) const QUARTER: u32 = 128;
+
+/// How many steps a turn has.
+pub(crate) const TURN: u32 = 512;
+
+/// The sine of a quarter of a turn in the table of sines.
+pub(crate) const SINE_OF_QUARTER: u32 = 10_000;
+
+/// How much the radius of a circle grows with each that lies on it.
+pub(crate) const SPREAD: u32 = 8;
+
+/// The least radius of a circle.
+pub(crate) const MIN_RADIUS: u32 = 100;
+
 /// The greatest radius of a circle.
 pub(crate) const MAX_RADIUS: u32 = 4_000;
 

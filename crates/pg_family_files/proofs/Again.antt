@@ -10,17 +10,19 @@ use Rattle.pg_base.specs.declared.side.Side.{Side}
 use Rattle.pg_base.specs.Side.{side_word}
 use Rattle.pg_text.specs.Text.{Bytes}
 use Rattle.pg_graph.specs.declared.graph.Graph.{Graph}
+use Rattle.pg_files.specs.Print.{marked, edge_words, last_lines}
+use Rattle.pg_files.specs.declared.key.Key.TheVariants as game_keys
 use Rattle.pg_files.proofs.SetLaws.{below-members}
 use Rattle.pg_files.proofs.RoundTrip.{smaller, one_small, two_small}
 use Rattle.pg_span.specs.declared.game.SpanGame.{SpanGame}
 use Rattle.pg_gf2.specs.declared.game.VecGame.{VecGame}
 use Rattle.pg_family_files.specs.FamilyFile.{made, span_of, span_game, vectors_of, vector_game}
-use Rattle.pg_family_files.specs.Print.{header, numbered, worded, marked, signs_of, edge_words, vector_words, last_lines, span_lines, vector_lines, printed_span, printed_vectors}
+use Rattle.pg_family_files.specs.Print.{header, numbered, worded, signs_of, vector_words, span_lines, vector_lines, printed_span, printed_vectors}
 use Rattle.pg_family_files.specs.Views.{span_entry, vector_entry}
 use Rattle.pg_family_files.specs.declared.family.Family.TheVariants as families
 use Rattle.pg_family_files.specs.declared.family.Key.TheVariants as keys
 use Rattle.pg_family_files.proofs.SignsAgain.{signs_word, signs_length}
-use Rattle.pg_family_files.proofs.PrintSize.{AreLinesIn, IsShort, both_in, each_in, header_in, numbers_in, word_in, turn_in, marks_in}
+use Rattle.pg_family_files.proofs.PrintSize.{AreLinesIn, IsShort, both_in, each_in, header_in, key_short, numbers_in, word_in, turn_in, marks_in}
 use Rattle.pg_family_files.proofs.RoundTrip.{of_edges, of_vectors, rank_within, span_goes, vectors_go, file_again}
 
 -- ---- sizes
@@ -30,10 +32,10 @@ marks_few points s few below = smaller points (members s) few (below-members poi
 
 last_in : (points : ℕ) (x y : FinSet nat_cmp) (turn : Side) → points ≤ 1000 → AreBelow x points → AreBelow y points → AreLinesIn (last_lines x y turn) 264708
 last_in points x y turn few x_below y_below =
-    let a = marks_in keys.X (members x) (marks_few points x few x_below) (points_below-length x 1024) in
-    let b = marks_in keys.Y (members y) (marks_few points y few y_below) (points_below-length y 1024) in
-    let rest = both_in (marked keys.Y (members y)) (worded keys.Turn (side_word turn) ∷ []) _ _ b (turn_in turn) in
-    both_in (marked keys.X (members x)) (marked keys.Y (members y) ++ worded keys.Turn (side_word turn) ∷ []) _ _ a rest
+    let a = marks_in game_keys.X (members x) (key_short keys.X) (marks_few points x few x_below) (points_below-length x 1024) in
+    let b = marks_in game_keys.Y (members y) (key_short keys.Y) (marks_few points y few y_below) (points_below-length y 1024) in
+    let rest = both_in (marked game_keys.Y (members y)) (worded keys.Turn (side_word turn) ∷ []) _ _ b (turn_in turn) in
+    both_in (marked game_keys.X (members x)) (marked game_keys.Y (members y) ++ worded keys.Turn (side_word turn) ∷ []) _ _ a rest
 
 wider : (wss : List (List Bytes)) (m n : ℕ) → m ≤ n → AreLinesIn wss m → AreLinesIn wss n
 wider wss m n le h = record { words = h.words; few = omega (arith, h.few, le) }

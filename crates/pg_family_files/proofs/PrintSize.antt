@@ -14,9 +14,12 @@ use Rattle.pg_base.specs.declared.side.Side.TheVariants as sides
 use Rattle.pg_text.specs.Text.{Bytes, spelled}
 use Rattle.pg_files.proofs.Words.{is_word, decimals_are_words}
 use Rattle.pg_files.proofs.RoundTrip.{AreSmall}
-use Rattle.pg_files.proofs.PrintSize.{AreWords}
+use Rattle.pg_files.specs.Print.{number_words, marked}
+use Rattle.pg_files.specs.Key.{key_name as game_key_name}
+use Rattle.pg_files.specs.declared.key.Key.{Key as GameKey}
+use Rattle.pg_files.proofs.PrintSize.{AreWords, both_words}
 use Rattle.pg_family_files.specs.Family.{key_name}
-use Rattle.pg_family_files.specs.Print.{header, numbered, worded, marked}
+use Rattle.pg_family_files.specs.Print.{header, numbered, worded}
 use Rattle.pg_family_files.specs.declared.family.Family.{Family}
 use Rattle.pg_family_files.specs.declared.family.Family.TheVariants as families
 use Rattle.pg_family_files.specs.declared.family.Key.{Key}
@@ -54,10 +57,6 @@ line_in w ws first others =
     let e : length (w ++ behind) ≡ length w + length behind = length-append w behind in
     record { words = (are_words (w ∷ ws) (first, others), tt); few = omega (arith, a, b, e, first.few, behind_len ws others) }
 
-both_words : (a b : List (List Bytes)) → AllByRecursion AreWords a → AllByRecursion AreWords b → AllByRecursion AreWords (a ++ b)
-both_words [] b p q = q
-both_words (x ∷ a) b p q = (p.0, both_words a b p.1 q)
-
 pub both_in : (a b : List (List Bytes)) (m n : ℕ) → AreLinesIn a m → AreLinesIn b n → AreLinesIn (a ++ b) (m + n)
 both_in a b m n p q =
     let cut : length (flat_map spelled (a ++ b)) ≡ length (flat_map spelled a) + length (flat_map spelled b) = ap length (flat_map-append spelled a b) ∙ length-append (flat_map spelled a) (flat_map spelled b) in
@@ -76,7 +75,7 @@ each_in words room P (x ∷ xs) d one all =
 
 -- ---- the words of a file
 
-key_short : (key : Key) → IsShort (key_name key)
+pub key_short : (key : Key) → IsShort (key_name key)
 key_short keys.Vertices = record { word = refl; few = lit≤ tt }
 key_short keys.Edge = record { word = refl; few = lit≤ tt }
 key_short keys.Rows = record { word = refl; few = lit≤ tt }
@@ -108,10 +107,13 @@ pub header_in : (family : Family) → AreLinesIn (header family ∷ []) 258
 header_in families.Connectivity = record { words = (refl, tt); few = lit≤ tt }
 header_in families.Vectors = record { words = (refl, tt); few = lit≤ tt }
 
-pub numbers_in : (key : Key) (ns : List ℕ) → AreSmall ns → AreLinesIn (numbered key ns ∷ []) (129 * (1 + length ns))
-numbers_in key ns small =
-    let line = line_in (key_name key) (map decimal ns) (key_short key) (decimals_short ns small) in
+line_of_numbers : (word : Bytes) (ns : List ℕ) → IsShort word → AreSmall ns → AreLinesIn (number_words word ns ∷ []) (129 * (1 + length ns))
+line_of_numbers word ns short small =
+    let line = line_in word (map decimal ns) short (decimals_short ns small) in
     record { words = line.words; few = omega (arith, line.few, length-decimals ns) }
+
+pub numbers_in : (key : Key) (ns : List ℕ) → AreSmall ns → AreLinesIn (numbered key ns ∷ []) (129 * (1 + length ns))
+numbers_in key ns small = line_of_numbers (key_name key) ns (key_short key) small
 
 pub word_in : (key : Key) (word : Bytes) → IsShort word → AreLinesIn (worded key word ∷ []) 258
 word_in key word short = line_in (key_name key) (word ∷ []) (key_short key) (short, tt)
@@ -119,6 +121,6 @@ word_in key word short = line_in (key_name key) (word ∷ []) (key_short key) (s
 pub turn_in : (turn : Side) → AreLinesIn (worded keys.Turn (side_word turn) ∷ []) 258
 turn_in turn = word_in keys.Turn (side_word turn) (side_short turn)
 
-pub marks_in : (key : Key) (ns : List ℕ) → AreSmall ns → length ns ≤ 1024 → AreLinesIn (marked key ns) 132225
-marks_in key [] small short = record { words = tt; few = lit≤ tt }
-marks_in key (n ∷ ns) small short = let line = numbers_in key (n ∷ ns) small in record { words = line.words; few = omega (arith, line.few) }
+pub marks_in : (key : GameKey) (ns : List ℕ) → IsShort (game_key_name key) → AreSmall ns → length ns ≤ 1024 → AreLinesIn (marked key ns) 132225
+marks_in key [] word small short = record { words = tt; few = lit≤ tt }
+marks_in key (n ∷ ns) word small short = let line = line_of_numbers (game_key_name key) (n ∷ ns) word small in record { words = line.words; few = omega (arith, line.few) }

@@ -17,13 +17,15 @@ use Rattle.pg_base.specs.declared.side.Side.TheVariants as sides
 use Rattle.pg_text.specs.Text.{Bytes, spaced, lines, words, spelled}
 use Rattle.pg_text.specs.Faults.{reading}
 use Rattle.pg_files.specs.Sets.{set_of, repeats}
-use Rattle.pg_files.specs.GameFile.{is_outside, begins_comment}
+use Rattle.pg_files.specs.GameFile.{begins_comment}
+use Rattle.pg_files.specs.Print.{marked, edge_words, last_lines}
+use Rattle.pg_files.specs.declared.key.Key.TheVariants as game_keys
 use Rattle.pg_files.proofs.Words.{is_word, words_again, numbers_decimals, spaced_printable, decimals_are_words, lines_spelled}
 use Rattle.pg_files.proofs.SetLaws.{repeats_none, below-members, members-apart}
-use Rattle.pg_files.proofs.RoundTrip.{AreSmall, smaller, one_small, two_small, side_is_word}
+use Rattle.pg_files.proofs.RoundTrip.{AreSmall, smaller, one_small, two_small, inside, side_is_word}
 use Rattle.pg_family_files.specs.Family.{has_key, key_name, key_of, rank_of, needed_rank, head_rank}
 use Rattle.pg_family_files.specs.FamilyFile.{Draft, nothing, points_so_far, is_out_of_place, keyed, significant, after, whole}
-use Rattle.pg_family_files.specs.Print.{header, numbered, worded, marked, signs_of, edge_words, vector_words, last_lines}
+use Rattle.pg_family_files.specs.Print.{header, numbered, worded, signs_of, vector_words}
 use Rattle.pg_family_files.specs.declared.family.Family.{Family}
 use Rattle.pg_family_files.specs.declared.family.Family.TheVariants as families
 use Rattle.pg_family_files.specs.declared.family.Key.{Key}
@@ -89,12 +91,6 @@ after_keyed family d key arguments has begun e =
     after_words family d (key_name key) arguments (rw (key_is_word key, e) refl) (key_is_plain key arguments) ∙ rw (begun, key_again family key has) refl
 
 -- ---- where keys stand
-
-inside : (low high n : ℕ) → low ≤ n → n ≤ high → is_outside low high n ≡ false
-inside low high n least most =
-    let a : nat_lt n low ≡ false = grind (arith, nat_tests) in
-    let b : nat_lt high n ≡ false = grind (arith, nat_tests) in
-    rw (a, b) refl
 
 -- a key whose rank is above the greatest
 in_place : (family : Family) (d : Draft) (key : Key) → d.rank < rank_of key → needed_rank family key ≤ d.rank → is_out_of_place family d key ≡ false
@@ -216,7 +212,7 @@ head_small families.Connectivity r le = omega (arith, le)
 head_small families.Vectors r le = le
 
 marks_x : (family : Family) (d : Draft) (ns : List ℕ) (s : FinSet nat_cmp) → TakesMarks family d → d.rank < 5 → d.x ≡ empty → set_of ns ≡ s → list_all (λ n. nat_lt n (points_so_far family d)) ns ≡ true → repeats empty ns ≡ false
-    → (rank : ℕ) × (head_rank family ≤ rank) × (rank < 6) × Goes family d (text (marked keys.X ns)) (record d { rank = rank; x = s })
+    → (rank : ℕ) × (head_rank family ≤ rank) × (rank < 6) × Goes family d (text (marked game_keys.X ns)) (record d { rank = rank; x = s })
 marks_x family d [] s h five none is below different = (d.rank, h.needed, omega arith, λ n others. (n, ap (λ (x : FinSet nat_cmp). reading (after family) n (record d { x = x }) others) (none ∙ is)))
 marks_x family d (m ∷ ms) s h five none is below different =
     let ns : List ℕ = m ∷ ms in
@@ -229,7 +225,7 @@ marks_x family d (m ∷ ms) s h five none is below different =
     )
 
 marks_y : (family : Family) (d : Draft) (ns : List ℕ) (s : FinSet nat_cmp) → TakesMarks family d → d.rank < 6 → d.y ≡ empty → set_of ns ≡ s → list_all (λ n. nat_lt n (points_so_far family d)) ns ≡ true → repeats d.x ns ≡ false
-    → (rank : ℕ) × (head_rank family ≤ rank) × (rank < 7) × Goes family d (text (marked keys.Y ns)) (record d { rank = rank; y = s })
+    → (rank : ℕ) × (head_rank family ≤ rank) × (rank < 7) × Goes family d (text (marked game_keys.Y ns)) (record d { rank = rank; y = s })
 marks_y family d [] s h six none is below different = (d.rank, h.needed, omega arith, λ n others. (n, ap (λ (y : FinSet nat_cmp). reading (after family) n (record d { y = y }) others) (none ∙ is)))
 marks_y family d (m ∷ ms) s h six none is below different =
     let ns : List ℕ = m ∷ ms in
@@ -261,8 +257,8 @@ last_goes family d x y turn h five no_x no_y x_below y_below apart =
     let d2 : Draft = record d1 { rank = b.0; y = y } in
     let h2 : TakesMarks family d2 = record { begun = h.begun; needed = b.1; few = h.few } in
     let d3 : Draft = record d2 { rank = 7; turn = Some turn } in
-    goes_both family d d1 d3 (marked keys.X (members x)) (marked keys.Y (members y) ++ worded keys.Turn (side_word turn) ∷ []) a.3
-    (goes_both family d1 d2 d3 (marked keys.Y (members y)) (worded keys.Turn (side_word turn) ∷ []) b.3 (the_turn family d2 turn h2 b.2))
+    goes_both family d d1 d3 (marked game_keys.X (members x)) (marked game_keys.Y (members y) ++ worded keys.Turn (side_word turn) ∷ []) a.3
+    (goes_both family d1 d2 d3 (marked game_keys.Y (members y)) (worded keys.Turn (side_word turn) ∷ []) b.3 (the_turn family d2 turn h2 b.2))
 
 -- ---- the first lines
 

@@ -1,25 +1,23 @@
 -- What is read is within the limits.
-use Rattle.std.proofs.Common.{◌≡◌, ℕ, suc, ◌+◌, ◌^◌, ◌<◌, ◌≤◌, lit<, lit≤, Bool, true, false, cond, ◌&&◌, ◌||◌, ◌⊎◌, inl, inr, List, [], ◌∷◌, ◌++◌, length, arith, refl, sym, ap, subst, ◌∙◌, Option, Some, None, Result, Ok, Err}
-use Rattle.std.specs.Prelude.{◌==◌, nat_lt, nat_le, not, is_none, find, unwrap_or}
+use Rattle.std.proofs.Common.{◌≡◌, ℕ, ◌+◌, ◌^◌, ◌<◌, ◌≤◌, lit<, lit≤, Bool, true, false, cond, ◌&&◌, ◌||◌, inl, inr, List, [], ◌∷◌, ◌++◌, length, arith, refl, sym, ap, subst, ◌∙◌, Option, Some, None, Result, Ok, Err}
+use Rattle.std.specs.Prelude.{◌==◌, nat_lt, nat_le, not, is_none, find}
 use Rattle.std.specs.List.{list_all, All}
 use Rattle.std.specs.FinSet.{FinSet, contains, empty, contains-empty}
 use Rattle.std.specs.Ordering.{nat_cmp}
 use Rattle.std.specs.Str.{bytes_eq}
-use Rattle.std.proofs.lemmas.Bool.{cases_lt, ltb-true, ltb-false, and_parts, or_parts}
+use Rattle.std.proofs.lemmas.Bool.{cases_lt, ltb-false, and_parts, or_parts}
 use Rattle.std.proofs.lemmas.Nat.{pow_pos}
 use Rattle.std.proofs.lemmas.Bool.Decides.{nat_tests}
 use Rattle.std.proofs.lemmas.List.{length-append}
 use Rattle.std.proofs.lemmas.List.Elements.{All-push}
-use Rattle.pg_base.specs.Points.{AreBelow, ShareNone}
 use Rattle.pg_base.specs.declared.side.Side.{Side}
-use Rattle.pg_text.specs.Text.{Bytes, words, lines, number, numbers, then_numbers}
-use Rattle.pg_text.specs.Faults.{unless, reading, go_on}
+use Rattle.pg_text.specs.Text.{Bytes, words, lines, numbers}
+use Rattle.pg_text.specs.Faults.{reading, go_on}
 use Rattle.pg_files.specs.declared.fault.Fault.{Fault}
 use Rattle.pg_files.specs.declared.fault.Fault.TheVariants as faults
-use Rattle.pg_files.specs.Sets.{set_of}
-use Rattle.pg_files.specs.GameFile.{first, rest, numbers_of, first_number, second_number, is_outside, is_printable, begins_comment}
-use Rattle.pg_files.proofs.SetLaws.{in_set_of, has-below, repeats_apart}
-use Rattle.pg_files.proofs.Sound.{none_applies}
+use Rattle.pg_files.specs.GameFile.{first, rest, numbers_of, first_number, second_number, is_printable, begins_comment}
+use Rattle.pg_files.proofs.SetLaws.{in_set_of, repeats_apart}
+use Rattle.pg_files.proofs.Sound.{AreEnds, AreMarks, none_applies, not_false, outside_not, none_below, no_marks, set_below, no_ends, more_ends, two_below, unless_ok, done, ok_is, chosen}
 use Rattle.pg_span.specs.Fits.{AreSpanParts}
 use Rattle.pg_gf2.specs.Fits.{AreVectorParts}
 use Rattle.pg_family_files.specs.Family.{has_key, key_name, key_of, all_keys, rank_of, needed_rank, head_rank, is_connectivity, is_vectors}
@@ -45,22 +43,11 @@ abbrev pub HasSize : Family → ℕ → ℕ → Type 0
 HasSize families.Connectivity vertices rows = (2 ≤ vertices) × (vertices ≤ 500)
 HasSize families.Vectors vertices rows = (1 ≤ rows) × (rows ≤ 128)
 
--- the edges are within the limits
-pub record AreEnds (vertices : ℕ) (ends : List (ℕ × ℕ)) : Type 0 where
-  pub each : All (λ e. (e.0 < vertices) × (e.1 < vertices)) ends
-  pub count : length ends ≤ 1000
-
 -- the target and the vectors are within the limits
 pub record AreVectors (rows target : ℕ) (vectors : List ℕ) : Type 0 where
   pub goal : target < 2 ^ rows
   pub each : All (λ v. v < 2 ^ rows) vectors
   pub count : length vectors ≤ 1000
-
--- the marks are points and apart
-pub record AreMarks (points : ℕ) (x y : FinSet nat_cmp) : Type 0 where
-  pub x_below : AreBelow x points
-  pub y_below : AreBelow y points
-  pub apart : ShareNone x y
 
 -- what the lines so far have said is within the limits
 pub record IsSound (family : Family) (d : Draft) : Type 0 where
@@ -95,37 +82,8 @@ head_two families.Vectors r le = omega (arith, le)
 
 -- ---- the parts
 
-not_false : (a : Bool) → not a ≡ false → a ≡ true
-not_false true e = refl
-not_false false e = absurd cc
-
-outside_not : (low high n : ℕ) → is_outside low high n ≡ false → (low ≤ n) × (n ≤ high)
-outside_not low high n e = let parts = or_parts (nat_lt n low) (nat_lt high n) e in (ltb-false n low parts.0, ltb-false high n parts.1)
-
-none_in : (limit : ℕ) (s : FinSet nat_cmp) → s ≡ empty → AreBelow s limit
-none_in limit s e = λ v h. let none : contains s v ≡ false = ap (λ (u : FinSet nat_cmp). contains u v) e ∙ contains-empty nat_cmp v in absurd cc
-
-no_marks : (limit : ℕ) (x y : FinSet nat_cmp) → x ≡ empty → y ≡ empty → AreMarks limit x y
-no_marks limit x y e f = record {
-  x_below = none_in limit x e;
-  y_below = none_in limit y f;
-  apart = λ v h. ap (λ (u : FinSet nat_cmp). contains u v) f ∙ contains-empty nat_cmp v;
-}
-
-set_below : (limit : ℕ) (ns : List ℕ) → list_all (λ n. nat_lt n limit) ns ≡ true → AreBelow (set_of ns) limit
-set_below limit ns all = λ v h. ltb-true v limit (has-below limit ns v all (sym (in_set_of ns v) ∙ h))
-
-no_ends : (vertices : ℕ) (ends : List (ℕ × ℕ)) → ends ≡ [] → AreEnds vertices ends
-no_ends vertices ends e = rw e (record { each = λ i d lt. absurd (omega arith); count = lit≤ tt })
-
 no_vectors : (rows target : ℕ) (vectors : List ℕ) → target < 2 ^ rows → vectors ≡ [] → AreVectors rows target vectors
 no_vectors rows target vectors small e = rw e (record { goal = small; each = λ i d lt. absurd (omega arith); count = lit≤ tt })
-
-more_ends : (vertices a b : ℕ) (ends : List (ℕ × ℕ)) → AreEnds vertices ends → a < vertices → b < vertices → length ends < 1000 → AreEnds vertices (ends ++ (a, b) ∷ [])
-more_ends vertices a b ends h one two few = record {
-  each = All-push (λ e. (e.0 < vertices) × (e.1 < vertices)) ends (a, b) h.each (one, two);
-  count = omega (arith, length-append ends ((a, b) ∷ []));
-}
 
 more_vectors : (rows target v : ℕ) (vectors : List ℕ) → AreVectors rows target vectors → v < 2 ^ rows → length vectors < 1000 → AreVectors rows target (vectors ++ v ∷ [])
 more_vectors rows target v vectors h small few = record {
@@ -133,23 +91,6 @@ more_vectors rows target v vectors h small few = record {
   each = All-push (λ v. v < 2 ^ rows) vectors v h.each small;
   count = omega (arith, length-append vectors (v ∷ []));
 }
-
--- words that are numbers are as many numbers
-length-numbers : (ws : List Bytes) → is_none (numbers ws) ≡ false → length (numbers_of ws) ≡ length ws
-unfolding numbers
-length-numbers [] some = refl
-length-numbers (w ∷ ws) some = step (number w) (numbers ws) (length ws) (λ h. length-numbers ws h) some
-  where
-    step : (n : Option ℕ) (ns : Option (List ℕ)) (k : ℕ) → (is_none ns ≡ false → length (unwrap_or ns []) ≡ k) → is_none (then_numbers n ns) ≡ false → length (unwrap_or (then_numbers n ns) []) ≡ suc k
-    step None ns k h some = absurd cc
-    step (Some n) None k h some = absurd cc
-    step (Some n) (Some ns) k h some = ap (λ (m : ℕ). suc m) (h refl)
-
--- two numbers of which each is below a limit
-pair_below : (limit : ℕ) (ns : List ℕ) → length ns ≡ 2 → list_all (λ n. nat_lt n limit) ns ≡ true → (first_number ns < limit) × (second_number ns < limit)
-pair_below limit [] two all = absurd (omega arith)
-pair_below limit (a ∷ []) two all = absurd (omega arith)
-pair_below limit (a ∷ b ∷ ns) two all = let x = and_parts (nat_lt a limit) (list_all (λ n. nat_lt n limit) (b ∷ ns)) all in let y = and_parts (nat_lt b limit) (list_all (λ n. nat_lt n limit) ns) x.1 in (ltb-true a limit x.0, ltb-true b limit y.0)
 
 of_connectivity : (family : Family) (vertices rows : ℕ) → is_connectivity family ≡ true → 2 ≤ vertices → vertices ≤ 500 → HasSize family vertices rows
 of_connectivity families.Connectivity vertices rows is some few = (some, few)
@@ -221,7 +162,7 @@ keeps_edge family d arguments has sound e =
     let up : d.rank ≤ 4 = at.up in
     let form = or_parts (not (length arguments == 2)) (is_none (numbers arguments)) rows.1.1.0 in
     let pair : length arguments ≡ 2 = grind (arith, nat_tests, form.0) in
-    let each = pair_below d.vertices ns (length-numbers arguments form.1 ∙ pair) (not_false (list_all (λ n. nat_lt n d.vertices) ns) rows.1.1.1.0) in
+    let each = two_below d.vertices arguments pair form.1 (not_false (list_all (λ n. nat_lt n d.vertices) ns) rows.1.1.1.0) in
     let room : nat_le 1000 (length d.ends) ≡ false = rows.1.1.1.1.1.0 in
     let fewer : length d.ends < 1000 = grind (arith, nat_tests) in
     let order = sound.order in
@@ -264,7 +205,7 @@ keeps_x family d arguments has sound e =
       vectors = sound.vectors;
       marks = record {
         x_below = set_below (points_so_far family d) (numbers_of arguments) below;
-        y_below = none_in (points_so_far family d) d.y none;
+        y_below = none_below (points_so_far family d) d.y none;
         apart = λ v h. ap (λ (u : FinSet nat_cmp). contains u v) none ∙ contains-empty nat_cmp v;
       };
     }
@@ -324,19 +265,9 @@ found_passes test (k ∷ ks) key e = found_first test k key (test k) (find test 
 key_fits : (family : Family) (word : Bytes) (key : Key) → key_of family word ≡ Some key → has_key family key ≡ true
 key_fits family word key e = (and_parts (has_key family key) (bytes_eq (key_name key) word) (found_passes (λ k. has_key family k && bytes_eq (key_name k) word) all_keys key e)).0
 
-unless_ok : (fault : Option Fault) (x y : Draft) → unless fault x ≡ Ok y → (fault ≡ None) × (x ≡ y)
-unless_ok None x y e = (refl, cc)
-unless_ok (Some f) x y e = absurd cc
-
 keyed_ok : (family : Family) (d next : Draft) (key : Key) (arguments : List Bytes) → keyed family d key arguments ≡ Ok next → (keyed_fault family d key arguments ≡ None) × (said d key arguments ≡ next)
 unfolding keyed
 keyed_ok family d next key arguments e = unless_ok (keyed_fault family d key arguments) (said d key arguments) next e
-
-abbrev done : {A B : Type 0} → A → Result A B
-done x = Ok x
-
-ok_is : {A B : Type 0} (x y : A) → ◌≡◌ {A = Result A B} (Ok x) (Ok y) → x ≡ y
-ok_is x y e = cc
 
 sound_named : (family : Family) (d next : Draft) (word : Bytes) (key : Option Key) (arguments : List Bytes) → IsSound family d → key_of family word ≡ key → named family d key arguments ≡ Ok next → IsSound family next
 sound_named family d next word None arguments sound is e = absurd cc
@@ -352,11 +283,6 @@ begins family d sound = record {
   vectors = sound.vectors;
   marks = sound.marks;
 }
-
--- an if-chain, by the way that the test went
-chosen : {A : Type 0} (b : Bool) (x y z : A) → cond b x y ≡ z → ((b ≡ true) × (x ≡ z)) ⊎ ((b ≡ false) × (y ≡ z))
-chosen true x y z e = inl (refl, e)
-chosen false x y z e = inr (refl, e)
 
 sound_significant : (family : Family) (d next : Draft) (ws : List Bytes) → IsSound family d → significant family d ws ≡ Ok next → IsSound family next
 unfolding significant

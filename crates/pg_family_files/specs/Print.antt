@@ -1,13 +1,8 @@
 -- The printed texts of games of the families.
 use Rattle.std.specs.Prelude.{ℕ, zero, suc, ◌+◌, ◌/◌, ◌%◌, List, [], ◌∷◌, ◌++◌, map, codes}
 use Rattle.std.specs.List.{flat_map}
-use Rattle.std.specs.Fmt.{decimal}
-use Rattle.std.specs.FinSet.{FinSet}
-use Rattle.std.specs.Ordering.{nat_cmp}
-use Rattle.pg_base.specs.Points.{members}
-use Rattle.pg_base.specs.Side.{side_word}
-use Rattle.pg_base.specs.declared.side.Side.{Side}
 use Rattle.pg_text.specs.Text.{Bytes, spelled}
+use Rattle.pg_files.specs.Print.{number_words, edge_words, last_lines}
 use Rattle.pg_span.specs.declared.game.SpanGame.{SpanGame}
 use Rattle.pg_gf2.specs.declared.game.VecGame.{VecGame}
 use Rattle.pg_family_files.specs.Family.{header_word, key_name}
@@ -22,33 +17,20 @@ header family = header_word family ∷ codes "1" ∷ []
 
 -- the words of a key and numbers
 abbrev pub numbered : Key → List ℕ → List Bytes
-numbered key ns = key_name key ∷ map decimal ns
+numbered key ns = number_words (key_name key) ns
 
 -- the words of a key and a word
 abbrev pub worded : Key → Bytes → List Bytes
 worded key word = key_name key ∷ word ∷ []
-
--- a line of marks, where there are any
-abbrev pub marked : Key → List ℕ → List (List Bytes)
-marked key [] = []
-marked key (n ∷ ns) = numbered key (n ∷ ns) ∷ []
 
 -- the signs of a vector, the lowest bit first
 unfoldable pub signs_of : ℕ → ℕ → Bytes
 signs_of zero v = []
 signs_of (suc rows) v = (48 + v % 2) ∷ signs_of rows (v / 2)
 
--- the words of an edge
-abbrev pub edge_words : ℕ × ℕ → List Bytes
-edge_words ends = numbered keys.Edge (ends.0 ∷ ends.1 ∷ [])
-
 -- the words of a vector
 abbrev pub vector_words : ℕ → ℕ → List Bytes
 vector_words rows v = worded keys.Vector (signs_of rows v)
-
--- the lines of the marks of both sides and of the turn
-abbrev pub last_lines : FinSet nat_cmp → FinSet nat_cmp → Side → List (List Bytes)
-last_lines x y turn = marked keys.X (members x) ++ (marked keys.Y (members y) ++ worded keys.Turn (side_word turn) ∷ [])
 
 -- the lines of a connectivity game, each as its words
 abbrev pub span_lines : SpanGame → List (List Bytes)

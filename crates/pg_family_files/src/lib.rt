@@ -15,7 +15,6 @@ mod laws;
 mod line;
 mod printing;
 mod reading;
-mod sets;
 mod signs;
 
 pub use cert_laws::{

@@ -1,10 +1,9 @@
 //! Reading a line of a file.
-ghost use Rattle.std.specs.Prelude.{◌≡◌, ◌≤◌, ◌==◌, ◌||◌, not, true, map, length, [], ◌∷◌, IfNone, IfSome, Some, IsTrue, is_none, nat_lt};
+ghost use Rattle.std.specs.Prelude.{◌≡◌, ◌≤◌, ◌==◌, ◌||◌, not, true, map, [], ◌∷◌, IfNone, Some, IsTrue, nat_lt};
 ghost use Rattle.std.specs.List.{list_all};
 ghost use Rattle.pg_base.specs.declared.limits.TheConstants.{MAX_EDGES, MAX_MEMBERS};
 ghost use Rattle.pg_text.specs.Text.{numbers};
 ghost use Rattle.pg_text.specs.Faults.{least, Becomes};
-ghost use Rattle.pg_files.specs.GameFile.{is_printable, begins_comment};
 ghost use Rattle.pg_files.specs.Sets.{repeats};
 ghost use Rattle.pg_files.specs.declared.fault.Fault.TheVariants as faults;
 ghost use Rattle.pg_family_files.specs.FamilyFile.{nothing, points_so_far, is_out_of_place, keyed, significant, after, is_header};
@@ -13,10 +12,9 @@ ghost use Rattle.pg_family_files.specs.declared.family.Key.TheVariants as keys;
 
 use crate::draft::Draft;
 use crate::family::{Family, Key};
-use crate::sets::{are_below, repeats, set_of};
 use crate::signs::vector_of;
-use pg_base::{MAX_EDGES, PointSet, SPACE, Side};
-use pg_files::Fault;
+use pg_base::{MAX_EDGES, PointSet, Side};
+use pg_files::{Fault, are_below, begins_comment, is_printable, repeats, set_of, two_numbers};
 use pg_game::MAX_VERTICES;
 use pg_gf2::{MAX_ROWS, MAX_VECTORS};
 use pg_text::{LineError, number, number_list, word_list};
@@ -319,38 +317,11 @@ impl Draft {
     }
 }
 
-/// The two numbers that the words spell, if there are two and each spells one.
-#[tactic(auto, unfolding(pg_text::specs::Text::numbers))]
-fn two_numbers(words: &[&[u8]]) -> Option<(u32, u32)>
-    ensures two { IfSome result (λ p. (length words.now ≡ 2) × (numbers (map (λ w. w.now) words.now) ≡ Some (p.0 ∷ p.1 ∷ []))) }
-    ensures other { IfNone result ((not (length words.now == 2) || is_none (numbers (map (λ w. w.now) words.now))) ≡ true) }
-{
-    let [first, second] = words else {
-        return None;
-    };
-    Some((number(first)?, number(second)?))
-}
-
 fn is_header(family: Family, words: &[&[u8]]) -> bool
     ensures { result ≡ is_header family (map (λ w. w.now) words.now) }
 {
     match words {
         [word, version] => *word == family.header().as_bytes() && *version == b"1".as_slice(),
-        _ => false,
-    }
-}
-
-fn is_printable(line: &[u8]) -> bool
-    ensures { result ≡ list_all is_printable line.now }
-{
-    line.iter().all(|b| SPACE <= *b && *b <= 126)
-}
-
-fn begins_comment(line: &[u8]) -> bool
-    ensures { result ≡ begins_comment line.now }
-{
-    match line {
-        [b'#', ..] => true,
         _ => false,
     }
 }

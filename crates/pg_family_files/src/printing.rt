@@ -1,13 +1,12 @@
 //! The texts of games.
 ghost use Rattle.std.specs.Prelude.{◌≡◌, ◌+◌, ◌%◌, ◌++◌, [], ◌∷◌, OnOk, IfOk, string_bytes};
 ghost use Rattle.std.specs.List.{flat_map};
-ghost use Rattle.pg_base.specs.Points.{members};
 ghost use Rattle.pg_text.specs.Text.{spelled};
-ghost use Rattle.pg_family_files.specs.Print.{header, numbered, worded, marked, signs_of, edge_words, vector_words, last_lines, printed_span, printed_vectors};
+ghost use Rattle.pg_family_files.specs.Print.{header, worded, signs_of, vector_words, printed_span, printed_vectors};
 
 use crate::family::{Family, Key};
-use crate::sets::members;
-use pg_base::{Memory, PointSet, Side};
+use pg_base::Memory;
+use pg_files::{put_edges, put_last, put_numbers};
 use pg_gf2::VecGame;
 use pg_span::SpanGame;
 use std::alloc::{AllocError, Global};
@@ -20,28 +19,6 @@ fn put_header(out: &mut String, family: Family) -> Result<(), AllocError>
     let word = family.header();
     write!(out, "{word} 1\n")?;
     Ok(())
-}
-
-/// A line of a key and numbers.
-fn put_numbers(out: &mut String, key: Key, numbers: &[u16]) -> Result<(), AllocError>
-    ensures { OnOk result (string_bytes out.new ≡ string_bytes out.old ++ spelled (numbered key numbers.now)) }
-{
-    out.push_str(key.name())?;
-    for n in numbers {
-        write!(out, " {n}")?;
-    }
-    out.push_str("\n")?;
-    Ok(())
-}
-
-/// A line of a key and marks, where there are any.
-fn put_marks(out: &mut String, key: Key, marks: &[u16]) -> Result<(), AllocError>
-    ensures { OnOk result (string_bytes out.new ≡ string_bytes out.old ++ flat_map spelled (marked key marks.now)) }
-{
-    if marks.is_empty() {
-        return Ok(());
-    }
-    put_numbers(out, key, marks)
 }
 
 /// The sign of the lowest bit.
@@ -74,16 +51,6 @@ fn put_vector(out: &mut String, key: Key, rows: u8, vector: u128) -> Result<(), 
     Ok(())
 }
 
-/// The edges of a game.
-fn put_edges(out: &mut String, edges: &[(u16, u16)]) -> Result<(), AllocError>
-    ensures { OnOk result (string_bytes out.new ≡ string_bytes out.old ++ flat_map (λ ends. spelled (edge_words ends)) edges.now) }
-{
-    for ends in edges {
-        put_numbers(out, Key::Edge, &[ends.0, ends.1])?;
-    }
-    Ok(())
-}
-
 /// The vectors of a game.
 fn put_vectors(out: &mut String, rows: u8, vectors: &[u128]) -> Result<(), AllocError>
     ensures { OnOk result (string_bytes out.new ≡ string_bytes out.old ++ flat_map (λ v. spelled (vector_words rows v)) vectors.now) }
@@ -91,26 +58,6 @@ fn put_vectors(out: &mut String, rows: u8, vectors: &[u128]) -> Result<(), Alloc
     for vector in vectors {
         put_vector(out, Key::Vector, rows, *vector)?;
     }
-    Ok(())
-}
-
-/// The marks of both sides, and the side to move.
-fn put_last(
-    alloc: Global,
-    out: &mut String,
-    x: &PointSet,
-    y: &PointSet,
-    turn: Side,
-) -> Result<(), AllocError>
-    ensures { OnOk result (string_bytes out.new ≡ string_bytes out.old ++ flat_map spelled (last_lines x.now y.now turn)) }
-{
-    let x = members(alloc, x)?;
-    let y = members(alloc, y)?;
-    put_marks(out, Key::X, &x)?;
-    put_marks(out, Key::Y, &y)?;
-    let name = Key::Turn.name();
-    let word = turn.word();
-    write!(out, "{name} {word}\n")?;
     Ok(())
 }
 
@@ -123,7 +70,7 @@ pub fn print_span(alloc: Global, g: &SpanGame) -> Result<Vec<u8>, Memory>
 {
     let mut out = String::new(alloc);
     put_header(&mut out, Family::Connectivity)?;
-    put_numbers(&mut out, Key::Vertices, &[g.graph.vertices])?;
+    put_numbers(&mut out, Key::Vertices.name(), &[g.graph.vertices])?;
     put_edges(&mut out, g.graph.ends.as_slice())?;
     put_last(alloc, &mut out, &g.x, &g.y, g.turn)?;
     Ok(out.into_bytes())
@@ -139,7 +86,7 @@ pub fn print_vectors(alloc: Global, g: &VecGame) -> Result<Vec<u8>, Memory>
 {
     let mut out = String::new(alloc);
     put_header(&mut out, Family::Vectors)?;
-    put_numbers(&mut out, Key::Rows, &[u16::from(g.rows)])?;
+    put_numbers(&mut out, Key::Rows.name(), &[u16::from(g.rows)])?;
     put_vector(&mut out, Key::Target, g.rows, g.target)?;
     put_vectors(&mut out, g.rows, g.vectors.as_slice())?;
     put_last(alloc, &mut out, &g.x, &g.y, g.turn)?;

@@ -73,7 +73,7 @@ marks_words : (key : Key) (ns : List ℕ) → AreSmall ns → AllByRecursion Are
 marks_words key [] small = tt
 marks_words key (n ∷ ns) small = (numbered_words key (n ∷ ns) small, tt)
 
-both_words : (a b : List (List Bytes)) → AllByRecursion AreWords a → AllByRecursion AreWords b → AllByRecursion AreWords (a ++ b)
+pub both_words : (a b : List (List Bytes)) → AllByRecursion AreWords a → AllByRecursion AreWords b → AllByRecursion AreWords (a ++ b)
 both_words [] b p q = q
 both_words (x ∷ a) b p q = (p.0, both_words a b p.1 q)
 

@@ -124,7 +124,7 @@ pub all_below : (limit : ℕ) (ns : List ℕ) → All (λ n. n < limit) ns → l
 all_below limit [] all = refl
 all_below limit (n ∷ ns) all = let here : n < limit = all 0 0 (omega arith) in rw (lt-ltb n limit here) (all_below limit ns (All-tail (λ n. n < limit) n ns all))
 
-inside : (low high n : ℕ) → low ≤ n → n ≤ high → is_outside low high n ≡ false
+pub inside : (low high n : ℕ) → low ≤ n → n ≤ high → is_outside low high n ≡ false
 inside low high n least most =
     let a : nat_lt n low ≡ false = grind (arith, nat_tests) in
     let b : nat_lt high n ≡ false = grind (arith, nat_tests) in

@@ -26,7 +26,7 @@ use Rattle.pg_text.specs.Text.{words}
 use Rattle.pg_base.specs.Points.{members}
 use Rattle.pg_base.proofs.MemberLemmas.{points_below-ascend, from_list-points_below}
 use Rattle.pg_files.specs.Sets.{set_of, ascending, repeats}
-use Rattle.pg_files.specs.Print.{header, numbered, worded, marked, size_words, bias_words, edge_words, field_words, printed, printed_lines}
+use Rattle.pg_files.specs.Print.{header, numbered, worded, marked, size_words, bias_words, edge_words, field_words, last_lines, printed, printed_lines}
 use Rattle.pg_base.specs.Kind.{kind_word}
 use Rattle.pg_base.specs.Side.{side_word}
 use Rattle.pg_files.specs.GameFile.{Draft, Entry, nothing, after, significant, game, game_of, is_misplaced, points_for, points_so_far, field_of}
@@ -206,7 +206,7 @@ the_turn kind d turn h seven =
 
 -- the marks of both sides and the turn
 tail_goes : (kind : Kind) (d : Draft) (x y : FinSet nat_cmp) (turn : Side) (points : ℕ) → TakesMarks kind d → d.rank < 5 → d.x ≡ empty → d.y ≡ empty → points_so_far d ≡ points → AreBelow x points → AreBelow y points → ShareNone x y
-    → Goes d (text (marked keys.X (members x) ++ (marked keys.Y (members y) ++ worded keys.Turn (side_word turn) ∷ []))) (record d { rank = 7; x = x; y = y; turn = Some turn })
+    → Goes d (text (last_lines x y turn)) (record d { rank = 7; x = x; y = y; turn = Some turn })
 tail_goes kind d x y turn points h five no_x no_y is x_below y_below apart =
     let few : points ≤ 1000 = omega (arith, h.few, is) in
     let x_in : list_all (λ n. nat_lt n (points_so_far d)) (members x) ≡ true = ap (λ k. list_all (λ n. nat_lt n k) (members x)) is ∙ below-members points x x_below in
@@ -358,7 +358,7 @@ at_end d g = record d { rank = 7; x = g.x; y = g.y; turn = Some g.turn }
 -- what is read of the field is all that is left to show
 file_goes : (g : Entry) (d : Draft) → IsFit g.kind g.field g.x g.y g.bias → Goes (of_kind g.kind) (text (field_words g.bias g.field)) d → TakesMarks g.kind d → d.rank < 5 → d.x ≡ empty → d.y ≡ empty → points_so_far d ≡ field_points g.field → Goes nothing (text (printed_lines g)) (at_end d g)
 file_goes g d fit field takes five no_x no_y is =
-    let tail = marked keys.X (members g.x) ++ (marked keys.Y (members g.y) ++ worded keys.Turn (side_word g.turn) ∷ []) in
+    let tail = last_lines g.x g.y g.turn in
     let marks = tail_goes g.kind d g.x g.y g.turn (field_points g.field) takes five no_x no_y is fit.x_range fit.y_range fit.disjoint in
     goes_then nothing (of_kind g.kind) (at_end d g) (text (header ∷ worded keys.Kind (kind_word g.kind) ∷ [])) (text (field_words g.bias g.field ++ tail)) (head_goes g.kind)
     (goes_both (of_kind g.kind) d (at_end d g) (field_words g.bias g.field) tail field marks)

@@ -49,15 +49,15 @@ pub none_applies : (rows : List (Fault × Bool)) → least rows ≡ None → All
 none_applies [] e = tt
 none_applies (row ∷ rows) e = split row.0 row.1 rows (none_applies rows) e
 
-not_false : (a : Bool) → not a ≡ false → a ≡ true
+pub not_false : (a : Bool) → not a ≡ false → a ≡ true
 not_false true e = refl
 not_false false e = absurd cc
 
-pub unless_ok : (fault : Option Fault) (x y : Draft) → unless fault x ≡ Ok y → (fault ≡ None) × (x ≡ y)
+pub unless_ok : {D : Type 0} (fault : Option Fault) (x y : D) → unless fault x ≡ Ok y → (fault ≡ None) × (x ≡ y)
 unless_ok None x y e = (refl, cc)
 unless_ok (Some f) x y e = absurd cc
 
-outside_not : (low high n : ℕ) → is_outside low high n ≡ false → (low ≤ n) × (n ≤ high)
+pub outside_not : (low high n : ℕ) → is_outside low high n ≡ false → (low ≤ n) × (n ≤ high)
 outside_not low high n e = let parts = or_parts (nat_lt n low) (nat_lt high n) e in (ltb-false n low parts.0, ltb-false high n parts.1)
 
 -- ---- what holds of a draft
@@ -217,23 +217,23 @@ kind_place (Some of) d h first = omega (arith, (placed of d keys.Kind h).under r
 
 -- ---- the parts
 
-none_below : (limit : ℕ) (s : FinSet nat_cmp) → s ≡ empty → AreBelow s limit
+pub none_below : (limit : ℕ) (s : FinSet nat_cmp) → s ≡ empty → AreBelow s limit
 none_below limit s e = λ v h. let none : contains s v ≡ false = ap (λ (u : FinSet nat_cmp). contains u v) e ∙ contains-empty nat_cmp v in absurd cc
 
-no_marks : (limit : ℕ) (x y : FinSet nat_cmp) → x ≡ empty → y ≡ empty → AreMarks limit x y
+pub no_marks : (limit : ℕ) (x y : FinSet nat_cmp) → x ≡ empty → y ≡ empty → AreMarks limit x y
 no_marks limit x y e f = record {
   x_below = none_below limit x e;
   y_below = none_below limit y f;
   apart = λ v h. ap (λ (u : FinSet nat_cmp). contains u v) f ∙ contains-empty nat_cmp v;
 }
 
-set_below : (limit : ℕ) (ns : List ℕ) → list_all (λ n. nat_lt n limit) ns ≡ true → AreBelow (set_of ns) limit
+pub set_below : (limit : ℕ) (ns : List ℕ) → list_all (λ n. nat_lt n limit) ns ≡ true → AreBelow (set_of ns) limit
 set_below limit ns all = λ v h. ltb-true v limit (has-below limit ns v all (sym (in_set_of ns v) ∙ h))
 
 no_lines : (points bias : ℕ) (grid : Option Grid) (lines : List (List ℕ)) → ((g : Grid) → grid ≡ Some g → g.width * g.height ≡ points) → lines ≡ [] → AreLines points bias grid lines
 no_lines points bias grid lines cells e = rw e (record { cells = cells; each = λ i d lt. absurd (omega arith); count = lit≤ tt; total = lit≤ tt })
 
-no_ends : (vertices : ℕ) (ends : List (ℕ × ℕ)) → ends ≡ [] → AreEnds vertices ends
+pub no_ends : (vertices : ℕ) (ends : List (ℕ × ℕ)) → ends ≡ [] → AreEnds vertices ends
 no_ends vertices ends e = rw e (record { each = λ i d lt. absurd (omega arith); count = lit≤ tt })
 
 line_is : (points bias : ℕ) (ns : List ℕ) → points ≤ 256 → list_all (λ n. nat_lt n points) ns ≡ true → repeats empty ns ≡ false → 0 < length ns → length ns ≤ longest bias → IsLineOf points bias (ascending ns)
@@ -251,7 +251,7 @@ more_lines points bias grid lines line h one few summed = record {
   total = omega (arith, sum_by_push length lines line);
 }
 
-more_ends : (vertices a b : ℕ) (ends : List (ℕ × ℕ)) → AreEnds vertices ends → a < vertices → b < vertices → length ends < 1000 → AreEnds vertices (ends ++ (a, b) ∷ [])
+pub more_ends : (vertices a b : ℕ) (ends : List (ℕ × ℕ)) → AreEnds vertices ends → a < vertices → b < vertices → length ends < 1000 → AreEnds vertices (ends ++ (a, b) ∷ [])
 more_ends vertices a b ends h first second few = record {
   each = All-push (λ e. (e.0 < vertices) × (e.1 < vertices)) ends (a, b) h.each (first, second);
   count = omega (arith, length-append ends ((a, b) ∷ []));
@@ -269,7 +269,7 @@ length-numbers (w ∷ ws) some = step (number w) (numbers ws) (length ws) (λ h.
     step (Some n) (Some ns) k h some = ap (λ (m : ℕ). suc m) (h refl)
 
 -- two numbers of which each is below a limit
-two_below : (limit : ℕ) (arguments : List Bytes) → length arguments ≡ 2 → is_none (numbers arguments) ≡ false → list_all (λ n. nat_lt n limit) (numbers_of arguments) ≡ true → (first_number (numbers_of arguments) < limit) × (second_number (numbers_of arguments) < limit)
+pub two_below : (limit : ℕ) (arguments : List Bytes) → length arguments ≡ 2 → is_none (numbers arguments) ≡ false → list_all (λ n. nat_lt n limit) (numbers_of arguments) ≡ true → (first_number (numbers_of arguments) < limit) × (second_number (numbers_of arguments) < limit)
 two_below limit arguments two some all = pair_below limit (numbers_of arguments) (length-numbers arguments some ∙ two) all
   where
     pair_below : (limit : ℕ) (ns : List ℕ) → length ns ≡ 2 → list_all (λ n. nat_lt n limit) ns ≡ true → (first_number ns < limit) × (second_number ns < limit)
@@ -615,10 +615,10 @@ pub keyed_ok : (d next : Draft) (key : Key) (arguments : List Bytes) → keyed d
 unfolding keyed
 keyed_ok d next key arguments e = unless_ok (keyed_fault d key arguments) (said d key arguments) next e
 
-abbrev done : {A B : Type 0} → A → Result A B
+abbrev pub done : {A B : Type 0} → A → Result A B
 done x = Ok x
 
-ok_is : {A B : Type 0} (x y : A) → ◌≡◌ {A = Result A B} (Ok x) (Ok y) → x ≡ y
+pub ok_is : {A B : Type 0} (x y : A) → ◌≡◌ {A = Result A B} (Ok x) (Ok y) → x ≡ y
 ok_is x y e = cc
 
 sound_named : (d next : Draft) (key : Option Key) (arguments : List Bytes) → IsSound d → named d key arguments ≡ Ok next → IsSound next
@@ -639,7 +639,7 @@ begins d sound = record {
 }
 
 -- an if-chain, by the way that the test went
-chosen : {A : Type 0} (b : Bool) (x y z : A) → cond b x y ≡ z → ((b ≡ true) × (x ≡ z)) ⊎ ((b ≡ false) × (y ≡ z))
+pub chosen : {A : Type 0} (b : Bool) (x y z : A) → cond b x y ≡ z → ((b ≡ true) × (x ≡ z)) ⊎ ((b ≡ false) × (y ≡ z))
 chosen true x y z e = inl (refl, e)
 chosen false x y z e = inr (refl, e)
 

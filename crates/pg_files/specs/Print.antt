@@ -2,7 +2,10 @@
 use Rattle.std.specs.Prelude.{ℕ, nat_lt, if◌then◌else◌, List, [], ◌∷◌, ◌++◌, map, codes, Option, Some, None}
 use Rattle.std.specs.List.{flat_map}
 use Rattle.std.specs.Fmt.{decimal}
+use Rattle.std.specs.FinSet.{FinSet}
+use Rattle.std.specs.Ordering.{nat_cmp}
 use Rattle.pg_base.specs.declared.grid.Grid.{Grid}
+use Rattle.pg_base.specs.declared.side.Side.{Side}
 use Rattle.pg_game.specs.declared.field.Field.{Field}
 use Rattle.pg_game.specs.declared.field.Field.TheVariants as fields
 use Rattle.pg_text.specs.Text.{Bytes, spelled}
@@ -14,9 +17,13 @@ use Rattle.pg_files.specs.GameFile.{Entry}
 use Rattle.pg_files.specs.declared.key.Key.{Key}
 use Rattle.pg_files.specs.declared.key.Key.TheVariants as keys
 
+-- the words of a word and numbers
+abbrev pub number_words : Bytes → List ℕ → List Bytes
+number_words word ns = word ∷ map decimal ns
+
 -- the words of a key and numbers
 abbrev pub numbered : Key → List ℕ → List Bytes
-numbered key ns = key_name key ∷ map decimal ns
+numbered key ns = number_words (key_name key) ns
 
 -- the words of a key and a word
 abbrev pub worded : Key → Bytes → List Bytes
@@ -49,9 +56,13 @@ abbrev pub field_words : ℕ → Field → List (List Bytes)
 field_words bias (fields.Lines f) = size_words f.points f.grid ∷ (bias_words bias ++ map (numbered keys.Line) f.lines)
 field_words bias (fields.Graph h) = numbered keys.Vertices (h.vertices ∷ []) ∷ numbered keys.Terminals (h.s ∷ h.t ∷ []) ∷ map edge_words h.ends
 
+-- the lines of the marks of both sides and of the turn
+abbrev pub last_lines : FinSet nat_cmp → FinSet nat_cmp → Side → List (List Bytes)
+last_lines x y turn = marked keys.X (members x) ++ (marked keys.Y (members y) ++ worded keys.Turn (side_word turn) ∷ [])
+
 -- the lines of a game, each as its words
 abbrev pub printed_lines : Entry → List (List Bytes)
-printed_lines g = header ∷ worded keys.Kind (kind_word g.kind) ∷ (field_words g.bias g.field ++ (marked keys.X (members g.x) ++ (marked keys.Y (members g.y) ++ worded keys.Turn (side_word g.turn) ∷ [])))
+printed_lines g = header ∷ worded keys.Kind (kind_word g.kind) ∷ (field_words g.bias g.field ++ last_lines g.x g.y g.turn)
 
 -- The printed text of a game.
 unfoldable pub printed : Entry → Bytes

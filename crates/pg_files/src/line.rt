@@ -484,7 +484,7 @@ fn grid_of(width: u32, height: u32) -> Option<Grid>
 
 /// The two numbers that the words spell, if there are two and each spells one.
 #[tactic(auto, unfolding(pg_text::specs::Text::numbers))]
-fn two_numbers(words: &[&[u8]]) -> Option<(u32, u32)>
+pub fn two_numbers(words: &[&[u8]]) -> Option<(u32, u32)>
     ensures two { IfSome result (λ p. (length words.now ≡ 2) × (numbers (map (λ w. w.now) words.now) ≡ Some (p.0 ∷ p.1 ∷ []))) }
     ensures other { IfNone result ((not (length words.now == 2) || is_none (numbers (map (λ w. w.now) words.now))) ≡ true) }
 {
@@ -510,13 +510,15 @@ fn is_header(words: &[&[u8]]) -> bool
     }
 }
 
-fn is_printable(line: &[u8]) -> bool
+/// Whether each byte may stand in a line.
+pub fn is_printable(line: &[u8]) -> bool
     ensures { result ≡ list_all is_printable line.now }
 {
     line.iter().all(|b| SPACE <= *b && *b <= 126)
 }
 
-fn begins_comment(line: &[u8]) -> bool
+/// Whether the first byte is `#`.
+pub fn begins_comment(line: &[u8]) -> bool
     ensures { result ≡ begins_comment line.now }
 {
     match line {

@@ -1,9 +1,0 @@
-use Rattle.std.proofs.Common.{◌≡◌, ◌++◌, take}
-use Rattle.std.specs.Prelude.{string_bytes}
-use Rattle.std.specs.List.{flat_map}
-use Rattle.pg_text.specs.Text.{spelled}
-use Rattle.pg_family_files.specs.Print.{edge_words}
-use Rattle.pg_family_files.proofs.printing.put_edges.Given as goal
-
-abbrev pub invariant-loop-ends : goal.invariant-loop-ends
-invariant-loop-ends l = string_bytes l.out ≡ string_bytes l.fn.out ++ flat_map (λ ends. spelled (edge_words ends)) (take l.ends-index l.edges)
