@@ -1,8 +1,8 @@
 -- Checks and plays of a family's games on a console.
-use Rattle.std.proofs.Common.{◌≡◌, ℕ, List, [], map, Result, Ok, Err, refl, sym, subst, inl, inr}
+use Rattle.std.proofs.Common.{◌≡◌, ℕ, List, [], map, Option, Result, Ok, Err, refl, sym, subst, inl, inr}
 use Rattle.pg_base.specs.declared.side.Side.{Side}
 use Rattle.pg_io.specs.Console.{ConsoleTold, Grows}
-use Rattle.pg_io.specs.Files.{Bytes}
+use Rattle.pg_io.specs.Files.{Bytes, FilesTold}
 use Rattle.pg_io.specs.declared.entry.Entry.{Entry}
 use Rattle.pg_io.specs.declared.entry.Entry.TheVariants.{Said}
 use Rattle.pg_io.specs.declared.stop.Stop.{Stop}
@@ -13,10 +13,13 @@ use Rattle.pg_texts.specs.declared.statuses.TheConstants.{DONE}
 use Rattle.pg_talk.specs.Contender.{Contender}
 use Rattle.pg_talk.specs.Done.{End, Finished, Failed, Starved, Performs, stop_end}
 use Rattle.pg_talk.specs.Playing.{IsPlay}
+use Rattle.pg_talk.specs.Reading.{OpensTwo}
+use Rattle.pg_talk.specs.Runs.{Runs}
 use Rattle.pg_talk.specs.Saying.{IsCut}
 use Rattle.pg_talk.specs.declared.halt.Halt.{Halt}
 use Rattle.pg_talk.specs.declared.halt.Halt.TheVariants.{Refused, Stopped}
-use Rattle.pg_talk.proofs.Runs.{performs_more, silent, talked_texts}
+use Rattle.pg_talk.proofs.Openings.{not_opened_two, opened_two}
+use Rattle.pg_talk.proofs.Runs.{performs_more, runs_halt, runs_read, silent, talked_texts}
 use Rattle.pg_families.specs.Judged.{AcceptsValid, PlaysValid, RefusesChecked, RefusesPlayed}
 
 -- nothing was said before work was stopped
@@ -52,3 +55,22 @@ module _ {G E C : Type 0} (entry : G → E) (IsValid : G → C → Type 0) (Reje
       → Performs (RefusesPlayed entry IsValid Rejects Lacks side (Ok (entry g, c))) (PlaysValid entry IsValid Has player (Ok (entry g, c))) console console (Err (Refused (NoClaim side)))
   played_unclaimed Has Lacks player side console none =
       refused_here (RefusesPlayed entry IsValid Rejects Lacks side (Ok (entry g, c))) (PlaysValid entry IsValid Has player (Ok (entry g, c))) console (NoClaim side) (g, refl, inr (valid, none, refl))
+
+-- ---- behind reading a game and a certificate
+
+module _ {A B : Type 0} (view : A → B) (read : Option Bytes → Option Bytes → Result B Halt) (Against : Result B Halt → Refusal → Type 0) (Act : Result B Halt → List Entry → End → Type 0)
+    (game certificate : Bytes) (files mid : FilesTold) (same : mid.held ≡ files.held) where
+  -- what the names hold stands against the work, or is worked on
+  abbrev RunsOnBoth : ConsoleTold → ConsoleTold → Result ℕ Halt → Type 0
+  RunsOnBoth before after r = Runs (λ held. Against (read (held game) (held certificate))) (λ held done end. Act (read (held game) (held certificate)) done.entries end × (done.stored ≡ []))
+      files mid before after r
+
+  pub runs_unread : ((refusal : Refusal) → Against (Err (Refused refusal)) refusal) → (console : ConsoleTold) (halt : Halt) → OpensTwo view read files.held game certificate (Err halt)
+      → RunsOnBoth console console (Err halt)
+  runs_unread against console halt opens =
+      runs_halt files mid same (λ held. Against (read (held game) (held certificate))) (λ held done end. Act (read (held game) (held certificate)) done.entries end × (done.stored ≡ [])) console halt
+      (λ held refusal is this. subst (λ (x : Result B Halt). Against x refusal) (sym (not_opened_two view read files.held game certificate held is halt refusal this opens)) (against refusal))
+
+  pub runs_both : (x : A) → OpensTwo view read files.held game certificate (Ok x) → (before after : ConsoleTold) (r : Result ℕ Halt) → Performs (Against (Ok (view x))) (Act (Ok (view x))) before after r
+      → RunsOnBoth before after r
+  runs_both x opens = runs_read files mid same Against Act (λ held. read (held game) (held certificate)) (Ok (view x)) (λ held is. opened_two view read files.held game certificate held is x opens)

@@ -1,11 +1,14 @@
 -- What names hold, from what was read of them.
-use Rattle.std.proofs.Common.{◌≡◌, ◌+◌, ℕ, true, length, take, Option, Some, Result, Err, inl, inr, refl, ap, arith}
+use Rattle.std.proofs.Common.{◌≡◌, ◌+◌, ℕ, true, length, take, Option, Some, Result, Err, inl, inr, refl, ap, subst, arith}
 use Rattle.std.specs.Prelude.{nat_lt}
 use Rattle.std.proofs.lemmas.Bool.{cases_lt}
 use Rattle.std.proofs.lemmas.Bool.Decides.{nat_tests}
 use Rattle.std.proofs.lemmas.List.{take_all}
 use Rattle.pg_io.specs.Files.{Bytes, Holding}
 use Rattle.pg_io.specs.Reading.{IsFile}
+use Rattle.pg_text.specs.Faults.{IsReadAs as IsReadBy}
+use Rattle.pg_text.specs.declared.error.FileError.{FileError}
+use Rattle.pg_text.specs.declared.error.FileError.TheVariants.{Bad}
 use Rattle.pg_files.specs.declared.fault.Fault.TheVariants.{Size}
 use Rattle.pg_files.specs.declared.limits.TheConstants.{MAX_GAME_BYTES}
 use Rattle.pg_gf2.specs.declared.game.VecGame.{VecGame}
@@ -15,9 +18,9 @@ use Rattle.pg_family_files.specs.FamilyFile.{span_game, vector_game, whole}
 use Rattle.pg_family_files.specs.SpanCertFile.{span_cert}
 use Rattle.pg_family_files.specs.Views.{span_entry, vector_entry}
 use Rattle.pg_family_files.specs.declared.cert_limits.TheConstants.{MAX_SPAN_CERT_BYTES}
-use Rattle.pg_talk.specs.Reading.{IsReadAs}
+use Rattle.pg_talk.specs.Reading.{IsReadAs, or_halt}
 use Rattle.pg_talk.specs.declared.halt.Halt.{Halt}
-use Rattle.pg_talk.proofs.Openings.{cut_same, opens_whole}
+use Rattle.pg_talk.proofs.Openings.{cut_same, opens_whole, read_bad}
 use Rattle.pg_families.specs.Connectivity.{OpensSpan, OpensSpanCert, span_cert_held, span_held}
 use Rattle.pg_families.specs.Vectors.{OpensVectors, vectors_held}
 
@@ -49,3 +52,9 @@ vector_cut all = cut_same MAX_GAME_BYTES vector_game (Err (Size, 0)) (λ text lo
 
 pub opens_vectors : (h : Option Holding) (name text : Bytes) (r : Result VecGame Halt) → IsFile h name MAX_GAME_BYTES text → IsReadAs vector_entry (vectors_held (Some text)) r → OpensVectors h name r
 opens_vectors h name text r whole is = opens_whole MAX_GAME_BYTES (λ (text : Bytes). vectors_held (Some text)) (λ all. rw (vector_cut all) refl) vector_entry h name text r whole is
+
+-- a bad file gives its fault's number and line
+pub bad_opened : {X Y F : Type 0} (number_of : F → ℕ) (halt_of : ℕ → ℕ → Halt) (seen : X → Y) (read : Bytes → Result Y (F × ℕ)) (fault : FileError) (number line : ℕ) (lent text : Bytes) → lent ≡ text → fault ≡ Bad number line
+    → IsReadBy number_of seen (Err fault) (read lent) → or_halt (λ f. halt_of (number_of f.0) f.1) (read text) ≡ Err (halt_of number line)
+bad_opened number_of halt_of seen read fault number line lent text same is bad =
+    read_bad number_of halt_of (read text) number line (subst (λ (f : FileError). IsReadBy number_of seen (Err f) (read text)) is (subst (λ (t : Bytes). IsReadBy number_of seen (Err fault) (read t)) same bad))

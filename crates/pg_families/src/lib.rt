@@ -1,7 +1,6 @@
 //! The commands of connectivity games and of games on vectors.
 #![tactic(auto)]
 
-mod contending;
 mod family;
 mod laws;
 mod opening;
@@ -9,7 +8,6 @@ mod span_check;
 mod span_play;
 mod span_solve;
 mod vec_check;
-mod vec_contending;
 mod vec_play;
 mod vec_solve;
 

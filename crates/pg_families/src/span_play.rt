@@ -2,45 +2,58 @@
 ghost use Rattle.std.specs.Prelude.{◌≡◌, [], Ok, IfErr, IfOk, ⊤};
 ghost use Rattle.pg_io.specs.Console.{Grows};
 ghost use Rattle.pg_io.specs.Files.{ReadsOnly};
-ghost use Rattle.pg_span.specs.Valid.{IsSpanValid};
 ghost use Rattle.pg_family_files.specs.SpanCertPrint.{IsWithinRanges};
 ghost use Rattle.pg_talk.specs.Done.{Performs};
 ghost use Rattle.pg_talk.specs.Halts.{BothCauses, HaltCauses, IsPlayEnd, IsPlayHalt};
 ghost use Rattle.pg_talk.specs.Runs.{QuietsBy, Runs};
 ghost use Rattle.pg_families.specs.Connectivity.{AreSpansLacking, PlaysSpan, RefusesSpanPlay, span_both_held, span_pair};
 
-use crate::contending::SpanContestant;
 use crate::opening::open_span_both;
-use pg_base::Side;
+use pg_base::{Goal, Kind, Score, Side};
+use pg_game::Illegal;
 use pg_io::{Console, Files, Stop};
-use pg_span::{SpanCert, SpanChecked, SpanFault, SpanGame, SpanOpen, SpanPlayer};
-use pg_talk::{Halt, play_claim};
+use pg_span::{SpanCert, SpanFault, SpanGame, SpanOpen, SpanPlayer};
+use pg_talk::{Contestant, Halt, play_claim};
 use pg_texts::Refusal;
 use std::alloc::Global;
 
-/// Plays a side of the game over a console by the claim for it.
-fn play_checked<C: Console>(
-    alloc: Global,
-    console: &mut C,
-    checked: SpanChecked<'_>,
-    side: Side,
-) -> Result<u8, Halt>
-    requires { IsSpanValid checked.game.now checked.cert.now }
-    ensures played { Performs
-        (RefusesSpanPlay side (Ok (span_pair (checked.entry.game.now, checked.entry.cert.now))))
-        (PlaysSpan side (Ok (span_pair (checked.entry.game.now, checked.entry.cert.now))))
-        (C.told console.old) (C.told console.new) result }
-    ensures causes { HaltCauses ⊥ (C.told console.old).faults (C.told console.new).faults result }
-    ensures done { IfOk result IsPlayEnd }
-    ensures halts { IfErr result IsPlayHalt }
-{
-    match SpanPlayer::open(alloc, checked, side) {
-        Ok(player) => {
-            let mut contestant = SpanContestant { player };
-            play_claim(&mut contestant, console)
-        }
-        Err(SpanOpen::NoClaim) => Err(Halt::Refused(Refusal::NoClaim { side })),
-        Err(SpanOpen::Memory) => Err(Halt::Stopped(Stop::Memory)),
+/// A player of a connectivity game.
+#[derive(Drop)]
+struct SpanContestant<'a> {
+    player: SpanPlayer<'a>,
+}
+
+impl<'a> Contestant for SpanContestant<'a> {
+    ghost use Rattle.pg_families.specs.Connectivity.{span_player};
+    ghost use Rattle.pg_families.specs.SpanPoints.{few_edges};
+
+    ghost contender = { λ s. span_player s.player };
+
+    ghost small = { λ s. few_edges s.player.game };
+
+    fn side(&self) -> Side {
+        self.player.side()
+    }
+
+    /// To win.
+    fn goal(&self) -> Goal {
+        Goal::Win
+    }
+
+    fn kind(&self) -> Kind {
+        self.player.kind()
+    }
+
+    fn outcome(&self) -> Option<Score> {
+        self.player.outcome()
+    }
+
+    fn first(&mut self) -> Option<u16> {
+        self.player.first()
+    }
+
+    fn answer(&mut self, v: u16) -> Result<Option<u16>, Illegal> {
+        self.player.answer(v)
     }
 }
 
@@ -61,7 +74,14 @@ fn play_by<C: Console>(
     ensures halts { IfErr result IsPlayHalt }
 {
     match pg_span::span_check(alloc, game, certificate) {
-        Ok(checked) => play_checked(alloc, console, checked, side),
+        Ok(checked) => match SpanPlayer::open(alloc, checked, side) {
+            Ok(player) => {
+                let mut contestant = SpanContestant { player };
+                play_claim(&mut contestant, console)
+            }
+            Err(SpanOpen::NoClaim) => Err(Halt::Refused(Refusal::NoClaim { side })),
+            Err(SpanOpen::Memory) => Err(Halt::Stopped(Stop::Memory)),
+        },
         Err(SpanFault::Reject { claim, why }) => Err(Halt::Refused(Refusal::RejectedSpan {
             claim,
             why: why.number(),

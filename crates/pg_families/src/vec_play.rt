@@ -2,7 +2,6 @@
 ghost use Rattle.std.specs.Prelude.{◌≡◌, [], Ok, IfErr, IfOk, ⊤};
 ghost use Rattle.pg_io.specs.Console.{Grows};
 ghost use Rattle.pg_io.specs.Files.{ReadsOnly};
-ghost use Rattle.pg_gf2.specs.Check.{IsVecValid};
 ghost use Rattle.pg_cert.specs.Limits.{IsWithinLimits};
 ghost use Rattle.pg_talk.specs.Done.{Performs};
 ghost use Rattle.pg_talk.specs.Halts.{BothCauses, HaltCauses, IsPlayEnd, IsPlayHalt};
@@ -10,39 +9,53 @@ ghost use Rattle.pg_talk.specs.Runs.{QuietsBy, Runs};
 ghost use Rattle.pg_families.specs.Vectors.{AreVectorsLacking, PlaysVectors, RefusesVectorPlay, vectors_both_held, vectors_pair};
 
 use crate::opening::open_vectors_both;
-use crate::vec_contending::VecContestant;
-use pg_base::Side;
+use pg_base::{Goal, Kind, Score, Side};
 use pg_cert::Cert;
-use pg_gf2::{VecChecked, VecFault, VecGame};
+use pg_game::Illegal;
+use pg_gf2::{VecFault, VecGame};
 use pg_io::{Console, Files, Stop};
-use pg_talk::{Halt, play_claim};
+use pg_talk::{Contestant, Halt, play_claim};
 use pg_texts::Refusal;
 use pg_vec_player::{VecOpen, VecPlayer};
 use std::alloc::Global;
 
-/// Plays a side of the game over a console by the claim for it.
-fn play_accepted<C: Console>(
-    alloc: Global,
-    console: &mut C,
-    checked: VecChecked<'_>,
-    side: Side,
-) -> Result<u8, Halt>
-    requires { IsVecValid checked.game.now checked.cert.now }
-    ensures played { Performs
-        (RefusesVectorPlay side (Ok (vectors_pair (checked.entry.game.now, checked.entry.cert.now))))
-        (PlaysVectors side (Ok (vectors_pair (checked.entry.game.now, checked.entry.cert.now))))
-        (C.told console.old) (C.told console.new) result }
-    ensures causes { HaltCauses ⊥ (C.told console.old).faults (C.told console.new).faults result }
-    ensures done { IfOk result IsPlayEnd }
-    ensures halts { IfErr result IsPlayHalt }
-{
-    match VecPlayer::open(alloc, checked, side) {
-        Ok(player) => {
-            let mut contestant = VecContestant { player };
-            play_claim(&mut contestant, console)
-        }
-        Err(VecOpen::NoClaim) => Err(Halt::Refused(Refusal::NoClaim { side })),
-        Err(VecOpen::Memory) => Err(Halt::Stopped(Stop::Memory)),
+/// A player of a game on vectors.
+#[derive(Drop)]
+struct VecContestant<'a> {
+    player: VecPlayer<'a>,
+}
+
+impl<'a> Contestant for VecContestant<'a> {
+    ghost use Rattle.pg_families.specs.Vectors.{vec_player};
+    ghost use Rattle.pg_families.specs.VectorPoints.{few_vectors};
+
+    ghost contender = { λ s. vec_player s.player };
+
+    ghost small = { λ s. few_vectors s.player.game };
+
+    fn side(&self) -> Side {
+        self.player.side()
+    }
+
+    /// To win.
+    fn goal(&self) -> Goal {
+        Goal::Win
+    }
+
+    fn kind(&self) -> Kind {
+        self.player.kind()
+    }
+
+    fn outcome(&self) -> Option<Score> {
+        self.player.outcome()
+    }
+
+    fn first(&mut self) -> Option<u16> {
+        self.player.first()
+    }
+
+    fn answer(&mut self, v: u16) -> Result<Option<u16>, Illegal> {
+        self.player.answer(v)
     }
 }
 
@@ -63,7 +76,14 @@ fn play_vectors_by<C: Console>(
     ensures halts { IfErr result IsPlayHalt }
 {
     match pg_gf2::vec_check(alloc, game, certificate) {
-        Ok(checked) => play_accepted(alloc, console, checked, side),
+        Ok(checked) => match VecPlayer::open(alloc, checked, side) {
+            Ok(player) => {
+                let mut contestant = VecContestant { player };
+                play_claim(&mut contestant, console)
+            }
+            Err(VecOpen::NoClaim) => Err(Halt::Refused(Refusal::NoClaim { side })),
+            Err(VecOpen::Memory) => Err(Halt::Stopped(Stop::Memory)),
+        },
         Err(VecFault::Reject { claim, node, why }) => Err(Halt::Refused(
             Refusal::RejectedVectors {
                 claim,

@@ -1,12 +1,10 @@
-use Rattle.std.proofs.Common.{◌∙◌, ap, sym, subst, Ok, Err}
-use Rattle.pg_io.specs.Files.{Bytes}
-use Rattle.pg_files.specs.Views.{IsReadAs, number_of}
-use Rattle.pg_text.specs.declared.error.FileError.{FileError}
+use Rattle.std.proofs.Common.{◌∙◌, ap, sym, Ok, Err}
+use Rattle.pg_files.specs.Views.{number_of}
 use Rattle.pg_family_files.specs.FamilyFile.{span_game}
 use Rattle.pg_family_files.specs.Views.{span_entry}
 use Rattle.pg_talk.specs.Reading.{game_fault}
-use Rattle.pg_talk.proofs.Openings.{read_ok, read_bad}
-use Rattle.pg_families.proofs.Openings.{opens_span}
+use Rattle.pg_talk.proofs.Openings.{read_ok}
+use Rattle.pg_families.proofs.Openings.{bad_opened, opens_span}
 use Rattle.pg_families.proofs.opening.open_span.Goals as goal
 
 pub returns-in-Ok-clause-opened : goal.returns-in-Ok-clause-opened
@@ -16,10 +14,5 @@ returns-in-Ok-clause-opened g c =
 
 pub returns-in-Err-Bad-clause-opened : goal.returns-in-Err-Bad-clause-opened
 returns-in-Err-Bad-clause-opened g c =
-    let number = c.in-Err-Bad.number in
-    let line = c.in-Err-Bad.line in
-    let text = c.in_ok-text.text.items in
-    let bad = subst (λ (f : FileError). IsReadAs span_entry (Err f) (span_game text)) c.in-Err-Bad.field-0-is
-    (subst (λ (t : Bytes). IsReadAs span_entry (Err c.in-Err-Bad.field-0) (span_game t)) c.deref.ensures.value c.in-Err-Bad.ensures) in
-    opens_span (g.F.Files.told c.args.files.now).held c.args.name.now text (Err (game_fault number line)) c.in_ok-text.ensures.bytes
-    (read_bad number_of game_fault (span_game text) number line bad)
+    opens_span (g.F.Files.told c.args.files.now).held c.args.name.now c.in_ok-text.text.items (Err (game_fault c.in-Err-Bad.number c.in-Err-Bad.line)) c.in_ok-text.ensures.bytes
+    (bad_opened number_of game_fault span_entry span_game c.in-Err-Bad.field-0 c.in-Err-Bad.number c.in-Err-Bad.line _ c.in_ok-text.text.items c.deref.ensures.value c.in-Err-Bad.field-0-is c.in-Err-Bad.ensures)

@@ -1,12 +1,10 @@
-use Rattle.std.proofs.Common.{◌∙◌, ap, sym, subst, Ok, Err}
-use Rattle.pg_io.specs.Files.{Bytes}
+use Rattle.std.proofs.Common.{◌∙◌, ap, sym, Ok, Err}
 use Rattle.pg_span.specs.declared.cert.SpanCert.{SpanCert}
-use Rattle.pg_text.specs.declared.error.FileError.{FileError}
 use Rattle.pg_family_files.specs.SpanCertFile.{span_cert}
-use Rattle.pg_family_files.specs.SpanCertViews.{IsReadAs, number_of}
+use Rattle.pg_family_files.specs.SpanCertViews.{number_of}
 use Rattle.pg_talk.specs.Reading.{certificate_fault}
-use Rattle.pg_talk.proofs.Openings.{read_ok, read_bad}
-use Rattle.pg_families.proofs.Openings.{opens_span_cert}
+use Rattle.pg_talk.proofs.Openings.{read_ok}
+use Rattle.pg_families.proofs.Openings.{bad_opened, opens_span_cert}
 use Rattle.pg_families.proofs.opening.open_span_cert.Goals as goal
 
 pub returns-in-Ok-clause-opened : goal.returns-in-Ok-clause-opened
@@ -16,10 +14,5 @@ returns-in-Ok-clause-opened g c =
 
 pub returns-in-Err-Bad-clause-opened : goal.returns-in-Err-Bad-clause-opened
 returns-in-Err-Bad-clause-opened g c =
-    let number = c.in-Err-Bad.number in
-    let line = c.in-Err-Bad.line in
-    let text = c.in_ok-text.text.items in
-    let bad = subst (λ (f : FileError). IsReadAs (λ (x : SpanCert). x) (Err f) (span_cert text)) c.in-Err-Bad.field-0-is
-    (subst (λ (t : Bytes). IsReadAs (λ (x : SpanCert). x) (Err c.in-Err-Bad.field-0) (span_cert t)) c.deref.ensures.value c.in-Err-Bad.ensures.read) in
-    opens_span_cert (g.F.Files.told c.args.files.now).held c.args.name.now text (Err (certificate_fault number line)) c.in_ok-text.ensures.bytes
-    (read_bad number_of certificate_fault (span_cert text) number line bad)
+    opens_span_cert (g.F.Files.told c.args.files.now).held c.args.name.now c.in_ok-text.text.items (Err (certificate_fault c.in-Err-Bad.number c.in-Err-Bad.line)) c.in_ok-text.ensures.bytes
+    (bad_opened number_of certificate_fault (λ (x : SpanCert). x) span_cert c.in-Err-Bad.field-0 c.in-Err-Bad.number c.in-Err-Bad.line _ c.in_ok-text.text.items c.deref.ensures.value c.in-Err-Bad.field-0-is c.in-Err-Bad.ensures.read)

@@ -1,5 +1,5 @@
 use Rattle.pg_families.proofs.Spans.{seen_moves}
-use Rattle.pg_families.proofs.contending.SpanContestantContestant.first.Goals as goal
+use Rattle.pg_families.proofs.span_play.SpanContestantContestant.first.Goals as goal
 
 pub returns : goal.returns
 returns c = seen_moves _ _ _ c.first.ensures

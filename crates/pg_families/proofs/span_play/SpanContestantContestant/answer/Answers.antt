@@ -1,5 +1,5 @@
 use Rattle.pg_families.proofs.Spans.{seen_answers}
-use Rattle.pg_families.proofs.contending.SpanContestantContestant.answer.Goals as goal
+use Rattle.pg_families.proofs.span_play.SpanContestantContestant.answer.Goals as goal
 
 pub returns-clause-answered : goal.returns-clause-answered
 returns-clause-answered c = seen_answers _ _ _ _ c.answer.ensures.answered
