@@ -1,5 +1,6 @@
 //! Files that are read in order and written in order, one of each at a time.
 ghost use Rattle.std.specs.Prelude.{◌≡◌, ◌<◌, ◌≤◌, true, false, length, IfOk, OnOk, OnErr, IsTrue};
+ghost use Rattle.std.specs.Prelude.{None};
 ghost use Rattle.pg_io.specs.Causes.{BlamesOpen, BlamesReads, BlamesWrites};
 ghost use Rattle.pg_io.specs.Files.{FilesTold, ReadsOnly, Opens, IsAbsent, Takes, Begins, Adds, Finishes};
 
@@ -45,6 +46,7 @@ pub trait Files {
     /// `Failed` means a fault of writing; then no file is being made.
     fn create(&mut self, name: &str) -> Result<(), Failed>
         ensures begun { OnOk result (Begins (told self.old).held name.now (told self.new).making) }
+        ensures dropped { OnErr result ((told self.new).making ≡ None) }
         ensures cause { BlamesWrites (told self.old).faults (told self.new).faults result }
         ensures held { (told self.new).held ≡ (told self.old).held }
         ensures busy { OnOk result ((told self.new).busy ≡ true) }
@@ -57,6 +59,7 @@ pub trait Files {
         requires { IsTrue (told self.old).busy }
         ensures added { OnOk result
             (Adds (told self.old).held (told self.old).making bytes.now (told self.new).making) }
+        ensures dropped { OnErr result ((told self.new).making ≡ None) }
         ensures cause { BlamesWrites (told self.old).faults (told self.new).faults result }
         ensures held { (told self.new).held ≡ (told self.old).held }
         ensures busy { OnOk result ((told self.new).busy ≡ true) }
@@ -64,10 +67,12 @@ pub trait Files {
 
     /// Stores the file that is being made under its name. No file is being made afterwards.
     ///
-    /// `Failed` means a fault of writing; then the name holds what it held before or the new bytes.
+    /// `Failed` means a fault of writing; then the name holds what it held before or the new bytes,
+    /// and nothing is left to be finished.
     fn finish(&mut self) -> Result<(), Failed>
         requires { IsTrue (told self.old).busy }
         ensures stored { Finishes (told self.old).held (told self.old).making (told self.new).held result }
+        ensures dropped { (told self.new).making ≡ None }
         ensures cause { BlamesWrites (told self.old).faults (told self.new).faults result }
         ensures idle { (told self.new).busy ≡ false };
 }

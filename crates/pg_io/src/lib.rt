@@ -1,12 +1,10 @@
-//! Files and a console as traits, in memory and over the system.
+//! Files and a console as traits, and in memory.
 #![tactic(auto)]
 
 mod console;
 mod entry;
 mod failing;
 mod files;
-mod host_console;
-mod host_files;
 mod mem_console;
 mod mem_files;
 mod reading;
@@ -17,8 +15,6 @@ mod text;
 pub use console::Console;
 pub use entry::{Entry, Heard};
 pub use files::{Failed, Files};
-pub use host_console::HostConsole;
-pub use host_files::{HostFiles, MAX_PART_NAMES};
 pub use mem_console::MemConsole;
 pub use mem_files::MemFiles;
 pub use reading::{MAX_PIECE_BYTES, pour, read_whole, store};

@@ -165,6 +165,7 @@ impl Files for MemFiles {
     /// A listed call fails, and another only for want of memory.
     fn create(&mut self, name: &str) -> Result<(), Failed>
         ensures begun { OnOk result (Begins (told_by self.old).held name.now (told_by self.new).making) }
+        ensures dropped { OnErr result ((told_by self.new).making ≡ None) }
         ensures cause { BlamesWrites (told_by self.old).faults (told_by self.new).faults result }
         ensures held { (told_by self.new).held ≡ (told_by self.old).held }
         ensures busy { OnOk result ((told_by self.new).busy ≡ true) }
@@ -191,6 +192,7 @@ impl Files for MemFiles {
         requires { IsTrue (told_by self.old).busy }
         ensures added { OnOk result
             (Adds (told_by self.old).held (told_by self.old).making bytes.now (told_by self.new).making) }
+        ensures dropped { OnErr result ((told_by self.new).making ≡ None) }
         ensures cause { BlamesWrites (told_by self.old).faults (told_by self.new).faults result }
         ensures held { (told_by self.new).held ≡ (told_by self.old).held }
         ensures busy { OnOk result ((told_by self.new).busy ≡ true) }
@@ -215,6 +217,7 @@ impl Files for MemFiles {
         requires { IsTrue (told_by self.old).busy }
         ensures stored { Finishes (told_by self.old).held (told_by self.old).making
             (told_by self.new).held result }
+        ensures dropped { (told_by self.new).making ≡ None }
         ensures cause { BlamesWrites (told_by self.old).faults (told_by self.new).faults result }
         ensures idle { (told_by self.new).busy ≡ false }
         ensures listed { FailsNext self.old.failing → IsErr result }

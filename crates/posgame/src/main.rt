@@ -2,14 +2,25 @@
 #![tactic(auto)]
 
 use pg_cli::run;
-use pg_io::{HostConsole, HostFiles};
+use pg_host::{HostConsole, HostFiles, guard_streams};
 use pg_pns::Work;
 use pg_texts::{NO_MEMORY, NO_WORDS};
 use std::env;
 use std::io::ErrorKind;
 use std::process::ExitCode;
 
+/// Returns whether the words, if they have a meaning, ask for a session to be recorded.
+fn records(words: &[String]) -> bool {
+    for word in words {
+        if word.as_str() != "--" {
+            return word.as_str() == "record";
+        }
+    }
+    false
+}
+
 fn main(rt: HostRuntime) -> ExitCode {
+    guard_streams(&rt);
     let arguments = match env::args(&rt) {
         Ok(arguments) => arguments,
         Err(error) => {
@@ -26,7 +37,11 @@ fn main(rt: HostRuntime) -> ExitCode {
             return ExitCode::from(NO_MEMORY);
         }
     }
-    let mut files = HostFiles::new(&rt);
+    let mut files = if records(&words) {
+        HostFiles::sparing_opened(&rt)
+    } else {
+        HostFiles::new(&rt)
+    };
     let mut console = HostConsole::new(&rt);
     let mut work = Work::new(rt.alloc());
     ExitCode::from(run(rt.alloc(), &words, &mut files, &mut console, &mut work))

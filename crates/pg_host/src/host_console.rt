@@ -1,10 +1,8 @@
 //! The console of the system. It tells neither its input nor a log.
 ghost use Rattle.std.specs.Prelude.{◌≡◌};
 
-use crate::console::Console;
-use crate::entry::Heard;
-use crate::files::Failed;
 use pg_base::LINE_FEED;
+use pg_io::{Console, Failed, Heard};
 use std::io;
 use std::io::{Input, Print, Read, Write};
 

@@ -1,0 +1,15 @@
+//! The files and the console of the system.
+#![tactic(auto)]
+
+mod host_console;
+mod host_files;
+mod inside;
+mod part;
+mod place;
+mod stored;
+mod streams;
+
+pub use host_console::HostConsole;
+pub use host_files::HostFiles;
+pub use part::MAX_PART_NAMES;
+pub use streams::guard_streams;
