@@ -2,6 +2,7 @@
 #![tactic(auto)]
 
 mod cell;
+mod corners;
 pub mod laws;
 mod limits;
 mod links;

@@ -11,6 +11,9 @@ use std::alloc::Global;
 fn merge(labels: &mut [usize], from: usize, to: usize)
     ensures { (k : ℕ) → k < length labels.old → slice_index labels.new k ≡ merged from to (slice_index labels.old k) }
 {
+    if from == to {
+        return;
+    }
     for label in labels.iter_mut() {
         if *label == from {
             *label = to;
@@ -52,8 +55,9 @@ pub fn is_connected(alloc: Global, cells: &[Cell]) -> Result<bool, Memory>
     let n = cells.len();
     let mut labels = own_labels(alloc, n)?;
     for i in 0..n {
-        for j in 0..n {
-            if cells[i].shares_side(cells[j]) {
+        let cell = cells[i];
+        for j in 0..i {
+            if cell.shares_side(cells[j]) {
                 let from = labels[j];
                 let to = labels[i];
                 merge(&mut labels, from, to);

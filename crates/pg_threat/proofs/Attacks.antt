@@ -38,7 +38,7 @@ none-near g p side depth h some none v n = let deep = none (v ∷ []) (near-fill
 -- ---- an attack that forces a reply
 
 -- a line without the point lacks what it lacks without it
-off-line : (s : FinSet nat_cmp) (v u : ℕ) (line : List ℕ) → filled_but (insert s v) u line ≡ true → is_on v line ≡ false → filled_but s u line ≡ true
+pub off-line : (s : FinSet nat_cmp) (v u : ℕ) (line : List ℕ) → filled_but (insert s v) u line ≡ true → is_on v line ≡ false → filled_but s u line ≡ true
 unfolding filled_but
 off-line s v u [] h off = refl
 off-line s v u (q ∷ line) h off =
@@ -117,7 +117,7 @@ module _ (g : Game) (side : Side) (p : Position) (turn : p.turn ≡ side) (disjo
 -- ---- what an attack leaves that is tried
 
 -- a threat is one point that is lacked
-threat-near : (g : Game) (p : Position) (side : Side) → has_threat g p side ≡ true → (u : ℕ) × Near g p side u
+pub threat-near : (g : Game) (p : Position) (side : Side) → has_threat g p side ≡ true → (u : ℕ) × Near g p side u
 unfolding filled_but
 threat-near g p side h =
     let found = member-from_any (λ line. list_any (is_near p side line) line) (lines_of g) h in

@@ -48,7 +48,7 @@ two-counted t s xs x y at_x at_y on_x on_y on off =
     omega (arith, first, second, split)
 
 -- what isn't touched by a set with one point more isn't touched by the set, and misses the point
-untouched-insert : (s : FinSet nat_cmp) (u : ℕ) (line : List ℕ) → is_touched (insert s u) line ≡ false → (is_touched s line ≡ false) × (is_on u line ≡ false)
+pub untouched-insert : (s : FinSet nat_cmp) (u : ℕ) (line : List ℕ) → is_touched (insert s u) line ≡ false → (is_touched s line ≡ false) × (is_on u line ≡ false)
 untouched-insert s u [] h = (refl, refl)
 untouched-insert s u (q ∷ line) h =
     let parts = or_parts (contains (insert s u) q) _ h in
@@ -62,11 +62,11 @@ module _ (g : Game) (p : Position) (side : Side) (single : g.bias ≡ 1) (attack
   turn-next : (after g p v).turn ≡ other side
   turn-next = turn-alternates g p v attacking.position single ∙ ap other attacking.turn
 
-  mine : points_of (after g (after g p v) u) side ≡ insert (points_of p side) v
-  mine = points_of-waiter g (after g p v) side u turn-next ∙ points_of-mover g p side v attacking.turn
+  pub mine-replied : points_of (after g (after g p v) u) side ≡ insert (points_of p side) v
+  mine-replied = points_of-waiter g (after g p v) side u turn-next ∙ points_of-mover g p side v attacking.turn
 
-  theirs : points_of (after g (after g p v) u) (other side) ≡ insert (points_of p (other side)) u
-  theirs = points_of-mover g (after g p v) (other side) u turn-next ∙ ap (λ s. insert s u) (points_of-waiter g p (other side) v (attacking.turn ∙ sym (other_other side)))
+  pub theirs-replied : points_of (after g (after g p v) u) (other side) ≡ insert (points_of p (other side)) u
+  theirs-replied = points_of-mover g (after g p v) (other side) u turn-next ∙ ap (λ s. insert s u) (points_of-waiter g p (other side) v (attacking.turn ∙ sym (other_other side)))
 
   -- a line of which the side lacks two is one that the board counts
   counted : (line : List ℕ) → lacks p side 2 line ≡ true → is_live_with p (other side) 2 line ≡ true
@@ -84,8 +84,8 @@ module _ (g : Game) (p : Position) (side : Side) (single : g.bias ≡ 1) (attack
         let q = after g (after g p v) u in
         let s = points_of p side in
         let parts = lacks-from q side 2 line h in
-        let clear = untouched-insert (points_of p (other side)) u line (subst (λ (xs : FinSet nat_cmp). is_touched xs line ≡ false) theirs parts.0) in
-        let count : count_by (contains (insert s v)) line + 2 ≡ length line = subst (λ (xs : FinSet nat_cmp). count_by (contains xs) line + 2 ≡ length line) mine parts.1 in
+        let clear = untouched-insert (points_of p (other side)) u line (subst (λ (xs : FinSet nat_cmp). is_touched xs line ≡ false) theirs-replied parts.0) in
+        let count : count_by (contains (insert s v)) line + 2 ≡ length line = subst (λ (xs : FinSet nat_cmp). count_by (contains xs) line + 2 ≡ length line) mine-replied parts.1 in
         elim (cases_Bool (is_on v line)) [
           | inl on ↦
               let more = count-more g s v line listed (free-of p side v at.free) on in

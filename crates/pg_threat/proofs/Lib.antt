@@ -7,3 +7,4 @@ mod Searching
 pub mod Deciding
 mod Partners
 mod Gains
+mod Idle

@@ -30,7 +30,7 @@ abbrev one_of : Bool → ℕ
 one_of b = cond b 1 0
 
 -- each point stands once in a line of the game
-once : (g : Game) (line : List ℕ) → Contains (lines_of g) line → (v : ℕ) → count_by (λ q. q == v) line ≤ 1
+pub once : (g : Game) (line : List ℕ) → Contains (lines_of g) line → (v : ℕ) → count_by (λ q. q == v) line ≤ 1
 once g line c v = count-ascending v line (line-fit g line c).ascending
 
 pub some-counted : {X : Type 0} (t : X → Bool) (line : List X) → list_any t line ≡ true → 1 ≤ count_by t line
@@ -69,7 +69,7 @@ count-more g s v line c off on =
     omega (arith, all, some, most)
 
 -- all are counted exactly where each passes
-all-counted : (t : ℕ → Bool) (line : List ℕ) → list_all t line ≡ true → count_by t line ≡ length line
+pub all-counted : (t : ℕ → Bool) (line : List ℕ) → list_all t line ≡ true → count_by t line ≡ length line
 all-counted t [] all = refl
 all-counted t (q ∷ line) all =
     let parts = and_parts (t q) _ all in

@@ -1,9 +1,10 @@
 -- The free points of lines of which a side lacks few points.
 use Rattle.std.specs.Prelude.{◌≡◌, ℕ, ◌+◌, ◌-◌, ◌<◌, ◌≤◌, ◌==◌, Bool, true, false, not, ◌&&◌, List, length, take, Option, Some, None}
-use Rattle.std.specs.List.{list_any, count_by}
+use Rattle.std.specs.List.{Contains, list_any, count_by}
 use Rattle.std.specs.FinSet.{FinSet, contains}
 use Rattle.std.specs.Ordering.{nat_cmp}
 use Rattle.pg_base.specs.Side.{other}
+use Rattle.pg_base.specs.declared.kind.Kind.TheVariants.{MakerMaker}
 use Rattle.pg_base.specs.declared.side.Side.{Side}
 use Rattle.pg_game.specs.declared.game.Game.{Game}
 use Rattle.pg_game.specs.declared.position.Position.{Position}
@@ -42,6 +43,22 @@ is_partner g p side v u = not (u == v) && list_any (λ line. is_on v line && lac
 -- whether the side lacks three points of the line, which the other side hasn't touched and which misses the point
 abbrev pub is_gained : Position → Side → ℕ → List ℕ → Bool
 is_gained p side u line = lacks p side 3 line && not (is_on u line)
+
+-- of a line that the other side hasn't touched and that misses the point, the side lacks more than
+-- so many points
+abbrev pub IsOutOfReach : Position → Side → ℕ → ℕ → List ℕ → Type 0
+IsOutOfReach p side u most line =
+    is_touched (points_of p (other side)) line ≡ false → is_on u line ≡ false
+    → own_count p side line + most < length line
+
+-- The attack at v, to which u is the reply, serves no list of less depth: no line through it that
+-- misses the reply can be filled by one attack for each reply and two more, and in Maker-Maker no
+-- line through it comes to lack the attack alone for the other side.
+pub record IsIdle (g : Game) (p : Position) (side : Side) (v u depth : ℕ) : Type 0 where
+  pub mine : (line : List ℕ) → Contains (lines_of g) line → is_on v line ≡ true
+      → IsOutOfReach p side u (depth + 1) line
+  pub theirs : g.kind ≡ MakerMaker → (line : List ℕ) → Contains (lines_of g) line
+      → is_on v line ≡ true → own_count p (other side) line + depth ≤ length line
 
 -- ---- a walk along the lines without a point of a side
 

@@ -1,13 +1,16 @@
 //! The free points of lines of which a side lacks few points.
-ghost use Rattle.std.specs.Prelude.{◌≡◌, ◌<◌, ◌≤◌, ◌||◌, ℕ, List, true, false, length};
+ghost use Rattle.std.specs.Prelude.{◌≡◌, ◌<◌, ◌≤◌, ◌+◌, ◌||◌, ℕ, List, true, false, length};
 ghost use Rattle.std.specs.List.{Contains};
 ghost use Rattle.std.specs.FinSet.{contains, insert};
+ghost use Rattle.pg_base.specs.Side.{other};
+ghost use Rattle.pg_base.specs.declared.kind.Kind.TheVariants.{MakerMaker};
 ghost use Rattle.pg_game.specs.Game.{lines_of, point_count, IsPosition};
 ghost use Rattle.pg_game.specs.Potential.{is_on};
 ghost use Rattle.pg_board.specs.Board.{line_at};
 ghost use Rattle.pg_threat.specs.Lacking.{is_gained, is_open_on, is_lacking, is_partner, lacks, IsLackedTwice};
+ghost use Rattle.pg_threat.specs.Lacking.{own_count, IsIdle, IsOutOfReach};
 
-use pg_base::{MAX_MEMBERS, PointSet, Side};
+use pg_base::{Kind, MAX_MEMBERS, PointSet, Side};
 use pg_board::Board;
 
 /// Points that a side lacks.
@@ -160,4 +163,56 @@ pub(crate) fn gains(b: &Board<'_>, side: Side, v: u16, u: u16) -> bool
         }
     }
     false
+}
+
+/// Whether the line is in the side's reach: the other side hasn't touched it, the side lacks at
+/// most so many points of it, and it misses the point.
+fn is_in_reach(b: &Board<'_>, side: Side, u: u16, most: u16, line: u32) -> bool
+    requires range { line < length (lines_of b.now.game) }
+    requires few { most ≤ 4 }
+    ensures { result ≡ false
+        → IsOutOfReach b.now.stand.position side u most (line_at b.now.game line) }
+{
+    if b.count(line, side.other()) != 0 {
+        return false;
+    }
+    if b.count(line, side) + most < b.line_len(line) {
+        return false;
+    }
+    !holds(b, line, u)
+}
+
+/// Whether the line, through an attack, is a reason to make it where the reply is at the point: for
+/// the side, as a line to fill by a list of less than that depth; in Maker-Maker against the other
+/// side, which would come to lack only the attack.
+fn serves(b: &Board<'_>, side: Side, u: u16, depth: u16, line: u32) -> bool
+    requires range { line < length (lines_of b.now.game) }
+    requires few { depth ≤ 3 }
+    ensures mine { result ≡ false
+        → IsOutOfReach b.now.stand.position side u (depth + 1) (line_at b.now.game line) }
+    ensures theirs { result ≡ false → b.now.game.kind ≡ MakerMaker
+        → own_count b.now.stand.position (other side) (line_at b.now.game line) + depth
+        ≤ length (line_at b.now.game line) }
+{
+    if b.kind() == Kind::MakerMaker {
+        if b.count(line, side.other()) + depth > b.line_len(line) {
+            return true;
+        }
+    }
+    is_in_reach(b, side, u, depth + 1, line)
+}
+
+/// Whether no line through the attack at v is a reason to make it, where u is the reply: what leads
+/// to a line after both by less than that depth does so without them.
+pub(crate) fn is_idle(b: &Board<'_>, side: Side, v: u16, u: u16, depth: u16) -> bool
+    requires range { v < point_count b.now.game }
+    requires few { depth ≤ 3 }
+    ensures { result ≡ true → IsIdle b.now.game b.now.stand.position side v u depth }
+{
+    for line in b.through(v) {
+        if serves(b, side, u, depth, *line) {
+            return false;
+        }
+    }
+    true
 }

@@ -8,7 +8,7 @@ ghost use Rattle.pg_threat.specs.Forced.{IsAnswer};
 ghost use Rattle.pg_threat.specs.Lacking.{is_lacking, is_partner, IsLackedTwice};
 ghost use Rattle.pg_threat.specs.Search.{Begins, IsAnswering, IsFound, IsTried, NoneBelow, Replied};
 
-use crate::lacking::{gains, is_far, lacking, partners};
+use crate::lacking::{gains, is_far, is_idle, lacking, partners};
 use crate::line::ThreatLine;
 use pg_base::{Kind, MAX_MEMBERS, PointSet, Side};
 use pg_board::Board;
@@ -139,7 +139,8 @@ fn first_of_depth(
 /// depth does.
 ///
 /// The replies are read off the lines through the attack, and the last attack is a second point of them: for depth 1 nothing
-/// is played.
+/// is played. Nor is it where the attack is idle: then a list that goes on after it and its reply
+/// would lead to a line without them, by less depth.
 #[cycle(attacks_and_replies)]
 fn answered(b: &mut Board<'_>, side: Side, v: u16, depth: u8) -> Option<ThreatLine>
     requires attacking { IsAttacking b.old.game b.old.stand.position side }
@@ -148,6 +149,7 @@ fn answered(b: &mut Board<'_>, side: Side, v: u16, depth: u8) -> Option<ThreatLi
     requires answering { IsAnswering b.old.game (after b.old.game b.old.stand.position v) side }
     requires single { b.old.game.bias ≡ 1 }
     requires least { NoneBelow (Replied b.old.game (after b.old.game b.old.stand.position v) side) depth }
+    requires whole { NoneBelow (LeadsToLine b.old.game b.old.stand.position side) depth }
     requires some { 1 ≤ depth }
     requires few { depth ≤ 3 }
     ensures found { IsFound (Replied b.old.game (after b.old.game b.old.stand.position v) side) depth result }
@@ -165,6 +167,9 @@ fn answered(b: &mut Board<'_>, side: Side, v: u16, depth: u8) -> Option<ThreatLi
         };
     }
     if leaves_none(b, side, v, u) {
+        return None;
+    }
+    if is_idle(b, side, v, u, u16::from(depth)) {
         return None;
     }
     b.play(v);

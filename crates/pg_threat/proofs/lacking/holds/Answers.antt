@@ -1,4 +1,4 @@
-use Rattle.std.proofs.Common.{◌<◌, ◌≤◌, ◌==◌, ◌||◌, ◌∙◌, true, false, sym, ap, ap₂, arith, length, eq-eqb, ne_eqb, Bool}
+use Rattle.std.proofs.Common.{◌<◌, ◌≤◌, ◌==◌, ◌||◌, ◌∙◌, sym, ap, ap₂, arith, length, eq-eqb, ne_eqb, Bool}
 use Rattle.std.proofs.lemmas.List.{take_all}
 use Rattle.std.proofs.lemmas.List.Folds.{list_any_at, list_any_more}
 use Rattle.pg_game.specs.Potential.{is_on}

@@ -1,7 +1,7 @@
 use Rattle.std.proofs.Common.{◌≡◌, ◌<◌, ◌≤◌, ◌+◌, ◌-◌, ◌∷◌, ℕ, true, false, Some, None, refl, sym, ap, ◌∙◌, subst, arith}
 use Rattle.std.specs.Prelude.{◌↔◌, length}
 use Rattle.std.specs.FinSet.{contains}
-use Rattle.pg_threat.specs.Lacking.{is_lacking, IsLackedTwice}
+use Rattle.pg_threat.specs.Lacking.{is_lacking, IsIdle, IsLackedTwice}
 use Rattle.pg_game.specs.Game.{point_count, lines_of, after}
 use Rattle.pg_game.specs.Position.{is_free}
 use Rattle.pg_game.specs.Threat.{IsAttack, LeadsToLine, IsAttacking}
@@ -11,6 +11,7 @@ use Rattle.pg_game.proofs.Limits.{point_count-le}
 use Rattle.pg_board.specs.Board.{View}
 use Rattle.pg_threat.specs.Search.{Begins, IsTried, IsFound, NoneBelow, Replied, IsAnswering, IsSearching}
 use Rattle.pg_threat.proofs.Searching.{far-lacked, replies-are, tried-depth, begins-depth, search-next, attack-free, attack-answering, attack-least, reply-attacking, reply-least, attack-fails, attack-found, attack-falls, search-over, reply-none, reply-one, reply-two, reply-free, reply-found, reply-fails, reply-barren}
+use Rattle.pg_threat.proofs.Idle.{reply-idle}
 use Rattle.pg_threat.proofs.Boards.{at_same, one-earlier, taken-back, two-played}
 use Rattle.pg_threat.proofs.search.+attacks_and_replies.Goals as goal
 
@@ -58,6 +59,16 @@ answered-returns-then-leaves_none-clause-found t c =
     let deeper : 2 ≤ c.args.depth = omega arith in
     reply-barren g (after g p v) c.args.side c.requires.single c.requires.answering c.partners-replies.result are c.in-Some.u c.in-Some.ensures.found
     c.args.depth deeper c.requires.least (c.leaves_none.ensures c.if-leaves_none.true)
+
+pub answered-returns-then-is_idle-clause-found : goal.answered-returns-then-is_idle-clause-found
+answered-returns-then-is_idle-clause-found t c =
+    let g = c.args.b.now.game in
+    let p = c.args.b.now.stand.position in
+    let v = c.args.v in
+    let are : (x : ℕ) → contains c.partners-replies.result x ≡ is_lacking g (after g p v) c.args.side 1 x = λ x. c.partners-replies.ensures x ∙ replies-are g p c.args.side v c.requires.attacking c.requires.far c.requires.attack x in
+    let deeper : 2 ≤ c.args.depth = omega arith in
+    reply-idle g p c.args.side c.requires.single c.requires.attacking v c.in-Some.u c.args.depth deeper c.requires.attack c.requires.answering c.partners-replies.result are c.in-Some.ensures.found
+    c.requires.least c.requires.whole (subst (λ (n : ℕ). IsIdle g p c.args.side v c.in-Some.u n) c.from.ensures (c.is_idle.ensures c.if-is_idle.true))
 
 pub answered-play-requires-2-clause-range : goal.answered-play-requires-2-clause-range
 answered-play-requires-2-clause-range t c =
@@ -176,7 +187,10 @@ first_of_depth-answered-requires t c =
                 (
                   at (λ b. NoneBelow (Replied b.game (after b.game b.stand.position v) c.args.side) c.args.depth)
                       (attack-least g p c.args.side c.requires.attacking c.args.depth c.requires.some c.requires.least c.args.attacks.now c.requires.tried c.requires.begins c.requires.single v member),
-                  (c.requires.some, c.requires.few),
+                  (
+                    at (λ b. NoneBelow (LeadsToLine b.game b.stand.position c.args.side) c.args.depth) c.requires.least,
+                    (c.requires.some, c.requires.few),
+                  ),
                 ),
               ),
             ),

@@ -1,4 +1,4 @@
-use Rattle.std.proofs.Common.{◌≡◌, ◌∙◌, false, sym, subst}
+use Rattle.std.proofs.Common.{◌≡◌, ◌∙◌, sym, subst}
 use Rattle.std.proofs.lemmas.Bool.{not-true}
 use Rattle.pg_base.specs.declared.side.Side.{Side}
 use Rattle.pg_board.specs.Board.{live_with}
