@@ -13,4 +13,6 @@ pub mod ClaimSteps
 pub mod ClaimsGathered
 pub mod Roots
 pub mod Sizes
+pub mod FirstFaults
+pub mod OneUnfolding
 pub mod Rooms

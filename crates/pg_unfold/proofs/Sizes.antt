@@ -7,7 +7,8 @@ use Rattle.pg_cert.specs.declared.limits.TheConstants.{MAX_CLAIM_NODES, MAX_NODE
 use Rattle.pg_game.specs.declared.game.Game.{Game}
 use Rattle.pg_image.specs.declared.cert.ImageCert.{ImageCert}
 use Rattle.pg_image.specs.declared.cert.ImageClaim.{ImageClaim}
-use Rattle.pg_unfold.specs.Copies.{Copy, ComesBefore}
+use Rattle.pg_image.specs.declared.node.ImageNode.{ImageNode}
+use Rattle.pg_unfold.specs.Copies.{Copy, AreCopies, ComesBefore}
 use Rattle.pg_unfold.specs.Flaws.{HasSize, HaveRoom, IsFaultless, IsFirstFault, IsFirstTooLarge, IsSoundClaim}
 
 -- ---- members of lists
@@ -47,7 +48,7 @@ module _ {A : Type 0} (R : A → A → Type 0) (apart : (a b : A) → R a b → 
       absurd (apart x z own (subst (λ a. R a x) (sym same) (subst (λ a. R x a) same own)))
 
   -- lists with the same members that ascend are the same
-  same_ascending : (xs ys : List A) → AllPairs R xs → AllPairs R ys → ((z : A) → Contains xs z → Contains ys z) → ((z : A) → Contains ys z → Contains xs z) → xs ≡ ys
+  pub same_ascending : (xs ys : List A) → AllPairs R xs → AllPairs R ys → ((z : A) → Contains xs z → Contains ys z) → ((z : A) → Contains ys z → Contains xs z) → xs ≡ ys
   same_ascending [] [] up vp there back = refl
   same_ascending [] (y ∷ ys) up vp there back = absurd (no_member y (back y (at_front y ys)))
   same_ascending (x ∷ xs) [] up vp there back = absurd (no_member x (there x (at_front x xs)))
@@ -59,17 +60,20 @@ module _ {A : Type 0} (R : A → A → Type 0) (apart : (a b : A) → R a b → 
 
 -- ---- sizes
 
-copies_apart : (a b : Copy) → ComesBefore a b → ComesBefore b a → ⊥
+pub copies_apart : (a b : Copy) → ComesBefore a b → ComesBefore b a → ⊥
 copies_apart a b (inl x) (inl y) = omega (arith, x, y)
 copies_apart a b (inl x) (inr (e, y)) = omega (arith, x, e)
 copies_apart a b (inr (e, x)) (inl y) = omega (arith, e, y)
 copies_apart a b (inr (e, x)) (inr (f, y)) = omega (arith, x, y)
 
+pub copies_once : (nodes : List ImageNode) (xs ys : List Copy) → AreCopies nodes xs → AreCopies nodes ys → xs ≡ ys
+copies_once nodes xs ys a b =
+    let there = λ (z : Copy) (h : Contains xs z). let is = a.met z h in b.all z is.0 is.1 in
+    let back = λ (z : Copy) (h : Contains ys z). let is = b.met z h in a.all z is.0 is.1 in
+    same_ascending ComesBefore copies_apart xs ys a.ascending b.ascending there back
+
 pub size_once : (c : ImageClaim) (s t : ℕ) → HasSize c s → HasSize c t → s ≡ t
-size_once c s t a b =
-    let there = λ (z : Copy) (h : Contains a.copies z). let is = a.are.met z h in b.are.all z is.0 is.1 in
-    let back = λ (z : Copy) (h : Contains b.copies z). let is = b.are.met z h in a.are.all z is.0 is.1 in
-    sym a.counted ∙ ap length (same_ascending ComesBefore copies_apart a.copies b.copies a.are.ascending b.are.ascending there back) ∙ b.counted
+size_once c s t a b = sym a.counted ∙ ap length (copies_once c.nodes a.copies b.copies a.are b.are) ∙ b.counted
 
 sizes_once : (cs : List ImageClaim) (ss ts : List ℕ) → AllZip HasSize cs ss → AllZip HasSize cs ts → ss ≡ ts
 sizes_once [] [] [] a b = refl
@@ -93,7 +97,7 @@ size_at i (d ∷ cs) [] c h at = absurd h
 size_at zero (d ∷ cs) (s ∷ ss) c h at = let e : Some d ≡ Some c = at in let same : d ≡ c = cc e in (s, refl, subst (λ (x : ImageClaim). HasSize x s) same h.0)
 size_at (suc i) (d ∷ cs) (s ∷ ss) c h at = size_at i cs ss c h.1 at
 
-all_at : {A : Type 0} (P : A → Type 0) (xs : List A) (i : ℕ) (x : A) → All P xs → slice_get xs i ≡ Some x → P x
+pub all_at : {A : Type 0} (P : A → Type 0) (xs : List A) (i : ℕ) (x : A) → All P xs → slice_get xs i ≡ Some x → P x
 all_at P xs i x all at = subst P (get_or_from_slice_get xs i x x at) (all i x (slice_get_within xs i x at))
 
 -- a claim that is too large behind claims of these sizes
