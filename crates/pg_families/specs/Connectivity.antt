@@ -19,7 +19,7 @@ use Rattle.pg_span.specs.declared.solved.SpanClass.{SpanClass}
 use Rattle.pg_span.specs.declared.solved.SpanClass.TheVariants.{Maker, Breaker, First}
 use Rattle.pg_family_files.specs.FamilyFile.{SpanEntry, span_game}
 use Rattle.pg_family_files.specs.SpanCertFile.{span_cert}
-use Rattle.pg_family_files.specs.SpanCertPrint.{printed_span}
+use Rattle.pg_family_files.specs.SpanCertPrint.{IsWithinRanges, printed_span}
 use Rattle.pg_family_files.specs.SpanCertViews.{number_of as certificate_fault_number}
 use Rattle.pg_family_files.specs.Views.{span_entry}
 use Rattle.pg_texts.specs.Texts.{accepted_text, class_breaker_text, class_first_mover_text, class_maker_text}
@@ -98,6 +98,8 @@ span_class_text First = class_first_mover_text
 pub record ShowsSpanClass (g : SpanGame) (class : SpanClass) (c : SpanCert) : Type 0 where
   pub class_is : span_class g ≡ Some (named class)
   pub valid : IsSpanValid g c
+  -- the numbers are such as a file may say, so that what is stored can be read again
+  pub ranges : IsWithinRanges c
   pub claims : AreDueClaims class c.claims
 
 -- a certificate that shows the class is stored under the name, and then the class is said

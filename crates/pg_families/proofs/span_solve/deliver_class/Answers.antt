@@ -7,6 +7,7 @@ use Rattle.pg_talk.specs.Done.{Does}
 use Rattle.pg_talk.specs.Storing.{Delivers}
 use Rattle.pg_talk.proofs.Delivering.{stopped_first}
 use Rattle.pg_families.specs.Connectivity.{SolvesSpanGame}
+use Rattle.pg_families.proofs.SpanRanges.{ranges_kept}
 use Rattle.pg_families.proofs.Spans.{delivers_class}
 use Rattle.pg_families.proofs.span_solve.deliver_class.Goals as goal
 
@@ -28,6 +29,6 @@ returns-clause-solved g c =
     let texts = message_text c.class_message.result ∷ [] in
     delivers_class c.args.game.now c.args.certificate.now c.in_ok-class.class c.in_ok-class.shown texts (g.F.Files.told c.args.files.now) (g.F.Files.told c.deliver.new.files)
     (g.C.Console.told c.args.console.now) (g.C.Console.told c.deliver.new.console) c.deliver.result
-    (record { class_is = solved.class; valid = solved.valid; claims = solved.claims }) (ap (λ (t : Bytes). t ∷ []) c.class_message.ensures)
+    (record { class_is = solved.class; valid = solved.valid; ranges = ranges_kept c.args.game.now c.in_ok-class.class c.in_ok-class.shown solved.claims solved.valid solved.small; claims = solved.claims }) (ap (λ (t : Bytes). t ∷ []) c.class_message.ensures)
     (subst (λ (b : Bytes). Does (Delivers (c.args.certificate.now, b) texts) (g.F.Files.told c.args.files.now) (g.F.Files.told c.deliver.new.files) (g.C.Console.told c.args.console.now) (g.C.Console.told c.deliver.new.console) c.deliver.result)
     (c.deref.ensures.value ∙ c.in_ok-text.ensures) c.deliver.ensures.delivered)
