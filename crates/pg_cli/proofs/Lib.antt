@@ -11,3 +11,4 @@ pub mod Making
 pub mod Verdicts
 pub mod Differing
 pub mod FoldedFiles
+pub mod InTime

@@ -95,5 +95,9 @@ quiet_then which g c made before mid after (Err (Stopped Memory)) is says mute w
     inr (made, is, Grows-then before.log mid.log after.log (Said (size_text made.field) ∷ []) [] says mute)
 
 pub work_left : (which : Source) (g c : Bytes) (made : Game) (before after : Expanded) → IsMade which made → (made.kind ≡ Switching → after ≡ before)
-    → (made.kind ≢ Switching → IsLeft made (budget made DEFAULT_POSITIONS) after) → LeavesWork (Some (Gen which g (Some c))) before after
-work_left which g c made before after is untouched left = ((λ none. untouched (unsearched which c made is none)), leaves_search made DEFAULT_POSITIONS before after left untouched)
+    → (made.kind ≢ Switching → IsLeft made (budget made DEFAULT_POSITIONS) after) → (told : Option Holding)
+    → LeavesWork told (Some (Gen which g (Some c))) before after
+work_left which g c made before after is untouched left told = (
+  (λ none. untouched (unsearched which c made is none)),
+  leaves_search (IsMade which) made DEFAULT_POSITIONS before after is left untouched,
+)

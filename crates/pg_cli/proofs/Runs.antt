@@ -10,7 +10,7 @@ use Rattle.pg_evidence.specs.declared.evidence.Evidence.{Evidence}
 use Rattle.pg_texts.specs.declared.refusal.Refusal.{Refusal}
 use Rattle.pg_words.specs.Words.{Command, Solve, Check, Play, Gen, Report, OfFamily, Record, Review}
 use Rattle.pg_cli.specs.Checking.{RefusesCheck, AcceptsAll}
-use Rattle.pg_cli.specs.Commands.{Gives, LeavesFiles, LeavesWork, Quiets}
+use Rattle.pg_cli.specs.Commands.{Gives, LeavesFiles, LeavesWork, Quiets, SpeaksInTime}
 use Rattle.pg_cli.specs.Playing.{RefusesPlay, PlaysOn}
 use Rattle.pg_cli.specs.Reading.{both_held, pair_entry, read_of, OpensBoth}
 use Rattle.pg_cli.specs.Reporting.{RefusesReport, Reports}
@@ -115,9 +115,9 @@ module _ (command : Option Command) where
     go (Some (Record g r)) = inl reads
     go (Some (Review g r positions)) = reads
 
-  pub leaves_work : (work : Expanded) → LeavesWork command work work
-  leaves_work work = go command where
-    go : (command : Option Command) → LeavesWork command work work
+  pub leaves_work : (told : Option Holding) (work : Expanded) → LeavesWork told command work work
+  leaves_work told work = go command where
+    go : (command : Option Command) → LeavesWork told command work work
     go None = refl
     go (Some (Solve g c None images)) = inl refl
     go (Some (Solve g c (Some positions) images)) = inl refl
@@ -127,6 +127,21 @@ module _ (command : Option Command) where
     go (Some (Report g c)) = refl
     go (Some (OfFamily family task g c)) = refl
     go (Some (Record g r)) = refl
+    go (Some (Review g r None)) = inl refl
+    go (Some (Review g r (Some positions))) = inl refl
+
+  pub speaks_in_time : (told : Option Holding) (work : Expanded) (console : ConsoleTold)
+      → SpeaksInTime told command work work console console
+  speaks_in_time told work console = go command where
+    go : (command : Option Command) → SpeaksInTime told command work work console console
+    go None = tt
+    go (Some (Solve g c positions images)) = tt
+    go (Some (Check g c)) = tt
+    go (Some (Play g c side)) = tt
+    go (Some (Gen which g c)) = tt
+    go (Some (Report g c)) = tt
+    go (Some (OfFamily family task g c)) = tt
+    go (Some (Record g r)) = tt
     go (Some (Review g r None)) = inl refl
     go (Some (Review g r (Some positions))) = inl refl
 

@@ -1,5 +1,5 @@
 -- Solving, put together.
-use Rattle.std.proofs.Common.{◌≡◌, ◌≢◌, ◌⊎◌, ◌≤◌, ℕ, nat_lt, Bool, true, false, arith, if◌then◌else◌, List, [], ◌∷◌, length, map, Option, Some, None, Result, Ok, Err, refl, sym, ◌∙◌, ap, subst, inl, inr}
+use Rattle.std.proofs.Common.{◌≡◌, ◌≢◌, ◌⊎◌, ◌≤◌, ℕ, nat_lt, Bool, true, false, arith, if◌then◌else◌, List, [], ◌∷◌, length, Option, Some, None, Result, Ok, Err, refl, sym, ◌∙◌, ap, subst, inl, inr}
 use Rattle.std.specs.Prelude.{IfSome}
 use Rattle.std.proofs.lemmas.Bool.Decides.{nat_tests}
 use Rattle.pg_base.specs.declared.kind.Kind.{Kind}
@@ -10,62 +10,27 @@ use Rattle.pg_io.specs.declared.entry.Entry.TheVariants.{Said}
 use Rattle.pg_game.specs.Fit.{is_switching}
 use Rattle.pg_game.specs.declared.game.Game.{Game}
 use Rattle.pg_files.specs.GameFile.{Entry as GameEntry}
-use Rattle.pg_cert.specs.Limits.{IsWithinLimits}
-use Rattle.pg_cert.specs.Valid.{IsValid}
 use Rattle.pg_cert.specs.declared.cert.Cert.{Cert}
 use Rattle.pg_game.specs.Game.{free_points, start}
 use Rattle.pg_pns.specs.Budget.{budget_for, most_for}
 use Rattle.pg_pns.specs.Expanded.{Expanded}
-use Rattle.pg_solve.specs.Due.{heading}
-use Rattle.pg_solve.specs.Left.{budget, IsAskedLast, IsLeft, IsLeftOpen, LeavesSearch}
-use Rattle.pg_solve.specs.Solved.{certificate_of, due, is_class, IsTrueOf, IsShown}
+use Rattle.pg_solve.specs.Left.{budget, IsLeft, IsLeftOpen, LeavesSearch}
 use Rattle.pg_solve.specs.declared.solution.Solution.{Solution}
-use Rattle.pg_texts.specs.Texts.{message_text, unknown_text}
-use Rattle.pg_texts.specs.declared.message.Message.{Message}
+use Rattle.pg_texts.specs.Texts.{unknown_text}
 use Rattle.pg_texts.specs.declared.refusal.Refusal.{Refusal}
 use Rattle.pg_texts.specs.declared.statuses.TheConstants.{UNKNOWN}
 use Rattle.pg_words.specs.Words.{Solve}
 use Rattle.pg_talk.specs.Done.{Done, End, Finished, Failed, Starved, Does, Follows, talk, stop_end}
 use Rattle.pg_opening.specs.Opening.{OpensGame, game_held}
+use Rattle.pg_cli.specs.Commands.{IsGameHeld}
 use Rattle.pg_cli.specs.Run.{Refuses, CarriesOn, Carries}
-use Rattle.pg_cli.specs.Solving.{IsFileOf, IsFound, IsLeftBehind, Shows, SolvesGame, Solves, Told, result_alone, solution_text}
+use Rattle.pg_cli.specs.Solving.{IsFileOf, IsLeftBehind, Shows, SolvesGame, Solves, Told, result_alone}
 use Rattle.pg_talk.specs.Storing.{Delivers}
 use Rattle.pg_talk.specs.declared.halt.Halt.{Halt}
 use Rattle.pg_talk.specs.declared.halt.Halt.TheVariants.{Refused, Stopped}
 use Rattle.pg_talk.proofs.Delivering.{follows_more}
 use Rattle.pg_cli.proofs.Runs.{carries_halt}
 use Rattle.pg_talk.proofs.Runs.{kept, talked_texts}
-
-shows_it : (g : Game) (solution : Solution) (c : Cert) → certificate_of solution ≡ Some c → is_class solution ≡ is_switching g.kind → IsTrueOf g solution
-    → IfSome (certificate_of solution) (IsValid g) → IfSome (certificate_of solution) IsWithinLimits → IfSome (certificate_of solution) (λ c. map heading c.claims ≡ due g.turn solution) → Shows g solution c
-shows_it g solution c own kind holds valid limits claims = record {
-  own = own;
-  kind = kind;
-  holds = holds;
-  valid = subst (λ (o : Option Cert). IfSome o (IsValid g)) own valid;
-  limits = subst (λ (o : Option Cert). IfSome o IsWithinLimits) own limits;
-  claims = subst (λ (o : Option Cert). IfSome o (λ c. map heading c.claims ≡ due g.turn solution)) own claims;
-}
-
--- what was found is shown by its certificate
-shows : (g : Game) (found solution : Solution) (c : Cert) → found ≡ solution → certificate_of solution ≡ Some c → is_class found ≡ is_switching g.kind → IsTrueOf g found
-    → IfSome (certificate_of found) (IsValid g) → IfSome (certificate_of found) IsWithinLimits → IfSome (certificate_of found) (λ c. map heading c.claims ≡ due g.turn found) → Shows g solution c
-shows g found solution c same own kind holds valid limits claims = shows_it g solution c own
-    (subst (λ (s : Solution). is_class s ≡ is_switching g.kind) same kind) (subst (λ (s : Solution). IsTrueOf g s) same holds)
-    (subst (λ (s : Solution). IfSome (certificate_of s) (IsValid g)) same valid) (subst (λ (s : Solution). IfSome (certificate_of s) IsWithinLimits) same limits)
-    (subst (λ (s : Solution). IfSome (certificate_of s) (λ c. map heading c.claims ≡ due g.turn s)) same claims)
-
--- what was found, with its message and its certificate
-pub found : (g : Game) (positions : ℕ) (work : Expanded) (result solution : Solution) (c : Cert) (message : Message) → result ≡ solution → certificate_of solution ≡ Some c
-    → is_class result ≡ is_switching g.kind → IsTrueOf g result → IfSome (certificate_of result) (IsValid g) → IfSome (certificate_of result) IsWithinLimits
-    → IfSome (certificate_of result) (λ c. map heading c.claims ≡ due g.turn result) → IsAskedLast g.kind work.question result → (g.kind ≢ Switching → IsLeft g (budget g positions) work)
-    → IsShown g (budget g positions) work.positions result → message_text message ≡ solution_text g solution → IsFound g positions work (Some (message, c))
-found g positions work result solution c message same own kind holds valid limits claims last left shown is = (
-  solution,
-  shows g result solution c same own kind holds valid limits claims,
-  record { last = subst (λ (s : Solution). IsAskedLast g.kind work.question s) same last; left = left; shown = subst (λ (s : Solution). IsShown g (budget g positions) work.positions s) same shown },
-  is,
-)
 
 -- what delivers the certificate of what was found solves the game
 pub delivers_solution : (images : Bool) (told : Told) (g : Game) (name : Bytes) (positions : ℕ) (work : Expanded) (solution : Solution) (c : Cert) (text : Bytes) (texts : List Bytes) (files files' : FilesTold) (before after : ConsoleTold) (r : Result ℕ Halt)
@@ -133,11 +98,18 @@ switching_or AvoiderEnforcer = inr (λ e. cc e)
 switching_or Switching = inl refl
 
 -- what solving leaves in the work
-pub leaves_search : (g : Game) (positions : ℕ) (before after : Expanded) → (g.kind ≢ Switching → IsLeft g (budget g positions) after) → (g.kind ≡ Switching → after ≡ before) → LeavesSearch positions before after
-leaves_search g positions before after left untouched = elim (switching_or g.kind) as (λ _. LeavesSearch positions before after) [
+pub leaves_search : (One : Game → Type 0) (g : Game) (positions : ℕ) (before after : Expanded) → One g
+    → (g.kind ≢ Switching → IsLeft g (budget g positions) after) → (g.kind ≡ Switching → after ≡ before)
+    → LeavesSearch One positions before after
+leaves_search One g positions before after one left untouched = elim (switching_or g.kind) as (λ _. LeavesSearch One positions before after) [
   | inl switching ↦ inl (untouched switching)
-  | inr lines ↦ inr (g, lines, left lines)
+  | inr lines ↦ inr (record { game = g; one = one; on_lines = lines; left = left lines })
 ]
+
+-- the game that was read is the one that its name holds
+pub game_is_held : (h : Option Holding) (name : Bytes) (g : Game) → OpensGame h name (Ok g) → IsGameHeld h name g
+game_is_held None name g opens = tt
+game_is_held (Some held) name g opens = opens
 
 -- no more positions were expanded than may be
 pub few_left : (g : Game) (positions most : ℕ) (old new : Expanded) → positions ≤ most → (g.kind ≢ Switching → IsLeft g (budget g positions) new) → (g.kind ≡ Switching → new ≡ old) → old.positions ≡ [] → length new.positions ≤ most

@@ -2,12 +2,14 @@
 use Rattle.std.specs.Prelude.{◌≡◌, ◌≢◌, ◌⊎◌, ℕ, true, false, if◌then◌else◌, List, [], ◌∷◌, Option, Some, None, option_and_then, option_map, Result, Ok, Err, ⊤}
 use Rattle.pg_io.specs.Console.{ConsoleTold, Grows}
 use Rattle.pg_io.specs.Files.{Bytes, Holding, FilesTold, ReadsOnly}
+use Rattle.pg_files.specs.Views.{entry}
+use Rattle.pg_game.specs.declared.game.Game.{Game}
 use Rattle.pg_io.specs.declared.entry.Entry.TheVariants.{Said}
 use Rattle.pg_texts.specs.Texts.{no_meaning_text}
 use Rattle.pg_texts.specs.declared.refusal.Refusal.TheVariants.{NoMeaning}
 use Rattle.pg_texts.specs.declared.statuses.TheConstants.{DONE, UNKNOWN, NO_MEANING, FAULTY_GAME, REFUSED, READ_FAILED, WRITE_FAILED, NO_MEMORY, INPUT_ENDED, OUT_OF_REPLIES, FAULTY_RECORD}
 use Rattle.pg_words.specs.Words.{Command, Solve, Check, Play, Gen, Report, OfFamily, Record, Review, meaning_of}
-use Rattle.pg_cli.specs.Generating.{TellsSize, has_source, names_of, searches}
+use Rattle.pg_cli.specs.Generating.{IsMade, TellsSize, has_source, names_of, searches}
 use Rattle.pg_talk.specs.Halts.{IsGameHalt, IsReadHalt, IsPlayHalt, IsPlayEnd, IsWriteHalt}
 use Rattle.pg_cli.specs.Reading.{both_held}
 use Rattle.pg_opening.specs.Opening.{game_held}
@@ -19,6 +21,7 @@ use Rattle.pg_talk.specs.Runs.{QuietsBy}
 use Rattle.pg_talk.specs.Storing.{StoresAt}
 use Rattle.pg_families.specs.Family.{GivesInFamily, LacksInFamily, LeavesFamilyFiles, QuietAtReadInFamily, statuses_in_family}
 use Rattle.pg_recording.specs.Recording.{GivesRecord}
+use Rattle.pg_review.specs.Along.{IsAlong, IsOfNames, IsReached}
 use Rattle.pg_review.specs.Review.{GivesReview, StandsAgainst}
 use Rattle.pg_pns.specs.Expanded.{Expanded}
 use Rattle.pg_io.specs.declared.stop.Stop.TheVariants.{Memory}
@@ -107,14 +110,36 @@ LeavesFiles (Some (OfFamily family task g c)) before after = LeavesFamilyFiles t
 LeavesFiles (Some (Record g r)) before after = StoresAt (r ∷ []) before after
 LeavesFiles _ before after = ReadsOnly before after
 
--- what a command leaves of the work of a search: all, unless it searches; then at every status what a search may leave
-abbrev pub LeavesWork : Option Command → Expanded → Expanded → Type 0
-LeavesWork (Some (Solve g c None images)) before after = LeavesSearch DEFAULT_POSITIONS before after
-LeavesWork (Some (Solve g c (Some positions) images)) before after = LeavesSearch positions before after
-LeavesWork (Some (Gen which g c)) before after = (searches which c ≡ false → after ≡ before) × LeavesSearch DEFAULT_POSITIONS before after
-LeavesWork (Some (Review g r None)) before after = LeavesSearch DEFAULT_POSITIONS before after
-LeavesWork (Some (Review g r (Some positions))) before after = LeavesSearch positions before after
-LeavesWork _ before after = after ≡ before
+-- the game is the one that a name holds, where it is told what the names hold
+abbrev pub IsGameHeld : Option Holding → Bytes → Game → Type 0
+IsGameHeld None name g = ⊤
+IsGameHeld (Some held) name g = game_held (held name) ≡ Ok (entry g)
+
+-- what a command leaves of the work of a search: all, unless it searches; then at every status what
+-- a search may leave of the game that was read or made, or of a position of the record that was read
+abbrev pub LeavesWork : Option Holding → Option Command → Expanded → Expanded → Type 0
+LeavesWork told (Some (Solve g c None images)) before after =
+    LeavesSearch (IsGameHeld told g) DEFAULT_POSITIONS before after
+LeavesWork told (Some (Solve g c (Some positions) images)) before after =
+    LeavesSearch (IsGameHeld told g) positions before after
+LeavesWork told (Some (Gen which g c)) before after =
+    (searches which c ≡ false → after ≡ before)
+    × LeavesSearch (IsMade which) DEFAULT_POSITIONS before after
+LeavesWork told (Some (Review g r None)) before after =
+    LeavesSearch (IsOfNames IsAlong told g r) DEFAULT_POSITIONS before after
+LeavesWork told (Some (Review g r (Some positions))) before after =
+    LeavesSearch (IsOfNames IsAlong told g r) positions before after
+LeavesWork told _ before after = after ≡ before
+
+-- a review says each loss before it searches a further position: where the work holds the question
+-- of the position after some moves, the losses of the moves between the positions before were said
+abbrev pub SpeaksInTime : Option Holding → Option Command → Expanded → Expanded → ConsoleTold
+    → ConsoleTold → Type 0
+SpeaksInTime told (Some (Review g r None)) work work' before after =
+    LeavesSearch (IsOfNames (IsReached before after) told g r) DEFAULT_POSITIONS work work'
+SpeaksInTime told (Some (Review g r (Some positions))) work work' before after =
+    LeavesSearch (IsOfNames (IsReached before after) told g r) positions work work'
+SpeaksInTime told _ work work' before after = ⊤
 
 -- a name that the command reads, in the order of its work, isn't held
 abbrev pub Lacks : Holding → Option Command → Type 0

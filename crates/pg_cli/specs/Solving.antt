@@ -12,6 +12,7 @@ use Rattle.pg_cert.specs.Limits.{IsWithinLimits, node_count}
 use Rattle.pg_cert.specs.Print.{printed_certificate}
 use Rattle.pg_cert.specs.Valid.{IsValid}
 use Rattle.pg_cert.specs.declared.cert.Cert.{Cert}
+use Rattle.pg_cert.specs.declared.cert.Version.TheVariants.{One}
 use Rattle.pg_fold.specs.Symmetry.{FoldsWell, IsFoldedWell}
 use Rattle.pg_image.specs.Limits.{IsImageWithinLimits}
 use Rattle.pg_image.specs.Print.{printed_image_certificate}
@@ -61,6 +62,7 @@ pub record Shows (g : Game) (solution : Solution) (c : Cert) : Type 0 where
   pub holds : IsTrueOf g solution
   pub valid : IsValid g c
   pub limits : IsWithinLimits c
+  pub version : c.version ≡ One
   -- the claims are those that are due, by turn, side and goal
   pub claims : map heading c.claims ≡ due g.turn solution
 

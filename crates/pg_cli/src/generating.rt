@@ -174,7 +174,8 @@ pub fn generate<F: Files, C: Console>(
         (C.told console.old) (C.told console.new) result }
     ensures files { LeavesFiles (built (Gen which game.now (text certificate.entry)))
         (F.told files.old) (F.told files.new) }
-    ensures work { LeavesWork (built (Gen which game.now (text certificate.entry))) work.old work.new }
+    ensures work { LeavesWork (F.told files.old).held
+        (built (Gen which game.now (text certificate.entry))) work.old work.new }
     ensures gives { Gives (built (Gen which game.now (text certificate.entry))) result }
 {
     let Some(made) = made(alloc, which)? else {

@@ -1,7 +1,7 @@
 //! The top call.
 ghost use Rattle.std.specs.Prelude.{◌≡◌, [], map, string_bytes, None};
 ghost use Rattle.std.specs.List.{Contains};
-ghost use Rattle.pg_cli.specs.Commands.{Gives, IsLacking, LeavesFiles, LeavesWork, Quiets, SaysNoMeaning, Silences, asked, statuses_of};
+ghost use Rattle.pg_cli.specs.Commands.{Gives, IsLacking, LeavesFiles, LeavesWork, Quiets, SaysNoMeaning, Silences, SpeaksInTime, asked, statuses_of};
 ghost use Rattle.pg_cli.specs.Forced.{AnnouncesForced};
 ghost use Rattle.pg_talk.specs.Halts.{BothCauses, HasCause};
 ghost use Rattle.pg_cli.specs.Run.{Carries, Ends, Ran};
@@ -38,7 +38,10 @@ fn carry_out<F: Files, C: Console>(
     ensures quiet { Quiets (asked (map string_bytes words.now))
         (C.told console.old) (C.told console.new) result }
     ensures files { LeavesFiles (asked (map string_bytes words.now)) (F.told files.old) (F.told files.new) }
-    ensures work { LeavesWork (asked (map string_bytes words.now)) work.old work.new }
+    ensures work { LeavesWork (F.told files.old).held (asked (map string_bytes words.now))
+        work.old work.new }
+    ensures prompt { SpeaksInTime (F.told files.old).held (asked (map string_bytes words.now))
+        work.old work.new (C.told console.old) (C.told console.new) }
     ensures gives { Gives (asked (map string_bytes words.now)) result }
 {
     let Some(command) = meaning(alloc, words)? else {
@@ -126,10 +129,11 @@ fn end_early<C: Console>(console: &mut C, halt: Halt) -> u8
 /// of the side to its end, and that at 0 the outcome reaches the goal of the claim; in a session, that the log is one by its rules. `forced` says that at any
 /// status every claim that is accepted or played is forced by its side in the game that the file says, of a family
 /// where the command is a family's. `silent` says what is said at 5 and 7, `words` what is said of words without a
-/// meaning, `files` and `work` what is left, `statuses` which statuses the command may give, and `causes` when a
-/// status comes from a failed call. Of files and consoles that tell nothing, as the system's, the last four alone
-/// say something: what `work` holds, the statuses, their causes, and that no file is being made afterwards where none was
-/// before.
+/// meaning, `files` and `work` what is left, `prompt` that a review says each loss before it searches
+/// on, `statuses` which statuses the command may give, and `causes` when a status comes from a failed
+/// call. Of files and consoles that tell nothing, as the system's, four clauses alone say something:
+/// `work` what it holds, though not of which game, `statuses`, `causes`, and `files` that no file is
+/// being made afterwards where none was before.
 pub fn run<F: Files, C: Console>(
     alloc: Global,
     words: &[String],
@@ -145,7 +149,10 @@ pub fn run<F: Files, C: Console>(
     ensures silent { Silences (asked (map string_bytes words.now))
         (C.told console.old) (C.told console.new) result }
     ensures files { LeavesFiles (asked (map string_bytes words.now)) (F.told files.old) (F.told files.new) }
-    ensures work { LeavesWork (asked (map string_bytes words.now)) work.old work.new }
+    ensures work { LeavesWork (F.told files.old).held (asked (map string_bytes words.now))
+        work.old work.new }
+    ensures prompt { SpeaksInTime (F.told files.old).held (asked (map string_bytes words.now))
+        work.old work.new (C.told console.old) (C.told console.new) }
     ensures statuses { Contains (statuses_of (asked (map string_bytes words.now))) result }
     ensures words { asked (map string_bytes words.now) ≡ None
         → SaysNoMeaning (C.told console.old) (C.told console.new) result }

@@ -174,7 +174,8 @@ pub fn solve<F: Files, C: Console>(
     ensures quiet { Quiets (Some (Solve game.now certificate.now (Some options.positions) options.images))
         (C.told console.old) (C.told console.new) result }
     ensures files { StoresAt (certificate.now ∷ []) (F.told files.old) (F.told files.new) }
-    ensures work { LeavesWork (Some (Solve game.now certificate.now (Some options.positions) options.images))
+    ensures work { LeavesWork (F.told files.old).held
+        (Some (Solve game.now certificate.now (Some options.positions) options.images))
         work.old work.new }
     ensures gives { Gives (Some (Solve game.now certificate.now (Some options.positions) options.images))
         result }

@@ -3,4 +3,5 @@ pub mod Nodes
 pub mod Values
 pub mod Standing
 pub mod SaidSoFar
+pub mod Searched
 pub mod Opened

@@ -26,6 +26,9 @@ use Rattle.pg_talk.specs.Runs.{Runs}
 use Rattle.pg_talk.specs.declared.halt.Halt.{Halt}
 use Rattle.pg_talk.specs.declared.halt.Halt.TheVariants.{Refused, Stopped}
 use Rattle.pg_texts.specs.declared.refusal.Refusal.{Refusal}
+use Rattle.pg_solve.specs.Left.{LeavesSearch}
+use Rattle.pg_review.proofs.Standing.{leaves-more}
+use Rattle.pg_review.specs.Along.{IsOfMoves, IsOfNames}
 use Rattle.pg_review.specs.Review.{IsReviewLacking, IsTextHalt, RefusesReview, Reviews, ReviewsMoves, ReviewsRead, ReviewsRecord, StandsAgainst, moves_held, moves_told, record_fault}
 
 -- ---- a record
@@ -122,6 +125,39 @@ module _ (game_name record_name : Bytes) (positions : ℕ) (work : Expanded) (fi
     go : (h : Option Holding) → OpensGame h game_name (Ok g) → IsLackingOne (moves_held g) h record_name → IsReviewLacking h game_name record_name
     go None opens lacks = absurd lacks
     go (Some held) opens lacks = subst (λ (r : _). StandsAgainst r (held record_name) lacking) (sym opens) (g, refl, lacks)
+
+-- ---- what is left of the work
+
+-- what is so of the moves that were read is so of those that the name of the record holds
+of-moves : {A : Type 0} (view : A → List ℕ) (Is : Game → List ℕ → Game → Type 0) (g : Game)
+    (h : Option Holding) (name : Bytes) (moves : A) → Opens view (moves_held g) h name (Ok moves)
+    → (here : Game) → Is g (view moves) here → IsOfMoves Is g h name here
+of-moves view Is g None name moves opens here is = tt
+of-moves view Is g (Some held) name moves opens here is = (view moves, opens, is)
+
+-- what is so of the game that was read is so of the one that its name holds
+of-names : (Is : Game → List ℕ → Game → Type 0) (g : Game) (h : Option Holding)
+    (game_name record_name : Bytes) → OpensGame h game_name (Ok g) → (here : Game)
+    → IsOfMoves Is g h record_name here → IsOfNames Is h game_name record_name here
+of-names Is g None game_name record_name opens here is = tt
+of-names Is g (Some held) game_name record_name opens here is = (g, opens, is)
+
+module _ (Is : Game → List ℕ → Game → Type 0) (positions : ℕ) (first last : Expanded) where
+  pub left-of-moves : {A : Type 0} (view : A → List ℕ) (g : Game) (h : Option Holding) (name : Bytes)
+      (moves : A) → Opens view (moves_held g) h name (Ok moves)
+      → LeavesSearch (Is g (view moves)) positions first last
+      → LeavesSearch (IsOfMoves Is g h name) positions first last
+  left-of-moves view g h name moves opens left =
+      leaves-more (Is g (view moves)) (IsOfMoves Is g h name) positions first last
+      (of-moves view Is g h name moves opens) left
+
+  pub left-of-names : (g : Game) (h mid : Option Holding) (game_name record_name : Bytes) → mid ≡ h
+      → OpensGame h game_name (Ok g) → LeavesSearch (IsOfMoves Is g mid record_name) positions first last
+      → LeavesSearch (IsOfNames Is h game_name record_name) positions first last
+  left-of-names g h mid game_name record_name same opens left =
+      leaves-more (IsOfMoves Is g h record_name) (IsOfNames Is h game_name record_name) positions first last
+      (of-names Is g h game_name record_name opens)
+      (subst (λ (it : Option Holding). LeavesSearch (IsOfMoves Is g it record_name) positions first last) same left)
 
 -- what stopped work has its cause, also where files were only read before
 pub causes_more : (absent more : Type 0) (files mid files' : FilesTold) (before after : ConsoleTold) (r : Result ℕ Halt) → (absent → more) → mid.faults ≡ files.faults → BothCauses absent mid files' before after r → BothCauses more files files' before after r

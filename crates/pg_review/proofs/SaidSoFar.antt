@@ -31,15 +31,22 @@ use Rattle.pg_talk.specs.declared.halt.Halt.TheVariants.{Stopped}
 use Rattle.pg_texts.specs.Texts.{lost_text, reviewed_text, unknown_at_text}
 use Rattle.pg_texts.specs.declared.statuses.TheConstants.{DONE, UNKNOWN}
 use Rattle.pg_review.proofs.LossLaws.{told_append, told_more}
-use Rattle.pg_review.proofs.Standing.{at-after, legal-at, start-at}
+use Rattle.pg_review.proofs.Standing.{after-at, at-after, legal-at, start-at}
 use Rattle.pg_review.specs.Losses.{Loss, loses_value, loss_at, losses, losses_from}
-use Rattle.pg_review.specs.Review.{IsGameAt, ReviewsMoves, loss_texts}
+use Rattle.pg_review.specs.Review.{IsDecided, IsGameAt, IsUntold, ReviewsMoves, loss_texts}
 use Rattle.pg_review.specs.Saying.{move_texts}
 
 -- the texts of one loss, or of none
 once-told : (kind : Kind) (b : Bool) (l : Loss) → map (λ (l : Loss). lost_text l.number l.point kind l.before l.after) (if b then l ∷ [] else []) ≡ (if b then lost_text l.number l.point kind l.before l.after ∷ [] else [])
 once-told kind true l = refl
 once-told kind false l = refl
+
+-- texts were said, and then one
+pub one-behind : (log mid after : Option (List Entry)) (texts : List Bytes) (text : Bytes)
+    → Grows log mid (map Said texts) → Grows mid after (Said text ∷ [])
+    → Grows log after (map Said (texts ++ text ∷ []))
+one-behind log mid after texts text first last =
+    subst (λ (es : List Entry). Grows log after es) (sym (map-append Said texts (text ∷ []))) (Grows-then log mid after _ _ first last)
 
 module _ (g : Game) (moves : List ℕ) (legal : IsLegalPlay g (start g) moves) where
   -- the position after the first moves
@@ -83,25 +90,23 @@ module _ (g : Game) (moves : List ℕ) (legal : IsLegalPlay g (start g) moves) w
     cut-short k Write said = (map Said (loss_texts g (take k moves)), inr (says-first k), talked_texts (stop_end Write) before after (loss_texts g (take k moves)) said left)
     cut-short k Memory said = (map Said (loss_texts g (take k moves)), inr (says-first k), talked_texts (stop_end Memory) before after (loss_texts g (take k moves)) said left)
 
-    -- the losses of the first moves were said, and then one text
-    and-then : (k : ℕ) (text : Bytes) (mid : Option (List Entry)) → Grows before.log mid (map Said (loss_texts g (take k moves))) → Grows mid after.log (Said text ∷ []) → Grows before.log after.log (map Said (loss_texts g (take k moves) ++ text ∷ []))
-    and-then k text mid first last =
-        subst (λ (es : List Entry). Grows before.log after.log es) (sym (map-append Said (loss_texts g (take k moves)) (text ∷ []))) (Grows-then before.log mid after.log _ _ first last)
-
     -- a position stays open
     pub stays-open : (k made : ℕ) (here : Game) (count : ℕ) (mid : Option (List Entry)) → k ≡ made - 1 → made ≤ length moves → IsGameAt g (there made) here → is_switching here.kind ≡ false
+        → ((n : ℕ) → n < made → IsDecided g moves positions n) → IsUntold g moves positions made
         → IsLeftOpen here (budget here positions) work → count ≡ budget here positions → Grows before.log mid (map Said (loss_texts g (take k moves))) → Grows mid after.log (Said (unknown_at_text made count) ∷ [])
         → Performs (λ _. ⊥) (ReviewsMoves g moves positions work) before after (Ok UNKNOWN)
-    stays-open k made here count mid one within stands lines unsettled few first last =
+    stays-open k made here count mid one within stands lines decided untold unsettled few first last =
         let texts = loss_texts g (take k moves) ++ unknown_at_text made count ∷ [] in
         let due = loss_texts g (take (made - 1) moves) ++ unknown_at_text made (budget here positions) ∷ [] in
         let same : texts ≡ due = ap (λ (n : ℕ). loss_texts g (take n moves) ++ unknown_at_text made count ∷ []) one ∙ ap (λ (n : ℕ). loss_texts g (take (made - 1) moves) ++ unknown_at_text made n ∷ []) few in
-        let said : Grows before.log after.log (map Said due) = subst (λ (ts : List Bytes). Grows before.log after.log (map Said ts)) same (and-then k (unknown_at_text made count) mid first last) in (
+        let said : Grows before.log after.log (map Said due) = subst (λ (ts : List Bytes). Grows before.log after.log (map Said ts)) same (one-behind before.log mid after.log (loss_texts g (take k moves)) (unknown_at_text made count) first last) in (
           map Said due,
           inr (record {
             on_lines = ap is_switching (sym stands.same_kind) ∙ lines;
             made = made;
             within = within;
+            decided = decided;
+            untold = untold;
             here = here;
             stands = stands;
             left_open = unsettled;
@@ -112,14 +117,15 @@ module _ (g : Game) (moves : List ℕ) (legal : IsLegalPlay g (start g) moves) w
         )
 
     -- all moves were reviewed
-    pub reviewed : (k : ℕ) (mid : Option (List Entry)) → k ≡ length moves → Grows before.log mid (map Said (loss_texts g (take k moves))) → Grows mid after.log (Said (reviewed_text k) ∷ [])
+    pub reviewed : (k : ℕ) (mid : Option (List Entry)) → k ≡ length moves
+        → ((n : ℕ) → n ≤ length moves → IsDecided g moves positions n) → Grows before.log mid (map Said (loss_texts g (take k moves))) → Grows mid after.log (Said (reviewed_text k) ∷ [])
         → Performs (λ _. ⊥) (ReviewsMoves g moves positions work) before after (Ok DONE)
-    reviewed k mid all first last =
+    reviewed k mid all decided first last =
         let whole : take k moves ≡ moves = take_all k moves (omega (arith, all)) in
         let due = loss_texts g moves ++ reviewed_text (length moves) ∷ [] in
         let same : loss_texts g (take k moves) ++ reviewed_text k ∷ [] ≡ due = ap (λ (ms : List ℕ). loss_texts g ms ++ reviewed_text k ∷ []) whole ∙ ap (λ (n : ℕ). loss_texts g moves ++ reviewed_text n ∷ []) all in
-        let said : Grows before.log after.log (map Said due) = subst (λ (ts : List Bytes). Grows before.log after.log (map Said ts)) same (and-then k (reviewed_text k) mid first last) in
-        (map Said due, inl (record { said = refl; status_is = refl }), talked_texts (Finished DONE) before after due said left)
+        let said : Grows before.log after.log (map Said due) = subst (λ (ts : List Bytes). Grows before.log after.log (map Said ts)) same (one-behind before.log mid after.log (loss_texts g (take k moves)) (reviewed_text k) first last) in
+        (map Said due, inl (record { decided = decided; said = refl; status_is = refl }), talked_texts (Finished DONE) before after due said left)
 
   -- nothing is said before the first move
   pub none-yet : (log after : Option (List Entry)) → after ≡ log → Grows log after (map Said (loss_texts g (take 0 moves)))
@@ -141,6 +147,12 @@ module _ (g : Game) (moves : List ℕ) (legal : IsLegalPlay g (start g) moves) w
   pub stands-more : (k : ℕ) (here next : Game) → k < length moves → g.bias ≡ 1 → IsGameAt g (there k) here → IsGameAt here (after here (start here) (get_or moves k 0)) next → IsGameAt g (there (k + 1)) next
   stands-more k here next low one stands moved =
       subst (λ (p : Position). IsGameAt g p next) (sym (after-there k (get_or moves k 0) low refl)) (at-after g here next (there k) (get_or moves k 0) stands (position-there k) one moved)
+
+  -- a move where the game stands leads to the position after one move more
+  pub goes-on : (k v : ℕ) (here : Game) → k < length moves → v ≡ get_or moves k 0 → g.bias ≡ 1
+      → IsGameAt g (there k) here → after here (start here) v ≡ there (k + 1)
+  goes-on k v here low is one stands =
+      after-at g here (there k) v stands (position-there k) one ∙ sym (after-there k v low is)
 
   -- the move may be played where the game stands
   pub may-play : (k : ℕ) (here : Game) → k < length moves → g.bias ≡ 1 → IsGameAt g (there k) here → (get_or moves k 0 < point_count here) × (is_free (start here) (get_or moves k 0) ≡ true)

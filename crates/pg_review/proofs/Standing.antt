@@ -67,11 +67,17 @@ start-at g here p is position one =
 pub next-at : (g : Game) (p q : Position) (v : ℕ) → p ≡ start g → q ≡ after g p v → q ≡ after g (start g) v
 next-at g p q v here next = next ∙ ap (λ (r : Position). after g r v) here
 
+-- a move where the game stands is that move in the game
+pub after-at : (g here : Game) (p : Position) (v : ℕ) → IsGameAt g p here → IsPosition g p → g.bias ≡ 1
+    → after here (start here) v ≡ after g p v
+after-at g here p v is position one =
+    ap₂ (λ (b : ℕ) (q : Position). after_with b q v) is.same_bias (start-at g here p is position one)
+
 -- the same after a move
 pub at-after : (g here next : Game) (p : Position) (v : ℕ) → IsGameAt g p here → IsPosition g p → g.bias ≡ 1 → IsGameAt here (after here (start here) v) next → IsGameAt g (after g p v) next
 at-after g here next p v is position one moved =
-    let same : after_with here.bias (start here) v ≡ after_with g.bias p v = ap₂ (λ (b : ℕ) (q : Position). after_with b q v) is.same_bias (start-at g here p is position one) in
-    let there : IsGameAt here (after g p v) next = subst (λ (q : Position). IsGameAt here q next) same moved in
+    let there : IsGameAt here (after g p v) next =
+    subst (λ (q : Position). IsGameAt here q next) (after-at g here p v is position one) moved in
     record {
       same_kind = there.same_kind ∙ is.same_kind;
       same_field = there.same_field ∙ is.same_field;
@@ -106,19 +112,37 @@ legal-at g p (v ∷ moves) (suc k) legal low = legal-at g (after g p v) moves k 
 -- ---- the work
 
 -- what deciding a game leaves
-pub leaves-one : (here : Game) (positions : ℕ) (before after : Expanded) → ((here.kind ≡ Switching → ⊥) → IsLeft here (budget here positions) after) → (here.kind ≡ Switching → after ≡ before) → LeavesSearch positions before after
+pub leaves-one : (here : Game) (positions : ℕ) (before after : Expanded)
+    → ((here.kind ≡ Switching → ⊥) → IsLeft here (budget here positions) after)
+    → (here.kind ≡ Switching → after ≡ before)
+    → LeavesSearch (λ (g : Game). g ≡ here) positions before after
 leaves-one here positions before after left same = by here.kind refl
   where
-    on_lines : (here.kind ≡ Switching → ⊥) → LeavesSearch positions before after
-    on_lines lines = inr (here, lines, left lines)
+    on_lines : (here.kind ≡ Switching → ⊥) → LeavesSearch (λ (g : Game). g ≡ here) positions before after
+    on_lines lines = inr (record { game = here; one = refl; on_lines = lines; left = left lines })
 
-    by : (kind : Kind) → here.kind ≡ kind → LeavesSearch positions before after
+    by : (kind : Kind) → here.kind ≡ kind → LeavesSearch (λ (g : Game). g ≡ here) positions before after
     by Switching is = inl (same is)
     by MakerBreaker is = on_lines (λ e. let no : MakerBreaker ≡ Switching = sym is ∙ e in absurd (cc))
     by MakerMaker is = on_lines (λ e. let no : MakerMaker ≡ Switching = sym is ∙ e in absurd (cc))
     by AvoiderEnforcer is = on_lines (λ e. let no : AvoiderEnforcer ≡ Switching = sym is ∙ e in absurd (cc))
 
+-- what is said of the game by which it was left follows from more
+pub leaves-more : (One Other : Game → Type 0) (positions : ℕ) (before after : Expanded)
+    → ((here : Game) → One here → Other here) → LeavesSearch One positions before after
+    → LeavesSearch Other positions before after
+leaves-more One Other positions before after more (inl same) = inl same
+leaves-more One Other positions before after more (inr left) = inr (record {
+  game = left.game;
+  one = more left.game left.one;
+  on_lines = left.on_lines;
+  left = left.left;
+})
+
 -- what two decisions leave, one after the other
-pub leaves-then : (positions : ℕ) (before between after : Expanded) → LeavesSearch positions before between → LeavesSearch positions between after → LeavesSearch positions before after
-leaves-then positions before between after first (inl same) = subst (λ (w : Expanded). LeavesSearch positions before w) (sym same) first
-leaves-then positions before between after first (inr left) = inr left
+pub leaves-then : (One : Game → Type 0) (positions : ℕ) (before between after : Expanded)
+    → LeavesSearch One positions before between → LeavesSearch One positions between after
+    → LeavesSearch One positions before after
+leaves-then One positions before between after first (inl same) =
+    subst (λ (w : Expanded). LeavesSearch One positions before w) (sym same) first
+leaves-then One positions before between after first (inr left) = inr left

@@ -94,6 +94,17 @@ apart g class cert q are have =
 
 -- ---- what was solved
 
+-- the certificate of what is known is that of what was solved
+pub certificate-known : (turn : Side) (s : Solution) (known : Known) → known_by turn s ≡ Some known
+    → certificate_of s ≡ Some known.certificate
+certificate-known turn (Value score cert) known is =
+    let same : record { score = score; certificate = cert } ≡ known = cc in
+    ap (λ (k : Known). Some k.certificate) same
+certificate-known turn (ForClass class cert) known is =
+    let same : record { score = won_by (winner class turn); certificate = cert } ≡ known = cc in
+    ap (λ (k : Known). Some k.certificate) same
+certificate-known turn Unknown known is = absurd (none-some known is)
+
 -- what solving tells is known
 pub known-from : (g : Game) (budget : ℕ) (table : List Position) (s : Solution) (known : Known) → IsTrueOf g s → IfSome (certificate_of s) (λ c. map heading c.claims ≡ due g.turn s)
     → IfSome (certificate_of s) (IsValid g) → IfSome (certificate_of s) IsWithinLimits → IsShown g budget table s → known_by g.turn s ≡ Some known → IsKnown g (start g) known

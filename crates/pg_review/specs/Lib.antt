@@ -1,4 +1,5 @@
 pub mod Losses
 pub mod Known
 pub mod Review
+pub mod Along
 pub mod Saying

@@ -1,9 +1,10 @@
 -- What a review of a recorded game does: it says which of the standing moves lost value.
-use Rattle.std.specs.Prelude.{◌≡◌, ◌⊎◌, ℕ, ◌-◌, ◌≤◌, nat_lt, false, if◌then◌else◌, List, [], ◌∷◌, ◌++◌, length, map, take, Option, Some, None, Result, Ok, Err, ⊤}
+use Rattle.std.specs.Prelude.{◌≡◌, ◌⊎◌, ℕ, zero, suc, ◌-◌, ◌<◌, ◌≤◌, nat_lt, false, if◌then◌else◌, List, [], ◌∷◌, ◌++◌, length, map, take, Option, Some, None, Result, Ok, Err, ⊤}
 use Rattle.pg_io.specs.Files.{Bytes, Holding}
 use Rattle.pg_io.specs.declared.entry.Entry.{Entry}
 use Rattle.pg_io.specs.declared.entry.Entry.TheVariants.{Said}
 use Rattle.pg_io.specs.declared.stop.Stop.TheVariants.{Memory}
+use Rattle.pg_cert.specs.declared.cert.Cert.{Cert}
 use Rattle.pg_game.specs.Fit.{is_switching}
 use Rattle.pg_game.specs.Game.{start, IsGameOf}
 use Rattle.pg_game.specs.declared.game.Game.{Game}
@@ -25,6 +26,7 @@ use Rattle.pg_talk.specs.Reading.{game_fault, held_as, lacking}
 use Rattle.pg_talk.specs.declared.halt.Halt.{Halt}
 use Rattle.pg_talk.specs.declared.halt.Halt.TheVariants.{Refused, Stopped}
 use Rattle.pg_opening.specs.Opening.{IsSaidBy, game_held}
+use Rattle.pg_review.specs.Known.{HaveNodes, IsSolvedBy}
 use Rattle.pg_review.specs.Losses.{Loss, losses}
 use Rattle.pg_review.specs.declared.opening.TheConstants.{SEVERAL_A_TURN}
 
@@ -63,20 +65,47 @@ IsReviewLacking (Some held) game_name record_name = StandsAgainst (game_held (he
 abbrev pub loss_texts : Game → List ℕ → List Bytes
 loss_texts g moves = map (λ (l : Loss). lost_text l.number l.point g.kind l.before l.after) (losses g (start g) moves)
 
--- all losses are said, and then how many moves stand
-pub record IsReviewed (g : Game) (moves : List ℕ) (entries : List Entry) (status : ℕ) : Type 0 where
-  pub said : entries ≡ map Said (loss_texts g moves ++ reviewed_text (length moves) ∷ [])
-  pub status_is : status ≡ DONE
-
 -- the game with the marks and the turn of a position
 abbrev pub IsGameAt : Game → Position → Game → Type 0
 IsGameAt g p here = IsGameOf here g.kind g.field p.x p.y p.turn g.bias
 
--- the position after some moves of a game on lines stays open after as many positions as the budget allows there. The losses of the moves between the positions before it are all said, and then where the review stops
+-- the certificate tells the value of the position after so many moves: solving finds it there; or at
+-- an earlier position, and each claim of it has a node with this one
+pub record IsKnownBy (g : Game) (moves : List ℕ) (positions made : ℕ) (c : Cert) : Type 0 where
+  pub from : ℕ
+  pub earlier : from ≤ made
+  pub here : Game
+  pub stands : IsGameAt g (position_after g (take from moves)) here
+  pub solved : IsSolvedBy here positions c
+  pub shows : (from ≡ made) ⊎ HaveNodes (position_after g (take made moves)) c
+
+-- some certificate does so
+abbrev pub IsDecided : Game → List ℕ → ℕ → ℕ → Type 0
+IsDecided g moves positions made = (c : Cert) × IsKnownBy g moves positions made c
+
+-- the certificate that told the value of the position before doesn't tell that of the position after
+-- so many moves
+abbrev pub IsUntold : Game → List ℕ → ℕ → ℕ → Type 0
+IsUntold g moves positions zero = ⊤
+IsUntold g moves positions (suc before) = (c : Cert) × IsKnownBy g moves positions before c
+    × (HaveNodes (position_after g (take (suc before) moves)) c → ⊥)
+
+-- each position is decided, all losses are said, and then how many moves stand
+pub record IsReviewed (g : Game) (moves : List ℕ) (positions : ℕ) (entries : List Entry)
+    (status : ℕ) : Type 0 where
+  pub decided : (made : ℕ) → made ≤ length moves → IsDecided g moves positions made
+  pub said : entries ≡ map Said (loss_texts g moves ++ reviewed_text (length moves) ∷ [])
+  pub status_is : status ≡ DONE
+
+-- the first position of a game on lines that isn't decided: the certificate at hand doesn't tell its
+-- value, and it stays open after as many positions as the budget allows there. The losses of the
+-- moves between the positions before it are all said, and then where the review stops
 pub record StopsAt (g : Game) (moves : List ℕ) (positions : ℕ) (work : Expanded) (entries : List Entry) (status : ℕ) : Type 0 where
   pub on_lines : is_switching g.kind ≡ false
   pub made : ℕ
   pub within : made ≤ length moves
+  pub decided : (before : ℕ) → before < made → IsDecided g moves positions before
+  pub untold : IsUntold g moves positions made
   pub here : Game
   pub stands : IsGameAt g (position_after g (take made moves)) here
   pub left_open : IsLeftOpen here (budget here positions) work
@@ -85,7 +114,8 @@ pub record StopsAt (g : Game) (moves : List ℕ) (positions : ℕ) (work : Expan
 
 -- what a review of these moves of a game says and how it ends; where a call fails or memory is wanting, it has said the first losses
 abbrev pub ReviewsMoves : Game → List ℕ → ℕ → Expanded → List Entry → End → Type 0
-ReviewsMoves g moves positions work entries (Finished status) = IsReviewed g moves entries status ⊎ StopsAt g moves positions work entries status
+ReviewsMoves g moves positions work entries (Finished status) =
+    IsReviewed g moves positions entries status ⊎ StopsAt g moves positions work entries status
 ReviewsMoves g moves positions work entries Failed = SaysFirst (loss_texts g moves) entries
 ReviewsMoves g moves positions work entries Starved = SaysFirst (loss_texts g moves) entries
 

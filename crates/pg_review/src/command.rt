@@ -8,6 +8,7 @@ ghost use Rattle.pg_talk.specs.Halts.{BothCauses};
 ghost use Rattle.pg_talk.specs.Reading.{IsLackingOne};
 ghost use Rattle.pg_talk.specs.Runs.{QuietsBy, Runs};
 ghost use Rattle.pg_talk.specs.declared.halt.Halt.TheVariants.{Refused};
+ghost use Rattle.pg_review.specs.Along.{IsAlong, IsOfMoves, IsOfNames, IsReached};
 ghost use Rattle.pg_review.specs.Review.{GivesReview, IsReviewLacking, RefusesReview, Reviews, ReviewsRecord, moves_held};
 ghost use Rattle.pg_solve.specs.Left.{LeavesSearch};
 
@@ -42,7 +43,12 @@ fn review_record<F: Files, C: Console>(
     ensures quiet { QuietsBy (Grows (C.told console.old).log (C.told console.new).log []) ⊤
         (C.told console.old) (C.told console.new) result }
     ensures files { ReadsOnly (F.told files.old) (F.told files.new) }
-    ensures work { LeavesSearch positions work.old work.new }
+    ensures work { LeavesSearch (IsOfMoves IsAlong game.old (F.told files.old).held record.now)
+        positions work.old work.new }
+    ensures prompt { LeavesSearch
+        (IsOfMoves (IsReached (C.told console.old) (C.told console.new))
+        game.old (F.told files.old).held record.now)
+        positions work.old work.new }
     ensures gives { GivesReview result }
 {
     let moves = open_moves(alloc, files, record, game)?;
@@ -82,7 +88,12 @@ pub fn review<F: Files, C: Console>(
     ensures quiet { QuietsBy (Grows (C.told console.old).log (C.told console.new).log []) ⊤
         (C.told console.old) (C.told console.new) result }
     ensures files { ReadsOnly (F.told files.old) (F.told files.new) }
-    ensures work { LeavesSearch positions work.old work.new }
+    ensures work { LeavesSearch (IsOfNames IsAlong (F.told files.old).held game.now record.now)
+        positions work.old work.new }
+    ensures prompt { LeavesSearch
+        (IsOfNames (IsReached (C.told console.old) (C.told console.new))
+        (F.told files.old).held game.now record.now)
+        positions work.old work.new }
     ensures gives { GivesReview result }
 {
     let mut game = open_game(alloc, files, game)?;

@@ -8,7 +8,7 @@ ghost use Rattle.pg_game.specs.Game.{start};
 ghost use Rattle.pg_game.specs.declared.bounds.TheConstants.{MAX_POSITIONS};
 ghost use Rattle.pg_solve.specs.Left.{budget, IsLeft, IsLeftOpen};
 ghost use Rattle.pg_solve.specs.declared.solving.TheConstants.{MIN_POSITIONS};
-ghost use Rattle.pg_review.specs.Known.{IsKnown};
+ghost use Rattle.pg_review.specs.Known.{IsKnown, IsSolvedBy};
 
 use crate::known::{Known, known_by};
 use pg_base::Memory;
@@ -46,6 +46,8 @@ pub fn decide(
     requires some { MIN_POSITIONS ≤ positions }
     requires most { positions ≤ MAX_POSITIONS }
     ensures known { IfOk result (λ found. IfSome found (IsKnown game.now (start game.now))) }
+    ensures solved { IfOk result (λ found. IfSome found (λ known.
+        IsSolvedBy game.now positions known.certificate)) }
     ensures lines { result ≡ Ok None → is_switching game.now.kind ≡ false }
     ensures unknown { result ≡ Ok None → IsLeftOpen game.now (budget game.now positions) work.new }
     ensures work { game.now.kind ≢ Switching → IsLeft game.now (budget game.now positions) work.new }

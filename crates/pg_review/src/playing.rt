@@ -6,7 +6,7 @@ ghost use Rattle.pg_game.specs.Position.{is_free};
 ghost use Rattle.pg_game.specs.declared.bounds.TheConstants.{MAX_POSITIONS};
 ghost use Rattle.pg_solve.specs.Left.{budget, IsLeftOpen, LeavesSearch};
 ghost use Rattle.pg_solve.specs.declared.solving.TheConstants.{MIN_POSITIONS};
-ghost use Rattle.pg_review.specs.Known.{IsKnown};
+ghost use Rattle.pg_review.specs.Known.{HaveNodes, IsKnown, IsKnownThere};
 ghost use Rattle.pg_review.specs.Review.{IsGameAt};
 
 use crate::deciding::decide;
@@ -48,9 +48,13 @@ pub(crate) fn play(
     requires known { IsKnown game.old (start game.old) known.old }
     ensures played { IsGameAt game.old (after game.old (start game.old) point) game.new }
     ensures known { result ≡ Ok true → IsKnown game.new (start game.new) known.new }
+    ensures found { result ≡ Ok true → IsKnownThere game.new positions
+        (after game.old (start game.old) point) known.old known.new }
+    ensures untold { result ≡ Ok false →
+        HaveNodes (after game.old (start game.old) point) known.old.certificate → ⊥ }
     ensures lines { result ≡ Ok false → is_switching game.new.kind ≡ false }
     ensures unknown { result ≡ Ok false → IsLeftOpen game.new (budget game.new positions) work.new }
-    ensures work { LeavesSearch positions work.old work.new }
+    ensures work { LeavesSearch (λ here. here ≡ game.new) positions work.old work.new }
 {
     let next = game.after(&game.start(), point);
     stand_at(game, &next);

@@ -8,6 +8,7 @@ ghost use Rattle.pg_record.specs.declared.event.TheConstants.{MAX_EVENTS};
 ghost use Rattle.pg_solve.specs.declared.solving.TheConstants.{MIN_POSITIONS};
 ghost use Rattle.pg_talk.specs.Done.{Performs};
 ghost use Rattle.pg_talk.specs.Halts.{HaltCauses, IsWriteHalt};
+ghost use Rattle.pg_review.specs.Along.{IsAlong, IsReached};
 ghost use Rattle.pg_review.specs.Review.{IsReviewEnd, ReviewsMoves};
 ghost use Rattle.pg_review.specs.Saying.{SaysAtOnce, move_texts};
 ghost use Rattle.pg_solve.specs.Left.{LeavesSearch};
@@ -70,7 +71,10 @@ pub(crate) fn review_moves<C: Console>(
     ensures reviewed { Performs (λ _. ⊥) (ReviewsMoves game.old moves.now positions work.new)
         (C.told console.old) (C.told console.new) result }
     ensures causes { HaltCauses ⊥ (C.told console.old).faults (C.told console.new).faults result }
-    ensures work { LeavesSearch positions work.old work.new }
+    ensures work { LeavesSearch (IsAlong game.old moves.now) positions work.old work.new }
+    ensures prompt { LeavesSearch
+        (IsReached (C.told console.old) (C.told console.new) game.old moves.now)
+        positions work.old work.new }
     ensures done { IfOk result IsReviewEnd }
     ensures halts { IfErr result IsWriteHalt }
 {

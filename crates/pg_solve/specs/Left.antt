@@ -45,6 +45,16 @@ IsAskedLast kind question (Value score certificate) = question ≡ Some (last_qu
 IsAskedLast kind question (ForClass class certificate) = Unit {0}
 IsAskedLast kind question Unknown = Unit {0}
 
--- what solving leaves in the work: all as it was, or by the rules what it asked last of a game on lines
-abbrev pub LeavesSearch : ℕ → Expanded → Expanded → Type 0
-LeavesSearch positions before after = (after ≡ before) ⊎ ((g : Game) × (g.kind ≢ Switching) × IsLeft g (budget g positions) after)
+-- the work holds what was asked last of a game on lines that is one of these, with so many
+-- positions for each question
+pub record IsLeftOf (IsOne : Game → Type 0) (positions : ℕ) (work : Expanded) : Type 0 where
+  pub game : Game
+  pub one : IsOne game
+  pub on_lines : game.kind ≢ Switching
+  pub left : IsLeft game (budget game positions) work
+
+-- what solving leaves in the work: all as it was, or by the rules what it asked last of a game on
+-- lines that is one of these
+abbrev pub LeavesSearch : (Game → Type 0) → ℕ → Expanded → Expanded → Type 0
+LeavesSearch IsOne positions before after =
+    (after ≡ before) ⊎ IsLeftOf IsOne positions after

@@ -75,9 +75,10 @@ returns-clause-quiet g c =
 
 pub returns-clause-work : goal.returns-clause-work
 returns-clause-work g c =
+    let told = (g.F.Files.told c.args.files.now).held in
     let made = c.in-Some.made in
     let certificate = c.in-Some-certificate.certificate.now in
     let is = subst (λ (o : Option Game). IsMadeOf c.args.which o) c.in-Some.is c.in_ok-made.ensures in
-    subst (λ (o : Option (Bor Bytes)). LeavesWork (built (Gen c.args.which c.args.game.now (text o))) c.args.work.now c.solve_made.new.work) (sym c.in-Some-certificate.is)
-    (of_built c.args.which c.args.game.now (Some certificate) (λ (command : Option Command). LeavesWork command c.args.work.now c.solve_made.new.work) is.0
-    (work_left c.args.which c.args.game.now certificate made c.args.work.now c.solve_made.new.work is.1 c.solve_made.ensures.untouched c.solve_made.ensures.work))
+    subst (λ (o : Option (Bor Bytes)). LeavesWork told (built (Gen c.args.which c.args.game.now (text o))) c.args.work.now c.solve_made.new.work) (sym c.in-Some-certificate.is)
+    (of_built c.args.which c.args.game.now (Some certificate) (λ (command : Option Command). LeavesWork told command c.args.work.now c.solve_made.new.work) is.0
+    (work_left c.args.which c.args.game.now certificate made c.args.work.now c.solve_made.new.work is.1 c.solve_made.ensures.untouched c.solve_made.ensures.work told))

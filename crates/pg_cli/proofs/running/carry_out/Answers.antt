@@ -1,16 +1,19 @@
-use Rattle.std.proofs.Common.{◌≡◌, map, string_bytes, Option, Some, option_and_then, option_map, ap, ◌∙◌, subst}
+use Rattle.std.proofs.Common.{◌≡◌, ℕ, map, string_bytes, Option, Some, option_and_then, option_map, ap, sym, ◌∙◌, subst}
 use Rattle.std.proofs.lemmas.Result.{err_from_is_err_and}
 use Rattle.pg_io.specs.Files.{Bytes, Holding}
 use Rattle.pg_io.specs.declared.stop.Stop.TheVariants.{Memory}
 use Rattle.pg_words.specs.Ordered.{ordered}
-use Rattle.pg_words.specs.Words.{Command, OfFamily, meaning_of}
+use Rattle.pg_words.specs.Words.{Command, OfFamily, Review, meaning_of}
 use Rattle.pg_words.specs.declared.command.Command.{Command as Order}
 use Rattle.pg_families.specs.Family.{ActsInFamily, RefusesFamily}
-use Rattle.pg_cli.specs.Commands.{asked, built}
+use Rattle.pg_review.specs.Along.{IsOfNames, IsReached}
+use Rattle.pg_solve.specs.Left.{LeavesSearch}
+use Rattle.pg_cli.specs.Commands.{SpeaksInTime, asked, built}
 use Rattle.pg_cli.specs.Run.{Carries}
+use Rattle.pg_cli.specs.Solving.{positions_for}
 use Rattle.pg_talk.specs.Runs.{Runs}
 use Rattle.pg_talk.specs.declared.halt.Halt.TheVariants.{Stopped}
-use Rattle.pg_cli.proofs.Runs.{carries_memory, gives_memory, leaves_all, leaves_work, quiet_halt}
+use Rattle.pg_cli.proofs.Runs.{carries_memory, gives_memory, leaves_all, leaves_work, quiet_halt, speaks_in_time}
 use Rattle.pg_cli.proofs.running.carry_out.Goals as goal
 
 pub returns-in_err-command-clause-ran : goal.returns-in_err-command-clause-ran
@@ -27,7 +30,12 @@ pub returns-in_err-command-clause-files : goal.returns-in_err-command-clause-fil
 returns-in_err-command-clause-files g c = leaves_all (asked (map string_bytes c.args.words.now)) (g.F.Files.told c.args.files.now)
 
 pub returns-in_err-command-clause-work : goal.returns-in_err-command-clause-work
-returns-in_err-command-clause-work g c = leaves_work (asked (map string_bytes c.args.words.now)) c.args.work.now
+returns-in_err-command-clause-work g c =
+    leaves_work (asked (map string_bytes c.args.words.now)) (g.F.Files.told c.args.files.now).held c.args.work.now
+
+pub returns-in_err-command-clause-prompt : goal.returns-in_err-command-clause-prompt
+returns-in_err-command-clause-prompt g c =
+    speaks_in_time (asked (map string_bytes c.args.words.now)) (g.F.Files.told c.args.files.now).held c.args.work.now (g.C.Console.told c.args.console.now)
 
 pub returns-in_err-command-clause-gives : goal.returns-in_err-command-clause-gives
 returns-in_err-command-clause-gives g c =
@@ -48,3 +56,23 @@ returns-in-OfFamily-clause-ran g c =
     (g.F.Files.told c.args.files.now) (g.F.Files.told c.carry_out_in_family.new.files) (g.C.Console.told c.args.console.now) (g.C.Console.told c.carry_out_in_family.new.console) c.carry_out_in_family.result) c.deref-in-OfFamily-2.ensures by_game in
     subst (λ (k : Option Command). Carries k c.args.work.now (g.F.Files.told c.args.files.now) (g.F.Files.told c.carry_out_in_family.new.files) (g.C.Console.told c.args.console.now) (g.C.Console.told c.carry_out_in_family.new.console) c.carry_out_in_family.result)
     (ap (option_and_then built) found) by_both
+
+pub returns-in-Some-positions_for-2-clause-prompt : goal.returns-in-Some-positions_for-2-clause-prompt
+returns-in-Some-positions_for-2-clause-prompt g c =
+    let words = map string_bytes c.args.words.now in
+    let told = (g.F.Files.told c.args.files.now).held in
+    let game = string_bytes c.in-Review.game in
+    let name = string_bytes c.in-Review.name in
+    let most = c.in-Some-positions_for-2.most in
+    let before = g.C.Console.told c.args.console.now in
+    let after = g.C.Console.told c.review.new.console in
+    let found : Some (Review game name c.in-Review.positions) ≡ meaning_of words =
+    subst (λ (o : Option Order). option_map ordered o ≡ meaning_of words) (c.in-Some.is ∙ ap (λ (o : Order). Some o) c.in-Review.is) c.in_ok-command.ensures in
+    let enough : positions_for c.in-Review.positions ≡ Some most = sym c.positions_for-in-Review.ensures.exact ∙ c.in-Some-positions_for-2.is in
+    let is : Some (Review game name (Some most)) ≡ asked words =
+    sym (ap (option_map (λ (n : ℕ). Review game name (Some n))) enough) ∙ ap (option_and_then built) found in
+    let by_game = subst (λ (b : Bytes). LeavesSearch (IsOfNames (IsReached before after) told b c.deref-in-Some-positions_for-2-2.result.now) most c.args.work.now c.review.new.work)
+    c.deref-in-Some-positions_for-2.ensures c.review.ensures.prompt in
+    let by_both = subst (λ (b : Bytes). LeavesSearch (IsOfNames (IsReached before after) told game b) most c.args.work.now c.review.new.work)
+    c.deref-in-Some-positions_for-2-2.ensures by_game in
+    subst (λ (k : Option Command). SpeaksInTime told k c.args.work.now c.review.new.work before after) is by_both

@@ -2,6 +2,7 @@ use Rattle.std.proofs.Common.{map, string_bytes}
 use Rattle.pg_cli.specs.Commands.{IsLacking, asked}
 use Rattle.pg_cli.proofs.Ending.{cause_done, cause_early, meaningless_early, ran_done, ran_early, silent_done, silent_early, status_done, status_early}
 use Rattle.pg_cli.proofs.Forced.{forced_ran}
+use Rattle.pg_cli.proofs.InTime.{in_time_early}
 use Rattle.pg_cli.proofs.running.run.Goals as goal
 
 pub returns-in-Ok-clause-ran : goal.returns-in-Ok-clause-ran
@@ -49,3 +50,9 @@ returns-in-Err-clause-words g c =
 pub returns-in-Err-clause-causes : goal.returns-in-Err-clause-causes
 returns-in-Err-clause-causes g c =
     cause_early (IsLacking (g.F.Files.told c.args.files.now).held (asked (map string_bytes c.args.words.now))) (g.F.Files.told c.args.files.now) (g.F.Files.told c.carry_out.new.files) (g.C.Console.told c.args.console.now) (g.C.Console.told c.carry_out.new.console) (g.C.Console.told c.end_early.new.console) c.in-Err.halt c.end_early.result c.in-Err.ensures.causes c.end_early.ensures
+
+pub returns-in-Err-clause-prompt : goal.returns-in-Err-clause-prompt
+returns-in-Err-clause-prompt g c =
+    in_time_early (g.F.Files.told c.args.files.now).held (asked (map string_bytes c.args.words.now)) c.args.work.now c.carry_out.new.work
+    (g.C.Console.told c.args.console.now) (g.C.Console.told c.carry_out.new.console) (g.C.Console.told c.end_early.new.console) c.in-Err.halt c.end_early.result
+    c.in-Err.ensures.prompt c.end_early.ensures

@@ -1,6 +1,7 @@
 use Rattle.std.proofs.Common.{inl, refl}
 use Rattle.std.proofs.lemmas.Result.{err_from_is_err_and}
-use Rattle.pg_cli.proofs.Solves.{carries_solve, halted_solve, leaves_search}
+use Rattle.pg_cli.proofs.Solves.{carries_solve, game_is_held, halted_solve, leaves_search}
+use Rattle.pg_cli.specs.Commands.{IsGameHeld}
 use Rattle.pg_cli.proofs.solving.solve.Goals as goal
 
 pub returns-in_err-game-clause-ran : goal.returns-in_err-game-clause-ran
@@ -18,4 +19,8 @@ pub returns-in_err-game-clause-work : goal.returns-in_err-game-clause-work
 returns-in_err-game-clause-work g c = inl refl
 
 pub returns-clause-work : goal.returns-clause-work
-returns-clause-work g c = leaves_search c.in_ok-game.game c.args.options.positions c.args.work.now c.solve_game.new.work c.solve_game.ensures.work c.solve_game.ensures.untouched
+returns-clause-work g c =
+    let told = (g.F.Files.told c.args.files.now).held in
+    let game = c.in_ok-game.game in
+    leaves_search (IsGameHeld told c.args.game.now) game c.args.options.positions c.args.work.now c.solve_game.new.work
+    (game_is_held told c.args.game.now game c.in_ok-game.ensures.opened) c.solve_game.ensures.work c.solve_game.ensures.untouched

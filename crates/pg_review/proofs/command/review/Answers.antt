@@ -1,5 +1,6 @@
 use Rattle.std.proofs.lemmas.Result.{err_from_is_err_and}
-use Rattle.pg_review.proofs.Opened.{causes_more, halts_game, lacks_record, runs_record}
+use Rattle.pg_review.proofs.Opened.{causes_more, halts_game, lacks_record, left-of-names, runs_record}
+use Rattle.pg_review.specs.Along.{IsAlong, IsReached}
 use Rattle.pg_review.specs.Review.{IsReviewLacking, moves_held}
 use Rattle.pg_talk.specs.Reading.{IsLackingOne}
 use Rattle.pg_review.proofs.command.review.Goals as goal
@@ -24,3 +25,16 @@ returns-clause-causes g c =
     (g.C.Console.told c.args.console.now) (g.C.Console.told c.review_record.new.console) c.review_record.result
     (lacks_record c.args.game.now c.args.record.now c.args.positions c.args.work.now files mid game mid c.open_game.ensures.kept.held c.in_ok-game.ensures.opened)
     c.in_ok-game.ensures.causes c.review_record.ensures.causes
+
+pub returns-clause-work : goal.returns-clause-work
+returns-clause-work g c =
+    left-of-names IsAlong c.args.positions c.args.work.now c.review_record.new.work c.in_ok-game.game
+    (g.F.Files.told c.args.files.now).held (g.F.Files.told c.open_game.new.files).held c.args.game.now c.args.record.now
+    c.open_game.ensures.kept.held c.in_ok-game.ensures.opened c.review_record.ensures.work
+
+pub returns-clause-prompt : goal.returns-clause-prompt
+returns-clause-prompt g c =
+    left-of-names (IsReached (g.C.Console.told c.args.console.now) (g.C.Console.told c.review_record.new.console))
+    c.args.positions c.args.work.now c.review_record.new.work c.in_ok-game.game
+    (g.F.Files.told c.args.files.now).held (g.F.Files.told c.open_game.new.files).held c.args.game.now c.args.record.now
+    c.open_game.ensures.kept.held c.in_ok-game.ensures.opened c.review_record.ensures.prompt

@@ -1,8 +1,10 @@
 use Rattle.std.proofs.Common.{Global, List, Vec, ℕ, subst}
 use Rattle.std.proofs.lemmas.Result.{err_from_is_err_and}
 use Rattle.pg_talk.specs.Done.{Performs}
-use Rattle.pg_review.proofs.Opened.{halts_moves, runs_moves}
+use Rattle.pg_review.proofs.Opened.{halts_moves, left-of-moves, runs_moves}
+use Rattle.pg_review.specs.Along.{IsAlong, IsReached}
 use Rattle.pg_review.specs.Review.{ReviewsMoves}
+use Rattle.pg_solve.specs.Left.{LeavesSearch}
 use Rattle.pg_review.proofs.command.review_record.Goals as goal
 
 pub returns-in_err-moves-clause-ran : goal.returns-in_err-moves-clause-ran
@@ -18,3 +20,20 @@ returns-clause-ran g c =
     c.in_ok-moves.moves c.in_ok-moves.ensures.opened (g.C.Console.told c.args.console.now) (g.C.Console.told c.review_moves.new.console) c.review_moves.result
     (subst (λ (moves : List ℕ). Performs (λ _. ⊥) (ReviewsMoves game moves c.args.positions c.review_moves.new.work) (g.C.Console.told c.args.console.now) (g.C.Console.told c.review_moves.new.console) c.review_moves.result)
     c.as_slice.ensures.value c.review_moves.ensures.reviewed)
+
+pub returns-clause-work : goal.returns-clause-work
+returns-clause-work g c =
+    let game = c.args.game.now in
+    left-of-moves IsAlong c.args.positions c.args.work.now c.review_moves.new.work (λ (moves : Vec ℕ Global). moves.items)
+    game (g.F.Files.told c.args.files.now).held c.args.record.now c.in_ok-moves.moves c.in_ok-moves.ensures.opened
+    (subst (λ (moves : List ℕ). LeavesSearch (IsAlong game moves) c.args.positions c.args.work.now c.review_moves.new.work)
+    c.as_slice.ensures.value c.review_moves.ensures.work)
+
+pub returns-clause-prompt : goal.returns-clause-prompt
+returns-clause-prompt g c =
+    let game = c.args.game.now in
+    let reached = IsReached (g.C.Console.told c.args.console.now) (g.C.Console.told c.review_moves.new.console) in
+    left-of-moves reached c.args.positions c.args.work.now c.review_moves.new.work (λ (moves : Vec ℕ Global). moves.items)
+    game (g.F.Files.told c.args.files.now).held c.args.record.now c.in_ok-moves.moves c.in_ok-moves.ensures.opened
+    (subst (λ (moves : List ℕ). LeavesSearch (reached game moves) c.args.positions c.args.work.now c.review_moves.new.work)
+    c.as_slice.ensures.value c.review_moves.ensures.prompt)
