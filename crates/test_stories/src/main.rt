@@ -15,6 +15,7 @@ mod pieces;
 mod replies;
 mod rows;
 mod runs;
+mod sizes;
 mod system;
 mod tables;
 mod texts;

@@ -1,6 +1,6 @@
 //! Single runs.
 use crate::entries::push_shown;
-use crate::held::{Held, holding};
+use crate::held::holding;
 use pg_cli::run;
 use pg_io::{Console, Entry, Files, MemConsole, Text};
 use pg_pns::Work;
@@ -30,10 +30,10 @@ pub(crate) fn status_of<F: Files, C: Console>(
 }
 
 /// Adds the status of a run, and what it says and hears; and `called` where calls of the console were to fail and a further call doesn't.
-fn push_run_on(
+fn push_run_on<F: Files>(
     alloc: Global,
     words: &str,
-    files: &mut Held,
+    files: &mut F,
     console: &mut MemConsole,
     is_failing: bool,
     text: &mut String,
@@ -58,10 +58,10 @@ fn push_run_on(
 }
 
 /// Adds the status and the log of a run on these words, where the console has this input, and its calls with these numbers fail.
-pub(crate) fn push_run(
+pub(crate) fn push_run<F: Files>(
     alloc: Global,
     words: &str,
-    files: &mut Held,
+    files: &mut F,
     input: &str,
     fails: &[u64],
     text: &mut String,
@@ -72,10 +72,10 @@ pub(crate) fn push_run(
 }
 
 /// The status and the log of a run on these words, where no call fails.
-pub(crate) fn logged(
+pub(crate) fn logged<F: Files>(
     alloc: Global,
     words: &str,
-    files: &mut Held,
+    files: &mut F,
     input: &str,
 ) -> Result<String, AllocError> {
     let mut log = String::new(alloc);

@@ -1,6 +1,6 @@
 //! Runs on the files and the console of the system.
 use crate::runs::status_of;
-use pg_io::{HostConsole, HostFiles};
+use pg_host::{HostConsole, HostFiles};
 use std::io;
 
 /// Carries out a run on these words, which are said first; last its status, where that isn't 0.

@@ -4,6 +4,7 @@ use crate::faults::{is_fault_so, is_form_so};
 use crate::nodes::is_node_so;
 use crate::pairs::is_pair_so;
 use crate::pieces::are_pieces_so;
+use crate::sizes::is_size_so;
 use crate::texts::Named;
 use crate::values::is_value_so;
 use std::alloc::{AllocError, Global};
@@ -25,6 +26,7 @@ fn is_so(
         "value" => Some(is_value_so(alloc, told)?),
         "pair" => Some(is_pair_so(alloc, told)?),
         "pieces" => Some(are_pieces_so(alloc, told)?),
+        "size" => Some(is_size_so(alloc, told)?),
         _ => None,
     })
 }
