@@ -1,0 +1,99 @@
+# Completion of posgame, posgame-draw and posgame-why for bash: commands, options, and files by the
+# ending of their names. bench/release.py tries it.
+
+# Adds the directories and the files named *.$1 that begin with $2 to COMPREPLY.
+_posgame_files() {
+    local name
+    while IFS= read -r name; do
+        COMPREPLY+=("$name")
+    done < <(compgen -d -- "$2"; compgen -f -X "!*.$1" -- "$2")
+    compopt -o filenames 2> /dev/null
+}
+
+# Adds those of the words $1 that begin with $2 to COMPREPLY.
+_posgame_words() {
+    local word
+    while IFS= read -r word; do
+        COMPREPLY+=("$word")
+    done < <(compgen -W "$1" -- "$2")
+}
+
+# Prints what the positional arguments after the command ($*) are, in their order.
+_posgame_arguments() {
+    case "$*" in
+        solve | check | play | report | 'span '* | 'vec '*) echo game cert ;;
+        record | review) echo game record ;;
+        'gen rows' | 'gen bridge') echo number game cert ;;
+        'gen scatter') echo number number number number game cert ;;
+    esac
+}
+
+# Prints the options of the command ($*).
+_posgame_options() {
+    case "$*" in
+        solve) echo --positions --images ;;
+        play | 'span play' | 'vec play') echo --side ;;
+        review) echo --positions ;;
+    esac
+}
+
+# Prints the words that may follow the beginning of a command ($*); none where it is whole.
+_posgame_commands() {
+    case "$*" in
+        '') echo solve check play report gen span vec record review ;;
+        gen) echo rows bridge scatter ;;
+        span | vec) echo solve check play ;;
+    esac
+}
+
+# Reads the words before the current one into command, place (how many arguments follow the command)
+# and pending (an option whose value is due), which are variables of the caller.
+_posgame_read() {
+    local at word
+    for ((at = 1; at < COMP_CWORD; at++)); do
+        word=${COMP_WORDS[at]}
+        if [ "$word" = --side ] || [ "$word" = --positions ]; then
+            [ "${COMP_WORDS[at + 1]}" = = ] && at=$((at + 1))
+            at=$((at + 1))
+            ((at < COMP_CWORD)) || pending=$word
+        elif [[ $word == -* ]]; then
+            :
+        elif [ -n "$(_posgame_commands "$command")" ]; then
+            command=${command:+$command }$word
+        else
+            place=$((place + 1))
+        fi
+    done
+}
+
+_posgame() {
+    local current=${COMP_WORDS[COMP_CWORD]} command='' place=0 pending='' next
+    local -a arguments=()
+    COMPREPLY=()
+    [ "$current" = = ] && current=''
+    _posgame_read
+    next=$(_posgame_commands "$command")
+    read -ra arguments < <(_posgame_arguments "$command")
+    if [ "$pending" = --side ]; then
+        _posgame_words 'x y' "$current"
+    elif [ -n "$pending" ]; then
+        :
+    elif [ -n "$next" ]; then
+        _posgame_words "$next" "$current"
+    elif [[ $current == -* ]]; then
+        _posgame_words "$(_posgame_options "$command")" "$current"
+    elif [[ ${arguments[place]-number} != number ]]; then
+        _posgame_files "${arguments[place]}" "$current"
+    fi
+}
+
+_posgame_draw() {
+    COMPREPLY=()
+    case $COMP_CWORD in
+        1) _posgame_files game "${COMP_WORDS[1]}" ;;
+        2) _posgame_files cert "${COMP_WORDS[2]}" ;;
+    esac
+}
+
+complete -F _posgame posgame ./posgame
+complete -F _posgame_draw posgame-draw ./posgame-draw

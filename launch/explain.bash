@@ -1,0 +1,350 @@
+# What is said on standard error: `prepare` warns before a run that writes, and `explain` says after
+# a run what went wrong. Read by run.bash only where one of them is called, since bash takes a
+# millisecond for it.
+#
+# The code of a fault, such as that of `game G6 line 4`, is on the program's standard output, which
+# this script doesn't see. So it asks the program once more, by words that store nothing and end
+# soon: `check GAME /dev/null` for a fault of the game, `check GAME CERT` for one of the
+# certificate, `review GAME RECORD --positions 1` for one of the record. It doesn't where that
+# can't be the same or takes long: a file that is no plain one (a pipe is read once), or is standard
+# input, or a run that took more than two seconds. Then it says what the status tells.
+# shellcheck shell=bash disable=SC2034,SC2153 # run.bash shares its variables
+
+# Sets `POSITIONALS`, `SIDE` and `OPTIONS` (a row of the options' names) by the words. Fails where a
+# word has no meaning wherever it stands.
+split_words() {
+    POSITIONALS=() SIDE='' OPTIONS=''
+    while (($#)); do
+        case $1 in
+            --) POSITIONALS+=("${@:2}") && return ;;
+            --positions | --side)
+                [[ $# -gt 1 && $2 != -* ]] || return
+                OPTIONS+=" $1"
+                [[ $1 == --side ]] && SIDE=$2
+                shift
+                ;;
+            --positions=*) OPTIONS+=' --positions' ;;
+            --side=*) OPTIONS+=' --side' SIDE=${1#*=} ;;
+            --images) OPTIONS+=' --images' ;;
+            -?*) return 1 ;;
+            *) POSITIONALS+=("$1") ;;
+        esac
+        shift
+    done
+}
+
+# Sets what `read_words` sets, for posgame-draw, whose words are names and perhaps a node.
+read_draw_words() {
+    COMMAND='' FAMILY='' GAME='' OTHER=''
+    (($# >= 1 && $# <= 3)) || return 0
+    COMMAND=draw GAME=$1 OTHER=${2-}
+    local number='(0|[1-9][0-9]{0,8})'
+    (($# < 3)) || [[ $3 =~ ^(${number}[.])?$number$ ]] || COMMAND=''
+}
+
+# Sets `COMMAND` (empty where the words name none), `FAMILY` (`span`, `vec` or nothing), and the
+# names `GAME` and `OTHER`, a certificate or record. Numbers aren't looked at: the program does.
+read_words() {
+    local at=1 count
+    COMMAND='' FAMILY='' GAME='' OTHER=''
+    split_words "$@" || return 0
+    case ${POSITIONALS[0]-} in
+        span | vec) FAMILY=${POSITIONALS[0]} at=2 ;;
+    esac
+    case $FAMILY:${POSITIONALS[at - 1]-} in
+        *:solve | *:check | *:play | :report | :record | :review) ;;
+        :gen)
+            case ${POSITIONALS[1]-} in
+                rows | bridge) at=3 ;;
+                scatter) at=6 ;;
+                *) return 0 ;;
+            esac
+            ;;
+        *) return 0 ;;
+    esac
+    count=$((${#POSITIONALS[@]} - at))
+    ((count == 2)) || [[ ${POSITIONALS[0]} == gen && $count -eq 1 ]] || return 0
+    COMMAND=${POSITIONALS[0]}
+    [[ $FAMILY ]] && COMMAND=${POSITIONALS[1]}
+    GAME=${POSITIONALS[at]} OTHER=${POSITIONALS[at + 1]-}
+}
+
+# Sets `WRITTEN` to the names that the command stores files under.
+find_written() {
+    WRITTEN=()
+    case $COMMAND in
+        solve | record) WRITTEN=("$OTHER") ;;
+        gen) WRITTEN=("$GAME" ${OTHER:+"$OTHER"}) ;;
+    esac
+}
+
+# Sets `REASON` to why no file can be stored under the name $1, and fails where nothing is known.
+find_write_fault() {
+    local folder=.
+    REASON=
+    [[ $1 == */* ]] && folder=${1%/*} && folder=${folder:-/}
+    if [[ -z $1 ]]; then
+        REASON='the name is empty'
+    elif [[ -e $1 && ! -f $1 && ! -d $1 ]]; then
+        [[ -w $1 ]] || REASON='no permission to write to it'
+        [[ $1 -ef /dev/full ]] && REASON='it is a full device'
+    elif [[ -f $1 && -w $1 ]]; then
+        [[ $COMMAND == record && $1 -ef $GAME ]] && REASON='it is the file of the game'
+    elif [[ ! -e $folder ]]; then
+        REASON="there is no folder $folder"
+    elif [[ ! -d $folder ]]; then
+        REASON="$folder is no folder"
+    elif [[ -d $1 || $1 == */ ]]; then
+        REASON='it is a folder'
+    elif [[ ! -w $folder || ! -x $folder ]]; then
+        REASON="no permission to write in the folder $folder"
+    fi
+    [[ $REASON ]]
+}
+
+# Warns before the run, since the program writes only at its end.
+warn_of_names() {
+    local name
+    for name in "${WRITTEN[@]}"; do
+        find_write_fault "$name" && say "warning: '$name' can't be written: $REASON"
+    done
+}
+
+# Sets `STEM` to what the names of the parts of the name $1 begin with: in the folder of the file
+# that a link leads to, and without a long name.
+find_stem() {
+    local LC_ALL=C base
+    STEM=$1
+    [[ -L $STEM ]] && STEM=$(readlink -f -- "$STEM")
+    base=${STEM##*/}
+    ((${#base} > 240)) && STEM=${STEM%"$base"}
+    STEM+=.posgame-part
+}
+
+# Removes the parts that no run has locked: the program locks its own, and a signal ended it.
+remove_parts() {
+    local name part
+    for name in "${WRITTEN[@]}"; do
+        find_stem "$name"
+        for part in "$STEM"[0-9] "$STEM"[0-9][0-9]; do
+            [[ -f $part && ! -L $part ]] && flock -n -- "$part" rm -f -- "$part"
+        done
+    done
+}
+
+# Before a run that may write: warns of names that can't be written.
+prepare() {
+    "$READER" "$@"
+    find_written
+    warn_of_names
+}
+
+# Prints the name and the version, and then how the program is called.
+print_usage() {
+    local version='' usage=$TEXTS/usage.txt
+    [[ $NAME == posgame-draw ]] && usage=$TEXTS/usage-draw.txt
+    [[ -r $VERSION ]] && read -r version < "$VERSION"
+    printf '%s %s\n%s\n' "$NAME" "$version" "$(< "$usage")"
+}
+
+# Answers the word $1, if it is `--help` or `--version`, and ends. posgame has no such words: it
+# answers by `words: no meaning`, and the usage is printed on standard error.
+answer_help() {
+    case $1 in
+        --help) print_usage ;;
+        --version) print_usage | head -n 1 ;;
+        *) return 0 ;;
+    esac
+    exit
+}
+
+# Prints the text of the code $1 in codes.txt, or fails.
+find_text() {
+    local code text
+    while IFS=$'\t' read -r code text; do
+        [[ $code == "$1" ]] && printf '%s' "$text" && return
+    done < "$TEXTS/codes.txt"
+    return 1
+}
+
+# Sets `REASON` to why the name $1 can't be read, and fails where nothing is known.
+find_read_fault() {
+    local folder=.
+    REASON=
+    [[ $1 == */* ]] && folder=${1%/*} && folder=${folder:-/}
+    if [[ -z $1 ]]; then
+        REASON='the name is empty'
+    elif [[ -d $1 ]]; then
+        REASON='it is a folder'
+    elif [[ -e $1 ]]; then
+        [[ -r $1 ]] || REASON='no permission to read it'
+    elif [[ -L $1 ]]; then
+        REASON='it is a link that leads to no file'
+    elif [[ -e $folder && ! -d $folder ]]; then
+        REASON="$folder is no folder"
+    elif [[ -d $folder && ! -x $folder ]]; then
+        REASON="no permission to look into the folder $folder"
+    else
+        REASON='there is no such file'
+    fi
+    [[ $REASON ]]
+}
+
+# Status 5: which name can't be read, and why.
+explain_reading() {
+    local name names=("$GAME" "$OTHER")
+    [[ $COMMAND == record || $COMMAND == solve ]] && names=("$GAME")
+    for name in "${names[@]}"; do
+        find_read_fault "$name" && say "'$name' can't be read: $REASON" && return
+    done
+    if [[ $CLOSED == *0* ]]; then
+        say 'standard input is closed'
+    elif [[ $COMMAND == play || $COMMAND == record ]] && [[ -d /dev/stdin ]]; then
+        say "standard input can't be read: it is a folder"
+    else
+        say "${names[*]} or standard input couldn't be read: a call of the system failed"
+    fi
+}
+
+# Prints how many bytes are free where the name $1 is to be written.
+free_bytes() {
+    local folder=. free
+    [[ $1 == */* ]] && folder=${1%/*} && folder=${folder:-/}
+    { read -r && read -r _ _ _ free _; } < <(df -Pk -- "$folder" 2> /dev/null)
+    [[ ${free-} ]] && printf '%d' "$((free * 1024))"
+}
+
+# Status 6: which name can't be written, and why.
+explain_writing() {
+    local name
+    for name in "${WRITTEN[@]}"; do
+        if find_write_fault "$name"; then
+            say "'$name' can't be written: $REASON"
+            return
+        fi
+    done
+    if [[ $CLOSED == *1* ]]; then
+        say 'standard output is closed'
+    elif [[ /dev/stdout -ef /dev/full ]]; then
+        say "standard output can't be written: it is a full device"
+    elif ((${#WRITTEN[@]})); then
+        name=${WRITTEN[-1]}
+        say "'$name' or standard output couldn't be written: perhaps the disk is full" \
+            "($(free_bytes "$name") bytes are free there now)"
+    else
+        say "standard output couldn't be written: its reader has ended, or the disk is full"
+    fi
+}
+
+# Whether the words ask for a play that has a meaning, so that only a claim can be missing.
+is_whole_play() {
+    [[ $COMMAND == play && $OPTIONS == ' --side' && ($SIDE == x || $SIDE == y) ]]
+}
+
+# Status 2: that there is no such claim, or the usage.
+explain_words() {
+    if is_whole_play; then
+        say "'$OTHER' has no claim of side $SIDE for the side that is to move in '$GAME';" \
+            "\`posgame ${FAMILY:+$FAMILY }check\` lists its claims"
+    else
+        print_usage >&2
+    fi
+}
+
+# Whether the name can be read again with the same bytes.
+is_rereadable() {
+    [[ -f $1 ]] && ! [[ $1 -ef /dev/stdin ]]
+}
+
+# Sets `FOUND` to what the program says of the fault when it is asked again, and fails where it
+# can't be asked.
+ask_again() {
+    local words status=$STATUS
+    FOUND=
+    is_rereadable "$GAME" && ((SECONDS <= 2)) || return
+    [[ $STATUS == 3 ]] || is_rereadable "$OTHER" || return
+    case $COMMAND:$STATUS in
+        draw:3) words=("$GAME") ;;
+        draw:4) words=("$@") ;;
+        review:3) words=(review --positions 1 -- "$GAME" /dev/null) ;;
+        *:3) words=(${FAMILY:+"$FAMILY"} check -- "$GAME" /dev/null) ;;
+        *:4) words=(${FAMILY:+"$FAMILY"} check -- "$GAME" "$OTHER") ;;
+        review:10) words=(review --positions 1 -- "$GAME" "$OTHER") ;;
+        *) return 1 ;;
+    esac
+    FOUND=$("$PROGRAM" "${words[@]}" < /dev/null 2> /dev/null)
+    [[ $? == "$status" ]]
+}
+
+# Prints line $2 of the file $1, what can be printed of its first 80 bytes.
+show_line() {
+    local LC_ALL=C rows
+    (($2)) || return 0
+    mapfile -t -s $(($2 - 1)) -n 1 rows < "$1"
+    ((${#rows[@]})) && printf '    %s\n' "${rows[0]:0:80}" | tr -c '\n -~' '?' >&2
+}
+
+# Says a fault: the file, where in it, the code, and the line that its code is about (0: none).
+say_fault() {
+    say "'$1'$2: $(find_text "$3" || printf 'it has a fault') ($3)"
+    show_line "$1" "$4"
+}
+
+# Statuses 3, 4 and 10: which file has a fault, where, and what its code means.
+explain_fault() {
+    local file=$OTHER place line=0
+    local in_file='(game|certificate|record) ([GCF][0-9]+) line ([0-9]+)'
+    local in_claim='rejected ([JISV][0-9]+) claim ([0-9]+)( node ([0-9]+))?'
+    local drawn='<title>claim [xy, a-z]*(: node ([0-9]+))?: rejected ([JS][0-9]+)</title>'
+    ((STATUS == 3)) && file=$GAME
+    if ! ask_again "$@"; then
+        say "'$file' has a fault; \`posgame-why CODE\` says what its code means"
+    elif [[ $FOUND =~ ^$in_file$ ]]; then
+        line=${BASH_REMATCH[3]}
+        place=", line $line"
+        ((line)) || place=
+        say_fault "$file" "$place" "${BASH_REMATCH[2]}" "$line"
+    elif [[ $FOUND =~ $in_claim ]]; then
+        place=", claim ${BASH_REMATCH[2]}${BASH_REMATCH[4]:+, node ${BASH_REMATCH[4]}}"
+        [[ ${BASH_REMATCH[2]} == 0 && ${BASH_REMATCH[4]} ]] && line=$((BASH_REMATCH[4] + 4))
+        say_fault "$file" "$place" "${BASH_REMATCH[1]}" "$line"
+    elif [[ $FOUND =~ $drawn ]]; then
+        place=${BASH_REMATCH[2]:+, node ${BASH_REMATCH[2]}}
+        say_fault "$file" "$place" "${BASH_REMATCH[3]}" 0
+    else
+        say "'$file' has a fault; \`posgame-why CODE\` says what its code means"
+    fi
+}
+
+# Status 1: what to try next.
+explain_open() {
+    if [[ $OPTIONS == *--positions* ]]; then
+        say 'the search ended without an answer; try it without --positions'
+    elif [[ $COMMAND == review ]]; then
+        say 'a position stays open; try a review of the moves after it alone,' \
+            'from a game file with the marks of a later position'
+    else
+        say 'the search ended without an answer; try the game after some moves,' \
+            'with their marks in the game file, or a smaller board'
+    fi
+}
+
+# Says what the status means, with what is found in the words and the files of this run.
+explain() {
+    # The program posgame-draw says these itself.
+    [[ $NAME == posgame-draw && $STATUS == [2567] ]] && return
+    trap '' PIPE
+    "$READER" "$@"
+    find_written
+    case $STATUS in
+        1) explain_open ;;
+        2) explain_words "$@" ;;
+        3 | 4 | 10) explain_fault "$@" ;;
+        5) explain_reading "$@" ;;
+        6) explain_writing ;;
+        7) say 'out of memory' ;;
+        8) say 'the input ended before the game was over' ;;
+        9) say 'a hundred lines were refused' ;;
+        11) say 'the system refused the words: they have to be UTF-8' ;;
+    esac
+}
