@@ -1,0 +1,104 @@
+"""What the methods of a game return."""
+from __future__ import annotations
+
+from dataclasses import dataclass, field
+from typing import TYPE_CHECKING, Hashable, Optional, Tuple
+
+if TYPE_CHECKING:
+    from .game import Game
+
+
+@dataclass(frozen=True)
+class Claim:
+    """With `turn` to move, `side` reaches `goal` from the game's marks.
+
+    `turn` and `side` are "x" or "y"; `goal` is "win", or "draw" for a draw or better.
+    """
+    turn: str
+    side: str
+    goal: str
+
+
+@dataclass(frozen=True)
+class Solution:
+    """The answer of `Game.solve`, with its proof.
+
+    `answer` is the winner ("maker", "breaker", "x", "y", "avoider", "enforcer"), "draw", a class
+    ("short", "cut", "maker", "breaker", "first-mover"), or "unknown". Then `positions` is how many
+    positions were expanded, and `certificate` is none.
+    """
+    game: "Game" = field(repr=False)
+    answer: str
+    certificate: Optional[str] = field(default=None, repr=False)
+    positions: Optional[int] = None
+
+    @property
+    def decided(self) -> bool:
+        """Whether the answer is known, and proved by the certificate."""
+        return self.certificate is not None
+
+    @property
+    def nodes(self) -> int:
+        """The number of nodes of the certificate, 0 without one; of a claim on a connectivity game
+        one."""
+        lines = (self.certificate or "").splitlines()
+        return sum("|" in line or line.startswith(("trees", "parts")) for line in lines)
+
+    def check(self) -> Tuple[Claim, ...]:
+        """Checks the certificate by the program; returns its claims."""
+        return self.game.check(self.certificate or "")
+
+    def check_again(self) -> Tuple[Claim, ...]:
+        """Checks the certificate by `posgame.check`, which shares nothing with the program."""
+        return self.game.check_again(self.certificate or "")
+
+    def _repr_svg_(self) -> Optional[str]:
+        return self.game.picture(self.certificate)
+
+
+@dataclass(frozen=True)
+class Loss:
+    """A move after which the value of the game is worse for the side that moved.
+
+    `move` is the number of the move, from 0; `before` and `after` are values of the game.
+    """
+    move: int
+    point: Hashable
+    before: str
+    after: str
+
+
+@dataclass(frozen=True)
+class Review:
+    """The moves of a record that lost value, and how many moves it has.
+
+    If the position after `open_at` moves stays open after `positions` expanded positions, the
+    review ends there, and `moves` is none.
+    """
+    losses: Tuple[Loss, ...]
+    moves: Optional[int]
+    open_at: Optional[int] = None
+    positions: Optional[int] = None
+
+
+@dataclass(frozen=True)
+class ReportedClaim:
+    """A claim, and how many nodes of the certificate prove it."""
+    turn: str
+    side: str
+    goal: str
+    nodes: int
+
+
+@dataclass(frozen=True)
+class Report:
+    """The sizes of a game and the claims of a valid certificate.
+
+    `lines` is none for a switching game, and `vertices` for a game on lines.
+    """
+    kind: str
+    points: int
+    claims: Tuple[ReportedClaim, ...]
+    lines: Optional[int] = None
+    vertices: Optional[int] = None
+    bias: int = 1

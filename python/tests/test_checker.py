@@ -1,0 +1,121 @@
+"""The second checker beside the program, and by the tables of crates/test_stories."""
+from __future__ import annotations
+
+import pathlib
+import shutil
+import subprocess
+import sys
+import tempfile
+import unittest
+from typing import Optional
+
+import posgame.check as second
+
+import stories
+from beside import EXAMPLES, damaged_pairs, differences, example_pairs, second_verdict, Pair
+
+COUNT = 2_000
+
+
+def fault_of_form(form: stories.Form) -> Optional[str]:
+    """Returns the error of a text as a file of its kind, or none."""
+    family = "posgame-span" if form.family == "span" else "posgame"
+    try:
+        if form.text.startswith(b"posgame-cert") or form.text.startswith(b"posgame-span-cert") \
+                or (form.due or "").startswith("certificate"):
+            second.read_certificate(form.text, family)
+        else:
+            second.read_game(form.text, family)
+    except second.Fault as fault:
+        return str(fault)
+    return None
+
+
+class Tables(unittest.TestCase):
+    """What the rows of the script expect, without the program."""
+
+    def test_forms(self) -> None:
+        forms = [form for form in stories.forms(stories.entries()) if len(form.text) < 1_000_000]
+        self.assertGreater(len(forms), 400)
+        for form in forms:
+            with self.subTest(text=form.text[:200]):
+                self.assertEqual(fault_of_form(form), form.due)
+
+    def test_faults_of_nodes(self) -> None:
+        count = 0
+        for text, due in stories.faulty_nodes(stories.entries()):
+            count += 1
+            with self.subTest(due=due):
+                game, certificate = text
+                self.assertEqual(second_verdict(Pair(game, certificate, ""))[0], [due])
+        self.assertGreater(count, 300)
+
+    def test_rows(self) -> None:
+        count = 0
+        for row in stories.checks(stories.entries()):
+            words = row.words.split()
+            is_check = len(words) in (3, 4) and words[-3] == "check" and bool(row.says)
+            if is_check and all(name in row.files for name in words[-2:]):
+                count += 1
+                with self.subTest(words=row.words, says=row.says):
+                    pair = Pair(row.files[words[-2]], row.files[words[-1]], "")
+                    self.assertEqual(second_verdict(pair)[0], row.says)
+        self.assertGreater(count, 200)
+
+
+class Beside(unittest.TestCase):
+    """The same verdicts as those of `posgame check`."""
+
+    def test_examples(self) -> None:
+        pairs = example_pairs()
+        self.assertGreater(len(pairs), 40)
+        self.assertEqual([line for line in differences(pairs) if line], [])
+
+    def test_damaged_certificates(self) -> None:
+        pairs = damaged_pairs(example_pairs(), COUNT, seed=1)
+        self.assertEqual([line for line in differences(pairs) if line], [])
+
+    def test_differences_are_seen(self) -> None:
+        pair = example_pairs()[0]
+        right = second.check
+        try:
+            second.check = lambda game, certificate: ["accepted x x draw"]  # type: ignore
+            self.assertEqual(len([line for line in differences([pair]) if line]), 1)
+        finally:
+            second.check = right
+
+
+class Alone(unittest.TestCase):
+    """The checker as one file, at most 600 lines, and as a command."""
+
+    def test_size(self) -> None:
+        text = pathlib.Path(second.__file__).read_text(encoding="utf-8")
+        self.assertLessEqual(len(text.splitlines()), 600)
+        imports = {line for line in text.splitlines() if line.startswith(("import ", "from "))}
+        self.assertEqual(imports, {"from __future__ import annotations", "import math",
+                                   "import pathlib", "import re", "import sys",
+                                   "from typing import Any, Iterable, Iterator, NamedTuple"})
+
+    def test_command(self) -> None:
+        names = [("corners.game", "corners-pairs.cert", "accepted x y win\n", 0),
+                 ("corners.game", "corners-too-heavy.cert", "rejected J7 claim 0 node 0\n", 4),
+                 ("rosette-with-a-slip.game", "corners-pairs.cert", "game G6 line 4\n", 3),
+                 ("corners.game", "there-is-none.cert", "", 5)]
+        with tempfile.TemporaryDirectory(prefix="posgame-") as folder:
+            shutil.copy(second.__file__, folder)
+            for game, certificate, text, status in names:
+                done = subprocess.run(
+                    [sys.executable, f"{folder}/check.py", str(EXAMPLES / game),
+                     str(EXAMPLES / certificate)], stdout=subprocess.PIPE, text=True, check=False)
+                self.assertEqual((done.stdout, done.returncode), (text, status))
+
+    def test_module(self) -> None:
+        words = [sys.executable, "-m", "posgame.check", "corners.game", "corners-pairs.cert"]
+        package = str(pathlib.Path(second.__file__).resolve().parents[1])
+        done = subprocess.run(words, cwd=EXAMPLES, env={"PYTHONPATH": package, "PATH": ""},
+                              capture_output=True, text=True, check=False)
+        self.assertEqual((done.stdout, done.stderr), ("accepted x y win\n", ""))
+
+
+if __name__ == "__main__":
+    unittest.main()

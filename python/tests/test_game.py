@@ -1,0 +1,233 @@
+"""Games made by scripts, and the program's answers."""
+from __future__ import annotations
+
+import doctest
+import itertools
+import pathlib
+import tempfile
+import unittest
+import xml.dom.minidom
+
+import posgame
+import posgame.errors
+import posgame.game
+from posgame import FileError, Game, MoveRefused, Rejected, solve_many
+from posgame.programs import is_there
+
+from beside import EXAMPLES, TOP
+
+ROWS = [(0, 1, 2), (3, 4, 5), (6, 7, 8), (0, 3, 6), (1, 4, 7), (2, 5, 8), (0, 4, 8), (2, 4, 6)]
+FANO = [(0, 1, 2), (0, 3, 4), (0, 5, 6), (1, 3, 5), (1, 4, 6), (2, 3, 6), (2, 4, 5)]
+
+
+class Making(unittest.TestCase):
+    """The texts of games made by scripts."""
+
+    def test_labels_are_in_order(self) -> None:
+        game = Game.from_lines([["c", "a"], ["b", "a"]], x=["b"])
+        self.assertEqual(game.labels, ("a", "b", "c"))
+        self.assertEqual(game.text.splitlines()[2:], ["points 3", "line 2 0", "line 1 0", "x 1",
+                                                      "turn x"])
+
+    def test_points_without_a_line(self) -> None:
+        self.assertIn("points 5\n", Game.from_lines([[0, 1]], points=5).text)
+        self.assertEqual(Game.from_lines([[2]], points=range(1, 4)).labels, (1, 2, 3))
+
+    def test_grid(self) -> None:
+        game = Game.from_grid(5, 4, shape=["11/11", "111"], bias=2, y=[3])
+        self.assertEqual(game.text.splitlines()[2:], ["grid 5 4", "bias 2", "shape 11/11",
+                                                      "shape 111", "y 3", "turn x"])
+        self.assertEqual(len(game.labels), 20)
+
+    def test_edges_of_a_list(self) -> None:
+        game = Game.from_graph([("s", "a"), ("a", "t"), ("a", "t")], terminals=("s", "t"))
+        self.assertEqual(game.labels, (("s", "a"), ("a", "t"), ("a", "t", 1)))
+        self.assertIn("terminals 1 2\nedge 1 0\nedge 0 2\nedge 0 2\n", game.text)
+
+    def test_vectors(self) -> None:
+        game = Game.from_vectors([(1, 0), (0, 3)], "11", turn="y")
+        self.assertEqual(game.text, "posgame-vectors 1\nrows 2\ntarget 11\nvector 10\nvector 01\n"
+                                    "turn y\n")
+
+    def test_files(self) -> None:
+        for path in sorted(EXAMPLES.glob("*.game")):
+            with tempfile.TemporaryDirectory() as folder:
+                game = Game.read(path)
+                game.write(pathlib.Path(folder, "copy"))
+                self.assertEqual(pathlib.Path(folder, "copy").read_bytes(), path.read_bytes())
+                self.assertGreater(len(game.labels), 1)
+
+
+class Networkx(unittest.TestCase):
+    """Graphs of networkx, if it is installed."""
+
+    def test_graphs(self) -> None:
+        try:
+            import networkx
+        except ImportError:
+            self.skipTest("networkx is not installed")
+        wheel = networkx.wheel_graph(6)
+        self.assertEqual(Game.from_graph(wheel, terminals=(0, 1), turn="y").solve().answer, "short")
+        double = networkx.MultiGraph([(0, 1), (0, 1)])
+        game = Game.from_graph(double)
+        self.assertEqual(game.labels, ((0, 1, 0), (0, 1, 1)))
+        self.assertEqual(game.solve().answer, "maker")
+
+
+class Answers(unittest.TestCase):
+    """What the program answers."""
+
+    def test_kinds(self) -> None:
+        for kind, answer in [("maker-breaker", "maker"), ("maker-maker", "draw"),
+                             ("avoider-enforcer", "enforcer")]:
+            solution = Game.from_lines(ROWS, kind=kind).solve()
+            self.assertEqual((solution.answer, solution.decided), (answer, True))
+            self.assertEqual(solution.check(), solution.check_again())
+
+    def test_unknown(self) -> None:
+        solution = Game.from_lines(ROWS, kind="maker-maker").solve(positions=1)
+        self.assertEqual((solution.answer, solution.positions, solution.decided),
+                         ("unknown", 1, False))
+
+    def test_images(self) -> None:
+        solution = Game.from_grid(3, 3, lines=ROWS).solve(images=True)
+        self.assertTrue(str(solution.certificate).startswith("posgame-cert 3\n"))
+        self.assertEqual(solution.check(), solution.check_again())
+
+    def test_report(self) -> None:
+        game = Game.from_lines(ROWS, bias=2)
+        solution = game.solve()
+        report = game.report(str(solution.certificate))
+        self.assertEqual((report.kind, report.points, report.lines, report.bias),
+                         ("maker-breaker", 9, 8, 2))
+        self.assertEqual(sum(claim.nodes for claim in report.claims), solution.nodes)
+
+    def test_reviews(self) -> None:
+        game = Game.from_lines(ROWS, kind="maker-maker")
+        review = game.review([4, 1, 2, 6, 0, 8, 7, 3, 5])
+        self.assertEqual([(one.move, one.point, one.before, one.after) for one in review.losses],
+                         [(1, 1, "draw", "x"), (4, 0, "x", "draw")])
+        self.assertEqual((review.moves, review.open_at), (9, None))
+        review = game.review([4], positions=1)
+        self.assertEqual((review.moves, review.open_at, review.positions), (None, 0, 1))
+
+    def test_many(self) -> None:
+        games = {"good": Game.from_lines(FANO), "bad": Game("posgame 1\nkind chess\n")}
+        answers = dict(solve_many(games, jobs=2))
+        self.assertEqual(answers["good"].answer, "maker")
+        self.assertIsInstance(answers["bad"], FileError)
+
+
+class Errors(unittest.TestCase):
+    """The program's text, and what it means."""
+
+    def test_game(self) -> None:
+        with self.assertRaises(FileError) as raised:
+            Game.read(EXAMPLES / "rosette-with-a-slip.game").solve()
+        error = raised.exception
+        self.assertEqual((error.file, error.code, error.line, error.status), ("game", "G6", 4, 3))
+        self.assertEqual(error.text, "game G6 line 4")
+        self.assertIn("number", error.meaning)
+
+    def test_rejected(self) -> None:
+        game = Game.read(EXAMPLES / "corners.game")
+        certificate = (EXAMPLES / "corners-a-pair-missing.cert").read_text()
+        for check in (game.check, game.check_again, game.report):
+            with self.assertRaises(Rejected) as raised:
+                check(certificate)
+            error = raised.exception
+            self.assertEqual((error.code, error.claim, error.node), ("J6", 0, 0))
+
+    def test_record(self) -> None:
+        with self.assertRaises(FileError) as raised:
+            Game.from_lines(ROWS).review([0, 0])
+        self.assertEqual(raised.exception.text, "record F5 line 3")
+
+    def test_meanings_are_complete(self) -> None:
+        counts = {"G": 14, "C": 6, "J": 13, "I": 4, "S": 3, "V": 5, "F": 7}
+        for letter, count in counts.items():
+            for number in range(1, count + 1):
+                self.assertIn(f"{letter}{number}", posgame.errors.MEANINGS)
+
+
+class Playing(unittest.TestCase):
+    """Plays against the program."""
+
+    def test_every_list_of_replies(self) -> None:
+        game = Game.from_lines([["m", "a"], ["m", "b"]])
+        certificate = str(game.solve().certificate)
+        for reply in ("a", "b"):
+            play = game.play(certificate, "x")
+            self.assertEqual((play.claim, play.opening), (("x", "win"), ("m",)))
+            self.assertEqual(play.answer(reply), ("b" if reply == "a" else "a",))
+            self.assertEqual((play.over, play.result), (True, "maker"))
+
+    def test_refused_and_back(self) -> None:
+        play = Game.read(EXAMPLES / "corners.game").play(
+            (EXAMPLES / "corners-pairs.cert").read_text(), "y")
+        self.assertEqual(play.answer(1), (2,))
+        with self.assertRaises(MoveRefused):
+            play.answer(1)
+        with self.assertRaises(MoveRefused):
+            play.answer(99)
+        self.assertEqual((list(play.replies), play.answer(0)), ([1], (4,)))
+        play.back()
+        self.assertEqual((play.answer(0), play.answer(5)), ((4,), (6,)))
+        self.assertEqual(play.result, "breaker")
+
+    def test_turns_of_two_points(self) -> None:
+        game = Game.from_lines([[0, 1], [2, 3]], bias=2, kind="avoider-enforcer")
+        certificate = (EXAMPLES / "two-boxes-moves.cert").read_text()
+        play = game.play(certificate, "y")
+        self.assertEqual((play.answer(3), play.answer(2)), ((0, 1), ()))
+        self.assertEqual(play.result, "enforcer")
+
+    def test_families(self) -> None:
+        game = Game.from_graph([(0, 1), (1, 2), (0, 2)])
+        play = game.play(str(game.solve().certificate), "x")
+        moves = play.opening + play.answer([edge for edge in game.labels
+                                            if edge not in play.opening][0])
+        self.assertEqual((len(moves), play.result), (2, "maker"))
+
+
+class Pictures(unittest.TestCase):
+    """Pictures by the second program, if it is found."""
+
+    def test_pictures(self) -> None:
+        if not is_there("posgame-draw"):
+            self.skipTest("posgame-draw is not found")
+        solution = Game.from_lines(FANO).solve()
+        for picture in (solution.game._repr_svg_(), solution._repr_svg_()):
+            root = xml.dom.minidom.parseString(str(picture)).documentElement
+            self.assertEqual(root.tagName, "svg")
+        self.assertIsNone(Game.read(EXAMPLES / "six-vectors.game")._repr_svg_())
+
+
+class Examples(unittest.TestCase):
+    """The examples of the docstrings, and those of docs/PYTHON.md."""
+
+    def test_docstrings(self) -> None:
+        for module in (posgame, posgame.game, posgame.errors):
+            done = doctest.testmod(module)
+            self.assertEqual(done.failed, 0)
+        self.assertGreater(done.attempted, 0)
+
+    def test_page(self) -> None:
+        done = doctest.testfile(str(TOP / "docs" / "PYTHON.md"), module_relative=False)
+        self.assertGreater(done.attempted, 10)
+        self.assertEqual(done.failed, 0)
+
+
+class Cliques(unittest.TestCase):
+    """A graph game by its edges as points, as in docs/PYTHON.md."""
+
+    def test_triangles(self) -> None:
+        edges = list(itertools.combinations(range(5), 2))
+        triangles = [[(a, b), (a, c), (b, c)] for a, b, c in itertools.combinations(range(5), 3)]
+        game = Game.from_lines(triangles, points=edges)
+        self.assertEqual(game.labels, tuple(edges))
+        self.assertEqual(game.solve().answer, "maker")
+
+
+if __name__ == "__main__":
+    unittest.main()
