@@ -1,12 +1,12 @@
 #!/usr/bin/env python3
-"""Runs the benches that measure or try the programs, and writes docs/FIGURES.md: instructions, seconds and memory, and beside each the figure that was asked for.
+"""Runs the benches that measure or try the programs, and writes docs/FIGURES.md: instructions,
+seconds and memory, with the limits.
 
-Usage: all.py [--only WORD].. [--long] [--out FILE]
-The programs are those that `rt ci` or `rt run` left in crates/posgame/out, crates/posgame_draw/out and crates/bench_parts/out. `--only` runs the benches with such a word in their names
-and leaves the file alone, unless `--out` names one. A bench whose program or script isn't there, that fails or takes too long is a line of its own. It takes half an
-hour, on a quiet machine; `--long` also hands posgame 20,000 mutated files and words and kills it 200 times.
+The programs are those that `rt ci` or `rt run` left in crates/posgame/out, crates/posgame_draw/out
+and crates/bench_parts/out. A bench whose program or script is missing, that fails or takes too long
+is a line of its own. It takes half an hour, on a quiet machine; `--long` also gives posgame 20,000
+mutated files and arguments and kills it 200 times.
 """
-import argparse
 import datetime
 import os
 import pathlib
@@ -16,128 +16,165 @@ import resource
 import subprocess
 import sys
 import time
+from typing import List, NamedTuple, Tuple
 
-TOP = pathlib.Path(__file__).resolve().parent.parent
-POSGAME = TOP / "crates" / "posgame" / "out" / "posgame"
-PARTS = TOP / "crates" / "bench_parts" / "out" / "bench_parts"
-DRAWS = TOP / "crates" / "posgame_draw" / "out" / "posgame_draw"
-EXAMPLES = TOP / "examples"
+import kit
 
-# What a bench is called; its script and the words behind it; what was asked for, by how its lines begin; and whether it is one of the long ones.
-BENCHES = [
-    ("Switching games classed and solved", ["classes.py", POSGAME], [("", "100 million instructions for `classify`")], False),
-    ("Searches", ["solving.py", POSGAME], [
-        ("Maker-Maker, 4 by 4", "250 million, 150 MB"),
-        ("Maker-Breaker, 5 by 5", "300 million, 150 MB"),
-        ("Maker-Breaker, 28 scattered", "760 million, 150 MB"),
-        ("Maker-Breaker, 16 by 16", "520 million, 150 MB"),
-        ("Avoider-Enforcer", "6,300 million, 150 MB"),
-    ], False),
-    ("Connectivity games and games on vectors", ["families.py", POSGAME], [("", "solved 600 million, 0.2 s; checked 150 million, 0.05 s; a move 15 million; 16 MB")], False),
-    ("Large certificates checked", ["checking.py", POSGAME], [("", "80 instructions a byte; 24 MB")], False),
-    ("Large certificates read", ["certificates.py", POSGAME, EXAMPLES / "noughts-and-crosses.game"], [], False),
-    ("Trees and cuts on a board of 841 edges checked", ["switching.py", POSGAME], [], False),
-    ("Large game files", ["files.py", POSGAME], [], False),
-    ("Plays with their undo on a board", ["board.py", PARTS], [], False),
-    ("Threat lines asked for", ["threat.py", PARTS], [], False),
-    ("Private pairs asked for", ["asking.py", PARTS], [], False),
-    ("Pictures of examples, and the largest ones", ["pictures.py", DRAWS], [("", "as is due; 2,000,000 bytes, 0.1 s")], False),
-    ("Certificates with images", ["images.py", POSGAME], [("one map", "0.2 s"), ("", "the flag below a tenth")], False),
-    ("The walk of docs/TUTORIAL.md", ["tutorial.py", POSGAME], [("", "as printed there")], False),
-    ("Files, names and consoles of the system that fail, and kills", ["real_files.py", POSGAME], [("", "each row as the script says")], True),
-    ("Mutated files, words and dialogues", ["fuzz.py", POSGAME, "--runs", "20000"], [("", "no end that none may have")], True),
-    ("Each allocation of eight runs refused in turn", ["memory.py"], [("", "none broken")], True),
+POSGAME, PARTS, DRAWS = (kit.built(it) for it in ("posgame", "bench_parts", "posgame_draw"))
+FAMILIES = "solved 600 million, 0.2 s; checked 150 million, 0.05 s; a move 15 million; 16 MB"
+SEARCHES = [
+    ("Maker-Maker, 4 by 4", "250 million, 150 MB"),
+    ("Maker-Breaker, 5 by 5", "300 million, 150 MB"),
+    ("Maker-Breaker, 28 scattered", "760 million, 150 MB"),
+    ("Maker-Breaker, 16 by 16", "520 million, 150 MB"),
+    ("Avoider-Enforcer", "6,300 million, 150 MB"),
 ]
-
 # The longest that a bench may take, in seconds.
 LIMIT = 3600
 
 
+class Bench(NamedTuple):
+    """A bench: its script and arguments, and the limits by how its lines begin."""
+
+    name: str
+    words: List[object]
+    limits: List[Tuple[str, str]] = []
+    is_long: bool = False
+
+
+BENCHES = [
+    Bench("Switching games classed and solved", ["classes.py", POSGAME],
+          [("", "100 million instructions for `classify`")]),
+    Bench("Searches", ["solving.py", POSGAME], SEARCHES),
+    Bench("Connectivity games and games on vectors", ["families.py", POSGAME], [("", FAMILIES)]),
+    Bench("Large certificates checked", ["checking.py", POSGAME],
+          [("", "80 instructions a byte; 24 MB")]),
+    Bench("Large certificates read", ["certificates.py", POSGAME]),
+    Bench("Trees and cuts on a board of 841 edges checked", ["switching.py", POSGAME]),
+    Bench("Large game files", ["files.py", POSGAME]),
+    Bench("Plays with their undo on a board", ["board.py", PARTS]),
+    Bench("Searches for threat lines", ["threat.py", PARTS]),
+    Bench("Searches for private pairs", ["asking.py", PARTS]),
+    Bench("Pictures of examples, and the largest ones", ["pictures.py", DRAWS],
+          [("", "as expected; 2,000,000 bytes, 0.1 s")]),
+    Bench("Certificates with images", ["images.py", POSGAME],
+          [("one map", "0.2 s"), ("", "the flag below a tenth")]),
+    Bench("The lessons of docs/TUTORIAL.md", ["tutorial.py", POSGAME, "--draw", DRAWS],
+          [("", "0 differ")]),
+    Bench("Files, names and consoles of the system that fail, and kills",
+          ["real_files.py", POSGAME], [("", "each row as the script says")], True),
+    Bench("Mutated files, words and dialogues", ["fuzz.py", POSGAME, "--runs", "20000"],
+          [("", "no end that none may have")], True),
+    Bench("Each allocation of ten runs refused in turn", ["memory.py"], [("", "none broken")],
+          True),
+]
+
+
 def missing(words):
-    """What of a bench isn't there, if anything is."""
-    lacks = [TOP / "bench" / words[0]] + [word for word in words[1:] if isinstance(word, pathlib.Path)]
-    return next((str(it.relative_to(TOP)) for it in lacks if not it.exists()), None)
+    """What of a bench is missing, if anything is."""
+    needed = [kit.TOP / "bench" / words[0], *(it for it in words if isinstance(it, pathlib.Path))]
+    return next((str(it.relative_to(kit.TOP)) for it in needed if not it.exists()), None)
 
 
 def run(words):
     """The lines of a bench, and what is wrong with its end, if anything is."""
-    command = [sys.executable, str(TOP / "bench" / words[0]), *map(str, words[1:])]
-    try:
-        done = subprocess.run(command, cwd=TOP, stdin=subprocess.DEVNULL, capture_output=True, text=True, errors="replace", timeout=LIMIT)
-    except subprocess.TimeoutExpired as ended:
-        said = (ended.stdout or b"").decode(errors="replace") if isinstance(ended.stdout, bytes) else ended.stdout or ""
-        return said.splitlines(), f"not done after {LIMIT} s"
-    complaint = done.stderr.strip().splitlines()
-    why = f"ended with status {done.returncode}" + (f": {complaint[-1][:200]}" if complaint else "")
-    return done.stdout.splitlines(), why if done.returncode else None
+    command = [sys.executable, str(kit.TOP / "bench" / words[0]), *map(str, words[1:])]
+    with kit.files(output="", errors="") as folder:
+        output, errors = folder / "output", folder / "errors"
+        with output.open("w") as out, errors.open("w") as wrong:
+            try:
+                status = subprocess.run(command, cwd=kit.TOP, stdin=subprocess.DEVNULL, stdout=out,
+                                        stderr=wrong, timeout=LIMIT).returncode
+                end = f"ended with status {status}" if status else None
+            except subprocess.TimeoutExpired:
+                end = f"not done after {LIMIT} s"
+        complaint = errors.read_text(errors="replace").strip().splitlines()[-1:] if end else []
+        lines = output.read_text(errors="replace").splitlines()
+    return lines, ": ".join([end, *complaint])[:240] if end else None
 
 
-def row(line, asked):
-    """A row of the table: what was measured, the figures, and what was asked for."""
+def row(line, limits):
+    """The cells of a line: what was measured, the figures, and the limit."""
     what, found, figures = line.partition(": ")
-    due = next((limit for begin, limit in asked if what.startswith(begin)), "")
-    cells = (what, figures, due) if found else ("", line, due)
-    return "| " + " | ".join(cell.strip().replace("|", "\\|") for cell in cells) + " |"
+    limit = next((text for begin, text in limits if what.startswith(begin)), "")
+    return [it.strip() for it in ((what, figures, limit) if found else ("", line, limit))]
 
 
-def section(name, words, asked):
+def section(bench):
     """The text of a bench, and whether all went well."""
-    lacking = missing(words)
+    lacking = missing(bench.words)
     if lacking:
-        return f"## {name}\n\nNot measured: there is no `{lacking}`.\n", False
+        return f"## {bench.name}\n\nNot measured: there is no `{lacking}`.\n", False
     begin = time.monotonic()
-    lines, why = run(words)
+    lines, why = run(bench.words)
     seconds = time.monotonic() - begin
     used = resource.getrusage(resource.RUSAGE_CHILDREN).ru_maxrss // 1024
-    rows = [row(line, asked) for line in lines if line.strip()]
-    table = ["| what | figure | asked for |", "|---|---|---|", *rows] if rows else []
-    told = [f"`bench/{words[0]}`, {seconds:.0f} s; the greatest process of the benches so far took {used} MB, valgrind's own among them." + (f" **{why}**" if why else "")]
-    return "\n".join([f"## {name}", "", *table, "" if rows else "Nothing was told.", *told, ""]), why is None
+    rows = [row(line, bench.limits) for line in lines if line.strip()]
+    table = kit.table(["what", "figure", "limit"], rows) if rows else ["Nothing was printed."]
+    tail = [f"`bench/{bench.words[0]}`, {seconds:.0f} s. The greatest process of the benches so far"
+            f" took {used} MB, those of valgrind among them."]
+    tail += [f"**{why}**"] if why else []
+    return "\n".join([f"## {bench.name}", "", *table, "", *tail, ""]), why is None
 
 
 def machine():
     """The processor and the system."""
-    model = ""
+    model = platform.machine()
     try:
-        model = next((re.sub(r".*: ", "", line).strip() for line in open("/proc/cpuinfo", encoding="ascii", errors="replace") if line.startswith("model name")), "")
-    except OSError:
+        text = pathlib.Path("/proc/cpuinfo").read_text(encoding="ascii", errors="replace")
+        model = re.search(r"^model name\s*: *(.*)$", text, re.MULTILINE).group(1)
+    except (OSError, AttributeError):
         pass
-    return f"{os.cpu_count()} processors ({model or platform.machine()}), {platform.system()} {platform.release()}"
+    return f"{os.cpu_count()} processors ({model}), {platform.system()} {platform.release()}"
 
 
-def commit():
-    done = subprocess.run(["git", "rev-parse", "--short", "HEAD"], cwd=TOP, capture_output=True, text=True)
-    return done.stdout.strip() or "unknown"
+def head():
+    """The text above all benches."""
+    done = subprocess.run(["git", "rev-parse", "--short", "HEAD"], cwd=kit.TOP, capture_output=True,
+                          text=True)
+    commit, day = done.stdout.strip() or "unknown", datetime.date.today().isoformat()
+    return f"""# Figures
+
+Measured by `bench/all.py` on {day} at {commit}:
+{machine()}.
+Instructions are counted by callgrind, whatever else the machine does; seconds are by the clock. A
+figure above its limit is marked.
+"""
+
+
+def options():
+    """What the arguments say."""
+    words = kit.parser(__doc__, None)
+    words.add_argument("--only", action="append", default=[], metavar="WORD",
+                       help="benches with this word in their names; docs/FIGURES.md stays")
+    words.add_argument("--long", action="store_true", help="the long ones too")
+    words.add_argument("--out", type=pathlib.Path, help="the file written")
+    return words.parse_args()
+
+
+def is_chosen(bench, given):
+    """Whether the bench is to be run."""
+    names = bench.name, bench.words[0]
+    is_named = not given.only or any(word in name for word in given.only for name in names)
+    return is_named and (given.long or not bench.is_long)
 
 
 def main():
-    words = argparse.ArgumentParser(description=__doc__, formatter_class=argparse.RawDescriptionHelpFormatter)
-    words.add_argument("--only", action="append", default=[], help="benches with this word in their names")
-    words.add_argument("--long", action="store_true", help="the long ones too")
-    words.add_argument("--out", help="the file that is written")
-    given = words.parse_args()
-    chosen = [it for it in BENCHES if (given.long or not it[3]) and (not given.only or any(word in it[0] or word in it[1][0] for word in given.only))]
-    head = [
-        "# Figures",
-        "",
-        f"Measured by `bench/all.py` on {datetime.date.today().isoformat()} at {commit()}: {machine()}. Instructions are counted by callgrind, whatever else the machine does; seconds are by the",
-        "clock. A figure above what was asked for is told behind it.",
-        "",
-    ]
-    texts, wrong = [], []
-    for name, script, asked, _ in chosen:
-        print(name, flush=True)
-        text, is_well = section(name, script, asked)
-        texts.append(text)
-        wrong += [] if is_well else [name]
-    left = [f"- {name} (`bench/{script[0]}`)" for name, script, _, is_long in BENCHES if is_long and not given.long]
-    tail = ["## Not run here", "", *left, ""] if left and not given.only else []
-    whole = "\n".join(head + texts + tail)
-    out = pathlib.Path(given.out) if given.out else None if given.only else TOP / "docs" / "FIGURES.md"
+    given, texts, wrong = options(), [head()], []
+    for bench in BENCHES:
+        if is_chosen(bench, given):
+            print(bench.name, flush=True)
+            text, is_well = section(bench)
+            texts.append(text)
+            wrong += [] if is_well else [bench.name]
+    left = [f"- {it.name} (`bench/{it.words[0]}`)" for it in BENCHES if it.is_long]
+    if not given.long and not given.only:
+        texts.append("\n".join(["## Not run here", "", *left, ""]))
+    out = given.out or (None if given.only else kit.TOP / "docs" / "FIGURES.md")
     if out:
-        out.write_text(whole, encoding="utf-8")
+        out.write_text("\n".join(texts), encoding="utf-8")
     else:
-        print(whole)
+        print("\n".join(texts))
     if wrong:
         print("not well:", "; ".join(wrong))
     return 1 if wrong else 0

@@ -1,67 +1,66 @@
 #!/usr/bin/env python3
-"""Measures what an ask for private pairs costs, by callgrind, on 256 points with 60 to 120 wanted lines of ten points.
+"""Measures what a search for private pairs costs on 256 points with 60 to 120 lines of ten points.
 
-Usage: asking.py PROGRAM
-PROGRAM is crates/bench_parts/out/bench_parts (`rt run` in crates/bench_parts builds it). Families are drawn with lines near their own pair of points, far from it, or
-anywhere, and some are short at their last line; of each kind the one is taken for which a matcher of this script goes
-over the most points, and the worst of all is then made harder by small changes.
+PROGRAM is bench_parts. Families are drawn with lines near their own pair of points, far from it, or
+anywhere, and some are short at their last line. Of each kind the one is taken for which a matcher
+of this script goes over the most points; the worst of all is then made harder by small changes.
 """
-import os
 import random
-import re
-import subprocess
-import sys
-import tempfile
+
+import kit
 
 POINTS, LONG, ASKS, STEPS = 256, 10, 100, 4_000
 
 
+def search(lines, holder, start):
+    """A search by breadth for a point without a holder, from a line: how many points it goes over,
+    the line and point that it finds, and how each line was reached."""
+    queue, came, count = [start], {start: None}, 0
+    for line in queue:
+        for v in lines[line]:
+            count += 1
+            if v not in holder:
+                return count, (line, v), came
+            if holder[v] not in came:
+                came[holder[v]] = (line, v)
+                queue.append(holder[v])
+    return count, None, came
+
+
 def passes(lines):
-    """How many points of lines a search by breadth goes over until each line has two, or one has none to reach."""
+    """How many points are gone over until each line has two, or one has none to reach."""
     holder, count = {}, 0
     for seat in range(2 * len(lines)):
-        queue, met, came, end = [seat // 2], {seat // 2}, {}, None
-        for line in queue:
-            for v in lines[line]:
-                count += 1
-                if v not in holder:
-                    end = (line, v)
-                    break
-                if holder[v] not in met:
-                    met.add(holder[v])
-                    came[holder[v]] = (line, v)
-                    queue.append(holder[v])
-            if end:
-                break
-        if not end:
+        more, step, came = search(lines, holder, seat // 2)
+        count += more
+        if not step:
             return count
-        line, v = end
-        while line in came:
-            before, own = came[line]
+        while step:
+            line, v = step
             holder[v] = line
-            line, v = before, own
-        holder[v] = line
+            step = came[line]
     return count
 
 
 def near(draw, count, width, points=POINTS):
     """Lines around pairs of points of their own, so that private pairs exist."""
     lines = []
-    for j in range(count):
-        around = sorted({v % points for v in range(2 * j - width, 2 * j + 2 + width)} - {2 * j, 2 * j + 1})
-        lines.append(sorted([2 * j, 2 * j + 1] + draw.sample(around, LONG - 2)))
+    for low in range(0, 2 * count, 2):
+        around = {v % points for v in range(low - width, low + 2 + width)} - {low, low + 1}
+        lines.append(sorted([low, low + 1] + draw.sample(sorted(around), LONG - 2)))
     draw.shuffle(lines)
     return lines
 
 
 def anywhere(draw, count, points):
+    """Lines of points drawn at random."""
     return [sorted(draw.sample(range(points), LONG)) for _ in range(count)]
 
 
 def short_at_last(draw, count, width):
     """Lines of which all but the last have pairs, and those hold all points of the last."""
     inside = 2 * (count - 1)
-    return near(draw, count - 1, width, inside) + [sorted(draw.sample(range(inside), LONG))]
+    return near(draw, count - 1, width, inside) + anywhere(draw, 1, inside)
 
 
 def climb(draw, lines, steps):
@@ -82,11 +81,13 @@ def climb(draw, lines, steps):
 
 
 def families():
+    """The worst family of each kind, by its name."""
     draw, kinds = random.Random(1963), {}
     for count in (60, 90, 120):
         for width in (5, 7, 10, 20, 60):
-            kinds[f"near {width}"] = kinds.get(f"near {width}", []) + [near(draw, count, width) for _ in range(20)]
-            kinds[f"short {width}"] = kinds.get(f"short {width}", []) + [short_at_last(draw, count, width) for _ in range(20)]
+            for name, make in (("near", near), ("short", short_at_last)):
+                kinds.setdefault(f"{name} {width}", []).extend(
+                    make(draw, count, width) for _ in range(20))
         for points in (2 * count, POINTS):
             kinds[f"{count} on {points}"] = [anywhere(draw, count, points) for _ in range(20)]
     greatest = {kind: max(tries, key=passes) for kind, tries in kinds.items()}
@@ -95,26 +96,18 @@ def families():
     return greatest
 
 
-def instructions(program, *words):
-    command = ["valgrind", "--tool=callgrind", "--callgrind-out-file=/dev/null", program, "match", *map(str, words)]
-    done = subprocess.run(command, capture_output=True, text=True, check=True)
-    return int(re.search(r"Collected : (\d+)", done.stderr).group(1)), done.stdout.strip()
-
-
 def main():
-    program = os.path.abspath(sys.argv[1])
-    with tempfile.TemporaryDirectory() as folder:
-        name = os.path.join(folder, "game")
-        ranked = sorted(families().items(), key=lambda entry: -passes(entry[1]))
-        for kind, lines in ranked[:4]:
-            with open(name, "w") as file:
-                file.write(f"maker-breaker {POINTS} x 1:" + ",".join(" ".join(map(str, line)) for line in lines) + "::\n")
-            none, _ = instructions(program, name, 0)
-            asked, told = instructions(program, name, ASKS)
-            one, _ = instructions(program, name, 1, "cached")
-            cached, hits = instructions(program, name, ASKS + 1, "cached")
-            print(f"{kind}: {len(lines)} lines, {passes(lines)} points gone over; {told}: {asked - none} instructions for "
-                  f"{ASKS} asks; cached, {hits}: {cached - one}")
+    program = kit.parser(__doc__, "bench_parts").parse_args().program
+    ranked = sorted(families().items(), key=lambda entry: -passes(entry[1]))
+    for kind, lines in ranked[:4]:
+        with kit.files(game=kit.short_game("maker-breaker", POINTS, lines)) as folder:
+            words = program, "match", folder / "game"
+            none, asked = kit.count(*words, 0), kit.count(*words, ASKS)
+            one, hits = kit.count(*words, 1, "cached"), kit.count(*words, ASKS + 1, "cached")
+        print(f"{kind}: {len(lines)} lines, {passes(lines)} points gone over; {asked.output}: "
+              f"{asked.instructions - none.instructions} instructions for {ASKS} asks; "
+              f"cached, {hits.output}: {hits.instructions - one.instructions}")
 
 
-main()
+if __name__ == "__main__":
+    main()

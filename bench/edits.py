@@ -1,11 +1,12 @@
 #!/usr/bin/env python3
-"""Tries the must-fail edits that the gate doesn't: bench/edits/NAME/*.edit, wrong bodies of the crate NAME that the prover must refuse. They stand here since trying all
-of them takes as long as all proofs together; the gate tries those of crates/NAME/must-fail.
+"""Tries the must-fail edits that the gate does not: bench/edits/NAME/*.edit, wrong bodies of crate
+NAME that the prover must refuse. To try all of them takes as long as all proofs together; the gate
+tries those of crates/NAME/must-fail.
 
-    bench/edits.py [NAME..]     those of these crates, or of all
-
-Works on a copy of the checkout's files, in which these edits lie where `rt ci` looks for them, so the checkout stays as it is. Each crate below those named is proved first, unless
-the kit has kept that, and so are edits of the gate that it hasn't kept. Prints what rt says of each edit that isn't as it must be, and its last line; the status is 1 where there is one."""
+Works on a copy of the checkout's files, in which these edits are where `rt ci` looks for them. Each
+crate below those named is proved first, unless the toolchain has kept that. Prints what rt says of
+each edit that isn't as it must be, and its last lines; the status is 1 if there is one.
+"""
 import pathlib
 import re
 import shutil
@@ -13,19 +14,25 @@ import subprocess
 import sys
 import tempfile
 
-TOP = pathlib.Path(__file__).resolve().parent.parent
-EDITS = TOP / "bench" / "edits"
+import kit
+
+EDITS = kit.TOP / "bench" / "edits"
 
 
-def tracked():
-    """The checkout's files that git knows, as paths from its top."""
-    listed = subprocess.run(["git", "ls-files", "-z"], cwd=TOP, stdout=subprocess.PIPE, check=True).stdout
-    return [name for name in listed.decode().split("\0") if name and (TOP / name).is_file()]
+def copy_tracked(copy):
+    """Copies the checkout's files that git knows."""
+    listed = subprocess.run(["git", "ls-files", "-z"], cwd=kit.TOP, capture_output=True, check=True)
+    for name in listed.stdout.decode().split("\0"):
+        if name and (kit.TOP / name).is_file():
+            (copy / name).parent.mkdir(parents=True, exist_ok=True)
+            shutil.copy2(kit.TOP / name, copy / name)
+    subprocess.run(["git", "init", "-q"], cwd=copy, check=True)
 
 
 def tried(copy, names):
-    """Tries the edits of these crates in the copy, and tells whether one isn't refused."""
-    done = subprocess.run(["rt", "ci", *names], cwd=copy, stdout=subprocess.PIPE, stderr=subprocess.STDOUT, text=True, errors="replace")
+    """Tries the edits of these crates in the copy, and returns 1 if one isn't refused."""
+    done = subprocess.run(["rt", "ci", *names], cwd=copy, stdout=subprocess.PIPE,
+                          stderr=subprocess.STDOUT, text=True, errors="replace")
     lines = [line.strip() for line in re.split("[\r\n]", done.stdout) if line.strip()]
     wrong = [line for line in lines if re.search("BAD EDIT|NOT TRIED|NOT REFUSED", line)]
     print("\n".join([*wrong, *lines[-3:]]))
@@ -34,21 +41,21 @@ def tried(copy, names):
 
 def main():
     known = sorted(folder.name for folder in EDITS.iterdir() if folder.is_dir())
-    names = sys.argv[1:] or known
-    unknown = [name for name in names if name not in known]
+    words = kit.parser(__doc__, None)
+    words.add_argument("names", metavar="NAME", nargs="*", help=f"of {', '.join(known)}; else all")
+    names = words.parse_args().names or known
+    unknown = sorted(set(names) - set(known))
     if unknown:
-        sys.exit(f"no edits of {', '.join(unknown)}; there are some of {', '.join(known)}")
+        words.error(f"no edits of {', '.join(unknown)}")
     with tempfile.TemporaryDirectory(prefix="edits-") as folder:
         copy = pathlib.Path(folder) / "posgame"
-        for name in tracked():
-            (copy / name).parent.mkdir(parents=True, exist_ok=True)
-            shutil.copy2(TOP / name, copy / name)
-        subprocess.run(["git", "init", "-q"], cwd=copy, check=True)
+        copy_tracked(copy)
         for name in names:
             must_fail = copy / "crates" / name / "must-fail"
             shutil.rmtree(must_fail, ignore_errors=True)
             shutil.copytree(EDITS / name, must_fail)
-        sys.exit(tried(copy, names))
+        return tried(copy, names)
 
 
-main()
+if __name__ == "__main__":
+    sys.exit(main())

@@ -1,23 +1,25 @@
 #!/usr/bin/env python3
-"""Hands posgame mutated game files, certificates, words and dialogues, and looks for answers that none may give.
+"""Gives posgame mutated game files, certificates, arguments and dialogues, and looks for answers
+that none may give.
 
-Usage: fuzz.py PROGRAM [--runs N] [--seed S] [--first K]
-It shares nothing with the crates. Each case is drawn from the seed and its number alone, and is one to four runs of the program in a folder of its own:
-files are made from those of examples/ and from what the program solves of them, by changes of bytes, words, numbers and lines. It looks for
+It shares nothing with the crates. Each case is drawn from the seed and its number alone, and is one
+to four runs of the program in a folder of its own: files are made from those of examples/ and from
+what the program solves of them, by changes of bytes, words, numbers and lines. It looks for
 
 - an end by a signal, and a status that the command can't have there;
-- a text that the status doesn't have, more lines than are due, anything on standard error;
-- a run that takes more than two seconds of a processor, or thirty by the clock, and memory above 200 MB;
-- a file that was changed, made or removed and isn't what the command writes, or changed at a status that leaves it;
-- words that have a meaning and are refused, or the other way round, by a reading of its own;
-- check, report and play that answer otherwise on the same files, and a certificate that is stored and not accepted.
+- a text that the status doesn't have, more lines than expected, anything on standard error;
+- a run of more than two processor seconds, or thirty by the clock, and memory above 200 MB;
+- a file that was changed, made or removed and isn't what the command writes, or at a status that
+  leaves it;
+- arguments that have a meaning and are refused, or the other way round, by a reading of its own;
+- check, report and play that answer otherwise on the same files, and a certificate that is stored
+  and not accepted.
 
 Connectivity games and games on vectors are tried so too, by their own commands.
 
-What it finds is printed with the number of its case: `--seed S --first K --runs 1` repeats that case and shows its words and files. The status is 1
-where it finds something.
+What it finds is printed with the number of its case: `--seed S --first K --runs 1` repeats that
+case and shows its arguments and files. The status is 1 if it finds something.
 """
-import argparse
 import collections
 import contextlib
 import os
@@ -27,13 +29,13 @@ import re
 import shutil
 import signal
 import sys
-import tempfile
 import time
+
+import kit
 
 SECONDS = 2
 BY_THE_CLOCK = 30
 MEGABYTES = 200
-EXAMPLES = pathlib.Path(__file__).resolve().parent.parent / "examples"
 ACCEPTED = r"(accepted [xy] [xy] (win|draw)\n){1,8}"
 RESULT = r"result (maker|breaker|x|y|draw|avoider|enforcer)\n"
 PLAYED = r"result (maker|breaker|x|y|draw|avoider|enforcer|short|cut)\n"
@@ -41,7 +43,8 @@ CLASS = r"class (short|cut|first-mover)\n"
 MADE = r"game \d+ (points \d+ lines|vertices \d+ edges)\n"
 UNKNOWN = r"unknown after \d+ positions\n"
 CLAIM = r'\{"goal":"(win|draw)","nodes":\d+,"side":"[xy]","turn":"[xy]"\}'
-SIZES = r'("kind":"(maker-breaker|maker-maker|avoider-enforcer)","lines":\d+,"points":\d+|"kind":"switching","points":\d+,"vertices":\d+)'
+SIZES = (r'("kind":"(maker-breaker|maker-maker|avoider-enforcer)","lines":\d+,"points":\d+|'
+         r'"kind":"switching","points":\d+,"vertices":\d+)')
 REPORT = rf'\{{("bias":[2-7],)?"claims":\[{CLAIM}(,{CLAIM}){{0,7}}\],{SIZES}\}}\n'
 REJECTED = r"rejected J([1-9]|1[0-3]) claim \d+ node \d+\n"
 REJECTION = r'\{"claim":\d+,"node":\d+,"reject":"J([1-9]|1[0-3])"\}\n'
@@ -49,6 +52,7 @@ GAME_FAULT = r"game G([1-9]|1[0-3]) line \d+\n"
 FORM_FAULT = r"certificate C[1-6] line \d+\n"
 REFUSED = r"refused: (not a number|no such point|taken)\n"
 TURNS = rf"claim [xy] (win|draw)\n(move \d+\n|{REFUSED})*"
+NO_SIDE = r"words: no claim for side [xy]\n"
 READING = {3: GAME_FAULT, 4: rf"{FORM_FAULT}|{REJECTED}", 5: ""}
 WON = r"(accepted [xy] [xy] win\n){1,8}"
 FLAWS = {"span": r"rejected S[1-3] claim \d+\n", "vec": r"rejected V[1-5] claim \d+ node 0\n"}
@@ -59,10 +63,11 @@ def family_dues(family):
     """What the commands of a family may say at each status."""
     reading = {3: GAME_FAULT, 4: rf"{FORM_FAULT}|{FLAWS[family]}", 5: ""}
     winner = WINNERS[family]
+    played = {0: rf"{TURNS}result {winner}\n", 2: NO_SIDE, **reading, 8: TURNS, 9: TURNS}
     return {
         f"{family} check": {0: WON, **reading},
         f"{family} solve": {0: rf"class ({winner}|first-mover)\n", 3: GAME_FAULT, 5: "", 6: ""},
-        f"{family} play": {0: rf"{TURNS}result {winner}\n", 2: r"words: no claim for side [xy]\n", **reading, 8: TURNS, 9: TURNS},
+        f"{family} play": played,
     }
 
 
@@ -72,37 +77,48 @@ DUE = {
     "check": {0: ACCEPTED, **READING},
     "report": {0: REPORT, **READING, 4: rf"{FORM_FAULT}|{REJECTION}"},
     "solve": {0: rf"{RESULT}|{CLASS}", 1: UNKNOWN, 3: GAME_FAULT, 5: "", 6: ""},
-    "play": {0: TURNS + PLAYED, 2: r"words: no claim for side [xy]\n", **READING, 8: TURNS, 9: TURNS},
-    "gen": {0: rf"{MADE}(({RESULT}|{CLASS})expanded \d+ nodes \d+\n)?", 1: MADE + UNKNOWN, 6: rf"({MADE})?"},
+    "play": {0: TURNS + PLAYED, 2: NO_SIDE, **READING, 8: TURNS, 9: TURNS},
+    "gen": {0: rf"{MADE}(({RESULT}|{CLASS})expanded \d+ nodes \d+\n)?", 1: MADE + UNKNOWN,
+            6: rf"({MADE})?"},
     None: {2: r"words: no meaning\n"},
 }
-KEYS = "posgame kind points grid bias vertices terminals line shape edge x y turn maker-breaker maker-maker avoider-enforcer switching 110/011 1 11 # 256 257 1000".split()
-SIGNS = "claim nodes over move all pairs potential trees cuts threat weaker y2 y7 e / | || |||| x y win draw posgame-cert 0:0 1:5 0-1 2-5 1023 1024 99999 100000".split()
-FAMILY_KEYS = "posgame-span posgame-vectors 1 vertices edge rows target vector x y turn kind 0 2 3 128 129 500 501 1000 01 10 11 110 # 2".split()
-FAMILY_SIGNS = "posgame-span-cert posgame-cert claim trees parts cuts first e / | x y win nodes 999 1000".split()
-NUMBERS = "0 1 2 3 4 5 8 9 16 22 23 256 257 2147483647 2147483648 999999999 1000000000 09 -1 1.0 x".split()
-NAMES = ["G", "C", "O", "missing", "folder", "folder/new", "no folder/new", ".", "", "-", "--", "-G", "ä", "x" * 300]
-WORDS = ["solve", "check", "play", "gen", "report", "rows", "bridge", "scatter", "--positions", "--positions=5", "--positions=", "--side", "--side=x", "--side=y", "--help", "-h", "--version", "span", "vec", "x", "y"]
+# Words that are put into files, and arguments.
+KEYS = """posgame kind points grid bias vertices terminals line shape edge x y turn maker-breaker
+    maker-maker avoider-enforcer switching 110/011 1 11 # 256 257 1000""".split()
+SIGNS = """claim nodes over move all pairs potential trees cuts threat weaker y2 y7 e / | || |||| x
+    y win draw posgame-cert 0:0 1:5 0-1 2-5 1023 1024 99999 100000""".split()
+FAMILY_KEYS = """posgame-span posgame-vectors 1 vertices edge rows target vector x y turn kind 0 2 3
+    128 129 500 501 1000 01 10 11 110 # 2""".split()
+FAMILY_SIGNS = """posgame-span-cert posgame-cert claim trees parts cuts first e / | x y win nodes
+    999 1000""".split()
+NUMBERS = """0 1 2 3 4 5 8 9 16 22 23 256 257 2147483647 2147483648 999999999 1000000000 09 -1 1.0
+    x""".split()
+NAMES = ["G", "C", "O", "missing", "folder", "folder/new", "no folder/new", ".", "", "-", "--",
+         "-G", "ä", "x" * 300]
+WORDS = """solve check play gen report rows bridge scatter --positions --positions=5 --positions=
+    --side --side=x --side=y --help -h --version span vec x y""".split()
+COMMANDS = ["solve G C", "check G C", "play G C --side x", "report G C", "gen rows 3 O",
+            "gen bridge 2 O C", "gen scatter 1 5 2 2 O", "span solve G C", "vec check G C",
+            "span play G C --side x", ""]
+TYPED = ["", " 3\t", "x", "00", "9" * 70, "-1", "3 4", "\0", "ä", "1" * 64]
 
 
 class Program:
     """The program, run in one folder. `folder` has the files of the case that is tried."""
 
     def __init__(self, path, folder):
-        self.path, self.folder = os.path.abspath(path), folder
+        self.path, self.folder = path, folder
         self.runs, self.statuses = 0, collections.Counter()
         self.most, self.slowest = 0, 0.0
-        self.input, self.said, self.errors = (os.path.join(folder, "..", name) for name in ("input", "said", "errors"))
+        self.input, self.said, self.errors = (f"{folder}.{it}" for it in ("in", "out", "err"))
 
     def run(self, words, typed=b""):
-        """The status (or the signal below 0), what was said, what stands on standard error, megabytes, seconds."""
-        with open(self.input, "wb") as file:
-            file.write(typed)
-        opened = [
-            (os.POSIX_SPAWN_OPEN, 0, self.input, os.O_RDONLY, 0),
-            (os.POSIX_SPAWN_OPEN, 1, self.said, os.O_WRONLY | os.O_CREAT | os.O_TRUNC, 0o600),
-            (os.POSIX_SPAWN_OPEN, 2, self.errors, os.O_WRONLY | os.O_CREAT | os.O_TRUNC, 0o600),
-        ]
+        """The status (or the signal below 0), the output, the errors, megabytes, seconds."""
+        pathlib.Path(self.input).write_bytes(typed)
+        new = os.O_WRONLY | os.O_CREAT | os.O_TRUNC
+        streams = (self.input, os.O_RDONLY), (self.said, new), (self.errors, new)
+        opened = [(os.POSIX_SPAWN_OPEN, number, path, how, 0o600)
+                  for number, (path, how) in enumerate(streams)]
         child = os.posix_spawn(self.path, [self.path, *words], os.environ, file_actions=opened)
         self.watch(child)
         _, status, used = os.wait4(child, 0)
@@ -178,18 +194,19 @@ def made(others):
         return None
     given, names = others[1 : 1 + numbers], others[1 + numbers :]
     if others[0] != "scatter":
-        return names if is_within(given[0], *((2, 16) if others[0] == "rows" else (1, 22))) else None
+        limits = {"rows": (2, 16), "bridge": (1, 22)}[others[0]]
+        return names if is_within(given[0], *limits) else None
     seed, points, lines, size = given
-    if not is_within(seed, 0, 2**31 - 1, 10) or not is_within(points, 1, 256) or not is_within(lines, 0, 20_000):
+    is_board = is_within(points, 1, 256) and is_within(lines, 0, 20_000)
+    if not is_within(seed, 0, 2**31 - 1, 10) or not is_board:
         return None
-    if not is_within(size, 1, min(int(points), 100)) or int(lines) * int(size) > 400_000:
-        return None
-    return names
+    is_size = is_within(size, 1, min(int(points), 100)) and int(lines) * int(size) <= 400_000
+    return names if is_size else None
 
 
 def meaning(words):
-    """The command, what it writes first and then, and its other names; None for all where the words have no meaning."""
-    none = None, [], []
+    """The command and what it writes; None and nothing if the words have no meaning."""
+    none = None, []
     split = taken(words)
     if split is None or not split[1]:
         return none
@@ -199,27 +216,35 @@ def meaning(words):
         return none
     if command == "gen" and not options:
         names = made(others)
-        return none if names is None else ("gen", names, [])
+        return none if names is None else ("gen", names)
     family = command if command in ("span", "vec") and others else None
     if family:
         command, *others = others
-    if command not in ("solve", "check", "play", *([] if family else ["report"])) or len(others) != 2:
+    known = ["solve", "check", "play"] + ([] if family else ["report"])
+    if command not in known or len(others) != 2:
         return none
-    allowed = {"solve": set() if family else {"--positions"}, "play": {"--side"}}.get(command, set())
-    if not set(values) <= allowed or not is_within(values.get("--positions", "1"), 1, 100_000):
+    allowed = {"solve": [] if family else ["--positions"], "play": ["--side"]}.get(command, [])
+    if not set(values) <= set(allowed) or not is_within(values.get("--positions", "1"), 1, 100_000):
         return none
     if command == "play" and values.get("--side") not in ("x", "y"):
         return none
     said = f"{family} {command}" if family else command
-    return (said, others[1:], others[:1]) if command == "solve" else (said, [], others)
+    return said, others[1:] if command == "solve" else []
+
+
+def changed(before, after, status, command, writes):
+    """What is wrong with the files after a run."""
+    keeps = status in (2, 3, 4) or status == 1 and command == "solve"
+    may_change = set() if keeps else {os.path.normpath(name) for name in writes}
+    return [f"{name} changed" for name in sorted(before.keys() | after.keys())
+            if before.get(name, 0) != after.get(name, 0) and name not in may_change]
 
 
 def wrongs(program, words, typed=b""):
     """Runs the program; what is wrong with the run, with its status and what it said."""
     before = held(program.folder)
     status, said, errors, megabytes, seconds = program.run(words, typed)
-    after = held(program.folder)
-    command, writes, _ = meaning(words)
+    command, writes = meaning(words)
     found = []
     if status < 0:
         found.append(f"signal {-status} after {seconds:.2f} s")
@@ -235,26 +260,29 @@ def wrongs(program, words, typed=b""):
         found.append(f"standard error {errors[:200]!r}")
     if megabytes > MEGABYTES:
         found.append(f"{megabytes} MB")
-    may_change = {os.path.normpath(name) for name in writes} if status not in (2, 3, 4) else set()
-    if status == 1 and command == "solve":
-        may_change = set()
-    for name in sorted(before.keys() | after.keys()):
-        if before.get(name, 0) != after.get(name, 0) and name not in may_change:
-            found.append(f"{name} changed")
-    return found, status, said
+    return found + changed(before, held(program.folder), status, command, writes), status, said
+
+
+def stored(program, names, *prefix):
+    """What is wrong with a check of what was stored."""
+    found, checked, said = wrongs(program, [*prefix, "check", *names])
+    return found + ([f"stored, and then {said!r}"] if checked else [])
 
 
 def cut(draw, data):
+    """A part from the start."""
     return data[: draw.randrange(len(data) + 1)]
 
 
 def one_byte(draw, data):
+    """One byte put in, or in place of another."""
     place = draw.randrange(len(data) + 1)
     byte = bytes([draw.choice((draw.randrange(256), 32, 10, 13, 0, 124, 48, 45))])
     return data[:place] + byte + data[place + draw.randrange(2) :]
 
 
 def lines_moved(draw, data):
+    """A line dropped, repeated or moved, or some lines repeated."""
     lines = data.split(b"\n")
     first, second = draw.randrange(len(lines)), draw.randrange(len(lines))
     how = draw.randrange(4)
@@ -265,11 +293,13 @@ def lines_moved(draw, data):
     elif how == 2:
         lines[first], lines[second] = lines[second], lines[first]
     else:
-        lines[first:first] = lines[min(first, second) : max(first, second) + 1] * draw.choice((1, 2, 9, 50))
+        part = lines[min(first, second) : max(first, second) + 1]
+        lines[first:first] = part * draw.choice((1, 2, 9, 50))
     return b"\n".join(lines)
 
 
 def words_changed(draw, data, pool):
+    """One word changed."""
     parts = re.split(rb"([ \n|:-])", data)
     place = draw.randrange(len(parts))
     how = draw.randrange(4)
@@ -293,15 +323,19 @@ def numbers_changed(draw, data):
 
 
 def long_file(draw, data):
+    """A line repeated many times."""
     lines = data.split(b"\n")
     line = draw.choice(lines)
     part = line + draw.choice((b"\n", b" ", b""))
-    return data + b"\n" + part * min(draw.choice((300, 3_000, 30_000)), 2_000_000 // (len(part) + 1))
+    most = 2_000_000 // (len(part) + 1)
+    return data + b"\n" + part * min(draw.choice((300, 3_000, 30_000)), most)
 
 
 def mutated(draw, data, pool):
+    """Some changes one after the other."""
     for _ in range(draw.choice((0, 1, 1, 1, 2, 3, 8))):
-        how = draw.randrange(100) if len(data) < 200_000 else draw.randrange(78, 99)  # (a run counts the memory of its starter)
+        # A long file stays as long as it is: a run counts the memory of this script.
+        how = draw.randrange(100) if len(data) < 200_000 else draw.randrange(78, 99)
         if how < 40:
             data = numbers_changed(draw, data)
         elif how < 60:
@@ -319,12 +353,14 @@ def mutated(draw, data, pool):
 
 def typed_lines(draw):
     """Replies, most of them numbers of points."""
-    line = lambda: draw.choice((str(draw.randrange(12)), str(draw.randrange(30)), "", " 3\t", "x", "00", "9" * 70, "-1", "3 4", "\0", "ä", "1" * 64))
-    text = "".join(line() + draw.choice(("\n", "\n", "\n", "\r\n")) for _ in range(draw.choice((0, 3, 12, 40, 150))))
+    line = lambda: draw.choice((str(draw.randrange(12)), str(draw.randrange(30)), *TYPED))
+    count = draw.choice((0, 3, 12, 40, 150))
+    text = "".join(line() + draw.choice(("\n", "\n", "\n", "\r\n")) for _ in range(count))
     return text.encode() + draw.choice((b"", b"7", b"\xff\xfe", b"1" * 8_000))
 
 
 def write(folder, files):
+    """Leaves these files alone in the folder, with an empty one."""
     for name in os.listdir(folder):
         path = os.path.join(folder, name)
         shutil.rmtree(path) if os.path.isdir(path) else os.remove(path)
@@ -341,19 +377,30 @@ def certificate_case(draw, program, pairs):
     certificate = mutated(draw, certificate, SIGNS)
     write(program.folder, {"G": game, "C": certificate, "O": b"other"})
     side = draw.choice("xy")
-    runs = [(["check", "G", "C"], b""), (["report", "G", "C"], b""), (["play", "G", "C", "--side", side], typed_lines(draw))]
+    runs = [(["check", "G", "C"], b""), (["report", "G", "C"], b""),
+            (["play", "G", "C", "--side", side], typed_lines(draw))]
     found, ends = [], []
     for words, typed in runs:
         wrong, status, said = wrongs(program, words, typed)
         found += [f"{' '.join(words)}: {it}" for it in wrong]
         ends.append((status, said))
-    (checked, text), (reported, told), (played, log) = ends
-    if checked == 0 and (reported != 0 or played not in (0, 2, 8, 9) or told.count('"goal"') != text.count("\n")):
+    return found + disagreements(*ends)
+
+
+def disagreements(check, report, play):
+    """What is wrong with the statuses and texts of three commands together."""
+    (checked, text), (reported, told), (played, log) = check, report, play
+    found, claims = [], text.count("\n")
+    is_right = reported == 0 and played in (0, 2, 8, 9) and told.count('"goal"') == claims
+    if checked == 0 and not is_right:
         found.append(f"accepted, but {reported}, {played}")
     if checked != 0 and ((reported, played) != (checked, checked) or log != text):
         found.append(f"refused by {checked}, but {reported}, {played}")
-    if text.startswith("rejected") and re.findall(r"\d+", text) != [re.findall(rf'"{key}":"?J?(\d+)', told)[0] for key in ("reject", "claim", "node")]:
-        found.append(f"{text!r}, but {told!r}")
+    if text.startswith("rejected"):
+        names = ("reject", "claim", "node")
+        shown = [re.findall(rf'"{name}":"?J?(\d+)', told)[:1] for name in names]
+        if [[it] for it in re.findall(r"\d+", text)] != shown:
+            found.append(f"{text!r}, but {told!r}")
     return found
 
 
@@ -363,21 +410,19 @@ def solve_case(draw, program, pairs):
     write(program.folder, {"G": game, "C": b"old", "O": b"other"})
     words = ["solve", "G", "C", "--positions", str(draw.choice((1, 2, 10, 100, 1_000)))]
     found, status, _ = wrongs(program, words if draw.randrange(3) else words[:3])
-    if status == 0:
-        wrong, checked, said = wrongs(program, ["check", "G", "C"])
-        found += wrong + ([f"stored, and then {said!r}"] if checked else [])
-    return found
+    return found + (stored(program, ["G", "C"]) if status == 0 else [])
 
 
 def family_case(draw, program, pairs):
-    """Check and play of one pair of files of a family, which must agree; and the game solved, and what was stored then."""
+    """Check and play of one pair of files of a family, which must agree; and the game solved."""
     family = draw.choice(("span", "vec"))
     game, certificate = draw.choice(pairs[family])
     if draw.randrange(3) == 0:
         game = mutated(draw, game, FAMILY_KEYS)
     write(program.folder, {"G": game, "C": mutated(draw, certificate, FAMILY_SIGNS), "O": b"other"})
     found, checked, text = wrongs(program, [family, "check", "G", "C"])
-    wrong, played, log = wrongs(program, [family, "play", "G", "C", "--side", draw.choice("xy")], typed_lines(draw))
+    words = [family, "play", "G", "C", "--side", draw.choice("xy")]
+    wrong, played, log = wrongs(program, words, typed_lines(draw))
     found += wrong
     if checked == 0 and played not in (0, 2, 8, 9):
         found.append(f"accepted, but {played}")
@@ -385,33 +430,30 @@ def family_case(draw, program, pairs):
         found.append(f"refused by {checked}, but {played}")
     wrong, status, _ = wrongs(program, [family, "solve", "G", "O"])
     found += wrong
-    if status == 0:
-        wrong, checked, said = wrongs(program, [family, "check", "G", "O"])
-        found += wrong + ([f"stored, and then {said!r}"] if checked else [])
-    return found
+    return found + (stored(program, ["G", "O"], family) if status == 0 else [])
 
 
 def gen_case(draw, program, _):
     """A game that is made, and what was stored then."""
     write(program.folder, {"G": b"old game", "C": b"old", "O": b"other"})
-    source = draw.choice((["rows", str(draw.choice((2, 3, 4, 5, 16, 17)))], ["bridge", str(draw.randrange(24))], ["scatter", str(draw.randrange(2**32)), str(draw.randrange(30)), str(draw.randrange(60)), str(draw.randrange(8))]))
-    words = ["gen", *source, "G"] + (["C"] if draw.randrange(2) else [])
+    rows, bridge = f"rows {draw.choice((2, 3, 4, 5, 16, 17))}", f"bridge {draw.randrange(24)}"
+    scatter = f"scatter {kit.field(map(draw.randrange, (2**32, 30, 60, 8)))}"
+    words = ["gen", *draw.choice((rows, bridge, scatter)).split(), "G"]
+    words += ["C"] if draw.randrange(2) else []
     found, status, _ = wrongs(program, words)
-    if status == 0 and words[-1] == "C":
-        wrong, checked, said = wrongs(program, ["check", "G", "C"])
-        found += wrong + ([f"stored, and then {said!r}"] if checked else [])
-    return found
+    return found + (stored(program, ["G", "C"]) if status == 0 and words[-1] == "C" else [])
 
 
 def words_case(draw, program, pairs):
     """Words of any kind."""
     game, certificate = draw.choice(pairs[draw.choice((None, None, "span", "vec"))])
-    write(program.folder, {"G": game, "C": certificate, "O": b"other", "-G": game, "ä": certificate})
-    words = draw.choice((["solve", "G", "C"], ["check", "G", "C"], ["play", "G", "C", "--side", "x"], ["report", "G", "C"], ["gen", "rows", "3", "O"], ["gen", "bridge", "2", "O", "C"], ["gen", "scatter", "1", "5", "2", "2", "O"], ["span", "solve", "G", "C"], ["vec", "check", "G", "C"], ["span", "play", "G", "C", "--side", "x"], []))
-    words = list(words)
+    files = {"G": game, "C": certificate, "O": b"other", "-G": game, "ä": certificate}
+    write(program.folder, files)
+    words = draw.choice(COMMANDS).split()
     for _ in range(draw.choice((0, 1, 1, 2, 4))):
         place = draw.randrange(len(words) + 1)
-        words[place : place + draw.randrange(2)] = [draw.choice(draw.choice((NAMES, WORDS, NUMBERS)))]
+        word = draw.choice(draw.choice((NAMES, WORDS, NUMBERS)))
+        words[place : place + draw.randrange(2)] = [word]
     if draw.randrange(50) == 0:
         words += [draw.choice(WORDS)] * 2_000
     found, _, _ = wrongs(program, words, typed_lines(draw))
@@ -430,9 +472,10 @@ def family_of(game):
 
 
 def pairs_of_examples(program):
-    """By family, the games of examples/ with each certificate there that is valid or rejected for them, and with what the program solves of them."""
-    games = [path.read_bytes() for path in sorted(EXAMPLES.glob("*.game"))]
-    certificates = [path.read_bytes() for path in sorted(EXAMPLES.glob("*.cert"))]
+    """By family, the games of examples/ with each certificate there that is valid or rejected for
+    them, and with what the program solves of them."""
+    games = [path.read_bytes() for path in sorted(kit.EXAMPLES.glob("*.game"))]
+    certificates = [path.read_bytes() for path in sorted(kit.EXAMPLES.glob("*.cert"))]
     accepted, rejected = collections.defaultdict(list), collections.defaultdict(list)
     for game in games:
         family = family_of(game)
@@ -445,44 +488,51 @@ def pairs_of_examples(program):
             status, said, *_ = program.run([*prefix, "check", "G", "C"])
             if status == 0:
                 accepted[family].append((game, certificate))
-            elif said.startswith("rejected") and not said.startswith(("rejected J11", "rejected J12", "rejected J2 ")):
+            elif said.startswith("rejected") and not re.match("rejected J(11|12|2 )", said):
                 rejected[family].append((game, certificate))
     return {family: pairs * 6 + rejected[family] for family, pairs in accepted.items()}
 
 
 def shown(program):
+    """Prints the files of a case."""
     for name, data in sorted(held(program.folder).items()):
         print(f"{name}: {data if data is None or len(data) < 2_000 else data[:2_000] + b'..'}")
 
 
+def try_cases(program, given):
+    """Runs cases, and returns how many there were and how many were wrong."""
+    pairs = pairs_of_examples(program)
+    begun, number, wrong = program.runs, given.first, 0
+    while program.runs - begun < given.runs:
+        draw = random.Random(f"{given.seed} {number}")
+        case = draw.choice(CASES)
+        found = case(draw, program, pairs)
+        again = f"repeat with --seed {given.seed} --first {number} --runs 1"
+        for it in found:
+            print(f"{case.__name__} {number}: {it}; {again}")
+        if found and given.runs == 1:
+            shown(program)
+        wrong += bool(found)
+        number += 1
+    return program.runs - begun, number - given.first, wrong
+
+
 def main():
-    words = argparse.ArgumentParser(description=__doc__, formatter_class=argparse.RawDescriptionHelpFormatter)
-    words.add_argument("program")
-    words.add_argument("--runs", type=int, default=20_000, help="so many runs of the program, or a few more")
+    words = kit.parser(__doc__)
+    words.add_argument("--runs", type=int, default=20_000, help="so many runs, or a few more")
     words.add_argument("--seed", type=int, default=1)
     words.add_argument("--first", type=int, default=0, help="the number of the first case")
     given = words.parse_args()
-    wrong = 0
-    with tempfile.TemporaryDirectory() as top:
-        folder = os.path.join(top, "case")
-        os.mkdir(folder)
+    with kit.files() as top:
+        folder = top / "case"
+        folder.mkdir()
         os.chdir(folder)
-        program = Program(os.path.join(os.environ["PWD"], given.program), folder)
-        pairs = pairs_of_examples(program)
-        begun, number = program.runs, given.first
-        while program.runs - begun < given.runs:
-            draw = random.Random(f"{given.seed} {number}")
-            case = draw.choice(CASES)
-            found = case(draw, program, pairs)
-            for it in found:
-                print(f"{case.__name__} {number}: {it}; repeat with --seed {given.seed} --first {number} --runs 1")
-            if found and given.runs == 1:
-                shown(program)
-            wrong += bool(found)
-            number += 1
-        ends = ", ".join(f"{count} with {status}" for status, count in sorted(program.statuses.items()))
-        print(f"{program.runs - begun} runs, {number - given.first} cases, {wrong} wrong; statuses: {ends}; at most {program.most} MB and {program.slowest:.2f} s of a processor")
+        program = Program(given.program, str(folder))
+        runs, cases, wrong = try_cases(program, given)
         os.chdir(top)
+    ends = ", ".join(f"{many} with {status}" for status, many in sorted(program.statuses.items()))
+    print(f"{runs} runs, {cases} cases, {wrong} wrong; statuses: {ends}; at most {program.most} MB"
+          f" and {program.slowest:.2f} s of a processor")
     return 1 if wrong else 0
 
 

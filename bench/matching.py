@@ -1,13 +1,16 @@
 #!/usr/bin/env python3
-"""Makes the table `families` of crates/test_rows, by a program that shares nothing with the crates.
+"""Prints the table `families` of crates/test_rows, without anything of the crates.
 
-Whether private pairs exist is found by trying all choices: each pair of free points of the first line, and then the rest.
-A row is a position of Maker-Breaker, as `maker-breaker POINTS x 1:LINES:X:Y:ANSWER`: lines with a point of Y aren't wanted, and points of
-neither side are free. Families are of 2 to 7 lines on 4 to 12 points. Half have no private pairs, and most of these pass both counts (enough free points for all, two for each line);
-half of the others block a matcher that keeps its first choices.
+Whether disjoint pairs exist is found by trying all choices. A row is a position of Maker-Breaker:
+`maker-breaker POINTS x 1:LINES:X:Y:ANSWER`. Lines with a point of Y need no pair. There are 2 to 7
+lines on 4 to 12 points. Half of the rows have no pairs, and most of these pass both counts (enough
+free points for all, two for each line); half of the others block a matcher that keeps its first
+choices.
 """
 import itertools
 import random
+
+import kit
 
 ROWS = 52
 
@@ -21,7 +24,7 @@ def exist(lines, free):
 
 
 def blocks(lines, free):
-    """Whether some line is left without two points where each takes the lowest two that are left."""
+    """Whether a line is left without two points if each takes the lowest two that are left."""
     for line in lines:
         left = sorted(set(line) & free)
         if len(left) < 2:
@@ -31,18 +34,22 @@ def blocks(lines, free):
 
 
 def passes_counts(lines, free):
+    """Whether there are points enough for all lines, and for each by itself."""
     return 2 * len(lines) <= len(free) and all(len(set(line) & free) >= 2 for line in lines)
 
 
 def family(draw):
+    """Points, lines, X's points and Y's."""
     points = draw.randint(4, 12)
-    lines = [sorted(draw.sample(range(points), draw.randint(2, min(points, 4)))) for _ in range(draw.randint(2, 7))]
+    lines = [sorted(draw.sample(range(points), draw.randint(2, min(points, 4))))
+             for _ in range(draw.randint(2, 7))]
     own = set(draw.sample(range(points), 1)) if draw.random() < 0.25 else set()
     taken = {v for v in range(points) if v not in own and draw.random() < 0.05}
     return points, lines, taken, own
 
 
 def kind_of(points, lines, taken, own):
+    """What a family shows, if it has two lines or more that need a pair."""
     wanted = [line for line in lines if not own & set(line)]
     free = set(range(points)) - taken - own
     if len(wanted) < 2:
@@ -52,20 +59,19 @@ def kind_of(points, lines, taken, own):
     return "short" if passes_counts(wanted, free) else "few"
 
 
-def words(numbers):
-    return " ".join(map(str, sorted(numbers)))
-
-
 def main():
+    kit.parser(__doc__, None).parse_args()
     draw = random.Random(1935)
     due = {"plain": ROWS // 4, "blocked": ROWS // 4, "short": ROWS // 2 - 4, "few": 4}
     while any(due.values()):
-        points, lines, taken, own = family(draw)
-        kind = kind_of(points, lines, taken, own)
+        points, lines, *marks = family(draw)
+        kind = kind_of(points, lines, *marks)
         if due.get(kind, 0) > 0 and (len(lines) > 2 or draw.random() < 0.3):
             due[kind] -= 1
             answer = "yes" if kind in ("plain", "blocked") else "no"
-            print(f"maker-breaker {points} x 1:{','.join(map(words, lines))}:{words(taken)}:{words(own)}:{answer}")
+            x, y = (kit.field(sorted(points)) for points in marks)
+            print(f"maker-breaker {points} x 1:{','.join(map(kit.field, lines))}:{x}:{y}:{answer}")
 
 
-main()
+if __name__ == "__main__":
+    main()

@@ -1,13 +1,15 @@
 #!/usr/bin/env python3
-"""Finds the numbers of test_classes on connectivity games and on games on vectors again, by plain search that shares nothing with the crates.
+"""Finds the numbers of test_classes on connectivity games and on games on vectors again, by brute
+force without anything of the crates.
 
-Usage: small_families.py
-For connectivity games on two to four vertices and for games on vectors of three signs it prints, for each number of
-points, how many games X wins whoever moves, Y does, and the side to move does, over all choices of points in order
-and all marks; then the same for five points without marks.
+For connectivity games on two to four vertices and for games on vectors of three signs it prints,
+for each number of points, how many games X wins whoever moves, Y does, and the side to move does,
+over all choices of points in order and all marks; then the same for five points without marks.
 """
 import functools
 import itertools
+
+import kit
 
 
 def joins(vertices, ends, points):
@@ -29,7 +31,7 @@ def sums(target, vectors, points):
     return target in known
 
 
-def classes(count, passes, marks):
+def classes(count, passes, has_marks):
     """Who wins at all marks, or at none: how many of X, of Y, of the mover."""
     whole = (1 << count) - 1
     passing = [passes(points) for points in range(whole + 1)]
@@ -45,42 +47,42 @@ def classes(count, passes, marks):
             return any(x_wins(x | point, y, False) for point in free)
         return all(x_wins(x, y | point, True) for point in free)
 
-    told = {(True, True): 0, (False, False): 0, (True, False): 0, (False, True): 0}
-    for signs in itertools.product(range(3) if marks else range(1), repeat=count):
-        x = sum(1 << v for v, sign in enumerate(signs) if sign == 1)
-        y = sum(1 << v for v, sign in enumerate(signs) if sign == 2)
-        told[x_wins(x, y, True), x_wins(x, y, False)] += 1
-    assert told[False, True] == 0
-    return told[True, True], told[False, False], told[True, False]
+    found = {(True, True): 0, (False, False): 0, (True, False): 0, (False, True): 0}
+    for marks in kit.marked(count) if has_marks else [(set(), set())]:
+        x, y = (sum(1 << v for v in points) for points in marks)
+        found[x_wins(x, y, True), x_wins(x, y, False)] += 1
+    assert found[False, True] == 0
+    return found[True, True], found[False, False], found[True, False]
 
 
-def connectivity(vertices, count, marks):
-    """The sums over all choices of edges."""
+def line(counts):
+    """The sums of the counts, as the script of test_classes has them."""
+    return "{} {} {} 0,".format(*map(sum, zip(*counts)))
+
+
+def connectivity(vertices, count, has_marks=True):
+    """The counts over all choices of edges."""
     pairs = [(u, v) for u in range(vertices) for v in range(u, vertices)]
-    all_told = (0, 0, 0)
-    for ends in itertools.combinations_with_replacement(pairs, count):
-        told = classes(count, lambda points: joins(vertices, ends, points), marks)
-        all_told = tuple(a + b for a, b in zip(all_told, told))
-    return all_told
+    return line(classes(count, functools.partial(joins, vertices, ends), has_marks)
+                for ends in itertools.combinations_with_replacement(pairs, count))
 
 
-def vectors(count, marks):
-    """The sums over all lists and targets."""
-    all_told = (0, 0, 0)
-    for chosen in itertools.combinations_with_replacement(range(8), count):
-        for target in range(8):
-            told = classes(count, lambda points: sums(target, chosen, points), marks)
-            all_told = tuple(a + b for a, b in zip(all_told, told))
-    return all_told
+def vectors(count, has_marks=True):
+    """The counts over all lists and targets."""
+    return line(classes(count, functools.partial(sums, target, chosen), has_marks)
+                for chosen in itertools.combinations_with_replacement(range(8), count)
+                for target in range(8))
 
 
-def line(rows):
-    return "".join(f"{x} {y} {first} 0," for x, y, first in rows)
+def main():
+    kit.parser(__doc__, None).parse_args()
+    for vertices, limit in ((2, 6), (3, 6), (4, 5)):
+        counts = [connectivity(vertices, count) for count in range(limit)]
+        print(vertices, "vertices:", "".join(counts))
+    print("4 vertices, 5 edges, no marks:", connectivity(4, 5, False))
+    print("vectors:", "".join(vectors(count) for count in range(5)))
+    print("5 vectors, no marks:", vectors(5, False))
 
 
 if __name__ == "__main__":
-    for vertices, limit in ((2, 6), (3, 6), (4, 5)):
-        print(vertices, "vertices:", line(connectivity(vertices, count, True) for count in range(limit)))
-    print("4 vertices, 5 edges, no marks:", line([connectivity(4, 5, False)]))
-    print("vectors:", line(vectors(count, True) for count in range(5)))
-    print("5 vectors, no marks:", line([vectors(5, False)]))
+    main()

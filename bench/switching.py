@@ -1,29 +1,15 @@
 #!/usr/bin/env python3
-"""Measures how long posgame takes to check trees and cuts on a board of 841 edges, reading included.
+"""Measures how long posgame takes to check trees and cuts on a board of Bridg-it of 841 edges.
 
-Usage: switching.py PROGRAM
-The board has 21 rows of 20 vertices between the two terminals, each row joined along and to the next row. With the
-further edge between the terminals it falls into two spanning trees, found here by augmenting paths. The two trees are
-trees for X with X to move, and cuts for Y with Y to move.
+With the extra edge between the terminals the board falls into two spanning trees, found here by
+augmenting paths. They are trees for X with X to move, and cuts for Y with Y to move.
 """
 import collections
-import sys
 
-from checking import measure, write
+import kit
+from checking import certificate, measure
 
-ROWS = 21
-
-
-def board(rows):
-    """The number of vertices, of which 0 and 1 are the terminals, and the ends of the edges."""
-    columns = rows - 1
-
-    def vertex(row, column):
-        return 0 if column < 0 else 1 if column == columns else 2 + row * columns + column
-
-    along = [(vertex(i, j - 1), vertex(i, j)) for i in range(rows) for j in range(columns + 1)]
-    between = [(vertex(i, j), vertex(i + 1, j)) for i in range(rows - 1) for j in range(columns)]
-    return rows * columns + 2, along + between
+BOARD = kit.bridge(21)
 
 
 class Forests:
@@ -33,18 +19,19 @@ class Forests:
         self.ends, self.forest = ends, [None] * len(ends)
         self.around = [[set() for _ in range(vertices)] for _ in range(2)]
 
-    def place(self, edge, forest):
-        """Puts the edge into the forest, out of the one where it was."""
+    def move(self, edge, forest):
+        """Puts the edge into the forest, and returns the one that it left."""
+        left = self.forest[edge]
         for vertex in self.ends[edge]:
-            if self.forest[edge] is not None:
-                self.around[self.forest[edge]][vertex].discard(edge)
+            if left is not None:
+                self.around[left][vertex].discard(edge)
             self.around[forest][vertex].add(edge)
         self.forest[edge] = forest
+        return left
 
     def path(self, forest, begin, end):
-        """The forest's edges from one vertex to another, or None where it doesn't join them."""
-        came = {begin: None}
-        queue = collections.deque([begin])
+        """The forest's edges from one vertex to another, or None if it doesn't join them."""
+        came, queue = {begin: None}, collections.deque([begin])
         while queue:
             vertex = queue.popleft()
             if vertex == end:
@@ -61,63 +48,43 @@ class Forests:
         return None
 
     def add(self, edge):
-        """Puts one more edge into the forests, by a shortest row of exchanges; False where that can't be."""
-        before = {edge: None}
-        queue = collections.deque([edge])
+        """Puts one more edge into the forests, by a shortest row of exchanges, if that can be."""
+        before, queue = {edge: None}, collections.deque([edge])
         while queue:
             reached = queue.popleft()
-            for forest in (0, 1):
-                if forest == self.forest[reached]:
-                    continue
+            for forest in {0, 1} - {self.forest[reached]}:
                 cycle = self.path(forest, *self.ends[reached])
                 if cycle is None:
                     while reached is not None:
                         reached, forest = before[reached], self.move(reached, forest)
-                    return True
+                    return
                 for member in cycle:
                     if member not in before:
                         before[member] = reached
                         queue.append(member)
-        return False
-
-    def move(self, edge, forest):
-        """Places the edge and gives the forest that it left."""
-        left = self.forest[edge]
-        self.place(edge, forest)
-        return left
 
 
 def halves(vertices, ends):
-    """The two spanning trees of the graph with the further edge, that edge in the first, without it."""
-    further = len(ends)
+    """The two trees of the graph with the extra edge, that edge in the first, without it."""
+    extra = len(ends)
     forests = Forests(vertices, ends + [(0, 1)])
-    for edge in range(further + 1):
-        if not forests.add(edge):
-            raise SystemExit("the board doesn't fall into two trees")
-    first = forests.forest[further]
-    sets = [[edge for edge in range(further) if forests.forest[edge] == forest] for forest in (first, 1 - first)]
-    if len(sets[0]) + 1 != vertices - 1 or len(sets[1]) != vertices - 1:
-        raise SystemExit("a forest doesn't span the board")
+    for edge in range(extra + 1):
+        forests.add(edge)
+    first = forests.forest[extra]
+    sets = [[edge for edge in range(extra) if forests.forest[edge] == forest]
+            for forest in (first, 1 - first)]
+    if [len(edges) for edges in sets] != [vertices - 2, vertices - 1]:
+        raise SystemExit("the board doesn't fall into two trees")
     return sets
 
 
-def board_files(folder):
-    vertices, ends = board(ROWS)
-    first, second = (" ".join(map(str, edges)) for edges in halves(vertices, ends))
-    edges = "".join(f"edge {a} {b}\n" for a, b in ends)
-    game = f"posgame 1\nkind switching\nvertices {vertices}\nterminals 0 1\n{edges}turn x\n"
-    claims = "".join(
-        f"claim {side} {side} win\nnodes 1\n||{side}|{word} e {first} / {second}\n"
-        for side, word in (("x", "trees"), ("y", "cuts"))
-    )
-    write(folder, game, "posgame-cert 1\n" + claims)
-
-
 def main():
-    if len(sys.argv) != 2:
-        sys.exit(__doc__)
-    vertices, ends = board(ROWS)
-    measure(sys.argv[1], f"trees and cuts on {vertices} vertices and {len(ends)} edges", board_files)
+    program = kit.parser(__doc__).parse_args().program
+    first, second = map(kit.field, halves(*BOARD))
+    claims = [kit.claim(f"{side} {side} win", f"||{side}|{word} e {first} / {second}\n")
+              for side, word in (("x", "trees"), ("y", "cuts"))]
+    name = f"trees and cuts on {BOARD[0]} vertices and {len(BOARD[1])} edges"
+    measure(program, name, kit.switching(BOARD), certificate(*claims))
 
 
 if __name__ == "__main__":

@@ -1,0 +1,384 @@
+"""What the scripts of bench/ share: options, runs and their figures, texts of files, boards, and
+games decided by brute force.
+
+A figure is printed as a line `NAME: FIGURE, FIGURE ..`; what is wrong with it follows in capitals.
+Nothing here shares anything with the crates. Unproved.
+"""
+from __future__ import annotations
+
+import argparse
+import contextlib
+import itertools
+import os
+import pathlib
+import re
+import resource
+import shutil
+import subprocess
+import sys
+import tempfile
+import time
+from typing import Dict, FrozenSet, Iterable, Iterator, List, NamedTuple, Optional, Set, Tuple
+
+TOP = pathlib.Path(__file__).resolve().parent.parent
+EXAMPLES = TOP / "examples"
+KINDS = {"maker-breaker": "Maker-Breaker", "maker-maker": "Maker-Maker",
+         "avoider-enforcer": "Avoider-Enforcer"}
+
+Line = List[int]
+Edge = Tuple[int, int]
+Graph = Tuple[int, List[Edge]]
+Cells = Iterable[Tuple[int, int]]
+Points = FrozenSet[int]
+Position = Tuple[Points, Points, str, int]
+
+
+# Options.
+
+
+def built(name: str) -> pathlib.Path:
+    """Returns where `rt run` in crates/NAME leaves the program."""
+    return TOP / "crates" / name / "out" / name
+
+
+def program_path(word: str) -> str:
+    """Returns the whole path of a program that is there."""
+    path = os.path.abspath(word)
+    if not os.path.isfile(path):
+        raise argparse.ArgumentTypeError(f"there is no {path}: `rt run` in its crate builds it")
+    return path
+
+
+def parser(text: Optional[str], program: Optional[str] = "posgame") -> argparse.ArgumentParser:
+    """Returns a parser of options with the script's docstring as its help. Its first argument is
+    PROGRAM, unless `program` is None; if it is left out, it is the one built in crates/."""
+    words = argparse.ArgumentParser(
+        description=text, formatter_class=argparse.RawDescriptionHelpFormatter)
+    if program:
+        words.add_argument("program", metavar="PROGRAM", nargs="?", type=program_path,
+                           default=str(built(program)), help=f"the program {program}")
+    return words
+
+
+# Runs and their figures.
+
+
+class Run(NamedTuple):
+    """How a run ended. `status` is below 0 after a signal; `processor` is in seconds."""
+
+    output: str
+    status: int
+    seconds: float
+    processor: float
+    kilobytes: int
+
+
+def run(*words: object, typed: str = "", folder: object = None, most: int = 0) -> Run:
+    """Runs a program with `typed` as its input, for at most `most` processor seconds if that isn't
+    0. It is started by time(1), since a child of this script would count the script's memory."""
+    def limit() -> None:
+        resource.setrlimit(resource.RLIMIT_CPU, (most, most + 1))
+
+    timed = ["/usr/bin/time", "-q", "-f", "%M", *map(str, words)]
+    with tempfile.TemporaryFile("w+") as given, tempfile.TemporaryFile("w+") as errors:
+        given.write(typed)
+        given.seek(0)
+        begin = time.monotonic()
+        process = subprocess.Popen(timed, stdin=given, stdout=subprocess.PIPE, stderr=errors,
+                                   text=True, errors="replace", preexec_fn=limit if most else None,
+                                   cwd=str(folder) if folder else None)
+        assert process.stdout
+        with process.stdout as stream:
+            output = stream.read()
+        _, ended, used = os.wait4(process.pid, 0)
+        seconds = time.monotonic() - begin
+        process.returncode = os.waitstatus_to_exitcode(ended)
+        errors.seek(0)
+        kilobytes = int(errors.read().split()[-1])
+    status = process.returncode if process.returncode <= 128 else 128 - process.returncode
+    return Run(output, status, seconds, used.ru_utime + used.ru_stime, kilobytes)
+
+
+def has_valgrind() -> bool:
+    """Tells whether callgrind can count instructions here."""
+    return shutil.which("valgrind") is not None
+
+
+class Count(NamedTuple):
+    """Callgrind's count of a whole run, and what the program printed."""
+
+    instructions: int
+    output: str
+
+
+def count(*words: object, counts: object = "/dev/null", typed: str = "",
+          flags: Iterable[str] = ()) -> Count:
+    """Runs a program below callgrind, which writes its counts by function to `counts`. The figure
+    doesn't depend on what else the machine does."""
+    command = ["valgrind", "--tool=callgrind", f"--callgrind-out-file={counts}", *flags]
+    done = subprocess.run([*command, *map(str, words)], input=typed, capture_output=True, text=True)
+    found = re.search(r"Collected : (\d+)", done.stderr)
+    if not found:
+        sys.exit(f"callgrind counted nothing of {words}: {done.stderr[-500:]}")
+    return Count(int(found.group(1)), done.stdout.strip())
+
+
+def listing(counts: object, *flags: str) -> str:
+    """Returns callgrind's list of functions for the counts of a run."""
+    command = ["callgrind_annotate", *flags, str(counts)]
+    return subprocess.run(command, check=True, capture_output=True, text=True).stdout
+
+
+def above(figure: float, limit: float, unit: str) -> List[str]:
+    """Returns what is wrong with a figure, if it is above its limit."""
+    return [f"MORE THAN {limit:,} {unit}"] if figure > limit else []
+
+
+def show(name: str, figures: Iterable[str], faults: Iterable[str] = ()) -> int:
+    """Prints a line of figures, and returns 1 if something is wrong with them."""
+    wrong = list(faults)
+    print(f"{name}: {', '.join([*figures, *wrong])}", flush=True)
+    return 1 if wrong else 0
+
+
+# Texts of files.
+
+
+@contextlib.contextmanager
+def files(**texts: str) -> Iterator[pathlib.Path]:
+    """Makes a temporary folder with files of these names and texts."""
+    with tempfile.TemporaryDirectory() as name:
+        for file, text in texts.items():
+            pathlib.Path(name, file).write_text(text, encoding="ascii")
+        yield pathlib.Path(name)
+
+
+def field(numbers: Iterable[object]) -> str:
+    """Returns the numbers with spaces between them."""
+    return " ".join(map(str, numbers))
+
+
+def line_rows(lines: Iterable[Iterable[int]]) -> List[str]:
+    """Returns a row of a game file for each line."""
+    return [f"line {field(line)}" for line in lines]
+
+
+def game(kind: str, *rows: str, turn: str = "x") -> str:
+    """Returns a game file with these rows between its kind and its turn."""
+    return "\n".join(["posgame 1", f"kind {kind}", *rows, f"turn {turn}", ""])
+
+
+def edge_rows(graph: Graph) -> List[str]:
+    """Returns the rows of a game file on the edges of a graph."""
+    return [f"edge {u} {v}" for u, v in graph[1]]
+
+
+def switching(graph: Graph, terminals: Edge = (0, 1), turn: str = "x") -> str:
+    """Returns the file of the switching game on a graph."""
+    heads = f"vertices {graph[0]}", f"terminals {field(terminals)}"
+    return game("switching", *heads, *edge_rows(graph), turn=turn)
+
+
+def span(graph: Graph, turn: str = "x") -> str:
+    """Returns the file of the connectivity game on a graph."""
+    rows = ["posgame-span 1", f"vertices {graph[0]}", *edge_rows(graph), f"turn {turn}", ""]
+    return "\n".join(rows)
+
+
+def claim(head: str, nodes: str, times: int = 1) -> str:
+    """Returns a claim of a certificate: its nodes, a line each, are repeated `times` times."""
+    return f"claim {head}\nnodes {times * nodes.count(chr(10))}\n" + nodes * times
+
+
+def short_game(kind: str, points: int, lines: Iterable[Iterable[int]]) -> str:
+    """Returns an empty board as the programs of tests read it."""
+    return f"{kind} {points} x 1:{','.join(map(field, lines))}::\n"
+
+
+def table(heads: List[str], rows: Iterable[Iterable[str]]) -> List[str]:
+    """Returns the lines of a table in Markdown."""
+    lines = ["| " + " | ".join(cell.replace("|", "\\|") for cell in row) + " |"
+             for row in (heads, *rows)]
+    return [lines[0], "|---" * len(heads) + "|", *lines[1:]]
+
+
+# Boards and graphs.
+
+
+class Draws:
+    """The generator that the standard of C prints as an example."""
+
+    def __init__(self, seed: int) -> None:
+        self.state = seed
+
+    def below(self, limit: int) -> int:
+        """Draws a number below the limit."""
+        self.state = (self.state * 1103515245 + 12345) % 2**31
+        return self.state // 65536 % limit
+
+
+def scatter(seed: int, points: int, lines: int, size: int) -> List[Line]:
+    """Draws lines of `size` points each, as `posgame gen scatter` does."""
+    draws, drawn = Draws(seed), []
+    for _ in range(lines):
+        order = list(range(points))
+        for i in range(size):
+            k = i + draws.below(points - i)
+            order[i], order[k] = order[k], order[i]
+        drawn.append(sorted(order[:size]))
+    return drawn
+
+
+def in_row(rows: int, columns: int, length: int) -> List[Line]:
+    """Returns the lines of `length` cells in a row, by their first cell, then by direction: along,
+    down, and both diagonals."""
+    lines = []
+    for i, j, (down, right) in itertools.product(
+            range(rows), range(columns), ((0, 1), (1, 0), (1, 1), (1, -1))):
+        cells = [(i + down * k, j + right * k) for k in range(length)]
+        if all(0 <= a < rows and 0 <= b < columns for a, b in cells):
+            lines.append(sorted(a * columns + b for a, b in cells))
+    return lines
+
+
+def turned(cells: Cells) -> List[Tuple[Tuple[int, int], ...]]:
+    """Returns the eight images of a set of cells, each moved to the corner and sorted."""
+    images, image = [], list(cells)
+    for _ in range(2):
+        for _ in range(4):
+            image = [(column, -row) for row, column in image]
+            top, left = min(row for row, _ in image), min(column for _, column in image)
+            images.append(tuple(sorted((row - top, column - left) for row, column in image)))
+        image = [(row, -column) for row, column in image]
+    return images
+
+
+def word_of(cells: Cells) -> str:
+    """Returns the word of a shape: its rows of 0 and 1."""
+    taken = set(cells)
+    height, width = (1 + max(numbers) for numbers in zip(*taken))
+    rows = ["".join("01"[(i, j) in taken] for j in range(width)) for i in range(height)]
+    return "/".join(rows)
+
+
+def placements(rows: int, columns: int, word: str) -> List[Line]:
+    """Returns the sets of cells of a grid that a shape covers, turned and reflected in each way."""
+    marks = [(i, j, mark) for i, row in enumerate(word.split("/")) for j, mark in enumerate(row)]
+    images = turned((i, j) for i, j, mark in marks if mark == "1")
+    lines = set()
+    for image, i, j in itertools.product(images, range(rows), range(columns)):
+        placed = [(a + i, b + j) for a, b in image]
+        if all(a < rows and b < columns for a, b in placed):
+            lines.add(tuple(sorted(a * columns + b for a, b in placed)))
+    return [list(line) for line in sorted(lines)]
+
+
+def bridge(rows: int) -> Graph:
+    """Returns the graph of Bridg-it: rows of `rows - 1` vertices between the two terminals, joined
+    along and then to the next row."""
+    columns = rows - 1
+
+    def vertex(row: int, column: int) -> int:
+        return 0 if column == 0 else 1 if column > columns else 1 + row * columns + column
+
+    along = [(vertex(i, j), vertex(i, j + 1)) for i in range(rows) for j in range(columns + 1)]
+    between = [(vertex(i, j), vertex(i + 1, j))
+               for i in range(rows - 1) for j in range(1, columns + 1)]
+    return rows * columns + 2, along + between
+
+
+def complete(vertices: int, copies: int = 1) -> Graph:
+    """Joins each two vertices by so many edges."""
+    return vertices, [(u, v) for u in range(vertices) for v in range(u) for _ in range(copies)]
+
+
+def grid(rows: int, columns: int) -> Graph:
+    """Joins each cell of a grid to those beside and below it."""
+    cells = range(rows * columns)
+    along = [(v, v + 1) for v in cells if (v + 1) % columns]
+    down = [(v, v + columns) for v in cells if v + columns in cells]
+    return rows * columns, along + down
+
+
+def doubled_path(vertices: int, edges: int) -> Graph:
+    """Returns a path whose edges are doubled, with further edges between its ends."""
+    steps = [(v, v + 1) for v in range(vertices - 1)] * 2
+    return vertices, steps + [(0, vertices - 1)] * (edges - len(steps))
+
+
+# Games decided by brute force.
+
+
+class LineGame:
+    """A game on lines, decided by trying all plays. A score is 1, 0 or -1, the greater the better
+    for X; a position is X's points, Y's points, the side to move and how many points it takes."""
+
+    def __init__(self, kind: str, points: int, lines: Iterable[Iterable[int]],
+                 bias: int = 1) -> None:
+        self.kind, self.points, self.bias = kind, points, bias
+        self.lines = [frozenset(line) for line in lines]
+        self.known: Dict[Position, int] = {}
+
+    def free(self, x: Points, y: Points) -> Line:
+        """Returns the free points."""
+        return [v for v in range(self.points) if v not in x and v not in y]
+
+    def score(self, x: Points, y: Points) -> Optional[int]:
+        """Returns the score if the game is over, else None."""
+        mine, full = any(line <= x for line in self.lines), len(x) + len(y) == self.points
+        if self.kind == "maker-maker":
+            theirs = any(line <= y for line in self.lines)
+            return 1 if mine else -1 if theirs else 0 if full else None
+        if mine or full or all(line & y for line in self.lines):
+            return (1 if mine else -1) * (1 if self.kind == "maker-breaker" else -1)
+        return None
+
+    def after(self, x: Points, y: Points, turn: str, left: int, v: int) -> Position:
+        """Returns the position after the move on v."""
+        x, y = (x | {v}, y) if turn == "x" else (x, y | {v})
+        if left > 1:
+            return x, y, turn, left - 1
+        return (x, y, "y", self.bias) if turn == "x" else (x, y, "x", 1)
+
+    def value(self, x: Points, y: Points, turn: str, left: int = 1) -> int:
+        """Returns the score at best play."""
+        position = x, y, turn, left
+        if position not in self.known:
+            score = self.score(x, y)
+            if score is None:
+                values = (self.value(*self.after(*position, v)) for v in self.free(x, y))
+                score = max(values) if turn == "x" else min(values)
+            self.known[position] = score
+        return self.known[position]
+
+    def positions(self) -> Iterator[Position]:
+        """Yields every position, also those at which the game is over."""
+        for x, y in marked(self.points):
+            yield x, y, "x", 1
+            for left in range(1, self.bias + 1):
+                yield x, y, "y", left
+
+    def threats(self, mine: Points, theirs: Points) -> Set[int]:
+        """Returns the free points with which the side fills a line."""
+        lacks = [line - mine for line in self.lines]
+        return {v for lack in lacks if len(lack) == 1 for v in lack if v not in theirs}
+
+    def attack(self, mine: Points, theirs: Points, depth: int) -> bool:
+        """Tells whether the side to move fills a line by attacks with at most `depth` replies, each
+        of them forced, as docs/DEFINITIONS.md says."""
+        for v in self.free(mine, theirs):
+            now = mine | {v}
+            if any(line <= now for line in self.lines):
+                return True
+            if depth and not (self.kind == "maker-maker" and self.threats(theirs, now)):
+                replies = self.threats(now, theirs)
+                if any(self.attack(now, theirs | {u}, depth - 1) for u in replies):
+                    return True
+        return False
+
+
+def marked(points: int) -> Iterator[Tuple[Points, Points]]:
+    """Yields each choice of points for X and of others for Y."""
+    for owners in itertools.product("-xy", repeat=points):
+        x, y = (frozenset(v for v in range(points) if owners[v] == side) for side in "xy")
+        yield x, y

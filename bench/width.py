@@ -1,0 +1,117 @@
+#!/usr/bin/env python3
+"""Lists the lines that are too long, as FILE:LINE: N columns.
+
+    bench/width.py                      all kinds of file
+    bench/width.py --only docs scripts  these kinds only
+
+A line has at most 100 characters, and a row of a table of Markdown 120. Not counted are an import
+of a source that can't be split (`use`), and the files of `LEFT_OUT`. The status is 1 if a line is
+too long. The files are those that git knows, or would take.
+
+Its examples are tried by `python3 -m doctest bench/width.py`. Nothing is proved of this script.
+"""
+from __future__ import annotations
+
+import argparse
+import pathlib
+import re
+import subprocess
+import sys
+from collections.abc import Iterator
+
+TOP = pathlib.Path(__file__).resolve().parent.parent
+COLUMNS = 100
+TABLE_COLUMNS = 120
+KINDS = ("sources", "docs", "scripts", "examples")
+GAMES = (".game", ".cert", ".record")
+
+# Written by bench/all.py and bench/boards.py, which don't keep to the limit yet.
+LEFT_OUT = {"docs/FIGURES.md", "docs/BOARDS.md"}
+
+
+def tracked() -> list[str]:
+    """Returns the files of the tree, without what git ignores."""
+    words = ["git", "-C", str(TOP), "ls-files", "-co", "--exclude-standard"]
+    listed = subprocess.run(words, check=True, capture_output=True, text=True).stdout
+    return [name for name in listed.splitlines() if (TOP / name).is_file()]
+
+
+def kind_of(name: str) -> str | None:
+    """Returns the kind of a file, or None if its lines aren't counted.
+
+    >>> kind_of("crates/pg_base/src/lib.rt"), kind_of("docs/GATE.md"), kind_of("docs/FIGURES.md")
+    ('sources', 'docs', None)
+    """
+    path = pathlib.PurePath(name)
+    if name in LEFT_OUT:
+        return None
+    if path.suffix in (".rt", ".antt"):
+        return "sources"
+    if path.suffix == ".md":
+        return "docs"
+    if path.parts[0] == "examples" and path.suffix in GAMES:
+        return "examples"
+    return "scripts" if is_script(name) else None
+
+
+def is_script(name: str) -> bool:
+    """Returns whether a file is one of Python or bash, by its ending or by its first line."""
+    path = TOP / name
+    if path.suffix in (".py", ".sh", ".bash"):
+        return True
+    if path.suffix:
+        return False
+    with path.open("rb") as file:
+        first = file.readline()
+    return re.match(rb"#!.*\b(bash|sh|python3?)\s*$", first) is not None
+
+
+def limit(kind: str, line: str) -> int | None:
+    """Returns the most columns that a line may have, or None if it may have any number.
+
+    >>> limit("docs", "| a | b |"), limit("docs", "text"), limit("sources", "use std.a.{b, c}")
+    (120, 100, None)
+    """
+    if kind == "docs" and line.startswith("|"):
+        return TABLE_COLUMNS
+    if kind == "sources" and re.match(r"\s*(pub )?use \S", line):
+        return None
+    if kind == "examples" and not line.startswith("#"):
+        return None
+    return COLUMNS
+
+
+def too_long(name: str, kind: str) -> Iterator[tuple[int, int]]:
+    """Yields the number and the columns of each line of a file that is too long."""
+    text = (TOP / name).read_text(encoding="utf-8", errors="replace")
+    for number, line in enumerate(text.splitlines(), 1):
+        most = limit(kind, line)
+        if most is not None and len(line) > most:
+            yield number, len(line)
+
+
+def main() -> int:
+    """Lists the lines, and returns the status."""
+    words = argparse.ArgumentParser(description=__doc__.split("\n\n")[0])
+    words.add_argument("--only", nargs="+", choices=KINDS, default=KINDS, metavar="KIND",
+                       help=f"these kinds of file: {', '.join(KINDS)}")
+    words.add_argument("--count", action="store_true", help="a number for each file, no lines")
+    given = words.parse_args()
+    files = [(name, kind_of(name)) for name in tracked()]
+    found = 0
+    for name, kind in files:
+        if kind not in given.only:
+            continue
+        lines = list(too_long(name, kind))
+        found += len(lines)
+        if given.count and lines:
+            print(f"{name}: {len(lines)}")
+        elif not given.count:
+            print("".join(f"{name}:{number}: {columns} columns\n" for number, columns in lines),
+                  end="")
+    print(f"{found} lines are too long in {', '.join(given.only)}")
+    return 1 if found else 0
+
+
+if __name__ == "__main__":
+    sys.exit(main())
