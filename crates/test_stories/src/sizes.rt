@@ -8,8 +8,8 @@ const POINT: &str = "posgame 1\nkind maker-breaker\npoints 1\nline 0\nturn x\n";
 
 /// The game of one point under the name G, and under each other name a file of `size` bytes.
 ///
-/// Each read of that file gives a line feed first, and then whatever was in the buffer. Nothing can
-/// be written.
+/// Each read of that file gives a line feed first, and then whatever was in the buffer. A file can
+/// be begun, and each call that would add to it or store it fails.
 #[derive(Drop)]
 struct Long {
     /// How many bytes the long file has.
@@ -18,19 +18,21 @@ struct Long {
     game: &'static [u8],
     /// How many bytes of the long file are unread, where that is open.
     left: usize,
+    /// Whether a file is being made.
+    busy: bool,
     /// How many calls that write have failed.
     writes: u64,
 }
 
 impl Files for Long {
-    ghost use Rattle.std.specs.Prelude.{None, false};
+    ghost use Rattle.std.specs.Prelude.{None};
     ghost use Rattle.pg_io.specs.Causes.{faults};
 
     ghost told = { λ long. record {
       held = None;
       left = None;
       making = None;
-      busy = false;
+      busy = long.busy;
       faults = faults 0 long.writes;
     } };
 
@@ -55,16 +57,18 @@ impl Files for Long {
     }
 
     fn create(&mut self, _name: &str) -> Result<(), Failed> {
-        self.writes = self.writes.saturating_add(1);
-        Err(Failed)
+        self.busy = true;
+        Ok(())
     }
 
     fn append(&mut self, _bytes: &[u8]) -> Result<(), Failed> {
+        self.busy = false;
         self.writes = self.writes.saturating_add(1);
         Err(Failed)
     }
 
     fn finish(&mut self) -> Result<(), Failed> {
+        self.busy = false;
         self.writes = self.writes.saturating_add(1);
         Err(Failed)
     }
@@ -78,6 +82,7 @@ pub(crate) fn is_size_so(alloc: Global, told: &str) -> Result<bool, AllocError> 
         size: size.parse::<usize>().unwrap_or(0),
         game: b"",
         left: 0,
+        busy: false,
         writes: 0,
     };
     let log = logged(alloc, "check G C", &mut files, "")?;
