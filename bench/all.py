@@ -65,8 +65,10 @@ BENCHES = [
           ["real_files.py", POSGAME], [("", "each row as the script says")], True),
     Bench("Mutated files, words and dialogues", ["fuzz.py", POSGAME, "--runs", "20000"],
           [("", "no end that none may have")], True),
-    Bench("Each allocation of ten runs refused in turn", ["memory.py"], [("", "none broken")],
-          True),
+    Bench("Each allocation of eighteen runs refused in turn", ["memory.py", POSGAME],
+          [("", "none broken")]),
+    Bench("Certificates that reviews check", ["checked.py", POSGAME],
+          [("", "one for each that they find")]),
 ]
 
 

@@ -1,131 +1,178 @@
 #!/usr/bin/env python3
-"""Refuses each allocation of ten runs in turn, and counts how the runs end.
+"""Refuses each allocation of runs of posgame in turn, and counts how the runs end.
 
-The runs check, play, solve, make a game, report and review. In a review memory must run out after
-the first loss too, since each loss is due before the next position is decided.
-
-It is run in a clone, with `rt` on the PATH. `rt try` builds the program test_stories once, without
-proofs, gives it the script of one row, and refuses the allocation with one number; the program
-makes so many allocations before the row that it is each one in turn. What is refused before and
-after the run itself ends the program without a word of the row (not told). The status is 1 if a run
-ended as none may.
+Every command is run, on real files. `cc` compiles a library that stands before the program's calls
+of malloc and realloc and refuses the one with a given number, from 1 on until a run makes no such
+call. Each run has to end as it should without that, or with what it prints cut short: with status
+7, or with 5 or 6 if the allocation was inside a call on files or the console. A claim that is
+played is never followed by 7. A file has to contain what it did before or all that is due, and no
+other file may be left. In a review memory has to run out after the first loss too, since each loss
+is due before the next position is decided. Unproved.
 """
+from __future__ import annotations
+
 import collections
+import os
 import pathlib
-import re
 import subprocess
 import sys
+from typing import Dict, Iterator, List, NamedTuple
 
 import kit
 
-REFUSED = 500
+# The status of a run that has no memory, and those of a failed call that reads or writes.
+NO_MEMORY, FAILED_CALLS = 7, (5, 6)
 
-EIGHT = "line 0 1 2;line 3 4 5;line 6 7 8;line 0 3 6;line 1 4 7;line 2 5 8;line 0 4 8;line 2 4 6;"
-SQUARE = f"posgame 1;kind maker-breaker;points 9;{EIGHT}"
-EDGES = "edge 0 2;edge 0 3;edge 2 3;edge 2 1;edge 3 1;"
-DIAMOND = f"posgame 1;kind switching;vertices 4;terminals 0 1;{EDGES}turn x;"
-TWO_LINES = "posgame 1;kind maker-breaker;points 3;line 0 1;line 0 2;turn x;"
-TRIANGLE = ("posgame 1;kind switching;vertices 3;terminals 0 1;edge 0 1;edge 0 2;edge 2 1;"
-            "turn y;")
-AVOIDED = "posgame 1;kind avoider-enforcer;points 3;line 0 1;line 0 2;line 1 2;turn x;"
-MOVES = "posgame-record 1;move 1;move 2;move 0;"
-PAIRS = "posgame-cert 1;claim x y win;nodes 1;|4|x|pairs 0-1 2-5 8-7 6-3;"
-SETS = ("posgame-cert 1;claim x x win;nodes 1;||x|trees e 0 4 / 1 2 3;"
-        "claim y y win;nodes 1;||y|cuts e 0 4 / 1 2 3;")
-PLAYED = ["claim x win", "move 1", "<4", "move 3", "<0", "move 2", "result short"]
-MADE = ["game 14 vertices 25 edges", "class first-mover", "expanded 0 nodes 2"]
+REFUSING = """
+#include <stdlib.h>
+#include <unistd.h>
+
+extern void *__libc_malloc(size_t size);
+extern void *__libc_realloc(void *old, size_t size);
+
+static long left;
+
+__attribute__((constructor)) static void begin(void) {
+    const char *word = getenv("REFUSED");
+    left = word ? atol(word) : 0;
+}
+
+static int is_refused(void) {
+    return left > 0 && --left == 0 && write(2, "refused", 7) == 7;
+}
+
+void *malloc(size_t size) {
+    return is_refused() ? NULL : __libc_malloc(size);
+}
+
+void *realloc(void *old, size_t size) {
+    return is_refused() ? NULL : __libc_realloc(old, size);
+}
+"""
+
+ROWS = kit.line_rows([[0, 1, 2], [3, 4, 5], [6, 7, 8], [0, 3, 6], [1, 4, 7], [2, 5, 8],
+                      [0, 4, 8], [2, 4, 6]])
+SQUARE = kit.game("maker-breaker", "grid 3 3", *ROWS)
+MARKED = kit.game("maker-breaker", "points 9", *ROWS, "y 4")
+DIAMOND = kit.switching((4, [(0, 2), (0, 3), (2, 3), (2, 1), (3, 1)]))
+TWO_LINES = kit.game("maker-breaker", "points 3", "line 0 1", "line 0 2")
+TRIANGLE = kit.switching((3, [(0, 1), (0, 2), (2, 1)]), turn="y")
+AVOIDED = kit.game("avoider-enforcer", "points 3", "line 0 1", "line 0 2", "line 1 2")
+ROUND = kit.span((3, [(0, 1), (1, 2), (0, 2)]))
+VECTORS = "posgame-vectors 1\nrows 2\ntarget 11\nvector 10\nvector 01\nturn x\n"
+MOVES = "posgame-record 1\nmove 1\nmove 2\nmove 0\n"
+PAIRS = "posgame-cert 1\n" + kit.claim("x y win", "|4|x|pairs 0-1 2-5 8-7 6-3\n")
+SETS = ("posgame-cert 1\n" + kit.claim("x x win", "||x|trees e 0 4 / 1 2 3\n")
+        + kit.claim("y y win", "||y|cuts e 0 4 / 1 2 3\n"))
+PARTS = "posgame-span-cert 1\nclaim x x\ntrees first 0 1 / 2\nclaim y y\nparts 0 1 2\n"
+CUTS = "posgame-cert 1\n" + kit.claim("x y win", "||x|cuts 0 / 1\n")
 REPORT = ('{"claims":[{"goal":"win","nodes":1,"side":"y","turn":"x"}],'
           '"kind":"maker-breaker","lines":8,"points":9}')
 
-# The words, the game, the certificate or the record, the input and the log, in which a line that is
-# read begins with `<`.
-ROWS = [
-    ("check G C", SQUARE + "y 4;turn x;", PAIRS, "", ["accepted x y win"]),
-    ("check G C", DIAMOND, SETS, "", ["accepted x x win", "accepted y y win"]),
-    ("play G C --side x", DIAMOND, SETS, "4;0;", PLAYED),
-    ("solve G C", DIAMOND, "old;", "", ["class first-mover"]),
-    ("solve G C", SQUARE + "turn x;", "old;", "", ["result maker"]),
-    ("solve G C", AVOIDED, "old;", "", ["result enforcer"]),
-    ("gen bridge 4 G C", "old;", "old;", "", MADE),
-    ("report G C", SQUARE + "y 4;turn x;", PAIRS, "", [REPORT]),
-    ("review G C", TWO_LINES, MOVES, "",
-     ["lost 0 1 maker breaker", "lost 1 2 breaker maker", "reviewed 3"]),
-    ("review G C", TRIANGLE, MOVES, "",
-     ["lost 0 1 cut short", "lost 1 2 short cut", "reviewed 3"]),
+
+class Row(NamedTuple):
+    """A run: its words, the files G and C, what is typed, and the lines that are due."""
+
+    words: str
+    game: str
+    other: str
+    typed: str
+    due: List[str]
+
+
+RUNS = [
+    Row("check G C", MARKED, PAIRS, "", ["accepted x y win"]),
+    Row("check G C", DIAMOND, SETS, "", ["accepted x x win", "accepted y y win"]),
+    Row("play G C --side x", DIAMOND, SETS, "4\n0\n",
+        ["claim x win", "move 1", "move 3", "move 2", "result short"]),
+    Row("solve G C", DIAMOND, "old\n", "", ["class first-mover"]),
+    Row("solve G C", SQUARE, "old\n", "", ["result maker"]),
+    Row("solve G C --images", SQUARE, "old\n", "", ["result maker"]),
+    Row("solve G C", AVOIDED, "old\n", "", ["result enforcer"]),
+    Row("gen bridge 4 G C", "old\n", "old\n", "",
+        ["game 14 vertices 25 edges", "class first-mover", "expanded 0 nodes 2"]),
+    Row("report G C", MARKED, PAIRS, "", [REPORT]),
+    Row("record G C", TWO_LINES, "old\n", "1\n0\nback\n2\n0\n",
+        ["standing 1", "standing 2", "standing 1", "standing 2", "standing 3", "recorded 3"]),
+    Row("review G C", TWO_LINES, MOVES, "",
+        ["lost 0 1 maker breaker", "lost 1 2 breaker maker", "reviewed 3"]),
+    Row("review G C", TRIANGLE, MOVES, "",
+        ["lost 0 1 cut short", "lost 1 2 short cut", "reviewed 3"]),
+    Row("span solve G C", ROUND, "old\n", "", ["class first-mover"]),
+    Row("span check G C", ROUND, PARTS, "", ["accepted x x win", "accepted y y win"]),
+    Row("span play G C --side x", ROUND, PARTS, "1\n",
+        ["claim x win", "move 0", "move 2", "result maker"]),
+    Row("vec solve G C", VECTORS, "old\n", "", ["class cut"]),
+    Row("vec check G C", VECTORS, CUTS, "", ["accepted x y win"]),
+    Row("vec play G C --side y", VECTORS, CUTS, "0\n", ["claim y win", "move 1", "result cut"]),
 ]
 
 
-def log_lines(log, end=""):
-    """The log as the script and the program write it; `end` comes after what is said."""
-    return [f"hears {line[1:]}" if line.startswith("<") else f"says {line}{end}" for line in log]
+class Left(NamedTuple):
+    """What a run leaves: its status, the lines that it printed, the text of each file, and whether
+    an allocation was refused."""
+
+    status: int
+    lines: List[str]
+    files: Dict[str, str]
+    refused: bool
 
 
-def script(words, game, certificate, given, log):
-    """The row's script: whatever files contain at the end is accepted."""
-    lines = ["row it", f"file G {game}", f"file C {certificate}", f"run {words}"]
-    lines += [f"input {given}"] * bool(given)
-    return "\n".join([*lines, "status 0", *log_lines(log), "starts G ", "starts C ", ""])
+def leave(program: str, library: pathlib.Path, row: Row, number: int) -> Left:
+    """Runs a row, in which the allocation of this number is refused; with 0 none is."""
+    with kit.files(G=row.game, C=row.other) as folder:
+        done = subprocess.run(
+            [program, *row.words.split()], cwd=folder, input=row.typed, capture_output=True,
+            text=True, env={**os.environ, "LD_PRELOAD": str(library), "REFUSED": str(number)})
+        files = {path.name: path.read_text(encoding="ascii") for path in folder.iterdir()}
+    return Left(done.returncode, done.stdout.splitlines(), files, "refused" in done.stderr)
 
 
-def ending(said, log):
-    """How the run ended, by what the program says of the row; with status 7 also after how many
-    texts."""
-    lines = said.splitlines()
-    if lines == ["ok it"]:
-        return "as due"
-    if not lines or lines[0] != "differs it":
-        return "not told"
-    status, *entries = [line for line in lines[1:] if not line.startswith("holds ")]
-    due = log_lines(log, ";")
-    is_cut = entries == due[: len(entries)] and len(entries) < len(due)
-    claimed = bool(entries) and log[0].startswith("claim")
-    if status == "status 7" and is_cut and not claimed:
-        return f"status 7 after {len(entries)}"
-    return "status 5 or 6" if status in ("status 5", "status 6") and is_cut else "broken"
+def ending(row: Row, whole: Left, left: Left) -> str:
+    """Says how a run ended, beside the run in which nothing was refused; after a refusal also
+    after how many lines."""
+    before = {"G": row.game, "C": row.other}
+    if any(text not in (before.get(name), whole.files.get(name))
+           for name, text in left.files.items()) or left.files.keys() != whole.files.keys():
+        return "broken files"
+    if left.status == whole.status and left.lines == row.due:
+        return "as due" if left.files == whole.files else "broken files"
+    is_cut = left.lines == row.due[:len(left.lines)] and len(left.lines) < len(row.due)
+    is_claimed = bool(left.lines) and row.due[0].startswith("claim")
+    if left.status == NO_MEMORY and is_cut and not is_claimed:
+        return f"status 7 after {len(left.lines)}"
+    return "status 5 or 6" if left.status in FAILED_CALLS and is_cut else "broken"
 
 
-def endings(folder, rows):
-    """How each row ended, by the number of allocations before it."""
-    for row in rows:
-        for count in range(REFUSED):
-            case = pathlib.Path(folder, f"{row}-{count}")
-            case.write_text(script(*ROWS[row - 1]))
-            case.with_suffix(".args").write_text(f"{count}\n")
-    words = ["rt", "try", "--cases", str(folder), "--fail-alloc", str(REFUSED)]
-    tried = subprocess.run(words, cwd=kit.TOP / "crates" / "test_stories", text=True,
-                           stdout=subprocess.PIPE, stderr=subprocess.STDOUT)
-    found = {}
-    for row, count, said in re.findall(r"^== (\d+)-(\d+)\n((?:(?!== ).*\n)*)", tried.stdout, re.M):
-        found[int(row), int(count)] = ending(said, ROWS[int(row) - 1][4])
-    return found
+def endings(program: str, library: pathlib.Path, row: Row) -> Iterator[str]:
+    """Yields how a row ended, for each allocation that is refused."""
+    whole = leave(program, library, row, 0)
+    if whole.status or whole.lines != row.due:
+        yield "broken without a refusal"
+        return
+    number, left = 1, leave(program, library, row, 1)
+    while left.refused:
+        yield ending(row, whole, left)
+        number += 1
+        left = leave(program, library, row, number)
 
 
-def is_late(found, row):
-    """Whether memory never ran out after the first loss: then losses are printed at the end."""
-    return all(found[row, count] != "status 7 after 1" for count in range(REFUSED))
-
-
-def main():
-    words = kit.parser(__doc__, None)
-    numbers = range(1, len(ROWS) + 1)
-    words.add_argument("rows", metavar="ROW", nargs="*", type=int,
-                       help="a row's number, from 1; else all")
-    rows = words.parse_args().rows or numbers
-    with kit.files() as folder:
-        found = endings(folder, rows)
-    if len(found) < len(rows) * REFUSED:
-        sys.exit(f"only {len(found)} runs of {len(rows) * REFUSED} ended")
-    for row in rows:
-        said = [found[row, count] for count in range(REFUSED)]
-        if said[0] != "as due":
-            sys.exit(f"row {row} makes too many allocations for {REFUSED} runs")
-        counts = collections.Counter(said)
-        print(f"row {row}:", ", ".join(f"{counts[it]} {it}" for it in sorted(counts)))
-    late = [row for row in rows if ROWS[row - 1][0].startswith("review") and is_late(found, row)]
-    for row in late:
-        print(f"row {row}: no loss is said before the next position is decided")
-    sys.exit("broken" in found.values() or bool(late))
+def main() -> int:
+    """Prints a line for each row, and returns 1 if a run ended as none may."""
+    program, wrong = kit.parser(__doc__).parse_args().program, 0
+    with kit.files(**{"refusing.c": REFUSING}) as folder:
+        library = folder / "refusing.so"
+        subprocess.run(["cc", "-shared", "-fPIC", "-o", str(library), str(folder / "refusing.c")],
+                       check=True)
+        for number, row in enumerate(RUNS, 1):
+            counts = collections.Counter(endings(program, library, row))
+            faults = [it.upper() for it in counts if it.startswith("broken")]
+            if row.words.startswith("review") and not counts["status 7 after 1"]:
+                faults.append("NO LOSS IS PRINTED BEFORE THE NEXT POSITION IS DECIDED")
+            figures = [f"{counts[it]} {it}" for it in sorted(counts)]
+            wrong |= kit.show(f"run {number}, {row.words}", figures, faults)
+    return wrong
 
 
 if __name__ == "__main__":
-    main()
+    sys.exit(main())

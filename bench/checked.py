@@ -1,0 +1,135 @@
+#!/usr/bin/env python3
+"""Counts how often a review calls the checker: as often as it finds a certificate.
+
+No clause can show that a review checks what it relies on, since solving promises that it is valid.
+Callgrind counts the calls, by the name of the checker's function, in runs of `posgame review`. How
+many are due is found by `posgame solve`: it solves the position before the first move, and each
+later one unless the last certificate has a node with that position in each of its claims.
+
+Its examples are tried by `python3 -m doctest bench/checked.py`. Unproved.
+"""
+from __future__ import annotations
+
+import pathlib
+import re
+import subprocess
+import sys
+from typing import FrozenSet, List, NamedTuple, Set, Tuple
+
+import kit
+
+# The function that begins each check of a whole certificate.
+CHECKER = "pg_check::checking::Checking::begin"
+TWO_LINES = kit.game("maker-breaker", "points 3", "line 0 1", "line 0 2")
+DRAWN = kit.game("avoider-enforcer", "points 3", "line 0 1", "line 0 2", "line 1 2")
+TRIANGLE = kit.switching((3, [(0, 1), (0, 2), (2, 1)]), turn="y")
+NOUGHTS = kit.game("maker-maker", "points 9", *kit.line_rows(kit.in_row(3, 3, 3)))
+# Each row: what the game is, its file, and the moves.
+ROWS = [
+    ("two lines", TWO_LINES, [1, 2, 0]),
+    ("two lines, no move", TWO_LINES, []),
+    ("Avoider and Enforcer", DRAWN, [0, 1, 2]),
+    ("a triangle", TRIANGLE, [1, 2, 0]),
+    ("noughts and crosses, without a slip", NOUGHTS, [4, 0, 8, 1, 2, 6]),
+    ("noughts and crosses, with a slip of each side", NOUGHTS, [0, 1, 4, 8, 2, 6, 3]),
+]
+
+
+class Position(NamedTuple):
+    """The points of both sides, and the side to move."""
+
+    x: FrozenSet[int]
+    y: FrozenSet[int]
+    turn: str
+
+    def after(self, point: int) -> Position:
+        """Returns the position after a move of the side to move."""
+        if self.turn == "x":
+            return Position(self.x | {point}, self.y, "y")
+        return Position(self.x, self.y | {point}, "x")
+
+    def rows(self) -> List[str]:
+        """Returns the last rows of a game file with this position."""
+        marks = [("x", self.x), ("y", self.y)]
+        return [f"{side} {kit.field(sorted(at))}" for side, at in marks if at]
+
+
+def game_at(game: str, position: Position) -> str:
+    """Returns the file of the game at a position; `game` has no marks."""
+    rows = game.splitlines()[:-1]
+    return "\n".join([*rows, *position.rows(), f"turn {position.turn}", ""])
+
+
+def nodes_of(certificate: str) -> List[Set[Position]]:
+    """Returns the positions of the nodes, claim by claim.
+
+    >>> nodes_of("posgame-cert 1\\nclaim y x win\\nnodes 1\\n0 1||y|over\\n")
+    [{Position(x=frozenset({0, 1}), y=frozenset(), turn='y')}]
+    """
+    claims: List[Set[Position]] = []
+    for line in certificate.splitlines():
+        if line.startswith("nodes "):
+            claims.append(set())
+        elif "|" in line:
+            x, y, turn, _ = line.split("|", 3)
+            x_points, y_points = (frozenset(map(int, it.split())) for it in (x, y))
+            claims[-1].add(Position(x_points, y_points, turn))
+    return claims
+
+
+def solved(program: str, game: str) -> List[Set[Position]]:
+    """Solves a game, and returns the positions of its certificate's nodes."""
+    with kit.files(G=game) as folder:
+        subprocess.run([program, "solve", "G", "C"], cwd=folder, check=True, capture_output=True)
+        return nodes_of((folder / "C").read_text(encoding="ascii"))
+
+
+def due(program: str, game: str, moves: List[int]) -> int:
+    """Returns how many certificates a review of the moves relies on."""
+    position = Position(frozenset(), frozenset(), game.split()[-1])
+    known, found = solved(program, game), 1
+    for point in moves:
+        position = position.after(point)
+        if not all(position in nodes for nodes in known):
+            known, found = solved(program, game_at(game, position)), found + 1
+    return found
+
+
+def calls(counts: str) -> int:
+    """Returns how often the checker was called, by the file that callgrind wrote.
+
+    >>> calls(f"fn=(1) main\\n0 9\\ncfn=(2) {CHECKER}\\ncalls=3 0\\n0 9\\nfn=(2)\\n0 9\\n")
+    3
+    """
+    names = dict(re.findall(r"^c?fn=\((\d+)\) (.+)$", counts, re.M))
+    called = re.findall(r"^cfn=\((\d+)\).*\ncalls=(\d+)", counts, re.M)
+    if not any(name.startswith(CHECKER) for name in names.values()):
+        sys.exit(f"the program has no function {CHECKER}, or didn't call it")
+    return sum(int(times) for number, times in called if names[number].startswith(CHECKER))
+
+
+def counted(program: str, game: str, moves: List[int]) -> Tuple[int, str]:
+    """Returns how often a review of the moves calls the checker, and what it prints."""
+    record = "\n".join(["posgame-record 1", *(f"move {point}" for point in moves), ""])
+    with kit.files(G=game, R=record) as folder:
+        counts = folder / "counts"
+        paths = [str(folder / name) for name in "GR"]
+        run = kit.count(program, "review", *paths, counts=counts)
+        return calls(pathlib.Path(counts).read_text(encoding="utf-8")), run.output
+
+
+def main() -> int:
+    """Prints a line for each row, and returns 1 if a number of calls isn't as it should be."""
+    program = kit.parser(__doc__).parse_args().program
+    wrong = 0
+    for name, game, moves in ROWS:
+        wanted, (found, said) = due(program, game, moves), counted(program, game, moves)
+        faults = [f"AND NOT {wanted}"] * (found != wanted)
+        if not said.endswith(f"reviewed {len(moves)}"):
+            faults.append(f"AND NOT REVIEWED: {said}")
+        wrong |= kit.show(name, [f"{found} certificates checked"], faults)
+    return wrong
+
+
+if __name__ == "__main__":
+    sys.exit(main())
