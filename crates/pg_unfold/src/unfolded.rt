@@ -93,6 +93,11 @@ pub enum ImageFault {
 }
 
 impl From<Memory> for ImageFault {
+    ghost use Rattle.std.specs.Prelude.{◌≡◌};
+    ghost use Rattle.pg_unfold.specs.declared.unfolded.ImageFault.TheVariants as faults;
+
+    ghost from_gives = { λ _ fault. fault ≡ faults.Memory };
+
     fn from(_: Memory) -> ImageFault {
         ImageFault::Memory
     }
