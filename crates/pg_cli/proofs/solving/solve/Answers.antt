@@ -7,7 +7,7 @@ use Rattle.pg_cli.proofs.solving.solve.Goals as goal
 pub returns-in_err-game-clause-ran : goal.returns-in_err-game-clause-ran
 returns-in_err-game-clause-ran g c =
     let p = err_from_is_err_and c.from_residual.result c.from_residual.ensures.1 in
-    rw (p.1, p.2) (halted_solve c.args.options.images c.args.game.now c.args.certificate.now c.args.options.positions c.args.work.now (g.F.Files.told c.args.files.now) (g.F.Files.told c.open_game.new.files) (g.C.Console.told c.args.console.now) c.in_err-game.field-0.0
+    rw (p.1, p.2) (halted_solve c.args.options.images c.args.game.now c.args.certificate.now c.args.options.positions _ (g.F.Files.told c.args.files.now) (g.F.Files.told c.open_game.new.files) (g.C.Console.told c.args.console.now) c.in_err-game.field-0.0
     c.open_game.ensures.kept.held c.in_err-game.ensures.opened)
 
 pub returns-clause-ran : goal.returns-clause-ran
