@@ -10,3 +10,5 @@ mod CheckingSteps
 mod TakenParts
 mod FlatMarks
 mod RowsWithin
+mod RoundSteps
+mod RoundLaws

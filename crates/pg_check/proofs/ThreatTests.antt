@@ -1,7 +1,7 @@
 -- Tests of lines that lack one point, and of threat lines.
-use Rattle.std.specs.Prelude.{◌↔◌, IsTrue, IfSome, IfNone, Option, Some, None}
+use Rattle.std.specs.Prelude.{IfSome, IfNone, Option, Some, None}
 use Rattle.std.specs.Option.{is_some}
-use Rattle.std.proofs.Common.{◌≡◌, ℕ, zero, suc, ◌+◌, ◌-◌, ◌<◌, ◌≤◌, Bool, true, false, cond, ◌||◌, ◌==◌, List, [], ◌∷◌, length, get_or, take, drop, refl, sym, ap, ◌∙◌, subst, subst₂, inl, inr, arith, eqb-true, eq-eqb, take_all}
+use Rattle.std.proofs.Common.{◌≡◌, ℕ, zero, suc, ◌+◌, ◌<◌, ◌≤◌, Bool, true, false, cond, ◌||◌, ◌==◌, List, [], ◌∷◌, length, get_or, take, refl, sym, ap, ◌∙◌, subst, inl, inr, arith, eqb-true, eq-eqb, take_all}
 use Rattle.std.proofs.lemmas.Bool.{cases_Bool, and_parts, and_from, or_cases, or_left, or_right, false≢true}
 use Rattle.std.proofs.lemmas.List.Folds.{list_any_more, list_all_more, list_any_kept}
 use Rattle.std.proofs.lemmas.List.Sums.{count_by_more_yes, sum_by-take-le, get_or-le-sum_by}
@@ -14,9 +14,9 @@ use Rattle.pg_base.specs.declared.side.Side.{Side}
 use Rattle.pg_game.specs.declared.game.Game.{Game}
 use Rattle.pg_game.specs.declared.position.Position.{Position}
 use Rattle.pg_game.specs.Position.{is_free, points_of}
-use Rattle.pg_game.specs.Game.{lines_of, is_filled, has_filled, after}
+use Rattle.pg_game.specs.Game.{lines_of, is_filled, has_filled}
 use Rattle.pg_game.specs.Potential.{is_on}
-use Rattle.pg_game.specs.Threat.{is_near, threatens, IsAttack, Forcing, LeadsToLine}
+use Rattle.pg_game.specs.Threat.{is_near, threatens, IsAttack}
 use Rattle.pg_game.proofs.Members.{true-at, false-at, list_any-none, list_any-one, member-from_any}
 use Rattle.pg_game.proofs.Moves.{free-of}
 use Rattle.pg_game.proofs.ThreatLaws.{near-from, near-to, near-range, filled-with, filled-without, on-or_filled}
@@ -183,20 +183,3 @@ threatens-is g p side u none at = elim (cases_Bool (would_fill g p side u)) [
     | inr not_on ↦ off ∙ sym not_on
   ]
 ]
-
--- ---- threat lines by their first two points
-
-two_fewer : (v u : ℕ) (others : List ℕ) → take (length (v ∷ (u ∷ others)) - 2) others ≡ others
-two_fewer v u others = take_all (length (v ∷ (u ∷ others)) - 2) others (omega arith)
-
--- after a forced reply the rest of the list decides
-pub leads-on : (g : Game) (p q r : Position) (side : Side) (points : List ℕ) (b : Bool) → 2 ≤ length points → Forcing g p side (get_or points 0 0) (get_or points 1 0)
-    → q ≡ after g p (get_or points 0 0) → r ≡ after g q (get_or points 1 0) → (IsTrue b ↔ LeadsToLine g r side (take (length points - 2) (drop 2 points))) → IsTrue b ↔ LeadsToLine g p side points
-leads-on g p q r side [] b long forcing is_q is_r rest = absurd (omega arith)
-leads-on g p q r side (v ∷ []) b long forcing is_q is_r rest = absurd (omega arith)
-leads-on g p q r side (v ∷ (u ∷ others)) b long forcing is_q is_r rest =
-    let reached : r ≡ after g (after g p v) u = is_r ∙ ap (λ (s : Position). after g s u) is_q in
-    let there = subst₂ (λ (s : Position) (xs : List ℕ). IsTrue b ↔ LeadsToLine g s side xs) reached (two_fewer v u others) rest in (
-      λ on. (forcing, there.0 on),
-      λ leads. there.1 leads.1,
-    )

@@ -3,3 +3,4 @@ pub mod Lacked
 pub mod Marks
 pub mod Present
 pub mod Checking
+pub mod Rounds

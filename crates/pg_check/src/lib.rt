@@ -11,6 +11,7 @@ mod marks;
 mod moves;
 mod node;
 mod present;
+mod rounds;
 mod tester;
 mod threats;
 

@@ -13,6 +13,6 @@ returns-then-not-is_attack-clause-threat c =
 
 pub returns-clause-threat : goal.returns-clause-threat
 returns-clause-threat c =
-    c.fills_some.ensures
+    c.fills_some_from.ensures
     ∙ ap (λ (s : FinSet nat_cmp). list_any (is_filled s) (lines_of c.args.g.now)) (c.put.ensures ∙ ap (λ (s : FinSet nat_cmp). insert s c.args.u) c.points_of.ensures)
     ∙ threatens-is c.args.g.now c.args.p.now c.args.side c.args.u c.requires (c.is_attack.ensures.attack.0 c.if-not-is_attack.false)
