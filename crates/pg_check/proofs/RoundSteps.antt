@@ -30,7 +30,8 @@ marked : (times : List ℕ) (a b x q : ℕ) → a < length times → b < length 
 marked times a b x q a_in b_in here = elim (cases_eq q b) [
   | inl e ↦
       ap (λ (j : ℕ). get_or (set (set times a x) b x) j 0) e
-      ∙ get_or-set_same (set times a x) b x 0 (subst (λ (n : ℕ). b < n) (sym (length-set times a x)) b_in)
+      ∙ get_or-set_same (set times a x) b x 0 (subst (λ (n : ℕ). b < n) (sym (length-set times a x))
+      b_in)
   | inr nb ↦
       get_or-set_other (set times a x) b q x 0 nb
       ∙ elim here [
@@ -58,11 +59,13 @@ pub record IsTurn (g : Game) (side : Side) (q : Position) : Type 0 where
 module _ (g : Game) (p : Position) (points : List ℕ) where
   -- ---- points stay
 
-  pub round-more : (i : ℕ) → before_round g p points (i + 1) ≡ after g (attacked g p points i) (reply_at points i)
+  pub round-more : (i : ℕ) → before_round g p points (i + 1) ≡ after g (attacked g p points i)
+      (reply_at points i)
   unfolding before_round
   round-more i = ap (before_round g p points) (add-one i)
 
-  pub attack-stays : (s : Side) (i q : ℕ) → contains (points_of (before_round g p points i) s) q ≡ true
+  pub attack-stays : (s : Side) (i q : ℕ) → contains (points_of (before_round g p points i) s) q ≡
+      true
       → contains (points_of (attacked g p points i) s) q ≡ true
   attack-stays s i q h = points-stay g (before_round g p points i) s (attack_at points i) q h
 
@@ -72,7 +75,8 @@ module _ (g : Game) (p : Position) (points : List ℕ) where
       ap (λ (r : Position). contains (points_of r s) q) (round-more i)
       ∙ points-stay g (attacked g p points i) s (reply_at points i) q h
 
-  pub grows : (s : Side) (k n q : ℕ) → k ≤ n → contains (points_of (before_round g p points k) s) q ≡ true
+  pub grows : (s : Side) (k n q : ℕ) → k ≤ n
+      → contains (points_of (before_round g p points k) s) q ≡ true
       → contains (points_of (before_round g p points n) s) q ≡ true
   grows s k zero q le h =
       let e : k ≡ 0 = omega arith in
@@ -86,8 +90,10 @@ module _ (g : Game) (p : Position) (points : List ℕ) where
   ]
 
   -- what a side has after a round it had before, or it is one of the two points
-  from-round : (s : Side) (i q : ℕ) → contains (points_of (before_round g p points (i + 1)) s) q ≡ true
-      → (contains (points_of (before_round g p points i) s) q ≡ true) ⊎ ((q ≡ attack_at points i) ⊎ (q ≡ reply_at points i))
+  from-round : (s : Side) (i q : ℕ) → contains (points_of (before_round g p points (i + 1)) s) q ≡
+      true
+      → (contains (points_of (before_round g p points i) s) q ≡ true) ⊎
+      ((q ≡ attack_at points i) ⊎ (q ≡ reply_at points i))
   from-round s i q h =
       let here = sym (ap (λ (r : Position). contains (points_of r s) q) (round-more i)) ∙ h in
       elim (points-from g (attacked g p points i) s (reply_at points i) q here) [
@@ -99,15 +105,18 @@ module _ (g : Game) (p : Position) (points : List ℕ) where
       ]
 
   -- the points of a round weren't taken before it
-  not_before : (s : Side) (i k q : ℕ) → IsRound g p points i → k ≤ i → (q ≡ attack_at points i) ⊎ (q ≡ reply_at points i)
+  not_before : (s : Side) (i k q : ℕ) → IsRound g p points i → k ≤ i
+      → (q ≡ attack_at points i) ⊎ (q ≡ reply_at points i)
       → contains (points_of (before_round g p points k) s) q ≡ true → ⊥
   not_before s i k q round le here h =
       let later = grows s k i q le h in
       elim here [
-        | inl e ↦ false≢true (sym (free-of (before_round g p points i) s (attack_at points i) round.attack.free)
+        | inl e ↦ false≢true (sym (free-of (before_round g p points i) s (attack_at points i)
+            round.attack.free)
             ∙ sym (ap (contains (points_of (before_round g p points i) s)) e) ∙ later)
         | inr e ↦
-            let free = (free-was g (before_round g p points i) (attack_at points i) (reply_at points i) round.reply.free).0 in
+            let free = (free-was g (before_round g p points i) (attack_at points i)
+            (reply_at points i) round.reply.free).0 in
             false≢true (sym (free-of (before_round g p points i) s (reply_at points i) free)
             ∙ sym (ap (contains (points_of (before_round g p points i) s)) e) ∙ later)
       ]
@@ -123,19 +132,26 @@ module _ (g : Game) (p : Position) (points : List ℕ) where
         subst (λ (j : ℕ). contains (points_of (before_round g p points j) side) q ≡ true) e h;
   }
 
-  module _ (i : ℕ) (times : List ℕ) (a b : ℕ) (is_a : a ≡ attack_at points i) (is_b : b ≡ reply_at points i)
-      (a_in : a < length times) (b_in : b < length times) (round : IsRound g p points i) (h : AreTimes g p points i times) where
+  module _ (i : ℕ) (times : List ℕ) (a b : ℕ) (is_a : a ≡ attack_at points i)
+      (is_b : b ≡ reply_at points i)
+      (a_in : a < length times) (b_in : b < length times) (round : IsRound g p points i)
+      (h : AreTimes g p points i times) where
     here : (q : ℕ) → (q ≡ a) ⊎ (q ≡ b) → (q ≡ attack_at points i) ⊎ (q ≡ reply_at points i)
     here q e = elim e [ inl e ↦ inl (e ∙ is_a) | inr e ↦ inr (e ∙ is_b) ]
 
-    old_one : (s : Side) (q : ℕ) → q ≢ a → q ≢ b → contains (points_of (before_round g p points (i + 1)) s) q ≡ true
+    old_one : (s : Side) (q : ℕ) → q ≢ a → q ≢ b
+        → contains (points_of (before_round g p points (i + 1)) s) q ≡ true
         → contains (points_of (before_round g p points i) s) q ≡ true
     old_one s q na nb on = elim (from-round s i q on) [
       | inl old ↦ old
-      | inr new ↦ elim new [ inl e ↦ absurd (na (e ∙ sym is_a)) | inr e ↦ absurd (nb (e ∙ sym is_b)) ]
+      | inr new ↦ elim new [
+        | inl e ↦ absurd (na (e ∙ sym is_a))
+        | inr e ↦ absurd (nb (e ∙ sym is_b))
+      ]
     ]
 
-    late-more : (s : Side) (q k : ℕ) → k ≤ i + 1 → contains (points_of (before_round g p points k) s) q ≡ true
+    late-more : (s : Side) (q k : ℕ) → k ≤ i + 1
+        → contains (points_of (before_round g p points k) s) q ≡ true
         → get_or (set (set times a (i + 1)) b (i + 1)) q 0 ≤ k
     late-more s q k le on = elim (one_of q a b) [
       | inl e ↦
@@ -152,14 +168,17 @@ module _ (g : Game) (p : Position) (points : List ℕ) where
                 omega (arith, time, old)
             | inr ge ↦
                 let same : k ≡ i + 1 = omega arith in
-                let later = old_one s q ne.0 ne.1 (subst (λ (j : ℕ). contains (points_of (before_round g p points j) s) q ≡ true) same on) in
+                let later = old_one s q ne.0 ne.1 (subst (λ (j : ℕ). contains
+                (points_of (before_round g p points j) s) q ≡ true) same on) in
                 let old = h.late s q i (omega arith) later in
                 omega (arith, time, old)
           ]
     ]
 
-    early-more : (s : Side) (q k : ℕ) → k ≤ i + 1 → contains (points_of (before_round g p points (i + 1)) s) q ≡ true
-        → get_or (set (set times a (i + 1)) b (i + 1)) q 0 ≤ k → contains (points_of (before_round g p points k) s) q ≡ true
+    early-more : (s : Side) (q k : ℕ) → k ≤ i + 1
+        → contains (points_of (before_round g p points (i + 1)) s) q ≡ true
+        → get_or (set (set times a (i + 1)) b (i + 1)) q 0 ≤ k
+        → contains (points_of (before_round g p points k) s) q ≡ true
     early-more s q k le on small = elim (cases_lt k (i + 1)) [
       | inr ge ↦
           let same : i + 1 ≡ k = omega arith in
@@ -178,7 +197,8 @@ module _ (g : Game) (p : Position) (points : List ℕ) where
     times-more = record { late = late-more; early = early-more }
 
   -- one more round
-  pub rounds-more : (i : ℕ) → IsRound g p points i → AreRounds g p points i → AreRounds g p points (i + 1)
+  pub rounds-more : (i : ℕ) → IsRound g p points i → AreRounds g p points i
+      → AreRounds g p points (i + 1)
   rounds-more i round before j lt = elim (cases_eq j i) [
     | inl e ↦ subst (λ (k : ℕ). IsRound g p points k) (sym e) round
     | inr ne ↦ before j (omega arith)
@@ -187,17 +207,24 @@ module _ (g : Game) (p : Position) (points : List ℕ) where
   -- ---- whose turn it is
 
   module _ (side : Side) (one : g.bias ≡ 1) (start : IsTurn g side p) where
-    turn-attacked : (i : ℕ) → IsRound g p points i → IsTurn g side (before_round g p points i) → IsTurn g (other side) (attacked g p points i)
+    turn-attacked : (i : ℕ) → IsRound g p points i → IsTurn g side (before_round g p points i)
+        → IsTurn g (other side) (attacked g p points i)
     turn-attacked i round h = record {
-      position = IsPosition-after g (before_round g p points i) (attack_at points i) h.position round.attack.range round.attack.free;
-      turn = turn-alternates g (before_round g p points i) (attack_at points i) h.position one ∙ ap other h.turn;
+      position = IsPosition-after g (before_round g p points i) (attack_at points i) h.position
+          round.attack.range round.attack.free;
+      turn = turn-alternates g (before_round g p points i) (attack_at points i) h.position one
+          ∙ ap other h.turn;
     }
 
-    turn-replied : (i : ℕ) → IsRound g p points i → IsTurn g (other side) (attacked g p points i) → IsTurn g side (before_round g p points (i + 1))
-    turn-replied i round h = subst (λ (q : Position). IsTurn g side q) (sym (round-more i)) (record {
-      position = IsPosition-after g (attacked g p points i) (reply_at points i) h.position round.reply.range round.reply.free;
-      turn = turn-alternates g (attacked g p points i) (reply_at points i) h.position one ∙ ap other h.turn ∙ other_other side;
-    })
+    turn-replied : (i : ℕ) → IsRound g p points i → IsTurn g (other side) (attacked g p points i)
+        → IsTurn g side (before_round g p points (i + 1))
+    turn-replied i round h = subst (λ (q : Position). IsTurn g side q) (sym (round-more i))
+        (record {
+          position = IsPosition-after g (attacked g p points i) (reply_at points i) h.position
+              round.reply.range round.reply.free;
+          turn = turn-alternates g (attacked g p points i) (reply_at points i) h.position one
+              ∙ ap other h.turn ∙ other_other side;
+        })
 
     pub turn-before : (i : ℕ) → AreRounds g p points i → IsTurn g side (before_round g p points i)
     unfolding before_round
@@ -205,7 +232,8 @@ module _ (g : Game) (p : Position) (points : List ℕ) where
     turn-before (suc i) rounds =
         let before = turn-before i (λ j lt. rounds j (omega arith)) in
         let round = rounds i (omega arith) in
-        subst (λ (j : ℕ). IsTurn g side (before_round g p points j)) (add-one i) (turn-replied i round (turn-attacked i round before))
+        subst (λ (j : ℕ). IsTurn g side (before_round g p points j)) (add-one i)
+        (turn-replied i round (turn-attacked i round before))
 
     module _ (count : ℕ) (rounds : AreRounds g p points count) where
       pub turn-in : (i : ℕ) → i ≤ count → IsTurn g side (before_round g p points i)
@@ -215,30 +243,38 @@ module _ (g : Game) (p : Position) (points : List ℕ) where
       turn-of i lt = turn-attacked i (rounds i lt) (turn-in i (omega arith))
 
       -- the attack leaves the other side's points, and the reply the attacker's
-      pub theirs-attacked : (i : ℕ) → i < count → points_of (attacked g p points i) (other side) ≡ points_of (before_round g p points i) (other side)
+      pub theirs-attacked : (i : ℕ) → i < count
+          → points_of (attacked g p points i) (other side) ≡ points_of (before_round g p points i)
+          (other side)
       theirs-attacked i lt =
-          points_of-waiter g (before_round g p points i) (other side) (attack_at points i) ((turn-in i (omega arith)).turn ∙ sym (other_other side))
+          points_of-waiter g (before_round g p points i) (other side) (attack_at points i)
+          ((turn-in i (omega arith)).turn ∙ sym (other_other side))
 
-      pub mine-replied : (i : ℕ) → i < count → points_of (before_round g p points (i + 1)) side ≡ points_of (attacked g p points i) side
+      pub mine-replied : (i : ℕ) → i < count → points_of (before_round g p points (i + 1)) side ≡
+          points_of (attacked g p points i) side
       mine-replied i lt =
           ap (λ (q : Position). points_of q side) (round-more i)
           ∙ points_of-waiter g (attacked g p points i) side (reply_at points i) (turn-of i lt).turn
 
-      pub filled-replied : (i : ℕ) → i < count → has_filled g (before_round g p points (i + 1)) side ≡ has_filled g (attacked g p points i) side
+      pub filled-replied : (i : ℕ) → i < count → has_filled g (before_round g p points (i + 1)) side
+          ≡ has_filled g (attacked g p points i) side
       filled-replied i lt =
           ap (λ (q : Position). has_filled g q side) (round-more i)
           ∙ filled-waits g (attacked g p points i) side (reply_at points i) (turn-of i lt).turn
 
       -- who never has a threat fills no line
-      pub theirs-unfilled : has_filled g p (other side) ≡ false → IsSafe g p points count side → (i : ℕ) → i ≤ count
+      pub theirs-unfilled : has_filled g p (other side) ≡ false → IsSafe g p points count side
+          → (i : ℕ) → i ≤ count
           → has_filled g (before_round g p points i) (other side) ≡ false
       unfolding before_round
       theirs-unfilled none safe zero le = none
       theirs-unfilled none safe (suc i) le =
           let lt : i < count = omega arith in
           let still =
-          filled-waits g (before_round g p points i) (other side) (attack_at points i) ((turn-in i (omega arith)).turn ∙ sym (other_other side))
+          filled-waits g (before_round g p points i) (other side) (attack_at points i)
+          ((turn-in i (omega arith)).turn ∙ sym (other_other side))
           ∙ theirs-unfilled none safe i (omega arith) in
-          let later = unfilled-safe g (attacked g p points i) (other side) (reply_at points i) (turn-of i lt).turn (rounds i lt).reply.free still (safe i lt) in
+          let later = unfilled-safe g (attacked g p points i) (other side) (reply_at points i)
+          (turn-of i lt).turn (rounds i lt).reply.free still (safe i lt) in
           ap (λ (j : ℕ). has_filled g (before_round g p points j) (other side)) (sym (add-one i))
           ∙ ap (λ (q : Position). has_filled g q (other side)) (round-more i) ∙ later

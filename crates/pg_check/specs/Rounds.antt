@@ -71,7 +71,8 @@ AreForced g p points count side =
 abbrev pub taken_at : FinSet nat_cmp → List ℕ → ℕ → ℕ → ℕ
 taken_at set times end w = if contains set w then get_or times w 0 else end
 
--- One set lacks just one point of the line, and had the others two rounds before the other set took that point.
+-- One set lacks just one point of the line, and had the others two rounds before the other set took
+-- that point.
 pub record LacksLate (mine theirs : FinSet nat_cmp) (times : List ℕ) (end : ℕ) (line : List ℕ)
     : Type 0 where
   pub point : ℕ
@@ -79,15 +80,19 @@ pub record LacksLate (mine theirs : FinSet nat_cmp) (times : List ℕ) (end : �
   pub lacked : contains theirs point ≡ false
   pub rest : filled_but theirs point line ≡ true
   pub some : 2 ≤ taken_at mine times end point
-  pub early : list_all (λ q. q == point || nat_le (get_or times q 0) (taken_at mine times end point - 2)) line ≡ true
+  pub early : list_all (λ q. q == point || nat_le (get_or times q 0)
+      (taken_at mine times end point - 2)) line ≡ true
 
--- the other side has filled no line at the end, and lacked no point of a line alone while it was free
-pub record IsClear (g : Game) (side : Side) (last : Position) (times : List ℕ) (end : ℕ) : Type 0 where
-  pub unfilled : has_filled g last (other side) ≡ false
-  pub none : (line : List ℕ) → Contains (lines_of g) line
-      → LacksLate (points_of last side) (points_of last (other side)) times end line → ⊥
+-- the other side has filled no line at the end, and lacked no point of a line alone while it was
+-- free
+pub record IsClear (g : Game) (side : Side) (last : Position) (times : List ℕ) (end : ℕ) : Type 0
+  where
+    pub unfilled : has_filled g last (other side) ≡ false
+    pub none : (line : List ℕ) → Contains (lines_of g) line
+        → LacksLate (points_of last side) (points_of last (other side)) times end line → ⊥
 
--- The side is to move where each side claims one point a turn, and in Maker-Maker the other side has filled no line.
+-- The side is to move where each side claims one point a turn, and in Maker-Maker the other side
+-- has filled no line.
 pub record IsAtMove (g : Game) (p : Position) (side : Side) : Type 0 where
   pub position : IsPosition g p
   pub turn : p.turn ≡ side

@@ -1,4 +1,4 @@
-//! Long threat lines, by passes over the lines of the game. An attack and the reply to it are a round.
+//! Long threat lines, by passes over the lines of the game. An attack and its reply are a round.
 ghost use Rattle.std.specs.Prelude.{◌≡◌, ◌<◌, ◌≤◌, ◌↔◌, ◌/◌, ◌+◌, ◌==◌, ◌||◌, ℕ, true, false, IsTrue, IfSome, IfNone, nat_le, length, get_or};
 ghost use Rattle.std.specs.List.{All, list_all};
 ghost use Rattle.pg_base.specs.declared.kind.Kind.TheVariants.{MakerMaker};
@@ -13,13 +13,16 @@ use pg_game::{Game, Position};
 /// A number for each point that a set can hold.
 type Table = [usize; MAX_MEMBERS as usize];
 
-/// The position after all rounds of the list, with the number of rounds after which each of their points is taken in `times`.
-/// `None` exactly if one of these points isn't free, or isn't a point of the game.
+/// Plays the rounds of the list, and returns the position after them. In `times` it puts, for each
+/// point that is taken, the number of rounds after which it is taken. Returns `None` exactly if one
+/// of the points isn't free, or isn't a point of the game.
 fn walk(g: &Game, p: &Position, points: &[u16], times: &mut Table) -> Option<Position>
     requires zero { (q : ℕ) → get_or times.old q 0 ≡ 0 }
-    ensures last { IfSome result (λ last. last ≡ before_round g.now p.now points.now (length points.now / 2)) }
+    ensures last { IfSome result (λ last.
+        last ≡ before_round g.now p.now points.now (length points.now / 2)) }
     ensures rounds { IfSome result (λ _. AreRounds g.now p.now points.now (length points.now / 2)) }
-    ensures times { IfSome result (λ _. AreTimes g.now p.now points.now (length points.now / 2) times.new) }
+    ensures times { IfSome result (λ _.
+        AreTimes g.now p.now points.now (length points.now / 2) times.new) }
     ensures none { IfNone result (AreRounds g.now p.now points.now (length points.now / 2) → ⊥) }
 {
     let mut last = *p;
@@ -42,7 +45,8 @@ fn walk(g: &Game, p: &Position, points: &[u16], times: &mut Table) -> Option<Pos
 /// Whether each point of the line but perhaps `left_out` has at most that number.
 fn are_at_most(times: &Table, left_out: u16, most: usize, line: &Line) -> bool
     requires { All (λ v. v < MAX_MEMBERS) line.now }
-    ensures { result ≡ list_all (λ q. q == left_out || nat_le (get_or times.now q 0) most) line.now }
+    ensures { result
+        ≡ list_all (λ q. q == left_out || nat_le (get_or times.now q 0) most) line.now }
 {
     line.as_slice()
         .iter()
@@ -61,8 +65,8 @@ fn number_or(times: &Table, set: &PointSet, v: u16, end: usize) -> usize
     }
 }
 
-/// Whether the set `theirs` lacks just one point of the line, and had all others before the round in which `mine` took that
-/// point, and before the round before it. A point that neither set has counts as taken in round `end`.
+/// Whether the set `theirs` lacks just one point of the line, and had all others two rounds before
+/// `mine` took that point. A point that neither set has counts as taken in round `end`.
 fn lacks_late(mine: &PointSet, theirs: &PointSet, times: &Table, end: usize, line: &Line) -> bool
     requires { All (λ v. v < MAX_MEMBERS) line.now }
     ensures { IsTrue result ↔ LacksLate mine.now theirs.now times.now end line.now }
@@ -77,7 +81,7 @@ fn lacks_late(mine: &PointSet, theirs: &PointSet, times: &Table, end: usize, lin
     are_at_most(times, w, taken - 2, line)
 }
 
-/// Whether the other side has filled no line at the end, and had no threat after any attack of the rounds.
+/// Whether the other side has filled no line at the end, and had no threat after any attack.
 fn is_clear(g: &Game, side: Side, last: &Position, times: &Table, end: usize) -> bool
     ensures { IsTrue result ↔ IsClear g.now side last.now times.now end }
 {
@@ -93,9 +97,10 @@ fn is_clear(g: &Game, side: Side, last: &Position, times: &Table, end: usize) ->
     true
 }
 
-/// Whether the other side's threats forbid no attack: only in Maker-Maker they may.
+/// Whether no attack is forbidden by a threat of the other side, which only counts in Maker-Maker.
 fn leaves_no_threat(g: &Game, side: Side, last: &Position, times: &Table, end: usize) -> bool
-    ensures { IsTrue result ↔ (g.now.kind ≡ MakerMaker → IsClear g.now side last.now times.now end) }
+    ensures { IsTrue result
+        ↔ (g.now.kind ≡ MakerMaker → IsClear g.now side last.now times.now end) }
 {
     if g.kind != Kind::MakerMaker {
         return true;
@@ -103,7 +108,8 @@ fn leaves_no_threat(g: &Game, side: Side, last: &Position, times: &Table, end: u
     is_clear(g, side, last, times, end)
 }
 
-/// For the reply of a round, the number of a line that the attacks up to that round fill but for it, if there is one.
+/// Returns, for the reply of each round, the number of a line that lacks only it after the attack,
+/// if there is one. What it returns only says which line is tried first.
 fn lines_lacking(g: &Game, own: &PointSet, times: &Table) -> Table {
     let mut numbers = [0; MAX_MEMBERS as usize];
     for (k, line) in g.lines().iter().enumerate() {
@@ -126,7 +132,8 @@ fn are_forced(
     times: &Table,
 ) -> bool
     requires rounds { AreRounds g.now p.now points.now (length points.now / 2) }
-    requires unfilled { (i : ℕ) → i < length points.now / 2 → has_filled g.now (attacked g.now p.now points.now i) side ≡ false }
+    requires unfilled { (i : ℕ) → i < length points.now / 2
+        → has_filled g.now (attacked g.now p.now points.now i) side ≡ false }
     ensures { IsTrue result ↔ AreForced g.now p.now points.now (length points.now / 2) side }
 {
     let numbers = lines_lacking(g, last.points_of(side), times);

@@ -85,8 +85,8 @@ pub(crate) fn has_filled(g: &Game, p: &Position, side: Side) -> bool
     fills_some(g, p.points_of(side))
 }
 
-/// Whether the side, which has filled no line, lacks only the free point u to fill some line. The line of the number `first`
-/// is tried first, if there is one.
+/// Whether the side, which has filled no line, lacks only the free point u to fill some line. The
+/// line of the number `first` is tried first, if there is one.
 pub(crate) fn threatens(g: &Game, p: &Position, side: Side, u: u16, first: usize) -> bool
     requires { has_filled g.now p.now side ≡ false }
     ensures threat { result ≡ threatens g.now p.now side u }
@@ -124,13 +124,14 @@ pub(crate) fn is_filling(g: &Game, p: &Position, side: Side, v: u16) -> bool
 
 /// Whether taking v forces u, and taking w then fills a line.
 fn fills_third(g: &Game, p: &Position, side: Side, v: u16, u: u16, w: u16) -> bool
-    ensures { IsTrue result ↔ (Forcing g.now p.now side v u × Filling g.now (after g.now (after g.now p.now v) u) side w) }
+    ensures { IsTrue result ↔ (Forcing g.now p.now side v u
+        × Filling g.now (after g.now (after g.now p.now v) u) side w) }
 {
     is_forcing(g, p, side, v, u) && is_filling(g, &g.after(&g.after(p, v), u), side, w)
 }
 
-/// Whether the attacks and forced replies, one after the other, end in an attack that fills a line. A list of at most
-/// three points needs no table.
+/// Whether the attacks and forced replies, one after the other, end in an attack that fills a line.
+/// A list of at most three points needs no table.
 fn leads_to_line(g: &Game, p: &Position, side: Side, points: &[u16]) -> bool
     requires { IsAtMove g.now p.now side }
     ensures { IsTrue result ↔ LeadsToLine g.now p.now side points.now }

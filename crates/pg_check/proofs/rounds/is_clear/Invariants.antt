@@ -4,4 +4,5 @@ use Rattle.pg_check.proofs.rounds.is_clear.Given as goal
 
 abbrev pub invariant-loop-line : goal.invariant-loop-line
 invariant-loop-line l =
-    (j : ℕ) → j < l.line-index → LacksLate l.mine l.theirs l.times l.end (get_or l.line-items j []) → ⊥
+    (j : ℕ) → j < l.line-index → LacksLate l.mine l.theirs l.times l.end (get_or l.line-items j [])
+    → ⊥

@@ -21,16 +21,19 @@ walk-requires c = record { zero = zeros 1024 }
 pub returns-in_default : goal.returns-in_default
 returns-in_default c = (
   λ on. absurd (false≢true on),
-  λ h. absurd (c.in_default.ensures.none (lead-all c.args.g.now c.args.p.now c.args.side c.args.points.now c.requires.ready h)),
+  λ h. absurd (c.in_default.ensures.none (lead-all c.args.g.now c.args.p.now c.args.side
+      c.args.points.now c.requires.ready h)),
 )
 
 pub returns-then-has_filled : goal.returns-then-has_filled
 returns-then-has_filled c = (
   λ on. absurd (false≢true on),
   λ h.
-      let none = lead-none c.args.g.now c.args.p.now c.args.side c.args.points.now c.requires.ready h c.requires.long in
+      let none = lead-none c.args.g.now c.args.p.now c.args.side c.args.points.now c.requires.ready
+      h c.requires.long in
       absurd (false≢true (
-      sym none ∙ sym (ap (λ (q : Position). has_filled c.args.g.now q c.args.side) c.in-Some.ensures.last)
+      sym none ∙ sym (ap (λ (q : Position). has_filled c.args.g.now q c.args.side)
+      c.in-Some.ensures.last)
       ∙ sym c.has_filled.ensures ∙ c.if-has_filled.true
       )),
 )
@@ -61,8 +64,10 @@ returns-then-not-leaves_no_threat c = (
       absurd (false≢true (
       sym c.if-not-leaves_no_threat.true
       ∙ c.leaves_no_threat.ensures.1 (λ kind.
-      subst (λ (q : Position). IsClear g c.args.side q times (length points / 2 + 1)) (sym c.in-Some.ensures.last)
-      (safe-clear g p c.args.side points times c.requires.ready c.in-Some.ensures.rounds c.in-Some.ensures.times kind
+      subst (λ (q : Position). IsClear g c.args.side q times (length points / 2 + 1))
+      (sym c.in-Some.ensures.last)
+      (safe-clear g p c.args.side points times c.requires.ready c.in-Some.ensures.rounds
+      c.in-Some.ensures.times kind
       (lead-safe g p c.args.side points c.requires.ready h kind)))
       )),
 )
@@ -74,7 +79,8 @@ are_forced-requires-clause-unfilled c = λ i lt.
     let none =
     sym (ap (λ (q : Position). has_filled g q c.args.side) c.in-Some.ensures.last)
     ∙ sym c.has_filled.ensures ∙ c.if-has_filled.false in
-    mine-unfilled g c.args.p.now c.args.side points (length points / 2) c.in-Some.ensures.rounds c.requires.ready.single
+    mine-unfilled g c.args.p.now c.args.side points (length points / 2) c.in-Some.ensures.rounds
+    c.requires.ready.single
     (record { position = c.requires.ready.position; turn = c.requires.ready.turn }) none i lt
 
 pub returns : goal.returns
@@ -88,11 +94,15 @@ returns c =
     let odd : length points % 2 ≡ 1 = omega (arith, c.if-points-eq0.false) in
     let place : length points - 1 ≡ 2 * (length points / 2) = omega (arith, odd) in
     let none : has_filled g (before_round g p points (length points / 2)) side ≡ false =
-    sym (ap (λ (q : Position). has_filled g q side) last) ∙ sym c.has_filled.ensures ∙ c.if-has_filled.false in
-    let filling : Filling g (before_round g p points (length points / 2)) side (attack_at points (length points / 2)) =
-    subst₂ (λ (q : Position) (x : ℕ). Filling g q side x) last (ap (λ (k : ℕ). get_or points k 0) place)
+    sym (ap (λ (q : Position). has_filled g q side) last) ∙ sym c.has_filled.ensures
+    ∙ c.if-has_filled.false in
+    let filling : Filling g (before_round g p points (length points / 2)) side
+    (attack_at points (length points / 2)) =
+    subst₂ (λ (q : Position) (x : ℕ). Filling g q side x) last
+    (ap (λ (k : ℕ). get_or points k 0) place)
     (c.is_filling.ensures.0 c.if-not-is_filling.false) in (
-      λ on. all-lead g p side points times c.requires.ready c.in-Some.ensures.rounds odd c.in-Some.ensures.times none filling
+      λ on. all-lead g p side points times c.requires.ready c.in-Some.ensures.rounds odd
+          c.in-Some.ensures.times none filling
           (λ kind. subst (λ (q : Position). IsClear g side q times (length points / 2 + 1)) last
           (c.leaves_no_threat.ensures.0 c.if-not-leaves_no_threat.false kind))
           (c.are_forced.ensures.0 on),

@@ -34,7 +34,8 @@ loop-i-preserved c =
     } in
     let one = c.is_attack.ensures.few c.if-not-is_attack.false in
     let two = c.is_attack-in-loop-i.ensures.few c.if-not-is_attack-2.false in
-    let one_in : c.from.result < length c.loop-i.times = omega (arith, one, c.from.ensures, h.long) in
+    let one_in : c.from.result < length c.loop-i.times = omega (arith, one, c.from.ensures, h.long)
+    in
     let two_in : c.from-in-loop-i.result < length c.loop-i.times =
     omega (arith, two, c.from-in-loop-i.ensures, h.long) in
     record {
@@ -54,6 +55,7 @@ returns-then-not-is_attack-clause-none c = λ all.
     let g = c.args.g.now in
     let points = c.args.points.now in
     let i = c.loop-i.i in
-    let attack = subst (λ (q : Position). IsAttack g q (attack_at points i)) (sym c.loop-i.invariant.last)
+    let attack = subst (λ (q : Position). IsAttack g q (attack_at points i))
+    (sym c.loop-i.invariant.last)
     (all i c.loop-i-test.true).attack in
     false≢true (sym c.if-not-is_attack.true ∙ c.is_attack.ensures.attack.1 attack)
