@@ -24,6 +24,7 @@ from typing import Callable, Dict, Iterable, List, NamedTuple, Optional, Tuple
 POINTS = 256
 MOST_LINES = 20_000
 MOST_LINE_POINTS = 400_000
+MOST_IN_LINE = 100
 
 Maker = Callable[[pathlib.Path], None]
 
@@ -189,7 +190,7 @@ def make_replies_turned(folder: pathlib.Path) -> None:
     count = 75_000_000 // (len(others) + 16)
     write(folder, "GAME", [
         "posgame 1", "kind maker-breaker", f"grid {SIDE} {SIDE}",
-        "line " + " ".join(map(str, range(POINTS))), "turn x",
+        "line " + " ".join(map(str, range(MOST_IN_LINE))), "turn x",
     ])
     nodes = ["||x|over"]
     nodes += [f"||x|all 0:{k} {others}" for k in range(count)]

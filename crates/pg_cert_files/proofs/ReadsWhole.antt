@@ -16,7 +16,7 @@ use Rattle.pg_cert_files.specs.Gatherer.{view}
 use Rattle.pg_cert_files.specs.Pieces.{parts_told, IsFed, AreAllParts, IsEnd}
 use Rattle.pg_cert_files.specs.Views.{IsReadAs}
 use Rattle.pg_cert_files.specs.declared.cert_state.CertReader.{CertReader}
-use Rattle.pg_cert_files.specs.declared.reading.Gatherer.{Gatherer}
+use Rattle.pg_cert_files.specs.declared.gathered_parts.Gatherer.{Gatherer}
 use Rattle.pg_cert_files.proofs.WholeFile.{gathered_more, cert_of}
 use Rattle.pg_cert_files.proofs.PartsBegin.{parts_gathered}
 

@@ -1,11 +1,13 @@
 //! Certificate files: a strict text of claims and nodes, read with the first fault of what is none.
 #![tactic(auto)]
 
+mod cert_gathering;
 mod cert_reader;
 mod cert_state;
 mod fault;
 mod fed;
 mod form;
+mod gathered_parts;
 mod head;
 mod laws;
 mod limits;
@@ -18,6 +20,7 @@ mod signs;
 mod turn;
 mod values;
 
+pub use cert_gathering::CertGathering;
 pub use cert_state::CertReader;
 pub use fault::Fault;
 pub use fed::Fed;

@@ -97,14 +97,15 @@ fn edges_of(alloc: Global, words: Words) -> Result<Edges, LineError<Fault>>
     two_sets(alloc, words)
 }
 
-/// The points of a threat line.
+/// The points of a threat line, without spare room.
 fn threat_of(alloc: Global, words: Words) -> Result<Body, LineError<Fault>>
     ensures { Gives (λ b. b) result (formed_body Form.Threat words.entry) }
 {
     if !are_odd(words.again()) {
         return Err(LineError::Fault(Fault::Form));
     }
-    let points = points(alloc, words)?;
+    let mut points = points(alloc, words)?;
+    points.shrink_to_fit();
     Ok(Body::Threat(Points::from_vec(points)))
 }
 
@@ -119,7 +120,8 @@ fn weaker_of(words: Words) -> Result<Body, LineError<Fault>>
     Ok(Body::Weaker { child })
 }
 
-/// The body that the words of the text say: their form comes before their numbers.
+/// The body that the words of the text say, without spare room. Their form comes before their
+/// numbers.
 fn body_of(alloc: Global, form: Form, text: Option<&[u8]>) -> Result<Body, LineError<Fault>>
     ensures { Gives (λ b. b) result (formed_body form (words_of (option_map (λ w. w.now) text.entry))) }
 {
@@ -127,11 +129,13 @@ fn body_of(alloc: Global, form: Form, text: Option<&[u8]>) -> Result<Body, LineE
         Form::Over => bare(words_in(text), Body::Over),
         Form::Move => move_of(words_in(text)),
         Form::All => {
-            let replies = replies(alloc, text)?;
+            let mut replies = replies(alloc, text)?;
+            replies.shrink_to_fit();
             Ok(Body::All(Replies::from_vec(replies)))
         }
         Form::Pairs => {
-            let pairs = pairs(alloc, text)?;
+            let mut pairs = pairs(alloc, text)?;
+            pairs.shrink_to_fit();
             Ok(Body::Pairs(Pairs::from_vec(pairs)))
         }
         Form::Potential => bare(words_in(text), Body::Potential),
