@@ -2,9 +2,12 @@
 use Rattle.std.proofs.Common.{[], ◌++◌, refl, sym, ◌∙◌, ap, subst, option_map}
 use Rattle.std.proofs.lemmas.List.{append-nil, append_assoc}
 use Rattle.pg_io.specs.Files.{Bytes}
+use Rattle.pg_cert_files.specs.Gatherer.{HasGathered}
 use Rattle.pg_judge.specs.Judged.{HasCome as HasComeTo, StandsFor as HasBeenFed}
 use Rattle.pg_judge.specs.declared.judging.Judging.{Judging}
+use Rattle.pg_evidence.specs.Arriving.{Arrives, HasArrived}
 use Rattle.pg_evidence.specs.Incoming.{HasCome, HasTaken, IsKept}
+use Rattle.pg_evidence.specs.declared.arriving.Arriving.{Arriving}
 use Rattle.pg_evidence.specs.declared.incoming.Incoming.{Incoming}
 
 -- nothing came
@@ -27,3 +30,24 @@ come_more before after piece judged keeps first bytes come =
         kept = subst (IsKept (option_map (λ bytes. bytes.items) after.kept)) (append_assoc text bytes piece) (keeps (text ++ bytes) there.kept);
       };
     }
+
+-- ---- where it is gathered
+
+-- nothing arrived
+pub arrive_none : (a : Arriving) → Arrives a a []
+arrive_none a text h = subst (HasArrived a) (sym (append-nil text)) h
+
+-- a piece arrived
+pub arrive_one : (before after : Arriving) (piece : Bytes)
+    → ((text : Bytes) → HasGathered before.gathering text → HasGathered after.gathering (text ++ piece))
+    → ((text : Bytes) → IsKept (option_map (λ bytes. bytes.items) before.kept) text
+    → IsKept (option_map (λ bytes. bytes.items) after.kept) (text ++ piece))
+    → Arrives before after piece
+arrive_one before after piece gathers keeps text h =
+    record { gathered = gathers text h.gathered; kept = keeps text h.kept }
+
+-- a piece more arrived
+pub arrive_more : (before after : Arriving) (piece : Bytes) → Arrives before after piece
+    → (first : Arriving) (bytes : Bytes) → Arrives first before bytes → Arrives first after (bytes ++ piece)
+arrive_more before after piece one first bytes come text h =
+    subst (HasArrived after) (append_assoc text bytes piece) (one (text ++ bytes) (come text h))

@@ -17,14 +17,16 @@ use Rattle.pg_image_files.specs.ImageFile.{image_certificate}
 use Rattle.pg_talk.specs.Reading.{IsReadAs as IsHeldAs, certificate_fault, or_halt}
 use Rattle.pg_talk.specs.declared.halt.Halt.{Halt}
 use Rattle.pg_talk.proofs.Openings.{cut_same, opens_whole, read_bad, whole_read}
+use Rattle.pg_evidence.specs.Arriving.{Arrives, HasArrived}
 use Rattle.pg_evidence.specs.Evidence.{OpensEvidence, evidence, evidence_held, has_images}
 use Rattle.pg_evidence.specs.Incoming.{HasCome, HasTaken, IsKept, game_of}
 use Rattle.pg_evidence.specs.Verdicts.{IsJudgedAs, JudgesEvidence}
+use Rattle.pg_evidence.specs.declared.arriving.Arriving.{Arriving}
 use Rattle.pg_evidence.specs.declared.evidence.Evidence.{Evidence}
 use Rattle.pg_evidence.specs.declared.evidence.Evidence.TheVariants.{Plain, Folded}
 use Rattle.pg_evidence.specs.declared.incoming.Incoming.{Incoming}
 use Rattle.pg_evidence.specs.declared.verdict.Verdict.{Verdict}
-use Rattle.pg_evidence.proofs.Coming.{come_none}
+use Rattle.pg_evidence.proofs.Coming.{arrive_none, come_none}
 
 -- ---- in which form a text is read
 
@@ -111,3 +113,16 @@ judged_evidence None g name before after r same taken pours judged = tt
 judged_evidence (Some held) g name before after r same taken (text, whole, goes) judged =
     let come : HasCome before after text = goes before [] (come_none before) in
     subst (λ (read : Result Evidence Halt). IsJudgedAs g read r) (sym (whole_evidence (held name) text whole)) (judged text (come.taken [] taken) (come.game ∙ same))
+
+-- ---- what was gathered as it came
+
+-- what arrived is what the name holds
+pub arrived_evidence : (h : Option Holding) (name : Bytes) (before after : Arriving)
+    → (r : Result Evidence Halt) → HasArrived before []
+    → Pours h name MAX_CERT_BYTES (λ first now bytes. Arrives first now bytes) before after
+    → ((text : Bytes) → HasArrived after text → IsHeldAs (λ x. x) (held_text text) r)
+    → OpensEvidence h name r
+arrived_evidence None name before after r none pours read = tt
+arrived_evidence (Some held) name before after r none (text, whole, goes) read =
+    let come : Arrives before after text = goes before [] (arrive_none before) in
+    opens_evidence (Some held) name text r whole (read text (come [] none))

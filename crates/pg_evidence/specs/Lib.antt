@@ -2,3 +2,4 @@ pub mod Evidence
 pub mod Standing
 pub mod Verdicts
 pub mod Incoming
+pub mod Arriving

@@ -1,6 +1,7 @@
 //! Certificates of either form, with images or without: which form a file has, for what it stands, and what judging it finds.
 #![tactic(auto)]
 
+mod arriving;
 mod evidence;
 mod first_line;
 mod heads;
