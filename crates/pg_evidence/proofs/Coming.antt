@@ -39,7 +39,8 @@ arrive_none a text h = subst (HasArrived a) (sym (append-nil text)) h
 
 -- a piece arrived
 pub arrive_one : (before after : Arriving) (piece : Bytes)
-    → ((text : Bytes) → HasGathered before.gathering text → HasGathered after.gathering (text ++ piece))
+    → ((text : Bytes) → HasGathered before.gathering text
+    → HasGathered after.gathering (text ++ piece))
     → ((text : Bytes) → IsKept (option_map (λ bytes. bytes.items) before.kept) text
     → IsKept (option_map (λ bytes. bytes.items) after.kept) (text ++ piece))
     → Arrives before after piece
@@ -48,6 +49,7 @@ arrive_one before after piece gathers keeps text h =
 
 -- a piece more arrived
 pub arrive_more : (before after : Arriving) (piece : Bytes) → Arrives before after piece
-    → (first : Arriving) (bytes : Bytes) → Arrives first before bytes → Arrives first after (bytes ++ piece)
+    → (first : Arriving) (bytes : Bytes) → Arrives first before bytes
+    → Arrives first after (bytes ++ piece)
 arrive_more before after piece one first bytes come text h =
     subst (HasArrived after) (append_assoc text bytes piece) (one (text ++ bytes) (come text h))

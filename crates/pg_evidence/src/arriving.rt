@@ -10,8 +10,8 @@ use std::alloc::Global;
 
 /// A certificate whose bytes come piece by piece, in either form: a sink that gathers it.
 ///
-/// It is gathered as one of plain nodes as it comes. Its text is kept whole while it may be one with
-/// images, which its first line shows.
+/// It is gathered as one of plain nodes as it comes. Its text is kept whole while it may be one
+/// with images, which its first line shows.
 #[derive(Drop)]
 pub(crate) struct Arriving {
     /// What the bytes say as those of a certificate of plain nodes.

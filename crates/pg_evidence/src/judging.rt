@@ -1,7 +1,9 @@
 //! Judging a certificate of either form for a game as its file is read.
 ghost use Rattle.std.specs.Prelude.{◌≡◌, true, false, List, ℕ, IfErr, IfOk, Some};
 ghost use Rattle.pg_io.specs.Files.{IsAbsent, ReadsOnly};
+ghost use Rattle.pg_cert_files.specs.Views.{IsReadAs};
 ghost use Rattle.pg_image.specs.Limits.{IsImageWithinLimits};
+ghost use Rattle.pg_image_files.specs.ImageFile.{image_certificate};
 ghost use Rattle.pg_judge.specs.Judged.{IsReady, StandsFor as HasBeenFed};
 ghost use Rattle.pg_talk.specs.Halts.{HaltCauses, IsReadHalt};
 ghost use Rattle.pg_evidence.specs.Evidence.{IsInnerHalt, evidence_held, has_images};
@@ -46,12 +48,22 @@ fn judge_folded(alloc: Global, game: &Game, certificate: &ImageCert) -> Result<V
     }
 }
 
-/// What judging the certificate of a text with images for a game finds.
-fn judge_images(alloc: Global, game: &Game, text: &[u8]) -> Result<Verdict, Halt>
-    ensures judged { has_images text.now ≡ true → IsJudgedAs game.now (evidence_held (Some text.now)) result }
+/// Reads the certificate with images of a text, which is dropped with that.
+fn read_images(alloc: Global, text: Vec<u8>) -> Result<ImageCert, CertFault>
+    ensures read { IsReadAs result (image_certificate text.items) }
+    ensures limits { IfOk result IsImageWithinLimits }
+{
+    read_image(alloc, &text)
+}
+
+/// What judging the certificate of a text with images for a game finds. The text is dropped before
+/// it is unfolded.
+fn judge_images(alloc: Global, game: &Game, text: Vec<u8>) -> Result<Verdict, Halt>
+    ensures judged { has_images text.items ≡ true
+        → IsJudgedAs game.now (evidence_held (Some text.items)) result }
     ensures halts { IfErr result IsInnerHalt }
 {
-    match read_image(alloc, text) {
+    match read_images(alloc, text) {
         Ok(certificate) => Ok(judge_folded(alloc, game, &certificate)?),
         Err(CertFault::Bad { number, line }) => {
             Err(Halt::Refused(Refusal::Certificate { number, line }))
@@ -86,7 +98,7 @@ fn judge_come(alloc: Global, game: &Game, incoming: Incoming<'_>) -> Result<Verd
 {
     let Incoming { judging, kept } = incoming;
     match with_images(kept) {
-        Some(text) => judge_images(alloc, game, &text),
+        Some(text) => judge_images(alloc, game, text),
         None => judge_plain(alloc, judging),
     }
 }

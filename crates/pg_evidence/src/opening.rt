@@ -5,7 +5,8 @@ ghost use Rattle.pg_cert_files.specs.Gatherer.{HasGathered};
 ghost use Rattle.pg_cert_files.specs.Views.{IsReadAs};
 ghost use Rattle.pg_talk.specs.Halts.{HaltCauses, IsReadHalt};
 ghost use Rattle.pg_evidence.specs.Arriving.{HasArrived};
-ghost use Rattle.pg_evidence.specs.Evidence.{IsWithinItsLimits, OpensEvidence, evidence, has_images};
+ghost use Rattle.pg_evidence.specs.Evidence.{IsWithinItsLimits, OpensEvidence};
+ghost use Rattle.pg_evidence.specs.Evidence.{evidence, has_images};
 
 use crate::arriving::Arriving;
 use crate::evidence::Evidence;
@@ -28,7 +29,8 @@ fn read_folded(alloc: Global, text: &[u8]) -> Result<Evidence, CertFault>
     }
 }
 
-/// The certificate of plain nodes that was gathered, or its first fault with the number of the line.
+/// The certificate of plain nodes that was gathered, or its first fault with the number of the
+/// line.
 fn read_plain(alloc: Global, gathering: CertGathering) -> Result<Evidence, CertFault>
     ensures read { (text : List ℕ) → HasGathered gathering text → has_images text ≡ false
         → IsReadAs result (evidence text) }
@@ -41,8 +43,8 @@ fn read_plain(alloc: Global, gathering: CertGathering) -> Result<Evidence, CertF
     }
 }
 
-/// The certificate whose bytes have come, in the form of its first line, or its first fault with the
-/// number of the line.
+/// The certificate whose bytes have come, in the form of its first line, or its first fault with
+/// the number of the line.
 fn read_arrived(alloc: Global, arriving: Arriving) -> Result<Evidence, CertFault>
     ensures read { (text : List ℕ) → HasArrived arriving text → IsReadAs result (evidence text) }
     ensures limits { IfOk result (λ found. (text : List ℕ) → HasArrived arriving text
@@ -55,8 +57,8 @@ fn read_arrived(alloc: Global, arriving: Arriving) -> Result<Evidence, CertFault
     }
 }
 
-/// The certificate under this name, in either form. One of plain nodes is gathered piece by piece as
-/// it is read; of one with images the text is read whole first.
+/// The certificate under this name, in either form. One of plain nodes is gathered piece by piece
+/// as it is read; of one with images the text is read whole first.
 ///
 /// # Errors
 ///

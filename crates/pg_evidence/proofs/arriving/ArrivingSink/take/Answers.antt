@@ -12,7 +12,8 @@ returns-clause-ready c =
     let was = sym (ap (option_map (λ bytes. bytes.items)) c.take-2.ensures.value) in
     let one : Arrives c.args.self.now after c.args.piece.now =
     arrive_one c.args.self.now after c.args.piece.now c.in_ok-take.ensures
-    (λ text kept. c.in_ok-self.ensures text (subst (λ (o : Option Bytes). IsKept o text) was kept)) in
+    (λ text kept. c.in_ok-self.ensures text
+    (subst (λ (o : Option Bytes). IsKept o text) was kept)) in
     record {
       text = c.requires.text ++ c.args.piece.now;
       arrived = one c.requires.text c.requires.arrived;
@@ -24,4 +25,5 @@ returns-clause-took c =
     let was = sym (ap (option_map (λ bytes. bytes.items)) c.take-2.ensures.value) in
     arrive_more c.args.self.now after c.args.piece.now
     (arrive_one c.args.self.now after c.args.piece.now c.in_ok-take.ensures
-    (λ text kept. c.in_ok-self.ensures text (subst (λ (o : Option Bytes). IsKept o text) was kept)))
+    (λ text kept. c.in_ok-self.ensures text
+    (subst (λ (o : Option Bytes). IsKept o text) was kept)))
