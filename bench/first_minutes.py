@@ -1,10 +1,14 @@
 #!/usr/bin/env python3
-"""Tries what a new user meets first: the scripts ./posgame, ./posgame-draw and posgame-why.
+"""Tries what a new user meets first, in rows by seven points.
 
-The quick rows take the proved programs of crates/posgame/out and crates/posgame_draw/out, and some
-seconds; no clock decides them. With --all the cost of a script is measured, and a clean clone
-answers before any proof, which takes minutes. Each row prints its figures, and what missed its
-limit; then the status is 1. Nothing here is proved.
+1 an answer at once      2 ./prove        3 what went wrong is said to people
+4 licence and version    5 install        6 README        7 the first example is a board
+
+The quick rows take the proved programs of crates/posgame/out and crates/posgame_draw/out; no clock
+decides them. The rows of minutes need a quiet machine where they have a limit of time. One row is
+tried only where it is named, since it changes the machine: `--only dpkg` installs the Debian
+package. `--list` shows all rows, and `--only WORD` tries those with the word in their names. Each
+row prints its figures, and what missed its limit; then the status is 1. Nothing here is proved.
 """
 from __future__ import annotations
 
@@ -13,6 +17,7 @@ import collections.abc
 import contextlib
 import dataclasses
 import fcntl
+import functools
 import os
 import pathlib
 import pty
@@ -26,6 +31,9 @@ import tempfile
 import time
 import typing
 
+import prove_stand_in
+import release
+
 TOP = pathlib.Path(__file__).resolve().parent.parent
 PROGRAM = TOP / "crates" / "posgame" / "out" / "posgame"
 DRAWS = TOP / "crates" / "posgame_draw" / "out" / "posgame_draw"
@@ -35,10 +43,12 @@ FAULTY = "examples/a-pair-missing.cert"
 PLAY = ["play", BOARD, PAIRS, "--side", "y"]
 
 # Limits: milliseconds of a script beside its program, installed and in a checkout; seconds to the
-# first answer of a clean clone on a quiet machine; lines of the usage.
+# first answer of a clean clone on a quiet machine; minutes of ./prove from nothing on four quiet
+# processors; lines of the usage.
 INSTALLED_COST = 5.0
 CHECKOUT_COST = 60.0
 FIRST_ANSWER = 90.0
+PROVE_MINUTES = 25.0
 USAGE_LINES = 30
 
 Words = collections.abc.Sequence[str]
@@ -235,6 +245,68 @@ def costs() -> str:
     return told
 
 
+def odd_names() -> str:
+    """Names with blanks, quotes, a line's end or a dash before them, and standard input."""
+    script = TOP / "posgame"
+    with folder() as room:
+        odd, dash = "a 'b' \"c\"\n$(d)*\x1b[31m.game", "-e.game"
+        for name in (odd, dash):
+            shutil.copy(TOP / BOARD, room / name)
+        shutil.copy(TOP / PAIRS, room / "-c")
+        for words, status, output, says in (
+            (["check", "--", dash, "-c"], 0, "accepted x y win\n", "^$"),
+            (["check", odd, str(TOP / PAIRS)], 0, "accepted x y win\n", "^$"),
+            (["check", "--", "-c", odd], 3, "game G3 line 1\n", "'-c', line 1: .* .G3."),
+            (["check", str(TOP / BOARD), odd], 4, "certificate C2 line 1\n", "line 1: .* .C2."),
+            (["check", odd, f"{odd}/x"], 5, "", "can't be read: .* is no folder"),
+            (["solve", odd, f"{odd}/x"], 6, "", "can't be written: .* is no folder"),
+        ):
+            ended = run(script, words, cwd=room)
+            found = (ended.returncode, ended.stdout)
+            expect(found == (status, output), f"{words}: {found}")
+            expect(bool(re.search(says, ended.stderr)), f"{words}: {ended.stderr!r}")
+            expect("\x1b" not in ended.stderr, f"{words}: a sign for the terminal passed")
+        stored = sorted(it.name for it in room.iterdir())
+        expect(stored == sorted([odd, dash, "-c"]), f"{stored}")
+    slip = "examples/rosette-with-a-slip.game"
+    for name, status, output in ((BOARD, 0, "accepted x y win\n"), (slip, 3, "game G6 line 4\n")):
+        with open(TOP / name) as game:
+            ended = run(script, ["check", "/dev/stdin", PAIRS], stdin=game)
+        heard = (ended.returncode, ended.stdout, "/dev/stdin" in ended.stderr)
+        expect(heard == (status, output, status != 0), f"{name} as standard input: {heard}")
+    return "8 runs"
+
+
+SMALL_DISK = """
+mount -t tmpfs -o size=4k none "$1" && { [[ $2 == empty ]] || cat /dev/zero > "$1/all"; } 2> "$3"
+shift 3
+exec "$@"
+"""
+
+
+def full_disks() -> str:
+    """Standard output, and a certificate, on a full device or disk."""
+    script = TOP / "posgame"
+    with open("/dev/full", "w") as full:
+        ended = run(script, ["check", BOARD, PAIRS], capture_output=False, stdout=full,
+                    stderr=subprocess.PIPE)
+    expect((ended.returncode, "full device" in ended.stderr) == (6, True), f"/dev/full: {ended}")
+    with folder() as room:
+        disk = room / "disk"
+        disk.mkdir()
+        if run(pathlib.Path("/usr/bin/unshare"), ["-rm", "mount", "-t", "tmpfs", "none", str(disk)]
+               ).returncode:
+            return "1 run; no small disk can be made here"
+        words = ["gen", "bridge", "22", str(disk / "G")]
+        for fill, says in (("full", "G' can't be written: the disk is full"),
+                           ("empty", "G' can't be written: perhaps the disk is full")):
+            shell = ["-rm", "bash", "-c", SMALL_DISK, "", str(disk), fill, str(room / "said")]
+            ended = run(pathlib.Path("/usr/bin/unshare"), [*shell, str(script), *words])
+            expect((ended.returncode, ended.stdout) == (6, ""), f"{fill}: {ended}")
+            expect(says in ended.stderr, f"{fill}: {ended.stderr!r}")
+    return "3 runs"
+
+
 def closed_descriptors() -> str:
     """A closed descriptor is a failed call: 5 for input, 6 for output, nothing for errors."""
     with folder() as room:
@@ -420,6 +492,29 @@ def freshness() -> str:
     return f"{len(rows) + 3} calls"
 
 
+@functools.lru_cache(maxsize=None)
+def tried_clone() -> tuple[tempfile.TemporaryDirectory[str], pathlib.Path, str]:
+    """A clean clone in which a first call was made, and what that took. It goes with the folder."""
+    held = tempfile.TemporaryDirectory(prefix="first-minutes-")
+    there = clean_clone(pathlib.Path(held.name))
+    before, begun = os.times(), time.perf_counter()
+    first = run(there / "posgame", ["check", BOARD, PAIRS], cwd=there, timeout=3600)
+    seconds, after = time.perf_counter() - begun, os.times()
+    used = sum(after[2:4]) - sum(before[2:4])
+    expect((first.returncode, first.stdout) == (0, "accepted x y win\n"), f"{first}")
+    expect(first.stderr.count("\n") == 1 and "not proved here" in first.stderr, first.stderr)
+    expect("prove does it" in first.stderr, first.stderr)
+    told = f"first answer after {seconds:.0f} s"
+    if seconds > FIRST_ANSWER:
+        told += f", more than {FIRST_ANSWER:.0f}"
+    return held, there, f"{told}, of the processor {used:.0f} s, {load()}"
+
+
+def load() -> str:
+    """How busy the machine is."""
+    return f"load {os.getloadavg()[0]:.1f} on {len(os.sched_getaffinity(0))} processors"
+
+
 def clean_clone(room: pathlib.Path) -> pathlib.Path:
     """Clones what is committed, and returns the clone's top."""
     there = room / "clone"
@@ -427,21 +522,72 @@ def clean_clone(room: pathlib.Path) -> pathlib.Path:
     return there
 
 
+def first_answer() -> str:
+    """A clean clone before any proof: how long the first answer takes."""
+    told = tried_clone()[2]
+    expect("more than" not in told, told)
+    return told
+
+
 def before_proof() -> str:
-    """A clean clone: the first answer, and then each status as the proved program gives it."""
+    """A clean clone before any proof: each status with its output, and a dialogue."""
+    there = tried_clone()[1]
     with folder() as room:
-        there = clean_clone(room)
-        before, begun = os.times(), time.perf_counter()
-        first = run(there / "posgame", ["check", BOARD, PAIRS], cwd=there)
-        seconds, after = time.perf_counter() - begun, os.times()
-        used = sum(after[2:4]) - sum(before[2:4])
-        expect((first.returncode, first.stdout) == (0, "accepted x y win\n"), f"{first}")
-        expect(first.stderr.count("\n") == 1 and "not proved here" in first.stderr, first.stderr)
-        for case in statuses(room):
+        cases = statuses(room)
+        for case in cases:
             try_case(there / "posgame", case, proved=False)
         expect(dialogue(there / "posgame", b"2\n8\n3\n") == 0, "a whole play")
-        told = f"first answer after {seconds:.0f} s, of the processor {used:.0f} s"
-        expect(seconds <= FIRST_ANSWER, told)
+    return f"{len(cases) + 1} calls"
+
+
+def asked(program: pathlib.Path, words: Words, made: pathlib.Path, typed: str) -> typing.Any:
+    """What a program answers: its status, standard output and error, and the file that it makes."""
+    made.unlink(missing_ok=True)
+    ended = subprocess.run([str(program), *words], cwd=TOP, input=typed.encode(),
+                           capture_output=True, timeout=600)
+    stored = made.read_bytes() if made.is_file() else None
+    return ended.returncode, ended.stdout, ended.stderr, stored
+
+
+def same_answers() -> str:
+    """The sources before their proof answer as the proved program does, to the byte."""
+    unproved = tried_clone()[1] / "out" / "unproved" / "posgame"
+    with folder() as room:
+        made = room / "C"
+        rows = [(case.words, case.typed) for case in statuses(room)]
+        for game in sorted((TOP / "examples").glob("*.game")):
+            name = f"examples/{game.name}"
+            family = {"posgame-span 1": ["span"], "posgame-vectors 1": ["vec"]}.get(
+                next(it for it in game.read_text().splitlines() if it[:1] not in ("", "#")), [])
+            few = [] if family else ["--positions", "20"]
+            rows.append(([*family, "solve", name, str(made), *few], ""))
+            rows.append(([*family, "check", name, PAIRS], ""))
+            rows.append(([*family, "play", name, PAIRS, "--side", "y"], "0\n"))
+        for words, typed in rows:
+            found = [asked(it, words, made, typed) for it in (unproved, PROGRAM)]
+            expect(found[0] == found[1], f"{' '.join(words)}: {found[0]} and {found[1]}"[:500])
+        met = {asked(PROGRAM, words, made, typed)[0] for words, typed in rows}
+    expect({0, 1, 2, 3, 4, 5} <= met, f"only the statuses {met}")
+    return f"{len(rows)} calls, statuses {' '.join(map(str, sorted(met)))}"
+
+
+def prove_from_nothing() -> str:
+    """Proves and builds both programs in a clean clone."""
+    with folder() as room:
+        there, begun = clean_clone(room), time.perf_counter()
+        ended = subprocess.run([there / "prove"], stdin=subprocess.DEVNULL).returncode
+        minutes = (time.perf_counter() - begun) / 60
+        told = f"{minutes:.1f} min, {load()}"
+        expect(ended == 0, f"status {ended}, {told}")
+        for program in (PROGRAM, DRAWS):
+            made = there / program.relative_to(TOP)
+            expect(os.access(made, os.X_OK), f"no {made.name}")
+            if program.is_file():
+                same = made.read_bytes() == program.read_bytes()
+                told += f"; {made.name} is {'that' if same else 'not that'} of this folder"
+        said = run(there / "posgame", ["check", BOARD, PAIRS], cwd=there)
+    expect((said.stdout, said.stderr) == ("accepted x y win\n", ""), f"{said}")
+    expect(minutes <= PROVE_MINUTES and "not that" not in told, told)
     return told
 
 
@@ -451,50 +597,105 @@ def board_has_cells() -> str:
         run(TOP / "posgame", ["solve", "--images", BOARD, str(room / "C")])
         head = (room / "C").read_text().splitlines()[0]
     expect(head == "posgame-cert 3", head)
+    expect("grid 3 3" in (TOP / BOARD).read_text().splitlines(), "no grid 3 3")
     picture = (TOP / "docs" / "pictures" / "noughts-and-crosses.svg").read_text()
     found = run(TOP / "posgame-draw", [BOARD]).stdout
     expect(found == picture, "docs/pictures/noughts-and-crosses.svg is another picture")
     return head
 
 
-# Each row: what it is called, the function that tries it, and whether it is quick.
+def of_problems(row: release.Row) -> collections.abc.Callable[[], str]:
+    """A row that returns what came out otherwise, as one of these."""
+    def tries() -> str:
+        with folder() as room:
+            problems = row(room)
+        expect(not problems, "; ".join(problems))
+        return "as it has to be"
+    return tries
+
+
+@dataclasses.dataclass
+class Row:
+    """A row: its point, its name, what tries it, and when: quick, in minutes, or only by name."""
+
+    point: int
+    name: str
+    tries: collections.abc.Callable[[], str]
+    when: str = "quick"
+
+
 ROWS = [
-    ("statuses, and what is said of them", answers, True),
-    ("pictures, and what is said of them", draws, True),
-    ("texts of the codes", codes, True),
-    ("usage", usage, True),
-    ("what a script costs a call", costs, False),
-    ("closed descriptors", closed_descriptors, True),
-    ("dialogues on a terminal", dialogues, True),
-    ("signals", signals, True),
-    ("which sources make a program old", freshness, True),
-    ("the first example is a board", board_has_cells, True),
-    ("a clean clone before any proof", before_proof, False),
+    Row(1, "which sources make a program old", freshness),
+    Row(1, "first answer of a clean clone", first_answer, "minutes"),
+    Row(1, "statuses before any proof", before_proof, "minutes"),
+    Row(1, "before a proof as after it", same_answers, "minutes"),
+    Row(2, "prove, over a stand-in for the kit", of_problems(prove_stand_in.row)),
+    Row(2, "prove from nothing", prove_from_nothing, "named"),
+    Row(3, "statuses, and what is said of them", answers),
+    Row(3, "pictures, and what is said of them", draws),
+    Row(3, "texts of the codes", codes),
+    Row(3, "usage", usage),
+    Row(3, "odd names, and games from standard input", odd_names),
+    Row(3, "full disks", full_disks),
+    Row(3, "closed descriptors", closed_descriptors),
+    Row(3, "dialogues on a terminal", dialogues),
+    Row(3, "signals", signals),
+    Row(3, "what a script costs a call", costs, "minutes"),
+    Row(4, "versions", of_problems(release.versions)),
+    Row(4, "licences and citation", of_problems(release.licences)),
+    Row(5, "man pages", of_problems(release.manual)),
+    Row(5, "completion", of_problems(release.completion)),
+    Row(5, "words of install and package", of_problems(release.scripts)),
+    Row(5, "install proves what is not current", of_problems(release.only_proved)),
+    Row(5, "install and its removal", of_problems(release.removes)),
+    Row(5, "small packages, made twice", of_problems(release.same_packages)),
+    Row(5, "packages, made twice", of_problems(release.real_packages), "minutes"),
+    Row(5, "packages, unpacked and run", of_problems(release.unpacked), "minutes"),
+    Row(5, "dpkg installs the package and removes it", of_problems(release.by_dpkg), "named"),
+    Row(6, "README: size, order, names", of_problems(release.readme)),
+    Row(6, "README's commands, installed", of_problems(release.installed), "minutes"),
+    Row(6, "crates of docs/ARCHITECTURE.md", of_problems(release.crates)),
+    Row(7, "the first example is a board", board_has_cells),
 ]
 
 
-def try_row(name: str, row: collections.abc.Callable[[], str]) -> bool:
+def try_row(row: Row) -> bool:
     """Tries a row, prints what it found, and returns whether nothing was missed."""
     begun = time.perf_counter()
     try:
-        told, is_met = row(), True
+        told, is_met = row.tries(), True
+    except release.Skipped as reason:
+        told, is_met = f"skipped, {reason}", True
     except (Missed, OSError, subprocess.SubprocessError) as error:
         told, is_met = str(error), False
     seconds = time.perf_counter() - begun
-    print(f"{'ok' if is_met else 'MISSED'}  {name}: {told} ({seconds:.1f} s)", flush=True)
+    end = "ok" if is_met else "MISSED"
+    print(f"{end}  {row.point} {row.name}: {told} ({seconds:.1f} s)", flush=True)
     return is_met
 
 
+def chosen(given: argparse.Namespace) -> list[Row]:
+    """The rows that the words ask for."""
+    if given.only:
+        return [it for it in ROWS if given.only in it.name]
+    rows = [it for it in ROWS if it.when == "quick" or given.all and it.when == "minutes"]
+    return [it for it in rows if given.point in (None, it.point)]
+
+
 def main() -> int:
-    words = argparse.ArgumentParser(description=__doc__)
-    which = words.add_mutually_exclusive_group()
-    which.add_argument("--quick", action="store_true", help="the rows of some seconds (default)")
-    which.add_argument("--all", action="store_true", help="also those of minutes")
+    words = argparse.ArgumentParser(
+        description=__doc__, formatter_class=argparse.RawDescriptionHelpFormatter
+    )
+    words.add_argument("--quick", action="store_true", help="the quick rows (default)")
+    words.add_argument("--all", action="store_true", help="also the rows of minutes")
+    words.add_argument("--point", type=int, metavar="N", help="the rows of this point")
     words.add_argument("--only", metavar="WORD", help="the rows with this word in their names")
+    words.add_argument("--list", action="store_true", help="the rows' names, without trying them")
     given = words.parse_args()
-    rows = [it for it in ROWS if it[2] or given.all or given.only]
-    rows = [it for it in rows if not given.only or given.only in it[0]]
-    met = [try_row(name, row) for name, row, _ in rows]
+    if given.list:
+        print("".join(f"{it.point} {it.name} ({it.when})\n" for it in ROWS), end="")
+        return 0
+    met = [try_row(it) for it in chosen(given)]
     print(f"{len(met)} rows, {met.count(False)} missed")
     return 0 if met and all(met) else 1
 

@@ -7,7 +7,8 @@
 # soon: `check GAME /dev/null` for a fault of the game, `check GAME CERT` for one of the
 # certificate, `review GAME RECORD --positions 1` for one of the record. It doesn't where that
 # can't be the same or takes long: a file that is no plain one (a pipe is read once), or is standard
-# input, or a run that took more than two seconds. Then it says what the status tells.
+# input, or a run that took more than two seconds of a processor. Then it says what the status
+# tells.
 # shellcheck shell=bash disable=SC2034,SC2153 # run.bash shares its variables
 
 # Sets `POSITIONALS`, `SIDE` and `OPTIONS` (a row of the options' names) by the words. Fails where a
@@ -91,13 +92,13 @@ find_write_fault() {
     elif [[ -f $1 && -w $1 ]]; then
         [[ $COMMAND == record && $1 -ef $GAME ]] && REASON='it is the file of the game'
     elif [[ ! -e $folder ]]; then
-        REASON="there is no folder $folder"
+        REASON="there is no folder ${folder@Q}"
     elif [[ ! -d $folder ]]; then
-        REASON="$folder is no folder"
+        REASON="${folder@Q} is no folder"
     elif [[ -d $1 || $1 == */ ]]; then
         REASON='it is a folder'
     elif [[ ! -w $folder || ! -x $folder ]]; then
-        REASON="no permission to write in the folder $folder"
+        REASON="no permission to write in the folder ${folder@Q}"
     fi
     [[ $REASON ]]
 }
@@ -106,7 +107,7 @@ find_write_fault() {
 warn_of_names() {
     local name
     for name in "${WRITTEN[@]}"; do
-        find_write_fault "$name" && say "warning: '$name' can't be written: $REASON"
+        find_write_fault "$name" && say "warning: ${name@Q} can't be written: $REASON"
     done
 }
 
@@ -181,9 +182,9 @@ find_read_fault() {
     elif [[ -L $1 ]]; then
         REASON='it is a link that leads to no file'
     elif [[ -e $folder && ! -d $folder ]]; then
-        REASON="$folder is no folder"
+        REASON="${folder@Q} is no folder"
     elif [[ -d $folder && ! -x $folder ]]; then
-        REASON="no permission to look into the folder $folder"
+        REASON="no permission to look into the folder ${folder@Q}"
     else
         REASON='there is no such file'
     fi
@@ -195,14 +196,14 @@ explain_reading() {
     local name names=("$GAME" "$OTHER")
     [[ $COMMAND == record || $COMMAND == solve ]] && names=("$GAME")
     for name in "${names[@]}"; do
-        find_read_fault "$name" && say "'$name' can't be read: $REASON" && return
+        find_read_fault "$name" && say "${name@Q} can't be read: $REASON" && return
     done
     if [[ $CLOSED == *0* ]]; then
         say 'standard input is closed'
     elif [[ $COMMAND == play || $COMMAND == record ]] && [[ -d /dev/stdin ]]; then
         say "standard input can't be read: it is a folder"
     else
-        say "${names[*]} or standard input couldn't be read: a call of the system failed"
+        say "${names[*]@Q} or standard input couldn't be read: a call of the system failed"
     fi
 }
 
@@ -214,12 +215,24 @@ free_bytes() {
     [[ ${free-} ]] && printf '%d' "$((free * 1024))"
 }
 
+# Says that the name $1, with which nothing else is wrong, couldn't be written.
+explain_full_disk() {
+    local free
+    free=$(free_bytes "$1")
+    if [[ $free == 0 ]]; then
+        say "${1@Q} can't be written: the disk is full"
+    else
+        say "${1@Q} can't be written: perhaps the disk is full (${free:-?} bytes are free there" \
+            "now), or standard output couldn't be written"
+    fi
+}
+
 # Status 6: which name can't be written, and why.
 explain_writing() {
     local name
     for name in "${WRITTEN[@]}"; do
         if find_write_fault "$name"; then
-            say "'$name' can't be written: $REASON"
+            say "${name@Q} can't be written: $REASON"
             return
         fi
     done
@@ -228,11 +241,11 @@ explain_writing() {
     elif [[ /dev/stdout -ef /dev/full ]]; then
         say "standard output can't be written: it is a full device"
     elif ((${#WRITTEN[@]})); then
-        name=${WRITTEN[-1]}
-        say "'$name' or standard output couldn't be written: perhaps the disk is full" \
-            "($(free_bytes "$name") bytes are free there now)"
+        explain_full_disk "${WRITTEN[-1]}"
+    elif [[ -p /dev/stdout || -S /dev/stdout ]]; then
+        say "standard output couldn't be written: its reader has ended"
     else
-        say "standard output couldn't be written: its reader has ended, or the disk is full"
+        say "standard output couldn't be written: perhaps the disk is full"
     fi
 }
 
@@ -244,7 +257,7 @@ is_whole_play() {
 # Status 2: that there is no such claim, or the usage.
 explain_words() {
     if is_whole_play; then
-        say "'$OTHER' has no claim of side $SIDE for the side that is to move in '$GAME';" \
+        say "${OTHER@Q} has no claim of side $SIDE for the side that is to move in ${GAME@Q};" \
             "\`posgame ${FAMILY:+$FAMILY }check\` lists its claims"
     else
         print_usage >&2
@@ -261,7 +274,8 @@ is_rereadable() {
 ask_again() {
     local words status=$STATUS
     FOUND=
-    is_rereadable "$GAME" && ((SECONDS <= 2)) || return
+    count_ticks
+    is_rereadable "$GAME" && ((TICKS - BUILDING_TICKS <= 200)) || return
     [[ $STATUS == 3 ]] || is_rereadable "$OTHER" || return
     case $COMMAND:$STATUS in
         draw:3) words=("$GAME") ;;
@@ -286,7 +300,7 @@ show_line() {
 
 # Says a fault: the file, where in it, the code, and the line that its code is about (0: none).
 say_fault() {
-    say "'$1'$2: $(find_text "$3" || printf 'it has a fault') ($3)"
+    say "${1@Q}$2: $(find_text "$3" || printf 'it has a fault') ($3)"
     show_line "$1" "$4"
 }
 
@@ -298,7 +312,7 @@ explain_fault() {
     local drawn='<title>claim [xy, a-z]*(: node ([0-9]+))?: rejected ([JS][0-9]+)</title>'
     ((STATUS == 3)) && file=$GAME
     if ! ask_again "$@"; then
-        say "'$file' has a fault; \`posgame-why CODE\` says what its code means"
+        say "${file@Q} has a fault; \`posgame-why CODE\` says what its code means"
     elif [[ $FOUND =~ ^$in_file$ ]]; then
         line=${BASH_REMATCH[3]}
         place=", line $line"
@@ -312,7 +326,7 @@ explain_fault() {
         place=${BASH_REMATCH[2]:+, node ${BASH_REMATCH[2]}}
         say_fault "$file" "$place" "${BASH_REMATCH[3]}" 0
     else
-        say "'$file' has a fault; \`posgame-why CODE\` says what its code means"
+        say "${file@Q} has a fault; \`posgame-why CODE\` says what its code means"
     fi
 }
 

@@ -58,6 +58,13 @@ end_alike() {
     exit "$STATUS"
 }
 
+# Sets `TICKS` to the time of a processor that ended children took, in hundredths of a second.
+count_ticks() {
+    local line words=()
+    read -r line < "/proc/$$/stat" && read -ra words <<< "${line##*) }"
+    TICKS=$((${words[13]-0} + ${words[14]-0}))
+} 2> /dev/null
+
 # Reads explain.bash, which has all that is said, and what must be known for it.
 load_texts() {
     [[ ${LOADED-} ]] && return
@@ -82,4 +89,5 @@ run_program() {
     end_alike
 }
 
+BUILDING_TICKS=0
 guard_descriptors

@@ -124,4 +124,6 @@ choose_program() {
     say "not proved here ($top/prove does it): builds the sources before their proof, in minutes"
     build_unproved "$top" "$crate" "$made" "${@:3}" \
         || end_without_program "not built; $made.log tells why, and $top/prove builds it"
+    count_ticks
+    BUILDING_TICKS=$TICKS
 }
