@@ -79,24 +79,37 @@ find_written() {
     esac
 }
 
+# Whether the last part of the name $1 has more bytes than a system takes.
+is_long_name() {
+    local LC_ALL=C last=${1##*/}
+    ((${#last} > 255))
+}
+
 # Sets `REASON` to why no file can be stored under the name $1, and fails where nothing is known.
+# What a link leads to decides it.
 find_write_fault() {
-    local folder=.
+    local name=$1 folder=.
     REASON=
-    [[ $1 == */* ]] && folder=${1%/*} && folder=${folder:-/}
-    if [[ -z $1 ]]; then
+    [[ -L $name ]] && name=$(readlink -m -- "$name") && name=${name:-$1}
+    [[ $name == */* ]] && folder=${name%/*} && folder=${folder:-/}
+    if [[ -z $name ]]; then
         REASON='the name is empty'
-    elif [[ -e $1 && ! -f $1 && ! -d $1 ]]; then
-        [[ -w $1 ]] || REASON='no permission to write to it'
-        [[ $1 -ef /dev/full ]] && REASON='it is a full device'
-    elif [[ -f $1 && -w $1 ]]; then
-        [[ $COMMAND == record && $1 -ef $GAME ]] && REASON='it is the file of the game'
+    elif [[ -e $name && ! -f $name && ! -d $name ]]; then
+        [[ -w $name ]] || REASON='no permission to write to it'
+        [[ -S $name && ! $name -ef /dev/stdout ]] && REASON='it is a socket'
+        [[ $name -ef /dev/full ]] && REASON='it is a full device'
+    elif [[ -f $name && -w $name ]]; then
+        [[ $COMMAND == record && $name -ef $GAME ]] && REASON='it is the file of the game'
+    elif [[ -L $name ]]; then
+        REASON='its links lead in a circle'
     elif [[ ! -e $folder ]]; then
         REASON="there is no folder ${folder@Q}"
     elif [[ ! -d $folder ]]; then
         REASON="${folder@Q} is no folder"
-    elif [[ -d $1 || $1 == */ ]]; then
+    elif [[ -d $name || $name == */ ]]; then
         REASON='it is a folder'
+    elif is_long_name "$name"; then
+        REASON='its last part has more than 255 bytes'
     elif [[ ! -w $folder || ! -x $folder ]]; then
         REASON="no permission to write in the folder ${folder@Q}"
     fi
@@ -180,9 +193,11 @@ find_read_fault() {
     elif [[ -e $1 ]]; then
         [[ -r $1 ]] || REASON='no permission to read it'
     elif [[ -L $1 ]]; then
-        REASON='it is a link that leads to no file'
+        REASON='it is a link that leads to no file, or in a circle'
     elif [[ -e $folder && ! -d $folder ]]; then
         REASON="${folder@Q} is no folder"
+    elif is_long_name "$1"; then
+        REASON='its last part has more than 255 bytes'
     elif [[ -d $folder && ! -x $folder ]]; then
         REASON="no permission to look into the folder ${folder@Q}"
     else
