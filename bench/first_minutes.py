@@ -178,7 +178,9 @@ def draws() -> str:
     expect(helped.returncode == 0 and "C.K" in helped.stdout, f"--help: {helped}")
     told = run(script, ["--version"]).stdout
     expect(bool(re.fullmatch(r"posgame-draw [0-9.]*\n", told)), f"--version: {told!r}")
-    return "7 runs"
+    expect(run(DRAWS, ["--version"]).stdout == told, "the program names another version")
+    expect(run(DRAWS, ["--help"]).returncode == 0, "the program has no --help")
+    return "9 runs"
 
 
 def codes() -> str:
@@ -190,6 +192,10 @@ def codes() -> str:
     told = run(TOP / "posgame-why", names)
     expect(told.returncode == 0 and told.stdout.count("\n") == len(names), told.stderr)
     expect(run(TOP / "posgame-why", ["X1"]).returncode == 2, "X1 has a text")
+    helped = run(TOP / "posgame-why", ["--help"])
+    expect(helped.returncode == 0 and "CODE" in helped.stdout, f"--help: {helped}")
+    version = f"posgame-why {(TOP / 'VERSION').read_text()}"
+    expect(run(TOP / "posgame-why", ["--version"]).stdout == version, "--version")
     return f"{len(names)} codes"
 
 
