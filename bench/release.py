@@ -26,6 +26,7 @@ from typing import Callable, Mapping, Optional, Sequence, Union
 TOP = pathlib.Path(__file__).resolve().parent.parent
 PAGES = ("posgame.1", "posgame-draw.1", "posgame.5")
 SCRIPTS = ("install", "package", "completions/posgame.bash")
+STARTERS = ("posgame", "posgame-draw", "posgame-why", "launch/posgame", "launch/posgame-draw")
 APACHE = "cfc7749b96f63bd31c3c42b5c471bf756814053e847c10f3eb003417bc523d30"
 BARE = {"PATH": "/usr/bin:/bin"}
 EPOCH = "1700000000"
@@ -275,8 +276,9 @@ def completion(_: pathlib.Path) -> list[str]:
 
 def scripts(_: pathlib.Path) -> list[str]:
     """Reads the scripts by bash and shellcheck, and calls them with arguments that mean nothing."""
+    read = (*SCRIPTS, *STARTERS, ".ci/run")
     problems = [
-        it for name in SCRIPTS for it in differs(name, run(["bash", "-n", TOP / name]).stderr, "")
+        it for name in read for it in differs(name, run(["bash", "-n", TOP / name]).stderr, "")
     ]
     for words in (["install", "--what"], ["install", "a", "b"], ["install", "--uninstall", "-x"]):
         ended = run([TOP / words[0], *words[1:]])
@@ -285,7 +287,7 @@ def scripts(_: pathlib.Path) -> list[str]:
         )
     problems += differs("package x", run([TOP / "package", "x"]).returncode, 1)
     if not problems and shutil.which("shellcheck"):
-        checked = run(["shellcheck", "-x", "-s", "bash", *SCRIPTS], cwd=TOP)
+        checked = run(["shellcheck", "-x", "-s", "bash", *read], cwd=TOP)
         problems += differs("shellcheck", checked.stdout, "")
     return problems
 
