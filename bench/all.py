@@ -5,8 +5,10 @@ seconds and memory, with the limits.
 The programs are those that `rt ci` or `rt run` left in crates/posgame/out, crates/posgame_draw/out
 and crates/bench_parts/out. A bench whose program or script is missing, that fails or takes too long
 is a line of its own. It takes half an hour, on a quiet machine; `--long` also gives posgame 20,000
-mutated files and arguments and kills it 200 times.
+mutated files and arguments and kills it 200 times. Unproved.
 """
+from __future__ import annotations
+
 import datetime
 import os
 import pathlib
@@ -15,72 +17,55 @@ import re
 import resource
 import subprocess
 import sys
+import textwrap
 import time
-from typing import List, NamedTuple, Tuple
+from typing import List, NamedTuple, Optional, Tuple
 
 import kit
 
 POSGAME, PARTS, DRAWS = (kit.built(it) for it in ("posgame", "bench_parts", "posgame_draw"))
-FAMILIES = "solved 600 million, 0.2 s; checked 150 million, 0.05 s; a move 15 million; 16 MB"
-SEARCHES = [
-    ("Maker-Maker, 4 by 4", "250 million, 150 MB"),
-    ("Maker-Breaker, 5 by 5", "300 million, 150 MB"),
-    ("Maker-Breaker, 28 scattered", "760 million, 150 MB"),
-    ("Maker-Breaker, 16 by 16", "520 million, 150 MB"),
-    ("Avoider-Enforcer", "6,300 million, 150 MB"),
-]
 # The longest that a bench may take, in seconds.
 LIMIT = 3600
 
 
 class Bench(NamedTuple):
-    """A bench: its script and arguments, and the limits by how its lines begin."""
+    """A bench: its script and arguments."""
 
     name: str
     words: List[object]
-    limits: List[Tuple[str, str]] = []
     is_long: bool = False
 
 
 BENCHES = [
-    Bench("Switching games classed and solved", ["classes.py", POSGAME],
-          [("", "100 million instructions for `classify`")]),
-    Bench("Searches", ["solving.py", POSGAME], SEARCHES),
-    Bench("Connectivity games and games on vectors", ["families.py", POSGAME], [("", FAMILIES)]),
-    Bench("Large certificates checked", ["checking.py", POSGAME],
-          [("", "80 instructions a byte; 24 MB")]),
-    Bench("Large certificates read", ["certificates.py", POSGAME]),
-    Bench("Trees and cuts on a board of 841 edges checked", ["switching.py", POSGAME]),
+    Bench("Switching games classed and solved", ["classes.py", POSGAME]),
+    Bench("Searches", ["solving.py", POSGAME]),
+    Bench("Connectivity games and games on vectors", ["families.py", POSGAME]),
+    Bench("Large certificates checked", ["checking.py", POSGAME]),
     Bench("Large game files", ["files.py", POSGAME]),
     Bench("Plays with their undo on a board", ["board.py", PARTS]),
     Bench("Searches for threat lines", ["threat.py", PARTS]),
     Bench("Searches for private pairs", ["asking.py", PARTS]),
-    Bench("Pictures of examples, and the largest ones", ["pictures.py", DRAWS],
-          [("", "as expected; 2,000,000 bytes, 0.1 s")]),
-    Bench("Certificates with images", ["images.py", POSGAME],
-          [("one map", "0.2 s"), ("", "the flag below a tenth")]),
-    Bench("The lessons of docs/TUTORIAL.md", ["tutorial.py", POSGAME, "--draw", DRAWS],
-          [("", "0 differ")]),
+    Bench("Pictures of examples, and the largest ones", ["pictures.py", DRAWS]),
+    Bench("Certificates with images", ["images.py", POSGAME]),
+    Bench("The lessons of docs/TUTORIAL.md", ["tutorial.py", POSGAME, "--draw", DRAWS]),
     Bench("Files, names and consoles of the system that fail, and kills",
-          ["real_files.py", POSGAME], [("", "each row as the script says")], True),
-    Bench("Mutated files, words and dialogues", ["fuzz.py", POSGAME, "--runs", "20000"],
-          [("", "no end that none may have")], True),
-    Bench("Each allocation of eighteen runs refused in turn", ["memory.py", POSGAME],
-          [("", "none broken")]),
-    Bench("Certificates that reviews check", ["checked.py", POSGAME],
-          [("", "one for each that they find")]),
+          ["real_files.py", POSGAME], True),
+    Bench("Mutated files, words and dialogues", ["fuzz.py", POSGAME, "--runs", "20000"], True),
+    Bench("Each allocation of eighteen runs refused in turn", ["memory.py", POSGAME]),
+    Bench("Certificates that reviews check", ["checked.py", POSGAME]),
 ]
 
 
-def missing(words):
+def missing(words: List[object]) -> Optional[str]:
     """What of a bench is missing, if anything is."""
-    needed = [kit.TOP / "bench" / words[0], *(it for it in words if isinstance(it, pathlib.Path))]
+    paths = [it for it in words if isinstance(it, pathlib.Path)]
+    needed = [kit.TOP / "bench" / str(words[0]), *paths]
     return next((str(it.relative_to(kit.TOP)) for it in needed if not it.exists()), None)
 
 
-def run(words):
+def run(words: List[object]) -> Tuple[List[str], Optional[str]]:
     """The lines of a bench, and what is wrong with its end, if anything is."""
-    command = [sys.executable, str(kit.TOP / "bench" / words[0]), *map(str, words[1:])]
+    command = [sys.executable, str(kit.TOP / "bench" / str(words[0])), *map(str, words[1:])]
     with kit.files(output="", errors="") as folder:
         output, errors = folder / "output", folder / "errors"
         with output.open("w") as out, errors.open("w") as wrong:
@@ -95,14 +80,18 @@ def run(words):
     return lines, ": ".join([end, *complaint])[:240] if end else None
 
 
-def row(line, limits):
-    """The cells of a line: what was measured, the figures, and the limit."""
-    what, found, figures = line.partition(": ")
-    limit = next((text for begin, text in limits if what.startswith(begin)), "")
-    return [it.strip() for it in ((what, figures, limit) if found else ("", line, limit))]
+def laid_out(lines: List[str]) -> List[str]:
+    """The lines as Markdown: rows of tables as they are, others as a paragraph each."""
+    text: List[str] = []
+    for line in filter(None, lines):
+        is_row = line.startswith("|")
+        if not (text and is_row and text[-1].startswith("|")):
+            text.append("")
+        text += [line] if is_row else textwrap.wrap(line, 100)
+    return text or ["", "Nothing was printed."]
 
 
-def section(bench):
+def section(bench: Bench) -> Tuple[str, bool]:
     """The text of a bench, and whether all went well."""
     lacking = missing(bench.words)
     if lacking:
@@ -111,15 +100,13 @@ def section(bench):
     lines, why = run(bench.words)
     seconds = time.monotonic() - begin
     used = resource.getrusage(resource.RUSAGE_CHILDREN).ru_maxrss // 1024
-    rows = [row(line, bench.limits) for line in lines if line.strip()]
-    table = kit.table(["what", "figure", "limit"], rows) if rows else ["Nothing was printed."]
     tail = [f"`bench/{bench.words[0]}`, {seconds:.0f} s. The greatest process of the benches so far"
-            f" took {used} MB, those of valgrind among them."]
+            f" took {used} MB,", "those of valgrind among them."]
     tail += [f"**{why}**"] if why else []
-    return "\n".join([f"## {bench.name}", "", *table, "", *tail, ""]), why is None
+    return "\n".join([f"## {bench.name}", *laid_out(lines), "", *tail, ""]), why is None
 
 
-def machine():
+def machine() -> str:
     """The processor and the system."""
     model = platform.machine()
     try:
@@ -130,7 +117,7 @@ def machine():
     return f"{os.cpu_count()} processors ({model}), {platform.system()} {platform.release()}"
 
 
-def head():
+def head() -> str:
     """The text above all benches."""
     done = subprocess.run(["git", "rev-parse", "--short", "HEAD"], cwd=kit.TOP, capture_output=True,
                           text=True)
@@ -140,31 +127,21 @@ def head():
 Measured by `bench/all.py` on {day} at {commit}:
 {machine()}.
 Instructions are counted by callgrind, whatever else the machine does; seconds are by the clock. A
-figure above its limit is marked.
+row `limit` has the greatest figure that is allowed; a figure above its limit is in bold type.
 """
 
 
-def options():
-    """What the arguments say."""
+def main() -> int:
     words = kit.parser(__doc__, None)
     words.add_argument("--only", action="append", default=[], metavar="WORD",
                        help="benches with this word in their names; docs/FIGURES.md stays")
     words.add_argument("--long", action="store_true", help="the long ones too")
     words.add_argument("--out", type=pathlib.Path, help="the file written")
-    return words.parse_args()
-
-
-def is_chosen(bench, given):
-    """Whether the bench is to be run."""
-    names = bench.name, bench.words[0]
-    is_named = not given.only or any(word in name for word in given.only for name in names)
-    return is_named and (given.long or not bench.is_long)
-
-
-def main():
-    given, texts, wrong = options(), [head()], []
+    given, texts, wrong = words.parse_args(), [head()], []
     for bench in BENCHES:
-        if is_chosen(bench, given):
+        names = f"{bench.name} {bench.words[0]}"
+        is_named = not given.only or any(word in names for word in given.only)
+        if is_named and (given.long or not bench.is_long):
             print(bench.name, flush=True)
             text, is_well = section(bench)
             texts.append(text)
@@ -177,10 +154,8 @@ def main():
         out.write_text("\n".join(texts), encoding="utf-8")
     else:
         print("\n".join(texts))
-    if wrong:
-        print("not well:", "; ".join(wrong))
-    return 1 if wrong else 0
+    return kit.end(wrong)
 
 
 if __name__ == "__main__":
-    sys.exit(main())
+    raise SystemExit(main())

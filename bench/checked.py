@@ -1,6 +1,8 @@
 #!/usr/bin/env python3
 """Counts how often a review calls the checker: as often as it finds a certificate.
 
+    bench/checked.py [PROGRAM]
+
 No clause can show that a review checks what it relies on, since solving promises that it is valid.
 Callgrind counts the calls, by the name of the checker's function, in runs of `posgame review`. How
 many are due is found by `posgame solve`: it solves the position before the first move, and each
@@ -120,15 +122,15 @@ def counted(program: str, game: str, moves: List[int]) -> Tuple[int, str]:
 
 def main() -> int:
     """Prints a line for each row, and returns 1 if a number of calls isn't as it should be."""
-    program = kit.parser(__doc__).parse_args().program
-    wrong = 0
+    program = kit.program(__doc__)
+    table = kit.Table("review", kit.Column("certificates checked"))
     for name, game, moves in ROWS:
         wanted, (found, said) = due(program, game, moves), counted(program, game, moves)
-        faults = [f"AND NOT {wanted}"] * (found != wanted)
+        wrong = [f"{found} checked, and not {wanted}"] * (found != wanted)
         if not said.endswith(f"reviewed {len(moves)}"):
-            faults.append(f"AND NOT REVIEWED: {said}")
-        wrong |= kit.show(name, [f"{found} certificates checked"], faults)
-    return wrong
+            wrong.append(f"not reviewed: {said}")
+        table.row(name, found, wrong=wrong)
+    return table.end()
 
 
 if __name__ == "__main__":

@@ -1,194 +1,193 @@
 #!/usr/bin/env python3
-"""Measures how posgame checks large certificates, reading included: instructions a byte, seconds,
+"""Measures how posgame checks large certificates, reading included: instructions a byte, seconds
 and peak memory.
 
+    bench/checking.py [PROGRAM] [--part WORD]
+
 Instructions are counted by callgrind, where that is installed, on a smaller file of the same kind.
-A figure above its limit is marked.
+Two certificates are read for a game that has no such points, and so refused. Unproved.
 """
+from __future__ import annotations
+
 import itertools
 import random
-import sys
+from typing import Callable, Iterable, Iterator, List, Optional, Tuple
 
 import kit
 
 POINTS = 16
-MOST_INSTRUCTIONS = 80
-MOST_MEMORY = 24
-FIELD = kit.field
+Files = Tuple[str, str]
+
+
+def node(x: Iterable[int], y: Iterable[int], turn: str, body: str) -> str:
+    """Returns the line of a node."""
+    return f"{kit.field(x)}|{kit.field(y)}|{turn}|{body}\n"
 
 
 class Tree:
-    """Nodes of a game without lines on 16 points, in which Y claims a draw."""
+    """Nodes of a game without lines on 16 points, in which Y claims a draw, behind others."""
 
-    def __init__(self):
-        self.nodes, self.place = [], {}
+    def __init__(self, before: List[str]) -> None:
+        self.nodes, self.place = before, {}  # type: List[str], dict[Tuple[kit.Line, ...], int]
 
-    def put(self, x, y, turn, body):
+    def put(self, x: Iterable[int], y: Iterable[int], turn: str, body: str) -> None:
         """Adds a node at the position."""
+        x, y = tuple(sorted(x)), tuple(sorted(y))
         self.place[x, y] = len(self.nodes)
-        self.nodes.append(f"{FIELD(x)}|{FIELD(y)}|{turn}|{body}\n")
+        self.nodes.append(node(x, y, turn, body))
 
-    def put_moves(self, count):
-        """Adds the full boards, and nodes at which Y takes the last point, to half of `count`."""
-        half = POINTS // 2
+    def put_moves(self, count: int) -> None:
+        """Adds the full boards, and nodes at which Y takes the last point, up to `count`."""
+        half, every = POINTS // 2, set(range(POINTS))
         for x in itertools.combinations(range(POINTS), half):
-            self.put(x, tuple(v for v in range(POINTS) if v not in x), "x", "over")
+            self.put(x, every.difference(x), "x", "over")
         for y in itertools.combinations(range(POINTS), half - 1):
-            rest = [v for v in range(POINTS) if v not in y]
-            for free in rest:
-                x = tuple(v for v in rest if v != free)
+            for free in sorted(every.difference(y))[: max(count - len(self.nodes), 0)]:
+                x = tuple(sorted(every.difference(y, {free})))
                 child = self.place[x, tuple(sorted(y + (free,)))]
                 self.put(x, y, "y", f"move {free} {child}")
-                if len(self.nodes) > count // 2:
-                    return
 
-    def put_all(self, x, y):
+    def put_all(self, x: Tuple[int, ...], y: Tuple[int, ...]) -> None:
         """Adds a node before X's move, if those after each move are there."""
         free = [v for v in range(POINTS) if v not in x and v not in y]
         children = [self.place.get((tuple(sorted(x + (v,))), y)) for v in free]
         if None not in children and (x, y) not in self.place:
-            replies = "".join(f" {v}:{child}" for v, child in zip(free, children))
-            self.put(x, y, "x", "all" + replies)
+            self.put(x, y, "x", kit.field(["all", *map("{}:{}".format, free, children)]))
 
-    def fill(self, count):
+    def fill(self, count: int) -> Tuple[kit.Line, ...]:
         """Adds nodes up to `count`, and returns the position of the last."""
-        self.put_moves(count)
-        for x, y in list(self.place):
-            for back in x if len(y) == POINTS // 2 - 1 else ():
-                if len(self.nodes) < count:
-                    self.put_all(tuple(v for v in x if v != back), y)
-        if len(self.nodes) < count:
-            raise SystemExit("too few nodes")
+        self.put_moves((count + len(self.nodes)) // 2)
+        moves = [(x, y) for x, y in self.place if len(y) == POINTS // 2 - 1]
+        for x, y in ((tuple(v for v in x if v != back), y) for x, y in moves for back in x):
+            if len(self.nodes) < count:
+                self.put_all(x, y)
+        assert len(self.nodes) == count
         return list(self.place)[-1]
 
 
-def mixed_leaf(draw, is_potential):
-    """A node of a potential or of pairs at a random position of two lines of nine points, or None
-    if there are too few pairs."""
+def mixed_leaf(draw: random.Random, is_potential: bool) -> Optional[str]:
+    """Returns a node of a potential or of pairs at a random position of two lines of nine points,
+    or None if there are too few pairs."""
     marks = draw.sample(range(POINTS), draw.choice((4, 6, 8)))
-    x, y = sorted(marks[::2]), sorted(marks[1::2])
-    pairs, used = [], set(marks)
-    for line in (range(0, 9), range(7, 16)):
-        own = [v for v in line if v not in used]
-        if set(line) & set(y):
+    x, y, pairs, used = sorted(marks[::2]), sorted(marks[1::2]), ["pairs"], set(marks)
+    for line in set(range(0, 9)), set(range(7, 16)):
+        own = sorted(line - used)
+        if line & set(y):
             continue
         if len(own) < 2:
             return None
         pairs.append(f"{own[0]}-{own[1]}")
         used.update(own[:2])
-    body = "potential" if is_potential else " ".join(["pairs", *pairs])
-    return f"{FIELD(x)}|{FIELD(y)}|x|{body}\n"
+    return node(x, y, "x", "potential" if is_potential else kit.field(pairs))
 
 
-def mixed_leaves(count):
-    """Nodes of potentials and of pairs in turn."""
-    draw, leaves = random.Random(1), []
-    while len(leaves) < count:
-        leaf = mixed_leaf(draw, len(leaves) % 2)
-        leaves += [leaf] if leaf else []
-    return leaves
-
-
-def moved_on(node, places):
-    """The node with its children so many places later."""
-    head, body = node.rsplit("|", 1)
-    words = body.split()
-    if words[0] == "move":
-        words[2] = str(int(words[2]) + places)
-    if words[0] == "all":
-        replies = [word.split(":") for word in words[1:]]
-        words[1:] = [f"{v}:{int(child) + places}" for v, child in replies]
-    return f"{head}|{' '.join(words)}\n"
-
-
-def maker_maker(*rows, points=256):
-    """The game file of the size that is usual here."""
+def maker_maker(*rows: str, points: int = 256) -> str:
+    """Returns the game file of the size that is usual here."""
     return kit.game("maker-maker", f"points {points}", *rows)
 
 
-def certificate(*claims):
-    """The certificate with these claims of a draw by Y."""
-    return "posgame-cert 1\n" + "".join(claims)
+def draws(nodes: str, times: int = 1, copies: int = 1) -> str:
+    """Returns a certificate with a claim of a draw by Y, once or twice."""
+    return kit.certificate(*[kit.claim("x y draw", nodes, times)] * copies)
 
 
-def mixed_files(count=100_000):
+def mixed_files(count: int = 100_000) -> Files:
     """Two claims of nodes of over, move, all, potential and pairs."""
-    leaves, tree = mixed_leaves(2 * count // 5), Tree()
-    x, y = tree.fill(count - len(leaves))
-    nodes = leaves + [moved_on(node, len(leaves)) for node in tree.nodes]
+    draw, leaves = random.Random(1), []  # type: random.Random, List[str]
+    while len(leaves) < 2 * count // 5:
+        leaves += filter(None, [mixed_leaf(draw, len(leaves) % 2 > 0)])
+    tree = Tree(leaves)
+    marks = map(kit.field, tree.fill(count))
     lines = kit.line_rows([range(0, 9), range(7, 16)])
-    claim = kit.claim("x y draw", "".join(nodes))
-    game = maker_maker(*lines, f"x {FIELD(x)}", f"y {FIELD(y)}", points=POINTS)
-    return game, certificate(claim, claim)
+    game = maker_maker(*lines, *map("{} {}".format, "xy", marks), points=POINTS)
+    return game, draws("".join(tree.nodes), copies=2)
 
 
-def all_files(size=100_000_000):
+def all_files(size: int = 100_000_000) -> Files:
     """Nodes of 250 replies each, at one position, and the nodes that they name."""
     free = range(6, 256)
-    children = "".join(f"0 1 2 {v}|3 4 5|y|potential\n" for v in free)
-    node = "0 1 2|3 4 5|x|all" + "".join(f" {v}:{v - 6}" for v in free) + "\n"
-    claim = kit.claim("x y draw", children + node * (size // len(node)))
-    return maker_maker("x 0 1 2", "y 3 4 5"), certificate(claim)
+    children = "".join(node((0, 1, 2, v), (3, 4, 5), "y", "potential") for v in free)
+    above = node((0, 1, 2), (3, 4, 5), "x", kit.field(["all", *(f"{v}:{v - 6}" for v in free)]))
+    return maker_maker("x 0 1 2", "y 3 4 5"), draws(children + above * (size // len(above)))
 
 
-def long_files(size=268_435_456):
+def long_files(size: int = 268_435_456) -> Files:
     """A certificate of so many bytes with a fault of form in its last line."""
-    node = "||x|pairs" + " 1000-1001" * 150 + "\n"
-    count = (size - 100_000) // len(node) // 2
-    claim = f"claim x y draw\nnodes {count}\n" + node * (count - 1)
-    text, last = certificate(claim, node, claim), "||x|pairs"
+    long, last = node((), (), "x", "pairs" + " 1000-1001" * 150), "||x|pairs"
+    count = (size - 100_000) // len(long) // 2
+    claim = f"claim x y draw\nnodes {count}\n" + long * (count - 1)
+    text = kit.certificate(claim, long, claim)
     return maker_maker(), text + last + "-" * (size - len(text) - len(last) - 1) + "\n"
 
 
-def pair_files(size=100_000_000):
+def pair_files(size: int = 100_000_000) -> Files:
     """Two claims of nodes of 128 pairs."""
-    node = "||x|pairs " + FIELD(f"{v}-{v + 1}" for v in range(0, 256, 2)) + "\n"
-    claim = kit.claim("x y draw", node, size // len(node) // 2)
+    pairs = node((), (), "x", kit.field(["pairs", *(f"{v}-{v + 1}" for v in range(0, 256, 2))]))
     lines = kit.line_rows((v, v + 1, (v + 7) % 256) for v in range(0, 256, 2))
-    return maker_maker(*lines), certificate(claim, claim)
+    return maker_maker(*lines), draws(pairs, size // len(pairs) // 2, 2)
 
 
-def potential_files(count=100):
+def potential_files(count: int = 100) -> Files:
     """Potentials of 20,000 lines."""
     lines = kit.line_rows(sorted((v + 7 * i) % 256 for i in range(20)) for v in range(256))
     lines = itertools.islice(itertools.cycle(lines), 20_000)
-    return maker_maker(*lines), certificate(kit.claim("x y draw", "||x|potential\n", count))
+    return maker_maker(*lines), draws("||x|potential\n", count)
 
 
-KINDS = [
-    ("200,000 nodes of over, move, all, potential and pairs on 16 points", mixed_files, 100_000),
-    ("100 MB of pairs on 256 points", pair_files, 3_000_000),
-    ("100 MB of all nodes with 250 replies on 256 points", all_files, 3_000_000),
-    ("100 nodes of potential on 20,000 lines with 400,000 points", potential_files, None),
-    ("a file of 268,435,456 bytes that is refused at its end", long_files, None),
-    ("a file of one byte more", lambda: long_files(268_435_457), None),
-]
+def tree_files(rows: int = 21) -> Files:
+    """Bridg-it with the two trees into which it falls with the extra edge: trees for X with X to
+    move, cuts for Y with Y to move. A first tree goes along each row up to the diagonal, and down
+    to it; the second has the other edges."""
+    along = [j < i for i in range(rows) for j in range(rows)]
+    down = [j > i for i in range(rows - 1) for j in range(1, rows)]
+    first, second = (kit.field(k for k, it in enumerate(along + down) if it == own)
+                     for own in (True, False))
+    claims = [kit.claim(f"{side} {side} win", f"||{side}|{word} e {first} / {second}\n")
+              for side, word in (("x", "trees"), ("y", "cuts"))]
+    return kit.switching(kit.bridge(rows)), kit.certificate(*claims)
 
 
-def above(figure, limit):
-    return f" (above {limit})" if figure > limit else ""
+def foreign_files(nodes: str, times: int, *turns: str) -> Files:
+    """A certificate for a game that has no such points."""
+    claims = [kit.claim(f"{turn} y draw", nodes, times) for turn in turns]
+    return (kit.EXAMPLES / "noughts-and-crosses.game").read_text(), kit.certificate(*claims)
 
 
-def measure(program, name, game, text):
-    """Prints the seconds and the memory of a check."""
-    with kit.files(game=game, certificate=text) as folder:
-        done = kit.run(program, "check", folder / "game", folder / "certificate")
-    megabytes = done.kilobytes // 1024
-    kit.show(name, [f"{len(text)} bytes", f"{done.seconds:.2f} s",
-                    f"{megabytes} MB{above(megabytes, MOST_MEMORY)}", *done.output.splitlines()])
+def parts() -> Iterator[Tuple[str, Callable[..., Files], Optional[int]]]:
+    """Yields the name of each pair of files, its function, and the size at which to count."""
+    yield "200,000 nodes of five kinds, 16 points", mixed_files, 100_000
+    yield "100 MB of pairs, 256 points", pair_files, 3_000_000
+    yield "100 MB of `all` with 250 replies, 256 points", all_files, 3_000_000
+    yield "100 potentials of 20,000 lines, 400,000 points", potential_files, None
+    yield "268,435,456 bytes, refused at the end", long_files, None
+    yield "a byte more", lambda: long_files(268_435_457), None
+    yield "trees and cuts, 422 vertices, 841 edges", tree_files, None
+    yield "200,000 small nodes, foreign", lambda: foreign_files("||x|pairs\n", 100_000, *"xy"), None
+    long = "||x|pairs" + " 101-203" * 12_500 + "\n"
+    yield "100 MB of pairs, foreign", lambda: foreign_files(long, 1_000, "x"), None
 
 
-def main():
-    program = kit.parser(__doc__).parse_args().program
-    for name, make, small in KINDS:
-        measure(program, name, *make())
-        if small and kit.has_valgrind():
-            game, text = make(small)
+def main() -> int:
+    words = kit.parser(__doc__)
+    words.add_argument("--part", default="", help="certificates with this word in their name")
+    given = words.parse_args()
+    table = kit.Table("certificate", "bytes", kit.Column("s", ".2f"), kit.Column("MB", limit=24),
+                      kit.Column("instructions a byte", ".0f", 80), "first line printed")
+    for name, make, small in parts():
+        if given.part not in name:
+            continue
+        each = None
+        for size in [small] * bool(small and kit.has_valgrind()) + [None]:
+            game, text = make(size) if size else make()
             with kit.files(game=game, certificate=text) as folder:
-                words = program, "check", folder / "game", folder / "certificate"
-                each = kit.count(*words).instructions / len(text)
-            print(f"    {each:.0f} instructions a byte{above(each, MOST_INSTRUCTIONS)}")
+                check = given.program, "check", folder / "game", folder / "certificate"
+                if size:
+                    each = kit.count(*check).instructions / len(text)
+                done = kit.run(*check) if not size else None
+        table.row(name, len(text), done.seconds, done.megabytes, each,
+                  done.output.partition("\n")[0] or f"status {done.status}")
+    return table.end()
 
 
 if __name__ == "__main__":
-    sys.exit(main())
+    raise SystemExit(main())

@@ -3,23 +3,26 @@
 NAME that the prover must refuse. To try all of them takes as long as all proofs together; the gate
 tries those of crates/NAME/must-fail.
 
+    bench/edits.py [NAME..]
+
 Works on a copy of the checkout's files, in which these edits are where `rt ci` looks for them. Each
 crate below those named is proved first, unless the toolchain has kept that. Prints what rt says of
-each edit that isn't as it must be, and its last lines; the status is 1 if there is one.
+each edit that isn't as it must be, and its last lines; the status is 1 if there is one. Unproved.
 """
+from __future__ import annotations
+
 import pathlib
 import re
 import shutil
 import subprocess
-import sys
-import tempfile
+from typing import List
 
 import kit
 
 EDITS = kit.TOP / "bench" / "edits"
 
 
-def copy_tracked(copy):
+def copy_tracked(copy: pathlib.Path) -> None:
     """Copies the checkout's files that git knows."""
     listed = subprocess.run(["git", "ls-files", "-z"], cwd=kit.TOP, capture_output=True, check=True)
     for name in listed.stdout.decode().split("\0"):
@@ -29,17 +32,17 @@ def copy_tracked(copy):
     subprocess.run(["git", "init", "-q"], cwd=copy, check=True)
 
 
-def tried(copy, names):
+def tried(copy: pathlib.Path, names: List[str]) -> int:
     """Tries the edits of these crates in the copy, and returns 1 if one isn't refused."""
     done = subprocess.run(["rt", "ci", *names], cwd=copy, stdout=subprocess.PIPE,
                           stderr=subprocess.STDOUT, text=True, errors="replace")
     lines = [line.strip() for line in re.split("[\r\n]", done.stdout) if line.strip()]
     wrong = [line for line in lines if re.search("BAD EDIT|NOT TRIED|NOT REFUSED", line)]
-    print("\n".join([*wrong, *lines[-3:]]))
-    return 1 if wrong or done.returncode else 0
+    print(*lines[-3:], sep="\n")
+    return kit.end(wrong) or int(done.returncode != 0)
 
 
-def main():
+def main() -> int:
     known = sorted(folder.name for folder in EDITS.iterdir() if folder.is_dir())
     words = kit.parser(__doc__, None)
     words.add_argument("names", metavar="NAME", nargs="*", help=f"of {', '.join(known)}; else all")
@@ -47,8 +50,8 @@ def main():
     unknown = sorted(set(names) - set(known))
     if unknown:
         words.error(f"no edits of {', '.join(unknown)}")
-    with tempfile.TemporaryDirectory(prefix="edits-") as folder:
-        copy = pathlib.Path(folder) / "posgame"
+    with kit.files() as folder:
+        copy = folder / "posgame"
         copy_tracked(copy)
         for name in names:
             must_fail = copy / "crates" / name / "must-fail"
@@ -58,4 +61,4 @@ def main():
 
 
 if __name__ == "__main__":
-    sys.exit(main())
+    raise SystemExit(main())

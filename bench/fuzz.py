@@ -4,7 +4,8 @@ that none may give.
 
 It shares nothing with the crates. Each case is drawn from the seed and its number alone, and is one
 to four runs of the program in a folder of its own: files are made from those of examples/ and from
-what the program solves of them, by changes of bytes, words, numbers and lines. It looks for
+what the program solves of them, by changes of bytes, words (of bench/fuzz.txt), numbers and lines.
+It looks for
 
 - an end by a signal, and a status that the command can't have there;
 - a text that the status doesn't have, more lines than expected, anything on standard error;
@@ -18,8 +19,11 @@ what the program solves of them, by changes of bytes, words, numbers and lines. 
 Connectivity games and games on vectors are tried so too, by their own commands.
 
 What it finds is printed with the number of its case: `--seed S --first K --runs 1` repeats that
-case and shows its arguments and files. The status is 1 if it finds something.
+case and shows its arguments and files. The status is 1 if it finds something. Unproved.
 """
+from __future__ import annotations
+
+import argparse
 import collections
 import contextlib
 import os
@@ -28,17 +32,20 @@ import random
 import re
 import shutil
 import signal
-import sys
 import time
+from typing import Any, Dict, List, Optional, Tuple
 
 import kit
+
+Draw = random.Random
+Pairs = Dict[Optional[str], List[Tuple[bytes, bytes]]]
 
 SECONDS = 2
 BY_THE_CLOCK = 30
 MEGABYTES = 200
-ACCEPTED = r"(accepted [xy] [xy] (win|draw)\n){1,8}"
-RESULT = r"result (maker|breaker|x|y|draw|avoider|enforcer)\n"
-PLAYED = r"result (maker|breaker|x|y|draw|avoider|enforcer|short|cut)\n"
+WINNER = "(maker|breaker|x|y|draw|avoider|enforcer{})"
+RESULT = rf"result {WINNER.format('')}\n"
+PLAYED = rf"result {WINNER.format('|short|cut')}\n"
 CLASS = r"class (short|cut|first-mover)\n"
 MADE = r"game \d+ (points \d+ lines|vertices \d+ edges)\n"
 UNKNOWN = r"unknown after \d+ positions\n"
@@ -46,57 +53,40 @@ CLAIM = r'\{"goal":"(win|draw)","nodes":\d+,"side":"[xy]","turn":"[xy]"\}'
 SIZES = (r'("kind":"(maker-breaker|maker-maker|avoider-enforcer)","lines":\d+,"points":\d+|'
          r'"kind":"switching","points":\d+,"vertices":\d+)')
 REPORT = rf'\{{("bias":[2-7],)?"claims":\[{CLAIM}(,{CLAIM}){{0,7}}\],{SIZES}\}}\n'
-REJECTED = r"rejected J([1-9]|1[0-3]) claim \d+ node \d+\n"
 REJECTION = r'\{"claim":\d+,"node":\d+,"reject":"J([1-9]|1[0-3])"\}\n'
-GAME_FAULT = r"game G([1-9]|1[0-3]) line \d+\n"
 FORM_FAULT = r"certificate C[1-6] line \d+\n"
 REFUSED = r"refused: (not a number|no such point|taken)\n"
 TURNS = rf"claim [xy] (win|draw)\n(move \d+\n|{REFUSED})*"
-NO_SIDE = r"words: no claim for side [xy]\n"
-READING = {3: GAME_FAULT, 4: rf"{FORM_FAULT}|{REJECTED}", 5: ""}
-WON = r"(accepted [xy] [xy] win\n){1,8}"
-FLAWS = {"span": r"rejected S[1-3] claim \d+\n", "vec": r"rejected V[1-5] claim \d+ node 0\n"}
-WINNERS = {"span": "(maker|breaker)", "vec": "(short|cut)"}
 
 
-def family_dues(family):
-    """What the commands of a family may say at each status."""
-    reading = {3: GAME_FAULT, 4: rf"{FORM_FAULT}|{FLAWS[family]}", 5: ""}
-    winner = WINNERS[family]
-    played = {0: rf"{TURNS}result {winner}\n", 2: NO_SIDE, **reading, 8: TURNS, 9: TURNS}
+def dues(prefix: str, flaw: str, goals: str, solved: Dict[int, str],
+         played: str) -> Dict[Optional[str], Dict[int, str]]:
+    """What the commands on a kind of game may print at each status."""
+    reading = {3: r"game G([1-9]|1[0-3]) line \d+\n", 4: rf"{FORM_FAULT}|{flaw}", 5: ""}
+    play = {0: TURNS + played, 2: r"words: no claim for side [xy]\n", **reading, 8: TURNS, 9: TURNS}
     return {
-        f"{family} check": {0: WON, **reading},
-        f"{family} solve": {0: rf"class ({winner}|first-mover)\n", 3: GAME_FAULT, 5: "", 6: ""},
-        f"{family} play": played,
+        f"{prefix}check": {0: rf"(accepted [xy] [xy] {goals}\n){{1,8}}", **reading},
+        f"{prefix}solve": {**solved, 3: reading[3], 5: "", 6: ""},
+        f"{prefix}play": play,
+        f"{prefix}report": {0: REPORT, **reading, 4: rf"{FORM_FAULT}|{REJECTION}"},
     }
 
 
 DUE = {
-    **family_dues("span"),
-    **family_dues("vec"),
-    "check": {0: ACCEPTED, **READING},
-    "report": {0: REPORT, **READING, 4: rf"{FORM_FAULT}|{REJECTION}"},
-    "solve": {0: rf"{RESULT}|{CLASS}", 1: UNKNOWN, 3: GAME_FAULT, 5: "", 6: ""},
-    "play": {0: TURNS + PLAYED, 2: NO_SIDE, **READING, 8: TURNS, 9: TURNS},
+    **dues("span ", r"rejected S[1-3] claim \d+\n", "win",
+           {0: r"class (maker|breaker|first-mover)\n"}, r"result (maker|breaker)\n"),
+    **dues("vec ", r"rejected V[1-5] claim \d+ node 0\n", "win", {0: CLASS},
+           r"result (short|cut)\n"),
+    **dues("", r"rejected J([1-9]|1[0-3]) claim \d+ node \d+\n", "(win|draw)",
+           {0: rf"{RESULT}|{CLASS}", 1: UNKNOWN}, PLAYED),
     "gen": {0: rf"{MADE}(({RESULT}|{CLASS})expanded \d+ nodes \d+\n)?", 1: MADE + UNKNOWN,
             6: rf"({MADE})?"},
     None: {2: r"words: no meaning\n"},
 }
 # Words that are put into files, and arguments.
-KEYS = """posgame kind points grid bias vertices terminals line shape edge x y turn maker-breaker
-    maker-maker avoider-enforcer switching 110/011 1 11 # 256 257 1000""".split()
-SIGNS = """claim nodes over move all pairs potential trees cuts threat weaker y2 y7 e / | || |||| x
-    y win draw posgame-cert 0:0 1:5 0-1 2-5 1023 1024 99999 100000""".split()
-FAMILY_KEYS = """posgame-span posgame-vectors 1 vertices edge rows target vector x y turn kind 0 2 3
-    128 129 500 501 1000 01 10 11 110 # 2""".split()
-FAMILY_SIGNS = """posgame-span-cert posgame-cert claim trees parts cuts first e / | x y win nodes
-    999 1000""".split()
-NUMBERS = """0 1 2 3 4 5 8 9 16 22 23 256 257 2147483647 2147483648 999999999 1000000000 09 -1 1.0
-    x""".split()
-NAMES = ["G", "C", "O", "missing", "folder", "folder/new", "no folder/new", ".", "", "-", "--",
-         "-G", "ä", "x" * 300]
-WORDS = """solve check play gen report rows bridge scatter --positions --positions=5 --positions=
-    --side --side=x --side=y --help -h --version span vec x y""".split()
+KEYS, SIGNS, FAMILY_KEYS, FAMILY_SIGNS, NUMBERS, NAMES, WORDS = (
+    " ".join(it).split() for it in kit.stanzas("fuzz.txt"))
+NAMES += ["", "no folder/new", "x" * 300]
 COMMANDS = ["solve G C", "check G C", "play G C --side x", "report G C", "gen rows 3 O",
             "gen bridge 2 O C", "gen scatter 1 5 2 2 O", "span solve G C", "vec check G C",
             "span play G C --side x", ""]
@@ -106,36 +96,35 @@ TYPED = ["", " 3\t", "x", "00", "9" * 70, "-1", "3 4", "\0", "ä", "1" * 64]
 class Program:
     """The program, run in one folder. `folder` has the files of the case that is tried."""
 
-    def __init__(self, path, folder):
+    def __init__(self, path: str, folder: pathlib.Path) -> None:
         self.path, self.folder = path, folder
-        self.runs, self.statuses = 0, collections.Counter()
+        self.runs, self.statuses = 0, collections.Counter()  # type: int, collections.Counter[int]
         self.most, self.slowest = 0, 0.0
-        self.input, self.said, self.errors = (f"{folder}.{it}" for it in ("in", "out", "err"))
+        self.streams = [f"{folder}.{it}" for it in ("in", "out", "err")]
 
-    def run(self, words, typed=b""):
+    def run(self, words: List[str], typed: bytes = b"") -> Tuple[int, str, bytes, int, float]:
         """The status (or the signal below 0), the output, the errors, megabytes, seconds."""
-        pathlib.Path(self.input).write_bytes(typed)
+        pathlib.Path(self.streams[0]).write_bytes(typed)
         new = os.O_WRONLY | os.O_CREAT | os.O_TRUNC
-        streams = (self.input, os.O_RDONLY), (self.said, new), (self.errors, new)
-        opened = [(os.POSIX_SPAWN_OPEN, number, path, how, 0o600)
-                  for number, (path, how) in enumerate(streams)]
+        opened = [(os.POSIX_SPAWN_OPEN, number, path, new if number else os.O_RDONLY, 0o600)
+                  for number, path in enumerate(self.streams)]
         child = os.posix_spawn(self.path, [self.path, *words], os.environ, file_actions=opened)
         self.watch(child)
         _, status, used = os.wait4(child, 0)
         signal.setitimer(signal.ITIMER_REAL, 0)
         status, seconds = os.waitstatus_to_exitcode(status), used.ru_utime + used.ru_stime
+        megabytes = used.ru_maxrss // 1024
         self.runs += 1
         self.statuses[status] += 1
-        self.most = max(self.most, used.ru_maxrss // 1024)
-        self.slowest = max(self.slowest, seconds)
-        said = pathlib.Path(self.said).read_bytes().decode("utf-8", "replace")
-        return status, said, pathlib.Path(self.errors).read_bytes(), used.ru_maxrss // 1024, seconds
+        self.most, self.slowest = max(self.most, megabytes), max(self.slowest, seconds)
+        said, errors = (pathlib.Path(it).read_bytes() for it in self.streams[1:])
+        return status, said.decode("utf-8", "replace"), errors, megabytes, seconds
 
-    def watch(self, child):
+    def watch(self, child: int) -> None:
         """Ends the child where it takes too long: it is looked at each second."""
         begun = time.monotonic()
 
-        def look(*_):
+        def look(*_: object) -> None:
             with contextlib.suppress(OSError):  # (it may have ended just now)
                 fields = pathlib.Path(f"/proc/{child}/stat").read_text().rsplit(")", 1)[1].split()
                 taken = (int(fields[11]) + int(fields[12])) / os.sysconf("SC_CLK_TCK")
@@ -146,27 +135,19 @@ class Program:
         signal.setitimer(signal.ITIMER_REAL, 1, 1)
 
 
-def held(folder):
+def held(folder: pathlib.Path) -> Dict[str, Optional[bytes]]:
     """What each name in the folder holds."""
-    found = {}
-    for place, folders, files in os.walk(folder):
-        for name in folders:
-            found[os.path.relpath(os.path.join(place, name), folder)] = None
-        for name in files:
-            path = os.path.join(place, name)
-            found[os.path.relpath(path, folder)] = pathlib.Path(path).read_bytes()
-    return found
+    return {str(it.relative_to(folder)): it.read_bytes() if it.is_file() else None
+            for it in folder.rglob("*")}
 
 
-def is_number(word, digits=9):
-    return re.fullmatch(rf"0|[1-9][0-9]{{0,{digits - 1}}}", word) is not None
+def is_within(word: str, least: int, most: int, digits: int = 9) -> bool:
+    """Whether a word is a number within these limits, of so many digits at most."""
+    form = rf"0|[1-9][0-9]{{0,{digits - 1}}}"
+    return re.fullmatch(form, word) is not None and least <= int(word) <= most
 
 
-def is_within(word, least, most, digits=9):
-    return is_number(word, digits) and least <= int(word) <= most
-
-
-def taken(words):
+def taken(words: List[str]) -> Optional[Tuple[List[Tuple[str, str]], List[str]]]:
     """The options and the other words of a list, or None where it has no meaning."""
     options, others, rest = [], [], list(words)
     while rest:
@@ -187,14 +168,14 @@ def taken(words):
     return options, others
 
 
-def made(others):
+def made(kind: str, others: List[str]) -> Optional[List[str]]:
     """What `gen` writes, or None where its words have no meaning."""
-    numbers = {"rows": 1, "bridge": 1, "scatter": 4}.get(others[0] if others else "")
-    if numbers is None or len(others) - 1 - numbers not in (1, 2):
+    numbers = {"rows": 1, "bridge": 1, "scatter": 4}.get(kind)
+    if numbers is None or len(others) - numbers not in (1, 2):
         return None
-    given, names = others[1 : 1 + numbers], others[1 + numbers :]
-    if others[0] != "scatter":
-        limits = {"rows": (2, 16), "bridge": (1, 22)}[others[0]]
+    given, names = others[:numbers], others[numbers:]
+    if kind != "scatter":
+        limits = {"rows": (2, 16), "bridge": (1, 22)}[kind]
         return names if is_within(given[0], *limits) else None
     seed, points, lines, size = given
     is_board = is_within(points, 1, 256) and is_within(lines, 0, 20_000)
@@ -204,9 +185,9 @@ def made(others):
     return names if is_size else None
 
 
-def meaning(words):
+def meaning(words: List[str]) -> Tuple[Optional[str], List[str]]:
     """The command and what it writes; None and nothing if the words have no meaning."""
-    none = None, []
+    none: Tuple[Optional[str], List[str]] = (None, [])
     split = taken(words)
     if split is None or not split[1]:
         return none
@@ -215,12 +196,12 @@ def meaning(words):
     if len(values) < len(options):
         return none
     if command == "gen" and not options:
-        names = made(others)
+        names = made(others[0], others[1:]) if others else None
         return none if names is None else ("gen", names)
-    family = command if command in ("span", "vec") and others else None
+    family = f"{command} " if command in ("span", "vec") and others else ""
     if family:
         command, *others = others
-    known = ["solve", "check", "play"] + ([] if family else ["report"])
+    known = ["solve", "check", "play"] + ["report"] * (not family)
     if command not in known or len(others) != 2:
         return none
     allowed = {"solve": [] if family else ["--positions"], "play": ["--side"]}.get(command, [])
@@ -228,23 +209,14 @@ def meaning(words):
         return none
     if command == "play" and values.get("--side") not in ("x", "y"):
         return none
-    said = f"{family} {command}" if family else command
-    return said, others[1:] if command == "solve" else []
+    return family + command, others[1:] if command == "solve" else []
 
 
-def changed(before, after, status, command, writes):
-    """What is wrong with the files after a run."""
-    keeps = status in (2, 3, 4) or status == 1 and command == "solve"
-    may_change = set() if keeps else {os.path.normpath(name) for name in writes}
-    return [f"{name} changed" for name in sorted(before.keys() | after.keys())
-            if before.get(name, 0) != after.get(name, 0) and name not in may_change]
-
-
-def wrongs(program, words, typed=b""):
+def wrongs(program: Program, words: List[str], typed: bytes = b"") -> Tuple[List[str], int, str]:
     """Runs the program; what is wrong with the run, with its status and what it said."""
     before = held(program.folder)
     status, said, errors, megabytes, seconds = program.run(words, typed)
-    command, writes = meaning(words)
+    after, (command, writes) = held(program.folder), meaning(words)
     found = []
     if status < 0:
         found.append(f"signal {-status} after {seconds:.2f} s")
@@ -254,34 +226,39 @@ def wrongs(program, words, typed=b""):
         found.append(f"status {status} with {said[:200]!r}")
     if status == 9 and not re.search(rf"({REFUSED})\Z", said):
         found.append("status 9 without a refusal at its end")
-    if seconds > SECONDS:
-        found.append(f"{seconds:.2f} s of a processor")
-    if errors:
-        found.append(f"standard error {errors[:200]!r}")
-    if megabytes > MEGABYTES:
-        found.append(f"{megabytes} MB")
-    return found + changed(before, held(program.folder), status, command, writes), status, said
+    for is_wrong, text in ((seconds > SECONDS, f"{seconds:.2f} s of a processor"),
+                           (errors, f"standard error {errors[:200]!r}"),
+                           (megabytes > MEGABYTES, f"{megabytes} MB")):
+        found += [text] if is_wrong else []
+    keeps = status in (2, 3, 4) or status == 1 and command == "solve"
+    may_change = set() if keeps else {os.path.normpath(name) for name in writes}
+    found += [f"{name} changed" for name in sorted(before.keys() | after.keys())
+              if before.get(name, 0) != after.get(name, 0) and name not in may_change]
+    return found, status, said
 
 
-def stored(program, names, *prefix):
-    """What is wrong with a check of what was stored."""
-    found, checked, said = wrongs(program, [*prefix, "check", *names])
-    return found + ([f"stored, and then {said!r}"] if checked else [])
+def stored(program: Program, names: List[str], words: List[str], *prefix: str) -> List[str]:
+    """Runs the program, and checks what it stored; what is wrong with the two."""
+    found, status, _ = wrongs(program, [*prefix, *words])
+    if status == 0 and len(names) == 2:
+        wrong, checked, said = wrongs(program, [*prefix, "check", *names])
+        found += wrong + ([f"stored, and then {said!r}"] if checked else [])
+    return found
 
 
-def cut(draw, data):
+def cut(draw: Draw, data: bytes, _: List[str]) -> bytes:
     """A part from the start."""
     return data[: draw.randrange(len(data) + 1)]
 
 
-def one_byte(draw, data):
+def one_byte(draw: Draw, data: bytes, _: List[str]) -> bytes:
     """One byte put in, or in place of another."""
     place = draw.randrange(len(data) + 1)
     byte = bytes([draw.choice((draw.randrange(256), 32, 10, 13, 0, 124, 48, 45))])
     return data[:place] + byte + data[place + draw.randrange(2) :]
 
 
-def lines_moved(draw, data):
+def lines_moved(draw: Draw, data: bytes, _: List[str]) -> bytes:
     """A line dropped, repeated or moved, or some lines repeated."""
     lines = data.split(b"\n")
     first, second = draw.randrange(len(lines)), draw.randrange(len(lines))
@@ -298,7 +275,7 @@ def lines_moved(draw, data):
     return b"\n".join(lines)
 
 
-def words_changed(draw, data, pool):
+def words_changed(draw: Draw, data: bytes, pool: List[str]) -> bytes:
     """One word changed."""
     parts = re.split(rb"([ \n|:-])", data)
     place = draw.randrange(len(parts))
@@ -312,7 +289,7 @@ def words_changed(draw, data, pool):
     return b"".join(parts)
 
 
-def numbers_changed(draw, data):
+def numbers_changed(draw: Draw, data: bytes, _: List[str]) -> bytes:
     """One number a little higher or lower: what is most often still a file in form."""
     found = list(re.finditer(rb"\d+", data))
     if not found:
@@ -322,36 +299,28 @@ def numbers_changed(draw, data):
     return data[: at.start()] + str(number).encode() + data[at.end() :]
 
 
-def long_file(draw, data):
+def long_file(draw: Draw, data: bytes, _: List[str]) -> bytes:
     """A line repeated many times."""
-    lines = data.split(b"\n")
-    line = draw.choice(lines)
-    part = line + draw.choice((b"\n", b" ", b""))
+    part = draw.choice(data.split(b"\n")) + draw.choice((b"\n", b" ", b""))
     most = 2_000_000 // (len(part) + 1)
     return data + b"\n" + part * min(draw.choice((300, 3_000, 30_000)), most)
 
 
-def mutated(draw, data, pool):
+# Each change, and how often of a hundred it is drawn.
+CHANGES = {numbers_changed: 40, words_changed: 20, lines_moved: 18, one_byte: 14, cut: 7,
+           long_file: 1}
+
+
+def mutated(draw: Draw, data: bytes, pool: List[str]) -> bytes:
     """Some changes one after the other."""
     for _ in range(draw.choice((0, 1, 1, 1, 2, 3, 8))):
         # A long file stays as long as it is: a run counts the memory of this script.
-        how = draw.randrange(100) if len(data) < 200_000 else draw.randrange(78, 99)
-        if how < 40:
-            data = numbers_changed(draw, data)
-        elif how < 60:
-            data = words_changed(draw, data, pool)
-        elif how < 78:
-            data = lines_moved(draw, data)
-        elif how < 92:
-            data = one_byte(draw, data)
-        elif how < 99:
-            data = cut(draw, data)
-        else:
-            data = long_file(draw, data)
+        changes = CHANGES if len(data) < 200_000 else {one_byte: 14, cut: 7}
+        data = draw.choices(*zip(*changes.items()))[0](draw, data, pool)
     return data
 
 
-def typed_lines(draw):
+def typed_lines(draw: Draw) -> bytes:
     """Replies, most of them numbers of points."""
     line = lambda: draw.choice((str(draw.randrange(12)), str(draw.randrange(30)), *TYPED))
     count = draw.choice((0, 3, 12, 40, 150))
@@ -359,44 +328,26 @@ def typed_lines(draw):
     return text.encode() + draw.choice((b"", b"7", b"\xff\xfe", b"1" * 8_000))
 
 
-def write(folder, files):
-    """Leaves these files alone in the folder, with an empty one."""
-    for name in os.listdir(folder):
-        path = os.path.join(folder, name)
-        shutil.rmtree(path) if os.path.isdir(path) else os.remove(path)
-    os.mkdir(os.path.join(folder, "folder"))
-    for name, data in files.items():
-        pathlib.Path(folder, name).write_bytes(data)
+def write(folder: pathlib.Path, **files: bytes) -> None:
+    """Leaves these files alone in the folder, with another and an empty folder."""
+    shutil.rmtree(folder / "folder", ignore_errors=True)
+    for path in folder.iterdir():
+        path.unlink()
+    (folder / "folder").mkdir()
+    for name, data in {"O": b"other", **files}.items():
+        (folder / name).write_bytes(data)
 
 
-def certificate_case(draw, program, pairs):
-    """Check, report and play of one pair of files, which must agree."""
-    game, certificate = draw.choice(pairs[None])
-    if draw.randrange(4) == 0:
-        game = mutated(draw, game, KEYS)
-    certificate = mutated(draw, certificate, SIGNS)
-    write(program.folder, {"G": game, "C": certificate, "O": b"other"})
-    side = draw.choice("xy")
-    runs = [(["check", "G", "C"], b""), (["report", "G", "C"], b""),
-            (["play", "G", "C", "--side", side], typed_lines(draw))]
-    found, ends = [], []
-    for words, typed in runs:
-        wrong, status, said = wrongs(program, words, typed)
-        found += [f"{' '.join(words)}: {it}" for it in wrong]
-        ends.append((status, said))
-    return found + disagreements(*ends)
-
-
-def disagreements(check, report, play):
-    """What is wrong with the statuses and texts of three commands together."""
-    (checked, text), (reported, told), (played, log) = check, report, play
-    found, claims = [], text.count("\n")
-    is_right = reported == 0 and played in (0, 2, 8, 9) and told.count('"goal"') == claims
-    if checked == 0 and not is_right:
+def disagreements(check: Tuple[int, str], report: Optional[Tuple[int, str]],
+                  play: Tuple[int, str]) -> List[str]:
+    """What is wrong with the three commands' statuses and texts. A family has no report."""
+    (checked, text), (reported, told), (played, log) = check, report or (check[0], ""), play
+    found, is_right = [], reported == 0 and played in (0, 2, 8, 9)
+    if checked == 0 and not (is_right and (not report or told.count('"goal"') == text.count("\n"))):
         found.append(f"accepted, but {reported}, {played}")
     if checked != 0 and ((reported, played) != (checked, checked) or log != text):
         found.append(f"refused by {checked}, but {reported}, {played}")
-    if text.startswith("rejected"):
+    if report and text.startswith("rejected"):
         names = ("reject", "claim", "node")
         shown = [re.findall(rf'"{name}":"?J?(\d+)', told)[:1] for name in names]
         if [[it] for it in re.findall(r"\d+", text)] != shown:
@@ -404,51 +355,53 @@ def disagreements(check, report, play):
     return found
 
 
-def solve_case(draw, program, pairs):
-    """A game that is solved, and what was stored then."""
-    game = mutated(draw, draw.choice(pairs[None])[0], KEYS)
-    write(program.folder, {"G": game, "C": b"old", "O": b"other"})
-    words = ["solve", "G", "C", "--positions", str(draw.choice((1, 2, 10, 100, 1_000)))]
-    found, status, _ = wrongs(program, words if draw.randrange(3) else words[:3])
-    return found + (stored(program, ["G", "C"]) if status == 0 else [])
+def certificate_case(draw: Draw, program: Program, pairs: Pairs,
+                     family: Optional[str] = None) -> List[str]:
+    """Check, report and play of one pair of files, which must agree."""
+    game, certificate = draw.choice(pairs[family])
+    keys, signs = (FAMILY_KEYS, FAMILY_SIGNS) if family else (KEYS, SIGNS)
+    if draw.randrange(3 if family else 4) == 0:
+        game = mutated(draw, game, keys)
+    write(program.folder, G=game, C=mutated(draw, certificate, signs))
+    found, ends, prefix = [], [], [family] if family else []
+    for command in ["check"] + ["report"] * (not family) + ["play"]:
+        side = ["--side", draw.choice("xy")] if command == "play" else []
+        typed = typed_lines(draw) if command == "play" else b""
+        wrong, *end = wrongs(program, [*prefix, command, "G", "C", *side], typed)
+        found += [f"{command}: {it}" for it in wrong]
+        ends.append(tuple(end))
+    return found + disagreements(ends[0], None if family else ends[1], ends[-1])
 
 
-def family_case(draw, program, pairs):
+def family_case(draw: Draw, program: Program, pairs: Pairs) -> List[str]:
     """Check and play of one pair of files of a family, which must agree; and the game solved."""
     family = draw.choice(("span", "vec"))
-    game, certificate = draw.choice(pairs[family])
-    if draw.randrange(3) == 0:
-        game = mutated(draw, game, FAMILY_KEYS)
-    write(program.folder, {"G": game, "C": mutated(draw, certificate, FAMILY_SIGNS), "O": b"other"})
-    found, checked, text = wrongs(program, [family, "check", "G", "C"])
-    words = [family, "play", "G", "C", "--side", draw.choice("xy")]
-    wrong, played, log = wrongs(program, words, typed_lines(draw))
-    found += wrong
-    if checked == 0 and played not in (0, 2, 8, 9):
-        found.append(f"accepted, but {played}")
-    if checked != 0 and (played, log) != (checked, text):
-        found.append(f"refused by {checked}, but {played}")
-    wrong, status, _ = wrongs(program, [family, "solve", "G", "O"])
-    found += wrong
-    return found + (stored(program, ["G", "O"], family) if status == 0 else [])
+    found = certificate_case(draw, program, pairs, family)
+    return found + stored(program, ["G", "O"], ["solve", "G", "O"], family)
 
 
-def gen_case(draw, program, _):
+def solve_case(draw: Draw, program: Program, pairs: Pairs) -> List[str]:
+    """A game that is solved, and what was stored then."""
+    game = mutated(draw, draw.choice(pairs[None])[0], KEYS)
+    write(program.folder, G=game, C=b"old")
+    words = ["solve", "G", "C", "--positions", str(draw.choice((1, 2, 10, 100, 1_000)))]
+    return stored(program, ["G", "C"], words if draw.randrange(3) else words[:3])
+
+
+def gen_case(draw: Draw, program: Program, _: Pairs) -> List[str]:
     """A game that is made, and what was stored then."""
-    write(program.folder, {"G": b"old game", "C": b"old", "O": b"other"})
+    write(program.folder, G=b"old game", C=b"old")
     rows, bridge = f"rows {draw.choice((2, 3, 4, 5, 16, 17))}", f"bridge {draw.randrange(24)}"
     scatter = f"scatter {kit.field(map(draw.randrange, (2**32, 30, 60, 8)))}"
-    words = ["gen", *draw.choice((rows, bridge, scatter)).split(), "G"]
-    words += ["C"] if draw.randrange(2) else []
-    found, status, _ = wrongs(program, words)
-    return found + (stored(program, ["G", "C"]) if status == 0 and words[-1] == "C" else [])
+    names = ["G", "C"][: 1 + draw.randrange(2)]
+    words = ["gen", *draw.choice((rows, bridge, scatter)).split(), *names]
+    return stored(program, names, words)
 
 
-def words_case(draw, program, pairs):
+def words_case(draw: Draw, program: Program, pairs: Pairs) -> List[str]:
     """Words of any kind."""
     game, certificate = draw.choice(pairs[draw.choice((None, None, "span", "vec"))])
-    files = {"G": game, "C": certificate, "O": b"other", "-G": game, "ä": certificate}
-    write(program.folder, files)
+    write(program.folder, **{"G": game, "C": certificate, "-G": game, "ä": certificate})
     words = draw.choice(COMMANDS).split()
     for _ in range(draw.choice((0, 1, 1, 2, 4))):
         place = draw.randrange(len(words) + 1)
@@ -463,28 +416,26 @@ def words_case(draw, program, pairs):
 CASES = [certificate_case] * 6 + [solve_case, gen_case] + [words_case, family_case] * 2
 
 
-def family_of(game):
+def family_of(game: bytes) -> Optional[str]:
     """The further family of which the file is a game, or None."""
-    for line in game.split(b"\n"):
-        if line.strip() and not line.startswith(b"#"):
-            return {b"posgame-span 1": "span", b"posgame-vectors 1": "vec"}.get(line)
-    return None
+    lines = [it for it in game.split(b"\n") if it.strip() and not it.startswith(b"#")]
+    return {b"posgame-span 1": "span", b"posgame-vectors 1": "vec"}.get(lines[0])
 
 
-def pairs_of_examples(program):
+def pairs_of_examples(program: Program) -> Pairs:
     """By family, the games of examples/ with each certificate there that is valid or rejected for
     them, and with what the program solves of them."""
-    games = [path.read_bytes() for path in sorted(kit.EXAMPLES.glob("*.game"))]
-    certificates = [path.read_bytes() for path in sorted(kit.EXAMPLES.glob("*.cert"))]
+    games, certificates = ([path.read_bytes() for path in sorted(kit.EXAMPLES.glob(it))]
+                           for it in ("*.game", "*.cert"))
     accepted, rejected = collections.defaultdict(list), collections.defaultdict(list)
     for game in games:
         family = family_of(game)
         prefix = [family] if family else []
-        write(program.folder, {"G": game})
+        write(program.folder, G=game)
         if program.run([*prefix, "solve", "G", "S"])[0] == 0:
-            accepted[family].append((game, pathlib.Path(program.folder, "S").read_bytes()))
+            accepted[family].append((game, (program.folder / "S").read_bytes()))
         for certificate in certificates:
-            pathlib.Path(program.folder, "C").write_bytes(certificate)
+            (program.folder / "C").write_bytes(certificate)
             status, said, *_ = program.run([*prefix, "check", "G", "C"])
             if status == 0:
                 accepted[family].append((game, certificate))
@@ -493,48 +444,43 @@ def pairs_of_examples(program):
     return {family: pairs * 6 + rejected[family] for family, pairs in accepted.items()}
 
 
-def shown(program):
-    """Prints the files of a case."""
-    for name, data in sorted(held(program.folder).items()):
-        print(f"{name}: {data if data is None or len(data) < 2_000 else data[:2_000] + b'..'}")
-
-
-def try_cases(program, given):
-    """Runs cases, and returns how many there were and how many were wrong."""
+def try_cases(program: Program, given: argparse.Namespace) -> Tuple[int, int, List[str]]:
+    """Runs cases, and returns how many runs and cases there were and what was wrong."""
     pairs = pairs_of_examples(program)
-    begun, number, wrong = program.runs, given.first, 0
+    begun, number, wrong = program.runs, given.first, []  # type: int, int, List[str]
     while program.runs - begun < given.runs:
         draw = random.Random(f"{given.seed} {number}")
-        case = draw.choice(CASES)
+        case: Any = draw.choice(CASES)
         found = case(draw, program, pairs)
         again = f"repeat with --seed {given.seed} --first {number} --runs 1"
-        for it in found:
-            print(f"{case.__name__} {number}: {it}; {again}")
-        if found and given.runs == 1:
-            shown(program)
-        wrong += bool(found)
+        wrong += [f"{case.__name__} {number}: {it}; {again}" for it in found]
+        for name, data in sorted(held(program.folder).items()) if found and given.runs == 1 else ():
+            print(f"{name}: {data if data is None or len(data) < 2_000 else data[:2_000] + b'..'}")
         number += 1
     return program.runs - begun, number - given.first, wrong
 
 
-def main():
+def main() -> int:
     words = kit.parser(__doc__)
     words.add_argument("--runs", type=int, default=20_000, help="so many runs, or a few more")
     words.add_argument("--seed", type=int, default=1)
     words.add_argument("--first", type=int, default=0, help="the number of the first case")
     given = words.parse_args()
     with kit.files() as top:
-        folder = top / "case"
-        folder.mkdir()
-        os.chdir(folder)
-        program = Program(given.program, str(folder))
+        (top / "case").mkdir()
+        os.chdir(top / "case")
+        program = Program(given.program, top / "case")
         runs, cases, wrong = try_cases(program, given)
         os.chdir(top)
-    ends = ", ".join(f"{many} with {status}" for status, many in sorted(program.statuses.items()))
-    print(f"{runs} runs, {cases} cases, {wrong} wrong; statuses: {ends}; at most {program.most} MB"
-          f" and {program.slowest:.2f} s of a processor")
-    return 1 if wrong else 0
+    table = kit.Table("what", "number")
+    for what, number in (("runs", runs), ("cases", cases), ("findings", len(wrong)),
+                         ("greatest memory, MB", program.most),
+                         ("longest run, s of a processor", f"{program.slowest:.2f}")):
+        table.row(what, number)
+    for status, many in sorted(program.statuses.items()):
+        table.row(f"runs ended with status {status}", many)
+    return kit.end(wrong)
 
 
 if __name__ == "__main__":
-    sys.exit(main())
+    raise SystemExit(main())

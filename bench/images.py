@@ -5,11 +5,13 @@ certificate, those that stay plain if it is folded, and what the flag costs.
 posgame solves each board with --images and without; both certificates must be accepted.
 Instructions are counted by callgrind, where that is installed: the flag may cost a tenth of what
 solving costs. At last it is measured how long it takes to see whether a map fits a board of 20,000
-lines of 20 points: 0.2 seconds of a processor at most.
+lines of 20 points: 0.2 seconds of a processor at most. Unproved.
 """
+from __future__ import annotations
+
 import itertools
 import pathlib
-import sys
+from typing import Any, Iterator, List, Tuple
 
 import kit
 
@@ -19,8 +21,8 @@ ANIMALS = [
     ("tippy", "110/011", [(4, 4), (5, 5)]), ("fatty", "11/11", [(4, 4), (5, 5)]),
     ("skinny", "1111", [(4, 4)]),
 ]
-HEADS = ["board", "result", "nodes", "plain nodes folded", "share", "instructions", "with images",
-         "the flag's cost"]
+COLUMNS = ("board", "result", "nodes", "plain nodes folded", kit.Column("share", ".2f"),
+           "instructions", "with images", kit.Column("the flag's cost", ".1%", 0.1))
 HEAD = """\
 # What images save
 
@@ -39,12 +41,12 @@ plain with `--images`; and what the flag costs, in instructions by callgrind.
 """
 
 
-def game(kind, height, width, *rows):
+def game(kind: str, height: int, width: int, *rows: str) -> str:
     """The file of a game on a grid."""
     return kit.game(kind, f"grid {width} {height}", *rows)
 
 
-def boards():
+def boards() -> Iterator[Tuple[str, str]]:
     """The name of each board, and its file."""
     for kind, name in kit.KINDS.items():
         lines = kit.line_rows(kit.in_row(3, 3, 3))
@@ -58,7 +60,7 @@ def boards():
             yield f"{name}, {width} by {height}, Maker-Breaker", text
 
 
-def heavy_board():
+def heavy_board() -> str:
     """16 by 16 cells with some 20,000 lines of 20 points, which every map takes onto its lines."""
     side, lines, seed = 16, set(), 1
     while len(lines) <= 20_000 - 8:
@@ -73,81 +75,60 @@ def heavy_board():
     return game("maker-breaker", side, side, *kit.line_rows(sorted(lines)))
 
 
-def nodes(path):
-    """How many nodes a certificate has, and how many of them are plain."""
-    found = [line for line in path.read_text().splitlines() if "|" in line] if path.exists() else []
-    return len(found), sum("|image " not in line for line in found)
-
-
-def measured(program, folder):
-    """The result, the nodes of the plain certificate and the plain nodes of the folded one, the
-    cost of both runs, if it can be counted, and what is wrong."""
-    path, said, costs, faults = folder / "game", [], [], []
-    for name, flags in (("plain", []), ("folded", ["--images"])):
+def measured(program: str, folder: pathlib.Path) -> Tuple[List[Any], List[str]]:
+    """The cells of a board, and what is wrong with them."""
+    path, said, costs, wrong, nodes = folder / "game", [], [], [], []
+    for name, flags in ("plain", []), ("folded", ["--images"]):
         said.append(kit.run(program, "solve", path, folder / name, *flags).output.strip())
-        checked = kit.run(program, "check", path, folder / name).output.splitlines()
-        if not checked or not all(line.startswith("accepted ") for line in checked):
-            faults.append(f"THE {name} ONE IS NOT ACCEPTED")
+        if not kit.run(program, "check", path, folder / name).is_accepted:
+            wrong.append(f"the {name} one is not accepted")
         words = program, "solve", path, folder / "again", *flags
-        costs += [kit.count(*words).instructions] if kit.has_valgrind() else []
+        costs.append(kit.count(*words).instructions if kit.has_valgrind() else None)
+        text = (folder / name).read_text() if (folder / name).exists() else ""
+        nodes.append(sum("|" in row and "|image " not in row for row in text.splitlines()))
     if said[0] != said[1] or not said[0].startswith("result "):
-        faults.append(f"SAID {' AND '.join(said)}")
-    sizes = nodes(folder / "plain")[0], nodes(folder / "folded")[1]
-    return said[0].removeprefix("result "), *sizes, costs, faults
+        wrong.append(f"said {' and '.join(said)}")
+    share = nodes[1] / nodes[0] if nodes[0] else None
+    more = costs[1] / costs[0] - 1 if costs[0] else None
+    return [said[0].removeprefix("result "), *nodes, share, *costs, more], wrong
 
 
-def share_of(costs):
-    """How much more the runs with the flag cost, and how that is written."""
-    part = (costs[1] - costs[0]) / costs[0] if all(costs) and costs else 0
-    return part, f"{part:.1%}" if all(costs) and costs else "-"
-
-
-def row(name, said, plain, kept, costs, faults):
-    """The cells of the table."""
-    part, cost = share_of(costs)
-    share = f"{kept / plain:.2f}" if plain else "-"
-    counted = [f"{cost:,}" for cost in costs] or ["-", "-"]
-    cost = cost if part < 0.1 else f"**{cost}**"
-    return [name, said, f"{plain:,}", f"{kept:,}", share, *counted, "; ".join([cost, *faults])]
-
-
-def fitting_seconds(program, folder):
+def fitting_seconds(program: str) -> float:
     """How long one map takes: a board that is settled at its root is solved with the flag and
     without. With it map 1 is tried, which fits; a claim of one node needs no more."""
-    times = []
-    for flags in ([], ["--images"]):
-        words = program, "solve", folder / "heavy", folder / "heavy-certificate", *flags
-        runs = [kit.run(*words) for _ in range(3)]
-        if any(not run.output.startswith("result ") for run in runs):
-            raise SystemExit(f"the heavy board: {runs[0].output}")
-        times.append(min(run.processor for run in runs))
-    return times[1] - times[0]
+    with kit.files(heavy=heavy_board()) as folder:
+        words = program, "solve", folder / "heavy", folder / "certificate"
+        runs = [kit.quickest(3, *words, *flags) for flags in ([], ["--images"])]
+    if any(not run.output.startswith("result ") for run in runs):
+        raise SystemExit(f"the heavy board: {runs[0].output}")
+    return runs[1].processor - runs[0].processor
 
 
-def main():
+def main() -> int:
     words = kit.parser(__doc__)
     words.add_argument("--out", default=kit.TOP / "docs" / "IMAGES.md", help="the file written")
+    words.add_argument("--only", default="", help="boards with this in their name; no file written")
     given = words.parse_args()
-    missed, rows, sums = 0, [], [0, 0]
+    table, sums = kit.Table(*COLUMNS), [0, 0]
     for name, text in boards():
-        with kit.files(game=text) as folder:
-            said, plain, kept, costs, faults = measured(given.program, folder)
-        cost = share_of(costs)[1].replace("%", " per cent")
-        figures = [said, f"{plain:,} nodes", f"{kept:,} plain if folded; the flag costs {cost}"]
-        missed += kit.show(name, figures, faults)
-        rows.append(row(name, said, plain, kept, costs, faults))
-        sums = [total + cost for total, cost in zip(sums, costs or (0, 0))]
-    with kit.files(heavy=heavy_board()) as folder:
-        seconds = fitting_seconds(given.program, folder)
-    missed += kit.show("one map, 20,000 lines of 20 points", [f"{seconds:.3f} s"],
-                       kit.above(seconds, 0.2, "s"))
-    tail = [f"All boards together: the flag costs {share_of(sums)[1]}.", "",
+        if given.only in name:
+            with kit.files(game=text) as folder:
+                cells, wrong = measured(given.program, folder)
+            table.row(name, *cells, wrong=wrong)
+            sums = [total + (cost or 0) for total, cost in zip(sums, cells[4:6])]
+    seconds = fitting_seconds(given.program)
+    if seconds > 0.2:
+        table.wrong.append(f"one map: {seconds:.3f} s")
+    whole = f"{sums[1] / sums[0] - 1:.1%}" if sums[0] else "-"
+    tail = [f"All boards together: the flag costs {whole}.", "",
             "Whether one map fits a board of 20,000 lines of 20 points takes "
-            f"{seconds:.3f} s of a processor.", "", "Written by `bench/images.py`.", ""]
-    text = "\n".join([HEAD, *kit.table(HEADS, rows), "", *tail])
-    pathlib.Path(given.out).write_text(text, encoding="utf-8")
-    return 1 if missed else 0
+            f"{seconds:.3f} s of a processor."]
+    print("", *tail, sep="\n")
+    if not given.only:
+        text = "\n".join([HEAD, *table.lines, "", *tail, "", "Written by `bench/images.py`.", ""])
+        pathlib.Path(given.out).write_text(text, encoding="utf-8")
+    return table.end()
 
 
 if __name__ == "__main__":
-    sys.exit(main())
+    raise SystemExit(main())

@@ -1,14 +1,18 @@
-"""What the scripts of bench/ share: options, runs and their figures, texts of files, boards, and
-games decided by brute force.
+"""What the scripts of bench/ share: options, runs and their figures, tables, texts of files,
+boards, and games decided by brute force.
 
-A figure is printed as a line `NAME: FIGURE, FIGURE ..`; what is wrong with it follows in capitals.
-Nothing here shares anything with the crates. Unproved.
+Figures are printed as a table in Markdown, one number a cell; below it a line `wrong: WHERE: WHAT`
+for each thing that isn't as expected, and the status is then 1. bench/all.py puts these tables into
+docs/FIGURES.md. Tried by `python3 -m unittest discover -s bench`. Nothing here shares anything with
+the crates. Unproved.
 """
 from __future__ import annotations
 
 import argparse
 import contextlib
+import functools
 import itertools
+import math
 import os
 import pathlib
 import re
@@ -18,7 +22,7 @@ import subprocess
 import sys
 import tempfile
 import time
-from typing import Dict, FrozenSet, Iterable, Iterator, List, NamedTuple, Optional, Set, Tuple
+from typing import Any, Callable, FrozenSet, Iterable, Iterator, List, NamedTuple, Optional, Tuple
 
 TOP = pathlib.Path(__file__).resolve().parent.parent
 EXAMPLES = TOP / "examples"
@@ -60,6 +64,11 @@ def parser(text: Optional[str], program: Optional[str] = "posgame") -> argparse.
     return words
 
 
+def program(text: Optional[str], name: str = "posgame") -> str:
+    """Returns the program on which a script is run that has no other options."""
+    return str(parser(text, name).parse_args().program)
+
+
 # Runs and their figures.
 
 
@@ -71,6 +80,16 @@ class Run(NamedTuple):
     seconds: float
     processor: float
     kilobytes: int
+
+    @property
+    def megabytes(self) -> int:
+        """The greatest memory in MB."""
+        return self.kilobytes // 1024
+
+    @property
+    def is_accepted(self) -> bool:
+        """Whether it was a check that accepted each claim."""
+        return re.fullmatch(r"(accepted .*\n)+", self.output) is not None
 
 
 def run(*words: object, typed: str = "", folder: object = None, most: int = 0) -> Run:
@@ -97,6 +116,13 @@ def run(*words: object, typed: str = "", folder: object = None, most: int = 0) -
         kilobytes = int(errors.read().split()[-1])
     status = process.returncode if process.returncode <= 128 else 128 - process.returncode
     return Run(output, status, seconds, used.ru_utime + used.ru_stime, kilobytes)
+
+
+def quickest(times: int, *words: object, **how: Any) -> Run:
+    """Returns the last of so many runs, with the least seconds of all."""
+    runs = [run(*words, **how) for _ in range(times)]
+    return runs[-1]._replace(seconds=min(it.seconds for it in runs),
+                             processor=min(it.processor for it in runs))
 
 
 def has_valgrind() -> bool:
@@ -129,16 +155,69 @@ def listing(counts: object, *flags: str) -> str:
     return subprocess.run(command, check=True, capture_output=True, text=True).stdout
 
 
-def above(figure: float, limit: float, unit: str) -> List[str]:
-    """Returns what is wrong with a figure, if it is above its limit."""
-    return [f"MORE THAN {limit:,} {unit}"] if figure > limit else []
+# Tables.
 
 
-def show(name: str, figures: Iterable[str], faults: Iterable[str] = ()) -> int:
-    """Prints a line of figures, and returns 1 if something is wrong with them."""
-    wrong = list(faults)
-    print(f"{name}: {', '.join([*figures, *wrong])}", flush=True)
-    return 1 if wrong else 0
+def table_row(cells: Iterable[str]) -> str:
+    """Returns a row of a table in Markdown."""
+    return f"| {' | '.join(cell.replace('|', chr(92) + '|') for cell in cells)} |"
+
+
+def table(heads: List[str], rows: Iterable[Iterable[str]]) -> List[str]:
+    """Returns the lines of a table in Markdown."""
+    return [table_row(heads), "|---" * len(heads) + "|", *map(table_row, rows)]
+
+
+class Column(NamedTuple):
+    """A column of a table: its head with the unit, how a number is written, and the limit."""
+
+    head: str
+    form: str = ","
+    limit: float = math.inf
+
+
+class Table:
+    """A table in `lines`, printed row by row, and what is `wrong` with it. A row of limits comes
+    first, if a column has one."""
+
+    def __init__(self, *columns: str | Column) -> None:
+        self.columns = [it if isinstance(it, Column) else Column(it) for it in columns]
+        self.lines: List[str] = []
+        self.wrong: List[str] = []
+        limits = ["" if it.limit == math.inf else format(it.limit, it.form) for it in self.columns]
+        rows = [["limit", *limits[1:]]] if any(limits) else []
+        self.put(*table([it.head for it in self.columns], rows))
+
+    def put(self, *lines: str) -> None:
+        """Prints lines of the table."""
+        print(*lines, sep="\n", flush=True)
+        self.lines += lines
+
+    def row(self, name: object, *cells: Any, wrong: Iterable[str] = ()) -> None:
+        """Prints a row. A cell is a text, a figure, a pair of a figure and its limit, or None; a
+        figure above its limit is in bold type, and wrong."""
+        faults, texts = list(wrong), []
+        for column, cell in zip(self.columns, (name, *cells)):
+            figure, limit = cell if isinstance(cell, tuple) else (cell, column.limit)
+            is_number = not isinstance(figure, (str, type(None)))
+            text = f"{figure:{column.form}}" if is_number else figure or ""
+            if is_number and figure > limit:
+                faults.append(f"{column.head} {text} above {limit:{column.form}}")
+                text = f"**{text}**"
+            texts.append(text)
+        self.put(table_row(texts))
+        self.wrong += [f"{texts[0]}: {it}" for it in faults]
+
+    def end(self) -> int:
+        """Prints what is wrong, and returns the status of the script."""
+        return end(self.wrong)
+
+
+def end(wrong: Iterable[str]) -> int:
+    """Prints a line for each thing that is wrong, and returns the status of the script."""
+    lines = [f"wrong: {it}" for it in wrong]
+    print(*lines, sep="\n", end="\n" if lines else "", flush=True)
+    return 1 if lines else 0
 
 
 # Texts of files.
@@ -151,6 +230,17 @@ def files(**texts: str) -> Iterator[pathlib.Path]:
         for file, text in texts.items():
             pathlib.Path(name, file).write_text(text, encoding="ascii")
         yield pathlib.Path(name)
+
+
+def data(name: str) -> str:
+    """Returns the text of a file of bench/ without comments, lines that go on being joined."""
+    text = (TOP / "bench" / name).read_text(encoding="utf-8").replace("\\\n    ", "")
+    return re.sub("^# .*\n", "", text, flags=re.MULTILINE)
+
+
+def stanzas(name: str) -> List[List[str]]:
+    """Returns the lines of each part of a file of bench/; empty lines divide."""
+    return [it.split("\n") for it in re.findall(r"(?:.+\n)*.+", data(name))]
 
 
 def field(numbers: Iterable[object]) -> str:
@@ -190,16 +280,14 @@ def claim(head: str, nodes: str, times: int = 1) -> str:
     return f"claim {head}\nnodes {times * nodes.count(chr(10))}\n" + nodes * times
 
 
+def certificate(*claims: str) -> str:
+    """Returns a certificate file with these claims."""
+    return "posgame-cert 1\n" + "".join(claims)
+
+
 def short_game(kind: str, points: int, lines: Iterable[Iterable[int]]) -> str:
     """Returns an empty board as the programs of tests read it."""
     return f"{kind} {points} x 1:{','.join(map(field, lines))}::\n"
-
-
-def table(heads: List[str], rows: Iterable[Iterable[str]]) -> List[str]:
-    """Returns the lines of a table in Markdown."""
-    lines = ["| " + " | ".join(cell.replace("|", "\\|") for cell in row) + " |"
-             for row in (heads, *rows)]
-    return [lines[0], "|---" * len(heads) + "|", *lines[1:]]
 
 
 # Boards and graphs.
@@ -317,7 +405,7 @@ class LineGame:
                  bias: int = 1) -> None:
         self.kind, self.points, self.bias = kind, points, bias
         self.lines = [frozenset(line) for line in lines]
-        self.known: Dict[Position, int] = {}
+        self.known: dict[Position, int] = {}
 
     def free(self, x: Points, y: Points) -> Line:
         """Returns the free points."""
@@ -358,7 +446,7 @@ class LineGame:
             for left in range(1, self.bias + 1):
                 yield x, y, "y", left
 
-    def threats(self, mine: Points, theirs: Points) -> Set[int]:
+    def threats(self, mine: Points, theirs: Points) -> set[int]:
         """Returns the free points with which the side fills a line."""
         lacks = [line - mine for line in self.lines]
         return {v for lack in lacks if len(lack) == 1 for v in lack if v not in theirs}
@@ -382,3 +470,26 @@ def marked(points: int) -> Iterator[Tuple[Points, Points]]:
     for owners in itertools.product("-xy", repeat=points):
         x, y = (frozenset(v for v in range(points) if owners[v] == side) for side in "xy")
         yield x, y
+
+
+def set_game(count: int, passes: Callable[[int], bool]) -> Callable[[int, int, bool], bool]:
+    """Returns whether X wins, by X's points, Y's points and whether X moves, when X wants its
+    points to pass a test. Sets of points are numbers, bit by bit."""
+    whole = (1 << count) - 1
+    passing = [passes(points) for points in range(whole + 1)]
+
+    @functools.lru_cache(maxsize=None)
+    def x_wins(x: int, y: int, x_moves: bool) -> bool:
+        if passing[x] or not passing[whole & ~y]:
+            return passing[x]
+        free = [1 << v for v in range(count) if not (x | y) >> v & 1]
+        if x_moves:
+            return any(x_wins(x | point, y, False) for point in free)
+        return all(x_wins(x, y | point, True) for point in free)
+
+    return x_wins
+
+
+def bits(points: Iterable[int]) -> int:
+    """Returns the number whose bits are the points."""
+    return sum(1 << v for v in points)

@@ -1,6 +1,8 @@
 #!/usr/bin/env python3
 """Refuses each allocation of runs of posgame in turn, and counts how the runs end.
 
+    bench/memory.py [PROGRAM]
+
 Every command is run, on real files. `cc` compiles a library that stands before the program's calls
 of malloc and realloc and refuses the one with a given number, from 1 on until a run makes no such
 call. Each run has to end as it should without that, or with what it prints cut short: with status
@@ -159,7 +161,7 @@ def endings(program: str, library: pathlib.Path, row: Row) -> Iterator[str]:
 
 def main() -> int:
     """Prints a line for each row, and returns 1 if a run ended as none may."""
-    program, wrong = kit.parser(__doc__).parse_args().program, 0
+    program, table = kit.program(__doc__), kit.Table("run", "how it ended, by refusals")
     with kit.files(**{"refusing.c": REFUSING}) as folder:
         library = folder / "refusing.so"
         subprocess.run(["cc", "-shared", "-fPIC", "-o", str(library), str(folder / "refusing.c")],
@@ -170,8 +172,8 @@ def main() -> int:
             if row.words.startswith("review") and not counts["status 7 after 1"]:
                 faults.append("NO LOSS IS PRINTED BEFORE THE NEXT POSITION IS DECIDED")
             figures = [f"{counts[it]} {it}" for it in sorted(counts)]
-            wrong |= kit.show(f"run {number}, {row.words}", figures, faults)
-    return wrong
+            table.row(f"{number}: {row.words}", ", ".join(figures), wrong=faults)
+    return table.end()
 
 
 if __name__ == "__main__":

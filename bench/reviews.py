@@ -1,11 +1,16 @@
 #!/usr/bin/env python3
 """Prints 200 rows of reviews of noughts and crosses for crates/test_stories/stdin.
 
+    bench/reviews.py [--names]
+
 Values are found by brute force through all positions, records by a generator with a fixed seed;
 nothing is shared with the crates. In each kind with lines the board begins empty or with some
-marks, with either side to move; moves are taken back now and then.
+marks, with either side to move; moves are taken back now and then. Unproved.
 """
+from __future__ import annotations
+
 import random
+from typing import Iterator, List, Tuple
 
 import kit
 
@@ -16,8 +21,8 @@ WORDS = {"maker-breaker": ("draw", "maker", "breaker"), "maker-maker": ("draw", 
 GAMES = {kind: kit.LineGame(kind, 9, LINES) for kind in sorted(WORDS)}
 
 
-def drawn(chance):
-    """Returns a game, the events of a record, and the positions on its way."""
+def drawn(chance: random.Random) -> Tuple[kit.LineGame, List[str], List[kit.Position]]:
+    """A game, the events of a record, and the positions on its way."""
     game = GAMES[chance.choice(sorted(GAMES))]
     points = chance.sample(range(9), chance.choice([0, 0, 0, 2, 3]))
     half = (len(points) + 1) // 2
@@ -37,7 +42,7 @@ def drawn(chance):
     return game, events, trail
 
 
-def losses(game, trail):
+def losses(game: kit.LineGame, trail: List[kit.Position]) -> Iterator[str]:
     """The lines on moves that lost value."""
     words = WORDS[game.kind]
     for number, (p, q) in enumerate(zip(trail, trail[1:])):
@@ -47,25 +52,20 @@ def losses(game, trail):
             yield f"says lost {number} {point} {words[before]} {words[now]}"
 
 
-def marks(sign, points):
-    """The row of a side's points, if it has some."""
-    return f"{sign} {kit.field(sorted(points))}; " if points else ""
-
-
-def main():
+def main() -> None:
     words = kit.parser(__doc__, None)
     words.add_argument("--names", action="store_true", help="print what test_stories says of them")
     given, chance = words.parse_args(), random.Random(20261128)
     for number in range(1, 201):
         game, events, trail = drawn(chance)
-        x, y, turn, _ = trail[0]
         name = f"a review of noughts and crosses, {number}: {game.kind}"
         if given.names:
             print(f"ok {name}")
             continue
-        print(f"\nrow {name}")
-        heads = f"posgame 1; kind {game.kind}; @three; {marks('x', x)}{marks('y', y)}turn {turn};"
-        print(f"file G {heads}")
+        marks = "".join(f"{sign} {kit.field(sorted(points))}; "
+                        for sign, points in zip("xy", trail[0]) if points)
+        heads = f"posgame 1; kind {game.kind}; @three; {marks}turn {trail[0][2]};"
+        print(f"\nrow {name}\nfile G {heads}")
         print(f"file R posgame-record 1; {''.join(it + '; ' for it in events)}".rstrip())
         print("run review G R\nstatus 0", *losses(game, trail), sep="\n")
         print(f"says reviewed {len(trail) - 1}")

@@ -5,14 +5,18 @@ force without anything of the crates.
 For connectivity games on two to four vertices and for games on vectors of three signs it prints,
 for each number of points, how many games X wins whoever moves, Y does, and the side to move does,
 over all choices of points in order and all marks; then the same for five points without marks.
+Unproved.
 """
+from __future__ import annotations
+
 import functools
 import itertools
+from typing import Callable, Iterable, List, Sequence
 
 import kit
 
 
-def joins(vertices, ends, points):
+def joins(vertices: int, ends: Sequence[kit.Edge], points: int) -> bool:
     """Whether the edges of the set join every two vertices."""
     reached = {0}
     for _ in range(vertices):
@@ -22,7 +26,7 @@ def joins(vertices, ends, points):
     return len(reached) == vertices
 
 
-def sums(target, vectors, points):
+def sums(target: int, vectors: Sequence[int], points: int) -> bool:
     """Whether the target is a sum of some vectors of the set."""
     known = {0}
     for k, vector in enumerate(vectors):
@@ -31,50 +35,36 @@ def sums(target, vectors, points):
     return target in known
 
 
-def classes(count, passes, has_marks):
-    """Who wins at all marks, or at none: how many of X, of Y, of the mover."""
-    whole = (1 << count) - 1
-    passing = [passes(points) for points in range(whole + 1)]
-
-    @functools.lru_cache(maxsize=None)
-    def x_wins(x, y, x_moves):
-        if passing[x]:
-            return True
-        if not passing[whole & ~y]:
-            return False
-        free = [1 << v for v in range(count) if not (x | y) >> v & 1]
-        if x_moves:
-            return any(x_wins(x | point, y, False) for point in free)
-        return all(x_wins(x, y | point, True) for point in free)
-
-    found = {(True, True): 0, (False, False): 0, (True, False): 0, (False, True): 0}
-    for marks in kit.marked(count) if has_marks else [(set(), set())]:
-        x, y = (sum(1 << v for v in points) for points in marks)
-        found[x_wins(x, y, True), x_wins(x, y, False)] += 1
-    assert found[False, True] == 0
-    return found[True, True], found[False, False], found[True, False]
+def classes(count: int, passes: Callable[[int], bool], has_marks: bool) -> List[int]:
+    """Who wins at all marks, or at none: how many of X, of Y, of the mover, of the other."""
+    x_wins, found = kit.set_game(count, passes), [0] * 4
+    for marks in kit.marked(count) if has_marks else [((), ())]:
+        wins = tuple(x_wins(*map(kit.bits, marks), x_moves) for x_moves in (True, False))
+        found[[(True, True), (False, False), (True, False), (False, True)].index(wins)] += 1
+    assert found[3] == 0
+    return found
 
 
-def line(counts):
+def line(counts: Iterable[List[int]]) -> str:
     """The sums of the counts, as the script of test_classes has them."""
-    return "{} {} {} 0,".format(*map(sum, zip(*counts)))
+    return kit.field(map(sum, zip(*counts))) + ","
 
 
-def connectivity(vertices, count, has_marks=True):
+def connectivity(vertices: int, count: int, has_marks: bool = True) -> str:
     """The counts over all choices of edges."""
     pairs = [(u, v) for u in range(vertices) for v in range(u, vertices)]
     return line(classes(count, functools.partial(joins, vertices, ends), has_marks)
                 for ends in itertools.combinations_with_replacement(pairs, count))
 
 
-def vectors(count, has_marks=True):
+def vectors(count: int, has_marks: bool = True) -> str:
     """The counts over all lists and targets."""
     return line(classes(count, functools.partial(sums, target, chosen), has_marks)
                 for chosen in itertools.combinations_with_replacement(range(8), count)
                 for target in range(8))
 
 
-def main():
+def main() -> None:
     kit.parser(__doc__, None).parse_args()
     for vertices, limit in ((2, 6), (3, 6), (4, 5)):
         counts = [connectivity(vertices, count) for count in range(limit)]

@@ -3,14 +3,12 @@
 
 posgame solves each board once under callgrind, where that is installed, and once by itself; of each
 one question is asked, whether X wins. What reading takes is counted by a check of an empty
-certificate. Behind a count above its limit are the functions that take most.
+certificate. The functions that take most of a count above its limit are printed. Unproved.
 """
 import re
-import sys
 
 import kit
 
-MEMORY = 150_000
 BOARDS = [
     ("Maker-Maker, 4 by 4, 100/111", "maker-maker", 16, kit.placements(4, 4, "100/111"),
      "result x", 250),
@@ -25,35 +23,29 @@ BOARDS = [
 ]
 
 
-def functions(counts):
-    """The functions in which most instructions are."""
-    listed = re.findall(r"^ *[\d,]+ \(.*$", kit.listing(counts), re.MULTILINE)
-    return "\n".join(f"    {line}" for line in listed[1:13])
-
-
-def main():
-    program, missed = kit.parser(__doc__).parse_args().program, 0
+def main() -> int:
+    program = kit.program(__doc__)
+    table = kit.Table("board", "answer", kit.Column("million instructions", ",.1f"),
+                      kit.Column("limit"), kit.Column("to read", ".1f"), kit.Column("s", ".3f"),
+                      kit.Column("KB", limit=150_000))
+    slow = []
     for name, kind, points, lines, answer, limit in BOARDS:
         text = kit.game(kind, f"points {points}", *kit.line_rows(lines))
         with kit.files(game=text) as folder:
-            words = program, "solve", folder / "game", folder / "certificate"
-            done = kit.run(*words)
-            output = done.output.strip()
-            figures = [output, f"{done.seconds:.3f} s", f"{done.kilobytes} KB"]
-            faults = [] if output.startswith(answer) else [f"NOT {answer}"]
-            faults += kit.above(done.kilobytes, MEMORY, "KB")
-            slow = []
+            words = program, "solve", folder / "game", folder / "stored"
+            done, whole, read, counts = kit.run(*words), None, None, folder / "counts"
             if kit.has_valgrind():
-                counts = folder / "counts"
-                read = kit.count(program, "check", folder / "game", "/dev/null").instructions / 1e6
+                read = kit.count(program, "check", words[2], "/dev/null").instructions / 1e6
                 whole = kit.count(*words, counts=counts).instructions / 1e6
-                figures += [f"{whole:.1f} million instructions", f"{read:.1f} of them to read"]
-                slow = kit.above(whole, limit, "million")
-            missed += kit.show(name, figures, faults + slow)
-            if slow:
-                print(functions(counts))
-    return 1 if missed else 0
+            if whole and whole > limit:
+                listed = re.findall(r"^ *[\d,]+ \(.*$", kit.listing(counts), re.MULTILINE)
+                slow += [name, *listed[1:13]]
+        said = done.output.strip()
+        table.row(name, said, (whole, limit), limit, read, done.seconds, done.kilobytes,
+                  wrong=[] if said.startswith(answer) else [f"not {answer}"])
+    print(*slow, sep="\n")
+    return table.end()
 
 
 if __name__ == "__main__":
-    sys.exit(main())
+    raise SystemExit(main())

@@ -3,8 +3,12 @@
 
 It goes over every position of small games at which the side to move may attack, and counts by how
 many replies the shortest threat line forces, as docs/DEFINITIONS.md says what one is: none, one,
-two or three, and at how many there is none.
+two or three, and at how many there is none. Unproved.
 """
+from __future__ import annotations
+
+from typing import List
+
 import kit
 
 BOARDS = [
@@ -19,7 +23,7 @@ BOARDS = [
 ]
 
 
-def counts(game):
+def counts(game: kit.LineGame) -> List[int]:
     """How many positions have a shortest threat line of each length, and how many have none."""
     found = [0] * 5
     for x, y in kit.marked(game.points):
@@ -29,7 +33,7 @@ def counts(game):
     return found
 
 
-def main():
+def main() -> None:
     kit.parser(__doc__, None).parse_args()
     for kind, name in (("maker-breaker", "maker and breaker"), ("maker-maker", "maker and maker")):
         rows = [kit.field(counts(kit.LineGame(kind, *board))) + " 0;" for board in BOARDS]

@@ -1,6 +1,8 @@
 #!/usr/bin/env python3
 """Runs the lessons of docs/tutorial again, and compares what they show with what happens.
 
+    bench/tutorial.py [PROGRAM] [--draw PROGRAM] [--lesson NUMBER]..
+
 Each lesson runs in a folder of its own, which contains nothing but a link to examples/. Of the
 indented blocks of a lesson:
 
@@ -15,89 +17,50 @@ indented blocks of a lesson:
   the block, FILE must equal it, to the byte.
 
 It also checks the length of each lesson, the width of its lines, its links, and that
-docs/TUTORIAL.md lists all lessons in order. Nothing here is proved.
+docs/TUTORIAL.md lists all lessons in order. Unproved.
 """
 from __future__ import annotations
 
-import argparse
-import collections.abc
-import dataclasses
 import pathlib
 import re
 import shlex
 import subprocess
-import sys
-import tempfile
-import typing
+from typing import List, NamedTuple, Optional, Tuple
 
-TOP = pathlib.Path(__file__).resolve().parent.parent
-CONTENTS = TOP / "docs" / "TUTORIAL.md"
-LESSONS = TOP / "docs" / "tutorial"
+import kit
+import width
 
-# Lines of a lesson, about two pages; characters of a line, and of a line of a table.
-LENGTH = 90
-WIDTH = 100
-TABLE_WIDTH = 120
-
+CONTENTS = kit.TOP / "docs" / "TUTORIAL.md"
+LESSONS = kit.TOP / "docs" / "tutorial"
+LENGTH = 90  # lines of a lesson, about two pages
 # How the texts of the program begin.
-TEXTS = (
-    "accepted ", "rejected ", "claim ", "move ", "refused: ", "result ", "class ", "unknown ",
-    "words: ", "game ", "certificate ", "expanded ", "standing ", "recorded ", "lost ",
-    "reviewed ", "record ", "{",
-)  # fmt: skip
+TEXTS = ("accepted ", "rejected ", "claim ", "move ", "refused: ", "result ", "class ", "unknown ",
+         "words: ", "game ", "certificate ", "expanded ", "standing ", "recorded ", "lost ",
+         "reviewed ", "record ", "{")
+BLOCK = re.compile(r"(?:^(?!    )(.+)\n+)?((?:^    .*\n)+)(?=\n*(.*))", re.MULTILINE)
 NAMED = re.compile(r"(save it as )?`([^`]+\.(?:game|cert|record))`:$", re.IGNORECASE)
 IMAGE = re.compile(r"!\[.*\]\(([^)]+)\)$")
 LINK = re.compile(r"\]\(([^)#:]+)\)")
 ENTRY = re.compile(r"^(\d+)\. \[([^]]+)\]\(tutorial/([^)]+)\)", re.MULTILINE)
 
 
-@dataclasses.dataclass
-class Block:
+class Block(NamedTuple):
     """Indented lines of a lesson, with the line of text before them and the one after them."""
 
-    lines: list[str]
+    lines: List[str]
     before: str
     after: str
 
 
-@dataclasses.dataclass
-class Walk:
-    """The programs, the folder in which a lesson runs, and what was found so far."""
-
-    program: str
-    draw: typing.Optional[str]
-    folder: pathlib.Path
-    status: int = 0
-    shown: int = 0
-    not_drawn: int = 0
-    problems: list[str] = dataclasses.field(default_factory=list)
-
-    def compare(self, what: str, is_same: bool) -> None:
-        """Counts a thing that is shown, and notes it if it differs."""
-        self.shown += 1
-        if not is_same:
-            self.problems.append(f"differs: {what}")
+def blocks(text: str) -> List[Block]:
+    """Returns the indented blocks of a text in order."""
+    return [Block(re.findall("^    (.*)$", inside, re.MULTILINE), before, after)
+            for before, inside, after in BLOCK.findall(text)]
 
 
-def blocks(text: str) -> collections.abc.Iterator[Block]:
-    """Yields the indented blocks of a text in order."""
-    lines = text.splitlines()
-    before, at = "", 0
-    while at < len(lines):
-        if not lines[at].startswith("    "):
-            before = lines[at] or before
-            at += 1
-            continue
-        inside = (k for k in range(at, len(lines)) if not lines[k].startswith("    "))
-        end = next(inside, len(lines))
-        after = next((it for it in lines[end:] if it), "")
-        yield Block([it[4:] for it in lines[at:end]], before, after)
-        before, at = "", end
-
-
-def commands(lines: list[str]) -> list[tuple[str, list[str]]]:
+def commands(lines: List[str]) -> List[Tuple[str, List[str]]]:
     """Returns the commands of a block, each with the lines below it."""
-    found: list[tuple[str, list[str]]] = []
+    found: List[Tuple[str, List[str]]] = []
     for line in re.sub(r" \\\n +", " ", "\n".join(lines)).splitlines():
         if line.startswith("$ "):
             found.append((line[2:], []))
@@ -106,83 +69,84 @@ def commands(lines: list[str]) -> list[tuple[str, list[str]]]:
     return found
 
 
-def run(walk: Walk, command: str, below: list[str]) -> None:
-    """Runs posgame with the lines that are not its texts as input, and compares the others."""
-    words = shlex.split(command)[1:]
-    if words[0] == "report":
-        below = ["".join(below)]
-    expected = [line for line in below if line.startswith(TEXTS)]
-    typed = "".join(f"{line}\n" for line in below if not line.startswith(TEXTS))
-    ended = subprocess.run(
-        [walk.program, *words], cwd=walk.folder, input=typed, capture_output=True, text=True
-    )
-    walk.status = ended.returncode
-    walk.compare(command, ended.stdout.splitlines() == expected)
+class Walk:
+    """A lesson that is run in a folder with the programs, and what was found so far."""
+
+    def __init__(self, program: str, draw: Optional[str], folder: pathlib.Path) -> None:
+        self.program, self.picture, self.folder = program, draw, folder
+        self.status = self.shown = self.not_drawn = 0
+        self.problems: List[str] = []
+
+    def compare(self, what: str, is_same: bool) -> None:
+        """Counts a thing that is shown, and notes it if it differs."""
+        self.shown += 1
+        self.problems += [] if is_same else [f"differs: {what}"]
+
+    def run(self, command: str, below: List[str]) -> None:
+        """Runs posgame with the lines that are not its texts as input, and compares the others."""
+        words = shlex.split(command)[1:]
+        if words[0] == "report":
+            below = ["".join(below)]
+        expected = [line for line in below if line.startswith(TEXTS)]
+        typed = "".join(f"{line}\n" for line in below if not line.startswith(TEXTS))
+        ended = subprocess.run([self.program, *words], cwd=self.folder, input=typed,
+                               capture_output=True, text=True)
+        self.status = ended.returncode
+        self.compare(command, ended.stdout.splitlines() == expected)
+
+    def draw(self, command: str, image: str) -> None:
+        """Draws a picture, and compares it with the image, if there is one."""
+        if self.picture is None:
+            self.not_drawn += 1
+            return
+        words = shlex.split(command)
+        ended = subprocess.run([self.picture, *words[1:-2]], cwd=self.folder, capture_output=True)
+        (self.folder / words[-1]).write_bytes(ended.stdout)
+        self.status = ended.returncode
+        is_picture = ended.stdout.startswith(b"<svg ") and ended.returncode in (0, 4)
+        is_same = not image or (LESSONS / image).read_bytes() == ended.stdout
+        self.compare(command, words[-2] == ">" and is_picture and is_same)
+
+    def try_commands(self, block: Block) -> None:
+        """Runs the commands of a block."""
+        image = IMAGE.match(block.after)
+        for command, below in commands(block.lines):
+            if command.startswith("./posgame "):
+                self.run(command, below)
+            elif command.startswith("./posgame-draw "):
+                self.draw(command, image.group(1) if image else "")
+            elif command == "echo $?":
+                self.compare(command, below == [str(self.status)])
+            else:
+                self.problems.append(f"no such command: {command}")
+
+    def try_block(self, block: Block) -> None:
+        """Runs a block, writes it to a file, or compares it with a file."""
+        named = NAMED.search(block.before)
+        path = self.folder / named.group(2) if named else self.folder
+        if block.lines[0].startswith("$ "):
+            self.try_commands(block)
+        elif named and named.group(1):
+            path.write_text("".join(f"{line}\n" for line in block.lines), encoding="ascii")
+            self.shown += 1
+        elif named:
+            lines = path.read_text(encoding="ascii").splitlines() if path.is_file() else []
+            self.compare(path.name, [it for it in lines if it[:1] != "#"] == block.lines)
 
 
-def draw(walk: Walk, command: str, image: str) -> None:
-    """Draws a picture, and compares it with the image, if there is one."""
-    if walk.draw is None:
-        walk.not_drawn += 1
-        return
-    words = shlex.split(command)
-    ended = subprocess.run([walk.draw, *words[1:-2]], cwd=walk.folder, capture_output=True)
-    (walk.folder / words[-1]).write_bytes(ended.stdout)
-    walk.status = ended.returncode
-    is_picture = ended.stdout.startswith(b"<svg ") and ended.returncode in (0, 4)
-    is_same = not image or (LESSONS / image).read_bytes() == ended.stdout
-    walk.compare(command, words[-2] == ">" and is_picture and is_same)
-
-
-def significant(path: pathlib.Path) -> list[str]:
-    """Returns the lines of a file that are no comments, or none if there is no such file."""
-    text = path.read_text(encoding="ascii") if path.is_file() else ""
-    return [line for line in text.splitlines() if not line.startswith("#")]
-
-
-def try_commands(walk: Walk, block: Block) -> None:
-    """Runs the commands of a block."""
-    image = IMAGE.match(block.after)
-    for command, below in commands(block.lines):
-        if command.startswith("./posgame "):
-            run(walk, command, below)
-        elif command.startswith("./posgame-draw "):
-            draw(walk, command, image.group(1) if image else "")
-        elif command == "echo $?":
-            walk.compare(command, below == [str(walk.status)])
-        else:
-            walk.problems.append(f"no such command: {command}")
-
-
-def try_block(walk: Walk, block: Block) -> None:
-    """Runs a block, writes it to a file, or compares it with a file."""
-    named = NAMED.search(block.before)
-    if block.lines[0].startswith("$ "):
-        try_commands(walk, block)
-    elif named and named.group(1):
-        text = "".join(f"{line}\n" for line in block.lines)
-        (walk.folder / named.group(2)).write_text(text, encoding="ascii")
-        walk.shown += 1
-    elif named:
-        walk.compare(named.group(2), significant(walk.folder / named.group(2)) == block.lines)
-
-
-def form_problems(path: pathlib.Path) -> list[str]:
+def form_problems(path: pathlib.Path) -> List[str]:
     """Returns what is wrong with the length, the widths and the links of a page."""
-    text = path.read_text(encoding="utf-8")
-    lines, problems = text.splitlines(), []
-    if len(lines) > LENGTH:
-        problems.append(f"{path.name}: {len(lines)} lines")
-    for at, line in enumerate(lines, 1):
-        if len(line) > (TABLE_WIDTH if line.startswith("|") else WIDTH):
-            problems.append(f"{path.name}: line {at} has {len(line)} characters")
+    text, name = path.read_text(encoding="utf-8"), path.relative_to(kit.TOP).as_posix()
+    count = len(text.splitlines())
+    problems = [f"{name}: {count} lines"] if count > LENGTH else []
+    problems += [f"{name}: line {at} has {columns} characters"
+                 for at, columns in width.too_long(name, "docs")]
     dead = [it for it in LINK.findall(text) if not (path.parent / it).exists()]
-    return problems + [f"{path.name}: there is no {it}" for it in dead]
+    return problems + [f"{name}: there is no {it}" for it in dead]
 
 
-def contents_problems(paths: list[pathlib.Path]) -> list[str]:
+def contents_problems(paths: List[pathlib.Path]) -> List[str]:
     """Returns what is wrong with the table of contents."""
-    listed = ENTRY.findall(CONTENTS.read_text(encoding="utf-8"))
     found = []
     for path in paths:
         title = re.match(r"# (\d+)\. (.+)\n", path.read_text(encoding="utf-8"))
@@ -190,45 +154,37 @@ def contents_problems(paths: list[pathlib.Path]) -> list[str]:
         found.append((number, name, path.name))
         if path.name[:2] != number.zfill(2):
             return [f"{path.name}: another number in its title"]
-    return [] if listed == found else ["docs/TUTORIAL.md lists other lessons"]
+    is_same = ENTRY.findall(CONTENTS.read_text(encoding="utf-8")) == found
+    return [] if is_same else ["docs/TUTORIAL.md lists other lessons"]
 
 
-def try_lesson(path: pathlib.Path, program: str, picture: typing.Optional[str]) -> Walk:
+def try_lesson(path: pathlib.Path, program: str, picture: Optional[str]) -> Walk:
     """Runs a lesson in a folder of its own."""
-    with tempfile.TemporaryDirectory() as name:
-        walk = Walk(program, picture, pathlib.Path(name))
-        (walk.folder / "examples").symlink_to(TOP / "examples")
+    with kit.files() as folder:
+        walk = Walk(program, picture, folder)
+        (folder / "examples").symlink_to(kit.EXAMPLES)
         for block in blocks(path.read_text(encoding="utf-8")):
-            try_block(walk, block)
-    for problem in walk.problems:
-        print(f"{path.name}: {problem}", flush=True)
+            walk.try_block(block)
     return walk
 
 
 def main() -> int:
-    """Tries the lessons, and prints how many things are shown and how many differ."""
-    words = argparse.ArgumentParser(
-        description=__doc__, formatter_class=argparse.RawDescriptionHelpFormatter
-    )
-    words.add_argument("program", nargs="?", default=TOP / "posgame", help="posgame")
-    words.add_argument("--draw", help="posgame-draw")
+    words = kit.parser(__doc__)
+    words.set_defaults(program=str(kit.TOP / "posgame"))
+    words.add_argument("--draw", type=kit.program_path, metavar="PROGRAM", help="posgame-draw")
     words.add_argument("--lesson", type=int, action="append", help="only lessons of this number")
     given = words.parse_args()
     paths = sorted(LESSONS.glob("*.md"))
     form = [it for path in [CONTENTS, *paths] for it in form_problems(path)]
     form += contents_problems(paths)
-    for problem in form:
-        print(problem)
-    program = str(pathlib.Path(given.program).resolve())
-    picture = str(pathlib.Path(given.draw).resolve()) if given.draw else None
     chosen = [it for it in paths if not given.lesson or int(it.name[:2]) in given.lesson]
-    walks = [try_lesson(path, program, picture) for path in chosen]
-    shown, differ = sum(it.shown for it in walks), sum(len(it.problems) for it in walks)
-    print(f"{len(walks)} lessons, {shown} shown, {differ} differ, {len(form)} faults of form")
-    if any(it.not_drawn for it in walks):
-        print(f"{sum(it.not_drawn for it in walks)} pictures not drawn: --draw names no program")
-    return 1 if differ or form or not shown else 0
+    walks = [try_lesson(path, given.program, given.draw) for path in chosen]
+    shown, not_drawn = sum(it.shown for it in walks), sum(it.not_drawn for it in walks)
+    wrong = [f"{path.name}: {it}" for path, walk in zip(chosen, walks) for it in walk.problems]
+    table = kit.Table("lessons", "shown", "differ", "faults of form", "pictures not drawn")
+    table.row(len(walks), shown, len(wrong), len(form), not_drawn)
+    return kit.end(form + wrong + ["nothing is shown"] * (not shown))
 
 
 if __name__ == "__main__":
-    sys.exit(main())
+    raise SystemExit(main())

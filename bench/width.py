@@ -4,9 +4,9 @@
     bench/width.py                      all kinds of file
     bench/width.py --only docs scripts  these kinds only
 
-A line has at most 100 characters, and a row of a table of Markdown 120. Not counted are an import
-of a source that can't be split (`use`), and the files of `LEFT_OUT`. The status is 1 if a line is
-too long. The files are those that git knows, or would take.
+A line has at most 100 characters, and a row of a table of Markdown 120. Not counted is an import of
+a source that can't be split (`use`). The status is 1 if a line is too long. The files are those
+that git knows, or would take.
 
 Its examples are tried by `python3 -m doctest bench/width.py`. Nothing is proved of this script.
 """
@@ -25,9 +25,6 @@ TABLE_COLUMNS = 120
 KINDS = ("sources", "docs", "scripts", "examples")
 GAMES = (".game", ".cert", ".record")
 
-# Written by bench/all.py and bench/boards.py, which don't keep to the limit yet.
-LEFT_OUT = {"docs/FIGURES.md", "docs/BOARDS.md"}
-
 
 def tracked() -> list[str]:
     """Returns the files of the tree, without what git ignores."""
@@ -39,12 +36,10 @@ def tracked() -> list[str]:
 def kind_of(name: str) -> str | None:
     """Returns the kind of a file, or None if its lines aren't counted.
 
-    >>> kind_of("crates/pg_base/src/lib.rt"), kind_of("docs/GATE.md"), kind_of("docs/FIGURES.md")
+    >>> kind_of("crates/pg_base/src/lib.rt"), kind_of("docs/FIGURES.md"), kind_of("LICENSE.txt")
     ('sources', 'docs', None)
     """
     path = pathlib.PurePath(name)
-    if name in LEFT_OUT:
-        return None
     if path.suffix in (".rt", ".antt"):
         return "sources"
     if path.suffix == ".md":

@@ -1,0 +1,159 @@
+"""Tests of bench/kit.py: `python3 -m unittest discover -s bench`. Expected values are worked by
+hand, or are those of a well-known game. Unproved.
+"""
+from __future__ import annotations
+
+import contextlib
+import io
+import itertools
+import sys
+import unittest
+from typing import Callable, List, Tuple
+
+import kit
+
+
+def printed(call: Callable[[], object]) -> Tuple[object, List[str]]:
+    """Returns what a call returns, and the lines that it prints."""
+    output = io.StringIO()
+    with contextlib.redirect_stdout(output):
+        result = call()
+    return result, output.getvalue().splitlines()
+
+
+class Tables(unittest.TestCase):
+    def test_figures_and_limits(self) -> None:
+        def table() -> int:
+            share = kit.Column("share", ".0%")
+            made = kit.Table("board", kit.Column("s", ".2f", 1), "nodes", share)
+            made.row("a|b", 0.5, 12345, 0.25)
+            made.row("slow", 1.5, (3, 2), None)
+            made.row(7, "-", 1, 1.0, wrong=["refused"])
+            return made.end()
+
+        status, lines = printed(table)
+        self.assertEqual(status, 1)
+        self.assertEqual(lines, [
+            "| board | s | nodes | share |", "|---|---|---|---|", "| limit | 1.00 |  |  |",
+            "| a\\|b | 0.50 | 12,345 | 25% |", "| slow | **1.50** | **3** |  |",
+            "| 7 | - | 1 | 100% |", "wrong: slow: s 1.50 above 1.00",
+            "wrong: slow: nodes 3 above 2", "wrong: 7: refused"])
+
+    def test_nothing_wrong(self) -> None:
+        table = printed(lambda: kit.Table("a", "b").end())
+        self.assertEqual(table, (0, ["| a | b |", "|---|---|"]))
+
+
+class Runs(unittest.TestCase):
+    def python(self, text: str, **how: object) -> kit.Run:
+        return kit.run(sys.executable, "-c", text, **how)
+
+    def test_output_input_and_status(self) -> None:
+        done = self.python("print(input() * 2); raise SystemExit(4)", typed="ab\n")
+        self.assertEqual((done.output, done.status), ("abab\n", 4))
+        self.assertGreater(done.kilobytes, 1000)
+
+    def test_signal(self) -> None:
+        self.assertEqual(self.python("import os; os.kill(os.getpid(), 9)").status, -9)
+
+    def test_processor_limit(self) -> None:
+        done = self.python("while True: pass", most=1)
+        self.assertLess(done.status, 0)
+
+    def test_folder_and_files(self) -> None:
+        with kit.files(one="1\n", two="22\n") as folder:
+            done = self.python("print(open('two').read())", folder=folder)
+        self.assertEqual(done.output, "22\n\n")
+        self.assertFalse(folder.exists())
+
+    def test_accepted(self) -> None:
+        for text, is_accepted in (("accepted x y win\naccepted y y win\n", True), ("", False),
+                                  ("accepted x y win\nrejected J1 claim 1 node 0\n", False)):
+            self.assertEqual(kit.Run(text, 0, 0.0, 0.0, 2048).is_accepted, is_accepted)
+        self.assertEqual(kit.Run("", 0, 0.0, 0.0, 2048).megabytes, 2)
+
+
+class Texts(unittest.TestCase):
+    def test_games(self) -> None:
+        self.assertEqual(kit.game("maker-breaker", "points 3", *kit.line_rows([(0, 1), (1, 2)])),
+                         "posgame 1\nkind maker-breaker\npoints 3\nline 0 1\nline 1 2\nturn x\n")
+        self.assertEqual(kit.switching((3, [(0, 2), (2, 1)]), turn="y"),
+                         "posgame 1\nkind switching\nvertices 3\nterminals 0 1\n"
+                         "edge 0 2\nedge 2 1\nturn y\n")
+        self.assertEqual(kit.span((2, [(0, 1)])), "posgame-span 1\nvertices 2\nedge 0 1\nturn x\n")
+        self.assertEqual(kit.short_game("maker-maker", 3, [(0, 1), (2,)]),
+                         "maker-maker 3 x 1:0 1,2::\n")
+
+    def test_certificate(self) -> None:
+        text = kit.certificate(kit.claim("x y win", "||x|pairs 0-1\n", 2))
+        due = "posgame-cert 1\nclaim x y win\nnodes 2\n" + "||x|pairs 0-1\n" * 2
+        self.assertEqual(text, due)
+
+    def test_data(self) -> None:
+        name = "pictures.txt"
+        self.assertEqual([len(it) for it in kit.stanzas(name)], [28, 14])
+        self.assertNotIn("\n# ", kit.data(name))
+        self.assertTrue(all(len(it) >= 5 for it in kit.stanzas("memory.txt")))
+
+
+class Boards(unittest.TestCase):
+    def test_lines_in_a_row(self) -> None:
+        lines = ["012", "036", "048", "147", "246", "258", "345", "678"]
+        self.assertEqual(sorted("".join(map(str, it)) for it in kit.in_row(3, 3, 3)), lines)
+        self.assertEqual(len(kit.in_row(16, 16, 5)), 2 * 16 * 12 + 2 * 12 * 12)
+
+    def test_shapes(self) -> None:
+        self.assertEqual(kit.placements(2, 2, "11"), [[0, 1], [0, 2], [1, 3], [2, 3]])
+        self.assertEqual(len(kit.placements(3, 3, "11/10")), 16)
+        self.assertEqual(kit.word_of([(0, 0), (0, 1), (1, 1)]), "11/01")
+        self.assertEqual(len(set(kit.turned([(0, 0), (1, 0), (1, 1), (2, 1)]))), 4)
+
+    def test_graphs(self) -> None:
+        for rows in range(1, 6):
+            vertices, ends = kit.bridge(rows)
+            self.assertEqual((vertices, len(ends)),
+                             (rows * (rows - 1) + 2, rows**2 + (rows - 1)**2))
+        self.assertEqual(len(kit.complete(5, 3)[1]), 30)
+        self.assertEqual(len(kit.grid(3, 4)[1]), 17)
+        self.assertEqual(len(kit.doubled_path(5, 10)[1]), 10)
+
+    def test_draws(self) -> None:
+        # The first numbers of the generator in the standard of C, from the seed 1.
+        draws = kit.Draws(1)
+        self.assertEqual([draws.below(32768) for _ in range(3)], [16838, 5758, 10113])
+        lines = kit.scatter(7, 10, 5, 3)
+        self.assertEqual([len(set(line)) for line in lines], [3] * 5)
+
+
+class Games(unittest.TestCase):
+    NONE: kit.Points = frozenset()
+
+    def test_noughts_and_crosses(self) -> None:
+        lines = kit.in_row(3, 3, 3)
+        for kind, score in (("maker-breaker", 1), ("maker-maker", 0), ("avoider-enforcer", -1)):
+            game = kit.LineGame(kind, 9, lines)
+            self.assertEqual(game.value(self.NONE, self.NONE, "x"), score)
+
+    def test_bias(self) -> None:
+        for bias, score in ((1, 1), (2, -1)):
+            game = kit.LineGame("maker-breaker", 3, [(0, 1), (0, 2)], bias)
+            self.assertEqual(game.value(self.NONE, self.NONE, "x"), score)
+
+    def test_attack(self) -> None:
+        game = kit.LineGame("maker-breaker", 3, [(0, 1), (0, 2)])
+        self.assertFalse(game.attack(self.NONE, self.NONE, 0))
+        self.assertTrue(game.attack(self.NONE, self.NONE, 1))
+
+    def test_set_game(self) -> None:
+        lines = kit.in_row(3, 3, 3)
+        wins = kit.set_game(9, lambda points: any(kit.bits(it) & ~points == 0 for it in lines))
+        self.assertTrue(wins(0, 0, True))
+        self.assertFalse(wins(0, kit.bits([4]), True))
+        game = kit.LineGame("maker-breaker", 9, lines)
+        for x, y in itertools.islice(kit.marked(9), 0, 19683, 97):
+            due = game.value(x, y, "x") == 1
+            self.assertEqual(wins(kit.bits(x), kit.bits(y), True), due)
+
+
+if __name__ == "__main__":
+    unittest.main()
