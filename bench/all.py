@@ -3,8 +3,8 @@
 seconds and memory, with the limits.
 
 The programs are those that `rt ci` or `rt run` left in crates/posgame/out, crates/posgame_draw/out
-and crates/bench_parts/out. A bench whose program or script is missing, that fails or takes too long
-is a line of its own. It takes half an hour, on a quiet machine; `--long` also gives posgame 20,000
+and crates/bench_parts/out. A bench whose program is missing, that fails or takes too long is a line
+of its own. It takes half an hour, on a quiet machine; `--long` also gives posgame 20,000
 mutated files and arguments and kills it 200 times. Unproved.
 """
 from __future__ import annotations
@@ -17,6 +17,7 @@ import re
 import resource
 import subprocess
 import sys
+import tempfile
 import textwrap
 import time
 from typing import List, NamedTuple, Optional, Tuple
@@ -56,28 +57,20 @@ BENCHES = [
 ]
 
 
-def missing(words: List[object]) -> Optional[str]:
-    """What of a bench is missing, if anything is."""
-    paths = [it for it in words if isinstance(it, pathlib.Path)]
-    needed = [kit.TOP / "bench" / str(words[0]), *paths]
-    return next((str(it.relative_to(kit.TOP)) for it in needed if not it.exists()), None)
-
-
 def run(words: List[object]) -> Tuple[List[str], Optional[str]]:
     """The lines of a bench, and what is wrong with its end, if anything is."""
     command = [sys.executable, str(kit.TOP / "bench" / str(words[0])), *map(str, words[1:])]
-    with kit.files(output="", errors="") as folder:
-        output, errors = folder / "output", folder / "errors"
-        with output.open("w") as out, errors.open("w") as wrong:
-            try:
-                status = subprocess.run(command, cwd=kit.TOP, stdin=subprocess.DEVNULL, stdout=out,
-                                        stderr=wrong, timeout=LIMIT).returncode
-                end = f"ended with status {status}" if status else None
-            except subprocess.TimeoutExpired:
-                end = f"not done after {LIMIT} s"
-        complaint = errors.read_text(errors="replace").strip().splitlines()[-1:] if end else []
-        lines = output.read_text(errors="replace").splitlines()
-    return lines, ": ".join([end, *complaint])[:240] if end else None
+    with tempfile.TemporaryFile("w+") as output, tempfile.TemporaryFile("w+") as errors:
+        try:
+            status = subprocess.run(command, cwd=kit.TOP, stdin=subprocess.DEVNULL, stdout=output,
+                                    stderr=errors, timeout=LIMIT).returncode
+            end = f"ended with status {status}" if status else None
+        except subprocess.TimeoutExpired:
+            end = f"not done after {LIMIT} s"
+        for stream in output, errors:
+            stream.seek(0)
+        lines, complaints = output.read().splitlines(), errors.read().strip().splitlines()
+    return lines, ": ".join([end, *complaints[-1:]])[:240] if end else None
 
 
 def laid_out(lines: List[str]) -> List[str]:
@@ -93,9 +86,10 @@ def laid_out(lines: List[str]) -> List[str]:
 
 def section(bench: Bench) -> Tuple[str, bool]:
     """The text of a bench, and whether all went well."""
-    lacking = missing(bench.words)
-    if lacking:
-        return f"## {bench.name}\n\nNot measured: there is no `{lacking}`.\n", False
+    for program in (it for it in bench.words if isinstance(it, pathlib.Path)):
+        if not program.exists():
+            missing = program.relative_to(kit.TOP)
+            return f"## {bench.name}\n\nNot measured: there is no `{missing}`.\n", False
     begin = time.monotonic()
     lines, why = run(bench.words)
     seconds = time.monotonic() - begin

@@ -11,7 +11,7 @@ from __future__ import annotations
 
 import itertools
 import random
-from typing import Callable, Iterable, Iterator, List, Optional, Tuple
+from typing import Any, Callable, Iterable, Iterator, List, Optional, Tuple
 
 import kit
 
@@ -167,25 +167,27 @@ def parts() -> Iterator[Tuple[str, Callable[..., Files], Optional[int]]]:
     yield "100 MB of pairs, foreign", lambda: foreign_files(long, 1_000, "x"), None
 
 
+def checked(call: Callable[..., Any], program: str, files: Files) -> Tuple[Any, int]:
+    """Has `call` run or count a check of these files; returns what it returns, and the bytes."""
+    with kit.files(game=files[0], certificate=files[1]) as folder:
+        done = call(program, "check", folder / "game", folder / "certificate")
+    return done, len(files[1])
+
+
 def main() -> int:
     words = kit.parser(__doc__)
     words.add_argument("--part", default="", help="certificates with this word in their name")
     given = words.parse_args()
     table = kit.Table("certificate", "bytes", kit.Column("s", ".2f"), kit.Column("MB", limit=24),
-                      kit.Column("instructions a byte", ".0f", 80), "first line printed")
+                      kit.Column("instructions a byte", ".0f", 80), "printed")
     for name, make, small in parts():
-        if given.part not in name:
-            continue
-        each = None
-        for size in [small] * bool(small and kit.has_valgrind()) + [None]:
-            game, text = make(size) if size else make()
-            with kit.files(game=game, certificate=text) as folder:
-                check = given.program, "check", folder / "game", folder / "certificate"
-                if size:
-                    each = kit.count(*check).instructions / len(text)
-                done = kit.run(*check) if not size else None
-        table.row(name, len(text), done.seconds, done.megabytes, each,
-                  done.output.partition("\n")[0] or f"status {done.status}")
+        if given.part in name:
+            (done, size), each = checked(kit.run, given.program, make()), None
+            if small and kit.has_valgrind():
+                counted, part = checked(kit.count, given.program, make(small))
+                each = counted.instructions / part
+            printed = ", ".join(dict.fromkeys(done.output.splitlines()))
+            table.row(name, size, done.seconds, done.megabytes, each, printed)
     return table.end()
 
 
