@@ -6,6 +6,7 @@ from __future__ import annotations
 import contextlib
 import io
 import itertools
+import os
 import sys
 import unittest
 from typing import Callable, List, Tuple
@@ -44,6 +45,7 @@ class Tables(unittest.TestCase):
         self.assertEqual(table, (0, ["| a | b |", "|---|---|"]))
 
 
+@unittest.skipUnless(os.path.exists("/usr/bin/time"), "there is no /usr/bin/time")
 class Runs(unittest.TestCase):
     def python(self, text: str, **how: object) -> kit.Run:
         return kit.run(sys.executable, "-c", text, **how)
