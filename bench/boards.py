@@ -73,9 +73,10 @@ def solved(text: str, given: argparse.Namespace) -> Solved:
         stored = paths[1].read_text(encoding="ascii")
         counts = [int(it) for it in re.findall(r"^nodes (\d+)$", stored, re.MULTILINE)]
         number = sum(counts) if counts else len(re.findall(r"^claim ", stored, re.MULTILINE))
+        winner = RESULTS[said]
         if not kit.run(given.program, *family, "check", *paths, most=given.seconds).is_accepted:
-            wrong = [f"not accepted:\n{text}"]
-    return Solved(RESULTS[said], number, done.processor, True, wrong)
+            winner, wrong = f"{winner}, not accepted", [f"{said} is not accepted: {text!r:.300}"]
+    return Solved(winner, number, done.processor, True, wrong)
 
 
 def rows_of(size: int) -> List[kit.Line]:

@@ -56,7 +56,7 @@ class Tree:
 
     def fill(self, count: int) -> Tuple[kit.Line, ...]:
         """Adds nodes up to `count`, and returns the position of the last."""
-        self.put_moves((count + len(self.nodes)) // 2)
+        self.put_moves((count + len(self.nodes)) // 2 + 1)
         moves = [(x, y) for x, y in self.place if len(y) == POINTS // 2 - 1]
         for x, y in ((tuple(v for v in x if v != back), y) for x, y in moves for back in x):
             if len(self.nodes) < count:

@@ -30,9 +30,9 @@ import os
 import pathlib
 import random
 import re
+import resource
 import shutil
 import signal
-import time
 from typing import Any, Dict, List, Optional, Tuple
 
 import kit
@@ -109,9 +109,12 @@ class Program:
         opened = [(os.POSIX_SPAWN_OPEN, number, path, new if number else os.O_RDONLY, 0o600)
                   for number, path in enumerate(self.streams)]
         child = os.posix_spawn(self.path, [self.path, *words], os.environ, file_actions=opened)
-        self.watch(child)
+        with contextlib.suppress(OSError):  # (it may have ended)
+            resource.prlimit(child, resource.RLIMIT_CPU, (SECONDS + 1, SECONDS + 2))
+        signal.signal(signal.SIGALRM, lambda *_: os.kill(child, signal.SIGKILL))
+        signal.alarm(BY_THE_CLOCK)
         _, status, used = os.wait4(child, 0)
-        signal.setitimer(signal.ITIMER_REAL, 0)
+        signal.alarm(0)
         status, seconds = os.waitstatus_to_exitcode(status), used.ru_utime + used.ru_stime
         megabytes = used.ru_maxrss // 1024
         self.runs += 1
@@ -119,20 +122,6 @@ class Program:
         self.most, self.slowest = max(self.most, megabytes), max(self.slowest, seconds)
         said, errors = (pathlib.Path(it).read_bytes() for it in self.streams[1:])
         return status, said.decode("utf-8", "replace"), errors, megabytes, seconds
-
-    def watch(self, child: int) -> None:
-        """Ends the child where it takes too long: it is looked at each second."""
-        begun = time.monotonic()
-
-        def look(*_: object) -> None:
-            with contextlib.suppress(OSError):  # (it may have ended just now)
-                fields = pathlib.Path(f"/proc/{child}/stat").read_text().rsplit(")", 1)[1].split()
-                taken = (int(fields[11]) + int(fields[12])) / os.sysconf("SC_CLK_TCK")
-                if taken > SECONDS or time.monotonic() - begun > BY_THE_CLOCK:
-                    os.kill(child, signal.SIGKILL)
-
-        signal.signal(signal.SIGALRM, look)
-        signal.setitimer(signal.ITIMER_REAL, 1, 1)
 
 
 def held(folder: pathlib.Path) -> Dict[str, Optional[bytes]]:

@@ -281,7 +281,8 @@ def race(rows: Rows, count: int, targets: Any) -> None:
     swapping.join()
     rows.wrong += [f"race: {part} is left" for part in parts(folder)]
     for what, many in sorted(counts.items()):
-        rows.table.row(f"store at a link to {', '.join(map(str, targets))}", what, many)
+        names = ", ".join(it or "a plain file" for it in targets)
+        rows.table.row(f"store at a link to {names}", what, many)
 
 
 def races(rows: Rows, given: argparse.Namespace) -> None:
