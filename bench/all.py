@@ -80,8 +80,8 @@ def laid_out(lines: List[str]) -> List[str]:
         is_row = line.startswith("|")
         if not (text and is_row and text[-1].startswith("|")):
             text.append("")
-        text += [line] if is_row else textwrap.wrap(line, 100)
-    return text or ["", "Nothing was printed."]
+        text += [line] if is_row else textwrap.wrap(line, 100, break_on_hyphens=False)
+    return text
 
 
 def section(bench: Bench) -> Tuple[str, bool]:
@@ -95,9 +95,9 @@ def section(bench: Bench) -> Tuple[str, bool]:
     seconds = time.monotonic() - begin
     used = resource.getrusage(resource.RUSAGE_CHILDREN).ru_maxrss // 1024
     tail = [f"`bench/{bench.words[0]}`, {seconds:.0f} s. The greatest process of the benches so far"
-            f" took {used} MB,", "those of valgrind among them."]
-    tail += [f"**{why}**"] if why else []
-    return "\n".join([f"## {bench.name}", *laid_out(lines), "", *tail, ""]), why is None
+            f" took {used} MB, those of valgrind among them."] + ([f"**{why}**"] if why else [])
+    text = [f"## {bench.name}", *laid_out(lines or ["Nothing was printed."]), *laid_out(tail), ""]
+    return "\n".join(text), why is None
 
 
 def machine() -> str:

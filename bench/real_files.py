@@ -386,8 +386,9 @@ def main() -> int:
         rows.table.row("rows of files, names and streams", "", rows.rows)
         rows.table.row("rows of files, names and streams", "otherwise", wrong)
         rows.table.row("parts of the rows", "not permitted", rows.skipped)
-        for part in races, pairs, kills:
-            part(rows, given)
+        for part, count in (races, given.races), (pairs, given.pairs), (kills, given.kills):
+            if count:
+                part(rows, given)
         return kit.end(rows.wrong)
 
 
