@@ -2,6 +2,8 @@
 """Runs the benches that measure or try the programs, and writes docs/FIGURES.md: instructions,
 seconds and memory, with the limits.
 
+    bench/all.py [--only WORD].. [--long] [--out FILE]
+
 The programs are those that `rt ci` or `rt run` left in crates/posgame/out, crates/posgame_draw/out
 and crates/bench_parts/out. A bench whose program is missing, that fails or takes too long is a line
 of its own. It takes half an hour, on a quiet machine; `--long` also gives posgame 20,000

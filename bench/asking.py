@@ -1,6 +1,8 @@
 #!/usr/bin/env python3
 """Measures what a search for private pairs costs on 256 points with 60 to 120 lines of ten points.
 
+    bench/asking.py [PROGRAM]
+
 PROGRAM is bench_parts. Families are drawn with lines near their own pair of points, far from it, or
 anywhere, and some are short at their last line. Of each kind the one is taken for which a matcher
 of this script goes over the most points; the worst of all is then made harder by small changes.

@@ -1,6 +1,8 @@
 #!/usr/bin/env python3
 """Measures what a play with its undo costs on a board of 256 points, and how long opening it takes.
 
+    bench/board.py [PROGRAM]
+
 PROGRAM is bench_parts. Full games in mixed orders are played and taken back, under callgrind; the
 instructions of a run without a game are subtracted. Each line has ten points, so that 204, 2,048
 and 20,000 lines are about 8, 80 and 800 through a point. Unproved.

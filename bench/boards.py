@@ -2,6 +2,8 @@
 """Solves some five hundred boards by posgame, and writes docs/BOARDS.md: who wins each, with how
 large a proof, in what time, and what stays unknown.
 
+    bench/boards.py [PROGRAM] [--only WORD] [--positions N] [--seconds N] [--jobs N] [--out FILE]
+
 Each certificate that is stored must be accepted. The boards are noughts and crosses, all animals
 (polyominoes) of up to five cells, which this script lists by itself, Bridg-it, boxes, and
 connectivity games on complete graphs and grids. Unproved.

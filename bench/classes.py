@@ -1,6 +1,8 @@
 #!/usr/bin/env python3
 """Measures what it takes to class large switching games: instructions, seconds and memory.
 
+    bench/classes.py [PROGRAM]
+
 posgame solves each game once under callgrind, which counts the instructions of `classify` and of
 the whole run, and once by itself; the certificate that it stores must be accepted. Unproved.
 """

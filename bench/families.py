@@ -2,6 +2,8 @@
 """Measures solving, checking and playing connectivity games and games on vectors: instructions,
 seconds and memory.
 
+    bench/families.py [PROGRAM] [--only WORD]
+
 posgame runs under callgrind to solve each game, to check what it stored, and to play the side that
 wins against replies that go round the points. What reading the game takes, counted by a check of an
 empty certificate, is subtracted; of the player's moves, each with the reply before it, the dearest

@@ -1,6 +1,8 @@
 #!/usr/bin/env python3
 """Measures how long posgame takes to read and print the largest game files, and its peak memory.
 
+    bench/files.py [PROGRAM]
+
 A file is read by a check, which ends at the certificate, since that is empty. Other games of as
 many lines and points are made and printed by posgame itself, and then read in the same way.
 Unproved.

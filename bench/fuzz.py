@@ -2,6 +2,8 @@
 """Gives posgame mutated game files, certificates, arguments and dialogues, and looks for answers
 that none may give.
 
+    bench/fuzz.py [PROGRAM] [--runs N] [--seed N] [--first N]
+
 It shares nothing with the crates. Each case is drawn from the seed and its number alone, and is one
 to four runs of the program in a folder of its own: files are made from those of examples/ and from
 what the program solves of them, by changes of bytes, words (of bench/fuzz.txt), numbers and lines.

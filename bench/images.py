@@ -2,6 +2,8 @@
 """Measures what folding saves, and writes docs/IMAGES.md: of each board the nodes of its
 certificate, those that stay plain if it is folded, and what the flag costs.
 
+    bench/images.py [PROGRAM] [--only WORD] [--out FILE]
+
 posgame solves each board with --images and without; both certificates must be accepted.
 Instructions are counted by callgrind, where that is installed: the flag may cost a tenth of what
 solving costs. At last it is measured how long it takes to see whether a map fits a board of 20,000

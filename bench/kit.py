@@ -1,10 +1,11 @@
 """What the scripts of bench/ share: options, runs and their figures, tables, texts of files,
 boards, and games decided by brute force.
 
-Figures are printed as a table in Markdown, one number a cell; below it a line `wrong: WHERE: WHAT`
-for each thing that isn't as expected, and the status is then 1. bench/all.py puts these tables into
-docs/FIGURES.md. Tried by `python3 -m unittest discover -s bench`. Nothing here shares anything with
-the crates. Unproved.
+Each script says by --help how it is called; if PROGRAM is left out, it is the one that `rt run`
+built. Figures are printed as a table in Markdown, one number a cell; below it a line `wrong: WHERE:
+WHAT` for each thing that isn't as expected, and the status is then 1. bench/all.py puts these
+tables into docs/FIGURES.md. Tried by `python3 -m unittest discover -s bench`. Nothing here shares
+anything with the crates. Unproved.
 """
 from __future__ import annotations
 

@@ -2,6 +2,8 @@
 """Writes docs/pictures from examples/, reads each picture with a parser of XML, and measures the
 largest ones. Arguments of bench/pictures.txt for which nothing is drawn must be refused. PROGRAM is
 posgame_draw. Unproved.
+
+    bench/pictures.py [PROGRAM] [--out FOLDER]
 """
 from __future__ import annotations
 

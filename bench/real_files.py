@@ -2,6 +2,8 @@
 """Runs posgame on files, names and consoles of the system that fail or vanish, and kills it while
 it writes. It shares nothing with the crates.
 
+    bench/real_files.py [PROGRAM] [--kills N] [--races N] [--pairs N] [--seed N]
+
 Each row, of bench/real_files.txt or of a function here, says what is in a folder of its own, the
 arguments, and what must come of it: the status, what is printed, and what files contain then.
 Nothing may be on standard error, and no run may take more than twenty seconds. Names are folders,

@@ -1,6 +1,8 @@
 #!/usr/bin/env python3
 """Measures searches on five boards: instructions, seconds and memory.
 
+    bench/solving.py [PROGRAM]
+
 posgame solves each board once under callgrind, where that is installed, and once by itself; of each
 one question is asked, whether X wins. What reading takes is counted by a check of an empty
 certificate. The functions that take most of a count above its limit are printed. Unproved.

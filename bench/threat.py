@@ -1,6 +1,8 @@
 #!/usr/bin/env python3
 """Measures the search for threat lines on 16 by 16 points with five points in a row as lines.
 
+    bench/threat.py [PROGRAM]
+
 PROGRAM is bench_parts. It is run under callgrind twice for each row, asking and only counting the
 same positions; the difference, shared among the positions, is what one question takes. Then how
 many positions have a threat line of no reply, one, two and three. Unproved.
