@@ -131,8 +131,13 @@ def listed(rows: Rows) -> None:
                  before, USER if user else None)
 
 
-def unread(rows: Rows) -> None:
-    """Standard output that nobody reads."""
+def piped(rows: Rows) -> None:
+    """Standard input that is a pipe, as game, and standard output that nobody reads."""
+    reading, writing = os.pipe()
+    os.write(writing, TEXTS["GAME"].encode())
+    os.close(writing)
+    rows.row("standard input as game", "check /dev/stdin C", 0, TEXTS["ACCEPTED"], stdin=reading)
+    os.close(reading)
     reading, writing = os.pipe()
     os.close(reading)
     rows.row("output that nobody reads", "check G C", 6, stdout=writing)
@@ -382,7 +387,7 @@ def main() -> int:
         os.chmod(top, 0o755)
         rows = Rows(shutil.copy(given.program, os.path.join(top, "program")), top)
         os.chmod(rows.program, 0o755)
-        for part in listed, unread, closed_streams, modes, stale_parts, mounted, disks:
+        for part in listed, piped, closed_streams, modes, stale_parts, mounted, disks:
             part(rows)
         wrong = len(rows.wrong)
         rows.table.row("rows of files, names and streams", "", rows.rows)
