@@ -95,7 +95,6 @@ class Texts(unittest.TestCase):
         name = "pictures.txt"
         self.assertEqual([len(it) for it in kit.stanzas(name)], [28, 14])
         self.assertNotIn("\n# ", kit.data(name))
-        self.assertTrue(all(len(it) >= 5 for it in kit.stanzas("memory.txt")))
 
 
 class Boards(unittest.TestCase):
