@@ -4,20 +4,23 @@
     bench/width.py                      all kinds of file
     bench/width.py --only docs scripts  these kinds only
 
-A line has at most 100 characters, and a row of a table of Markdown 120. Not counted is an import of
-a source that can't be split (`use`). The status is 1 if a line is too long. The files are those
-that git knows, or would take.
+A line has at most 100 characters, and a row of a table of Markdown 120. Not counted are an import
+of a source that can't be split (`use`), and the files of `LEFT_OUT`. The status is 1 if a line is
+too long. The files are those that git knows, or would take. Of a line of a source it is said what
+is to be done.
 
 Its examples are tried by `python3 -m doctest bench/width.py`. Nothing is proved of this script.
 """
 from __future__ import annotations
 
 import argparse
+import functools
 import pathlib
 import re
 import subprocess
 import sys
 from collections.abc import Iterator
+from typing import NamedTuple
 
 TOP = pathlib.Path(__file__).resolve().parent.parent
 COLUMNS = 100
@@ -64,25 +67,73 @@ def is_script(name: str) -> bool:
 def limit(kind: str, line: str) -> int | None:
     """Returns the most columns that a line may have, or None if it may have any number.
 
-    >>> limit("docs", "| a | b |"), limit("docs", "text"), limit("sources", "use std.a.{b, c}")
+    >>> limit("docs", "| a | b |"), limit("docs", "text"), limit("sources", "ghost use a.{b, c}")
     (120, 100, None)
     """
     if kind == "docs" and line.startswith("|"):
         return TABLE_COLUMNS
-    if kind == "sources" and re.match(r"\s*(pub )?use \S", line):
+    if kind == "sources" and re.match(r"\s*((pub|ghost) )?use \S", line):
         return None
     if kind == "examples" and not line.startswith("#"):
         return None
     return COLUMNS
 
 
-def too_long(name: str, kind: str) -> Iterator[tuple[int, int]]:
-    """Yields the number and the columns of each line of a file that is too long."""
+class Change(NamedTuple):
+    """A change of a must-fail edit: in which file which text becomes which."""
+
+    file: str
+    old: str
+    new: str
+
+
+@functools.lru_cache(None)
+def edits() -> list[tuple[str, list[Change]]]:
+    """Returns the must-fail edits, with their changes."""
+    found = []
+    for name in tracked():
+        path, file, old, changes = pathlib.PurePath(name), "", "", []
+        if path.suffix != ".edit":
+            continue
+        crate = path.parts[1 if path.parts[0] == "crates" else 2]
+        for line in (TOP / name).read_text(encoding="utf-8").split("\n"):
+            if line.startswith("file: "):
+                file = f"crates/{crate}/{line[6:].strip()}"
+            elif line.startswith("old: "):
+                old = line[5:]
+            elif line.startswith("new:"):
+                changes.append(Change(file, old, line[4:].removeprefix(" ")))
+        found.append((name, changes))
+    return found
+
+
+def remedy(name: str, line: str) -> str:
+    """Returns what is to be done about a line of a source that is too long.
+
+    >>> remedy("crates/pg_base/src/lib.rt", '    let text = "0 1 2"')
+    ': code, which `rt fmt` leaves: break it by hand'
+    >>> remedy("crates/pg_base/specs/Sets.antt", "f = " + "a" * 99)
+    ': a word is too long: shorten it'
+    """
+    for edit, changes in edits():
+        if any(change.file == name and change.old in line for change in changes):
+            return f": {edit} looks for it in one line: shorten what it looks for"
+    column = len(line) - len(line.lstrip())
+    if any(column + len(word) > COLUMNS - 4 for word in re.findall(r'"[^"]*"|[^\s"]+', line)):
+        return ": a word is too long: shorten it"
+    laid = name.endswith(".antt") or re.match(r"\s*(//|requires|ensures|ghost)", line)
+    by_hand = "code, which `rt fmt` leaves: break it by hand"
+    return ": bench/lay_out.py breaks it" if laid else f": {by_hand}"
+
+
+def too_long(name: str, kind: str) -> Iterator[tuple[int, str]]:
+    """Yields, of each line of a file that is too long, its number, its columns and what to do."""
     text = (TOP / name).read_text(encoding="utf-8", errors="replace")
     for number, line in enumerate(text.splitlines(), 1):
         most = limit(kind, line)
         if most is not None and len(line) > most:
-            yield number, len(line)
+            what = remedy(name, line) if kind == "sources" else ""
+            yield number, f"{len(line)} columns{what}"
 
 
 def main() -> int:
@@ -102,8 +153,7 @@ def main() -> int:
         if given.count and lines:
             print(f"{name}: {len(lines)}")
         elif not given.count:
-            print("".join(f"{name}:{number}: {columns} columns\n" for number, columns in lines),
-                  end="")
+            print("".join(f"{name}:{number}: {what}\n" for number, what in lines), end="")
     print(f"{found} lines are too long in {', '.join(given.only)}")
     return 1 if found else 0
 
