@@ -120,7 +120,10 @@ class Part:
             return "cases"
         if sign == "{":
             back = next((a for a, b in self.pairs.items() if b == start - 1), start - 1)
-            return "record" if "record" in (self.word(start - 1), self.word(back - 1)) else None
+            if "record" not in (self.word(start - 1), self.word(back - 1)):
+                return None
+            declared = self.word(start - 1) != "record" and back - 1 == (self.word(0) == "pub")
+            return None if declared else "record"
         commas = any(self.word(k) == "," for k in self.tops(start + 1, self.pairs[start]))
         return "tuple" if sign == "(" and commas else None
 
@@ -334,6 +337,7 @@ class Flow:
             self.weigh_let(start, end, level)
         elif head in ("λ", "unfold"):
             last = self.first(start, end, lambda word: word == "in" or word.endswith("."))
+            self.weigh_call(start + 1, last, last, level + 2)
             if last + 1 < end:
                 self.allow(last + 1, level, 2)
                 self.tail_of(last + 1, end, level)

@@ -34,6 +34,7 @@ import width
 
 COMMENT = re.compile(r"\s*(///|//!|//|--)( |$)")
 CLAUSE = re.compile(r"\s*(requires|ensures|ghost)\b(?! use)[^{]*\{ ")
+HEAD = re.compile(r"\s*(pub )?(module|record|data) ")
 LISTED = re.compile(r"(?:[-*+]|\d+[.)]) +")
 WORD = re.compile(r"`[^`]*`[^\s`]*|\S+")
 
@@ -196,6 +197,16 @@ def same(unit: Unit, old: list[str], new: list[str]) -> bool:
     return breaks.meaning("\n".join(old)) == breaks.meaning("\n".join(new))
 
 
+def shift(lines: list[str], unit: Unit, old: list[str], shown: list[str]) -> None:
+    """Moves the definitions behind the `where` of a term with the line that ends with it."""
+    further = indent_of(shown[-1]) - indent_of(old[-1])
+    if shown[-1].endswith(" where") and not HEAD.match(old[0]):
+        k = unit.end
+        while k < len(lines) and (not lines[k] or indent_of(lines[k]) > indent_of(old[0])):
+            lines[k] = (" " * (indent_of(lines[k]) + further) + lines[k].lstrip()).rstrip()
+            k += 1
+
+
 def new_text(text: str, proofs: bool, wanted: Iterable[str]) -> tuple[str, list[int]]:
     """Lays out a file whose text holds what edits look for. Returns its text, and the lines of the
     old text that couldn't be laid out."""
@@ -211,6 +222,7 @@ def new_text(text: str, proofs: bool, wanted: Iterable[str]) -> tuple[str, list[
             left.append(unit.start + 1)
             continue
         new, done = [*new, *lines[done:unit.start], *shown], unit.end
+        shift(lines, unit, old, shown)
     return "\n".join([*new, *lines[done:]]), left
 
 
