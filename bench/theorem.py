@@ -20,7 +20,7 @@ TOP = pathlib.Path(__file__).resolve().parent.parent
 PAGE = TOP / "docs" / "THEOREM.md"
 DEFINED = TOP / "docs" / "DEFINED.md"
 COLUMNS = 100
-MOST_LINES = 200
+MOST_LINES = 220
 
 
 class Quote(NamedTuple):
