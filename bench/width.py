@@ -115,13 +115,15 @@ def remedy(name: str, line: str) -> str:
     >>> remedy("crates/pg_base/specs/Sets.antt", "f = " + "a" * 99)
     ': a word is too long: shorten it'
     """
+    laid = name.endswith(".antt") or re.match(r"\s*(//|requires|ensures|ghost)", line)
+    if re.match(r"\s*//[/!] \|", line):
+        return ": a row of a table in a comment: shorten it"
     for edit, changes in edits():
-        if any(change.file == name and change.old in line for change in changes):
+        if laid and any(change.file == name and change.old in line for change in changes):
             return f": {edit} looks for it in one line: shorten what it looks for"
     column = len(line) - len(line.lstrip())
     if any(column + len(word) > COLUMNS - 4 for word in re.findall(r'"[^"]*"|[^\s"]+', line)):
         return ": a word is too long: shorten it"
-    laid = name.endswith(".antt") or re.match(r"\s*(//|requires|ensures|ghost)", line)
     by_hand = "code, which `rt fmt` leaves: break it by hand"
     return ": bench/lay_out.py breaks it" if laid else f": {by_hand}"
 
