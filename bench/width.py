@@ -5,7 +5,7 @@
     bench/width.py --only docs scripts  these kinds only
 
 A line has at most 100 characters, and a row of a table of Markdown 120. Not counted are an import
-of a source that can't be split (`use`), and the files of `LEFT_OUT`. The status is 1 if a line is
+or an attribute of a source, which `rt fmt` doesn't split, and the files of `LEFT_OUT`. The status is 1 if a line is
 too long. The files are those that git knows, or would take. Of a line of a source it is said what
 is to be done.
 
@@ -72,7 +72,7 @@ def limit(kind: str, line: str) -> int | None:
     """
     if kind == "docs" and line.startswith("|"):
         return TABLE_COLUMNS
-    if kind == "sources" and re.match(r"\s*((pub|ghost) )?use \S", line):
+    if kind == "sources" and re.match(r"\s*(((pub|ghost) )?use \S|#\[)", line):
         return None
     if kind == "examples" and not line.startswith("#"):
         return None
