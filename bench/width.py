@@ -4,10 +4,9 @@
     bench/width.py                      all kinds of file
     bench/width.py --only docs scripts  these kinds only
 
-A line has at most 100 characters, and a row of a table of Markdown 120. Not counted are an import
-or an attribute of a source, which `rt fmt` doesn't split, and the files of `LEFT_OUT`. The status
-is 1 if a line is too long. The files are those that git knows, or would take. Of a line of a source
-it is said what is to be done.
+A line has at most 100 characters, and a row of a table of Markdown 120. Not counted is an import or
+an attribute of a source, which `rt fmt` doesn't split. The status is 1 if a line is too long. The
+files are those that git knows, or would take. Of a line of a source it is said what is to be done.
 
 Its examples are tried by `python3 -m doctest bench/width.py`. Nothing is proved of this script.
 """
