@@ -12,7 +12,7 @@ use Rattle.pg_cert_files.specs.CertFile.{Seen, nothing, after, seen}
 use Rattle.pg_cert_files.specs.Reader.{told}
 use Rattle.std.proofs.lemmas.List.Elements.{recursion_from_All}
 
-abbrev HasNoFeed : Bytes → Type 0
+abbrev pub HasNoFeed : Bytes → Type 0
 HasNoFeed bytes = AllByRecursion (λ b. (b == 10) ≡ false) bytes
 
 abbrev none_cut : Cut

@@ -16,3 +16,6 @@ pub mod ReadsWhole
 pub mod DigitRuns
 pub mod Gathering
 pub mod Outlines
+pub mod PairWords
+pub mod ShortLines
+pub mod ShortTexts

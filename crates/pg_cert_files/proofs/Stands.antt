@@ -146,7 +146,7 @@ feeds old mid ended piece rest line behind part fed is ends =
 pub gives_none : (old new : LineReader) (piece rest : Bytes) → HasGiven old new piece rest None → HasFed old new piece rest
 gives_none old new piece rest h = (h.0, h.1, λ text stands. let s = h.2 text stands in (s.0, s.1 ∙ append-nil (told text).parts))
 
-front_is : (front piece rest : Bytes) → piece ≡ front ++ rest → front ≡ take (length piece - length rest) piece
+pub front_is : (front piece rest : Bytes) → piece ≡ front ++ rest → front ≡ take (length piece - length rest) piece
 front_is front piece rest e =
     let n : length piece - length rest ≡ length front = omega (arith, ap length e, length-append front rest) in
     rw (n, e) (sym (take-append_seam front rest))

@@ -10,3 +10,5 @@ pub mod Reader
 pub mod Pieces
 pub mod Gatherer
 pub mod FirstFault
+pub mod Shortened
+pub mod Shortening

@@ -26,6 +26,7 @@ impl CertReader {
         CertReader {
             lines: LineReader::new(alloc),
             size: 0,
+            wait: 0,
         }
     }
 

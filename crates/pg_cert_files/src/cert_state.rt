@@ -14,6 +14,8 @@ pub struct CertReader {
     pub(crate) lines: LineReader,
     /// How many bytes came, and one more than the limit for all that are more.
     pub(crate) size: usize,
+    /// How long the line in hand is when it is next tried to be cut short.
+    pub(crate) wait: usize,
     ghost few: { lines.count ≤ size },
     ghost capped: { size ≤ MAX_CERT_BYTES + 1 },
 }

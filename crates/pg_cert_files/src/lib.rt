@@ -16,6 +16,7 @@ mod numerals;
 mod progress;
 mod reader;
 mod reading;
+mod shortening;
 mod signs;
 mod turn;
 mod values;

@@ -157,8 +157,9 @@ fn pair(word: &[u8]) -> Result<Pair, LineError<Fault>>
 
 /// The pair that the first word says, if it is two points with a sign between them, and the text of the other words.
 #[tactic(auto, using(crate::proofs::Outlines::says_pair))]
-fn first_pair(text: &[u8]) -> Option<(Pair, Option<&[u8]>)>
-    ensures { IfSome result (λ p. SaysFirst HYPHEN word_pair text.now p.0 (option_map (λ w. w.now) p.1)) }
+pub(crate) fn first_pair(text: &[u8]) -> Option<(Pair, Option<&[u8]>)>
+    ensures says { IfSome result (λ p. SaysFirst HYPHEN word_pair text.now p.0 (option_map (λ w. w.now) p.1)) }
+    ensures small { IfSome result (λ p. (p.0.a < MAX_MEMBERS) × (p.0.b < MAX_MEMBERS)) }
 {
     let (a, b, others) = two_numbers(HYPHEN, text)?;
     let limit = u32::from(MAX_MEMBERS);

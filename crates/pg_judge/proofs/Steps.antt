@@ -1,7 +1,7 @@
 -- A piece more, part after part.
 use Rattle.std.proofs.Common.{◌≡◌, ◌∙◌, ℕ, ◌-◌, ◌≤◌, List, [], ◌∷◌, ◌++◌, length, take, drop, Option, Some, None, refl, sym, ap, ap₂, subst, arith, map}
 use Rattle.std.specs.Prelude.{IfSome}
-use Rattle.std.proofs.lemmas.List.{append_assoc, append-nil, nil_from_length, take_all, length-drop, take-append-drop}
+use Rattle.std.proofs.lemmas.List.{append_assoc, append-nil, nil_from_length, take_all, length-drop, take-append-drop, length-append}
 use Rattle.pg_text.specs.Text.{Bytes}
 use Rattle.pg_cert.specs.Parts.{all_parts, claim_parts, parts_of, BeginCert}
 use Rattle.pg_cert.specs.declared.cert.Cert.{Cert}
@@ -11,7 +11,9 @@ use Rattle.pg_cert.specs.declared.part.Part.{Part}
 use Rattle.pg_cert.specs.declared.part.Part.TheVariants as parts
 use Rattle.pg_check.specs.Checking.{StandsFor as IsChecked}
 use Rattle.pg_cert_files.specs.CertFile.{listed}
-use Rattle.pg_cert_files.specs.Pieces.{IsFed, AreAllParts, parts_told}
+use Rattle.pg_cert_files.specs.Pieces.{IsFed, AreAllParts, parts_told, size_of}
+use Rattle.pg_cert_files.specs.Shortened.{HasBeenFed, IsFedShort}
+use Rattle.pg_cert_files.proofs.ShortTexts.{alike_more, alike_none, alike_on}
 use Rattle.pg_cert_files.specs.declared.cert_state.CertReader.{CertReader}
 use Rattle.pg_cert_files.proofs.PartsBegin.{begin_seen}
 use Rattle.pg_judge.specs.Heads.{head_of, heads_in, heads_of}
@@ -143,4 +145,39 @@ come-more before after piece game stands first bytes come = record {
 
 -- it still stands for some text
 pub ready-more : (before after : Judging) (piece : Bytes) → IsReady before → ((text : Bytes) → StandsFor before text → StandsFor after (text ++ piece)) → IsReady after
-ready-more before after piece been stands = record { text = been.text ++ piece; fed = stands been.text been.fed }
+ready-more before after piece been stands = record { text = been.text ++ piece; stands = stands been.text been.stands }
+
+-- ---- a text that is cut short while it comes
+
+-- bytes more, fed and then cut short
+pub stands-more : (before : Judging) (reader next : CertReader) (told : Told) (size : ℕ) (piece : Bytes)
+    → ((text bytes : Bytes) → before.size ≡ size_of text → length piece ≡ length bytes → size ≡ size_of (text ++ bytes))
+    → ((text : Bytes) → AreFed before.reader before.told text → AreFed reader told (text ++ piece))
+    → ((text : Bytes) → IsFed reader text → IsFedShort next text)
+    → (text : Bytes) → StandsFor before text → StandsFor (record { reader = next; told = told; size = size }) (text ++ piece)
+stands-more before reader next told size piece sizes feed cut text h =
+    let fed = feed h.short h.fed in
+    let less = cut (h.short ++ piece) fed.read in
+    record {
+      short = less.short;
+      fed = record { read = less.fed; told = subst (HasTold told) (sym less.parts) fed.told };
+      size = sizes text piece h.size refl;
+      fewer = omega (arith, less.fewer, h.fewer, length-append h.short piece, length-append text piece);
+      alike = alike_on (text ++ piece) (h.short ++ piece) less.short (alike_more text h.short piece h.alike) less.alike;
+    }
+
+-- the text to which nothing was fed
+pub stands-begun : (j : Judging) → IsFed j.reader [] → parts_told [] ≡ [] → HasTold j.told [] → j.size ≡ 0 → StandsFor j []
+stands-begun j read parts told size = record {
+  short = [];
+  fed = record { read = read; told = subst (HasTold j.told) (sym parts) told };
+  size = size;
+  fewer = omega arith;
+  alike = alike_none [];
+}
+
+pub fed-short : (j : Judging) → IsReady j → HaveBeenFed j.reader j.told
+fed-short j ready = record { text = ready.stands.short; fed = ready.stands.fed }
+
+pub reader-fed : (reader : CertReader) (told : Told) → HaveBeenFed reader told → HasBeenFed reader
+reader-fed reader told been = record { text = been.text; fed = been.fed.read }

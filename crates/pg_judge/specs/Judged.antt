@@ -1,5 +1,5 @@
 -- What there is to say of a text that comes piece by piece.
-use Rattle.std.specs.Prelude.{◌≡◌, List, [], ◌∷◌, ◌++◌, Ok, IsErrAnd, ⊤}
+use Rattle.std.specs.Prelude.{◌≡◌, ◌≤◌, length, List, [], ◌∷◌, ◌++◌, Ok, IsErrAnd, ⊤}
 use Rattle.pg_base.specs.Texts.{Bytes}
 use Rattle.pg_text.specs.declared.error.FileError.{FileError}
 use Rattle.pg_text.specs.declared.error.FileError.TheVariants as outcomes
@@ -10,7 +10,8 @@ use Rattle.pg_cert.specs.Valid.{IsFirstFault, IsValid}
 use Rattle.pg_cert.specs.declared.cert.Cert.{Cert}
 use Rattle.pg_cert.specs.declared.part.Part.{Part}
 use Rattle.pg_cert_files.specs.CertFile.{certificate}
-use Rattle.pg_cert_files.specs.Pieces.{IsFed, parts_told}
+use Rattle.pg_cert_files.specs.Pieces.{IsFed, parts_told, size_of}
+use Rattle.pg_cert_files.specs.Shortened.{AreAlike}
 use Rattle.pg_cert_files.specs.Views.{number_of}
 use Rattle.pg_cert_files.specs.declared.cert_state.CertReader.{CertReader}
 use Rattle.pg_check.specs.Checking.{StandsFor as IsChecked}
@@ -65,13 +66,18 @@ pub record HaveBeenFed (reader : CertReader) (t : Told) : Type 0 where
   pub text : Bytes
   pub fed : AreFed reader t text
 
--- the judging stands for this text
-abbrev pub StandsFor : Judging → Bytes → Type 0
-StandsFor j text = AreFed j.reader j.told text
+-- The judging stands for this text: of one that is like it and no longer, all that came was told.
+pub record StandsFor (j : Judging) (text : Bytes) : Type 0 where
+  pub short : Bytes
+  pub fed : AreFed j.reader j.told short
+  pub size : j.size ≡ size_of text
+  pub fewer : length short ≤ length text
+  pub alike : AreAlike text short
 
 -- it stands for some text
-abbrev pub IsReady : Judging → Type 0
-IsReady j = HaveBeenFed j.reader j.told
+pub record IsReady (j : Judging) : Type 0 where
+  pub text : Bytes
+  pub stands : StandsFor j text
 
 -- from the first state to the second, these bytes came
 pub record HasCome (first now : Judging) (bytes : Bytes) : Type 0 where

@@ -1,27 +1,58 @@
 //! Judging a certificate as its bytes come.
-ghost use Rattle.std.specs.Prelude.{◌≡◌, [], List, ℕ, IfOk, MatchResult};
-ghost use Rattle.pg_judge.specs.Judged.{HasCome, IsReady, SaysValid, StandsAgainst, StandsFor};
+ghost use Rattle.std.specs.Prelude.{◌≡◌, ◌++◌, [], List, ℕ, length, IfOk, MatchResult};
+ghost use Rattle.pg_cert_files.specs.Pieces.{size_of};
+ghost use Rattle.pg_judge.specs.Judged.{AreFed, HasCome, HaveBeenFed, IsReady, SaysValid, StandsAgainst, StandsFor};
 
 use crate::claim_head::ClaimHead;
 use crate::fault::JudgeFault;
 use crate::feeding::feed_piece;
 use crate::told::Told;
 use pg_base::Memory;
-use pg_cert_files::CertReader;
+use pg_cert_files::{CertReader, Fault, MAX_CERT_BYTES};
 use pg_game::Game;
 use pg_io::Sink;
+use pg_text::Numbered;
 use std::alloc::Global;
 
 /// A certificate for a game that comes piece by piece: a sink of its bytes.
 ///
 /// Of what came it keeps the line in hand, what the claims say before their nodes, and the marks and turns of the nodes of
-/// the claim in hand.
+/// the claim in hand. A long line of pairs is cut short while it comes, as far as that changes no verdict.
 #[derive(Drop)]
 pub struct Judging<'a> {
     /// What the bytes have said.
     pub(crate) reader: CertReader,
     /// What the parts have said.
     pub(crate) told: Told<'a>,
+    /// How many bytes came, and one more than the limit for all that are more.
+    pub(crate) size: usize,
+}
+
+/// How many bytes have come with so many more, and one more than the limit for all that are more.
+fn size_with(size: usize, more: usize) -> usize
+    ensures { (text bytes : List ℕ) → size ≡ size_of text → more ≡ length bytes → result ≡ size_of (text ++ bytes) }
+{
+    if size > MAX_CERT_BYTES {
+        return size;
+    }
+    if more > MAX_CERT_BYTES - size {
+        return MAX_CERT_BYTES + 1;
+    }
+    size + more
+}
+
+/// What the claims say where all parts of a valid certificate were told, and else its first fault, or the text's fault of
+/// form.
+fn conclude(alloc: Global, reader: CertReader, told: Told<'_>) -> Result<Vec<ClaimHead>, JudgeFault>
+    requires { HaveBeenFed reader told }
+    ensures { (text : List ℕ) → AreFed reader told.entry text → MatchResult result
+        (λ heads. SaysValid told.entry.checking.game.now text heads.items)
+        (StandsAgainst told.entry.checking.game.now text) }
+{
+    let last = reader.end(alloc)?;
+    let mut told = told;
+    told.take(alloc, last)?;
+    Ok(told.finish()?)
 }
 
 impl<'a> Judging<'a> {
@@ -35,6 +66,7 @@ impl<'a> Judging<'a> {
         Ok(Judging {
             reader: CertReader::new(alloc),
             told: Told::new(alloc, game)?,
+            size: 0,
         })
     }
 
@@ -46,10 +78,13 @@ impl<'a> Judging<'a> {
             (λ heads. SaysValid self.entry.told.checking.game.now text heads.items)
             (StandsAgainst self.entry.told.checking.game.now text) }
     {
-        let last = self.reader.end(alloc)?;
-        let mut told = self.told;
-        told.take(alloc, last)?;
-        Ok(told.finish()?)
+        if self.size > MAX_CERT_BYTES {
+            return Err(JudgeFault::Form {
+                number: Fault::Size.number(),
+                line: 0,
+            });
+        }
+        conclude(alloc, self.reader, self.told)
     }
 }
 
@@ -59,6 +94,8 @@ impl<'a> Sink for Judging<'a> {
     ghost took = { λ first judging bytes. HasCome first judging bytes };
 
     fn take(&mut self, alloc: Global, piece: &[u8]) -> Result<(), Memory> {
-        feed_piece(alloc, &mut self.reader, &mut self.told, piece)
+        self.size = size_with(self.size, piece.len());
+        feed_piece(alloc, &mut self.reader, &mut self.told, piece)?;
+        self.reader.shorten(alloc)
     }
 }
