@@ -60,7 +60,8 @@ pub record AreComing (others : ℕ) (p : Progress) (g : Gathered) : Type 0 where
 abbrev pub IsSound : Due → Progress → Gathered → Type 0
 IsSound due.Header p g = (g ≡ none_gathered) × (p.claims ≡ 0) × (p.nodes ≡ 0)
 IsSound due.Claim p g = AreTold p.version p.claims p.nodes (closed g)
-IsSound (due.Count head) p g = (n : ℕ) × (p.claims ≡ n + 1) × (n < 8) × AreTold p.version n p.nodes (closed g)
+IsSound (due.Count head) p g =
+    (n : ℕ) × (p.claims ≡ n + 1) × (n < 8) × AreTold p.version n p.nodes (closed g)
 IsSound (due.Node others) p g = AreComing others p g
 
 abbrev pub Next : Type 0
@@ -70,67 +71,104 @@ Next = Progress × Option Part
 abbrev pub IsKept : Gathered → Next → Type 0
 IsKept g next = IsSound next.0.due next.0 (fold with_part g (listed next.1))
 
-pub sound_headed : (p : Progress) (g : Gathered) (version : Option Version) (next : Next) → IsSound due.Header p g → headed p version ≡ Ok next → IsKept g next
+pub sound_headed : (p : Progress) (g : Gathered) (version : Option Version) (next : Next)
+    → IsSound due.Header p g
+    → headed p version ≡ Ok next
+    → IsKept g next
 sound_headed p g None next sound e = absurd cc
 sound_headed p g (Some version) next sound e =
     let made : Next = (record p { due = due.Claim; version = version }, None) in
-    subst (IsKept g) (ok_is made next e) (rw sound.0 (record { count = sym sound.1; few = omega (arith, sound.1); each = tt; sum = sym sound.2; room = omega (arith, sound.2); bodies = tt }))
+    subst (IsKept g) (ok_is made next e) (rw sound.0 (record {
+      count = sym sound.1;
+      few = omega (arith, sound.1);
+      each = tt;
+      sum = sym sound.2;
+      room = omega (arith, sound.2);
+      bodies = tt;
+    }))
 
-sound_claimed : (p : Progress) (g : Gathered) (head : Option Head) (next : Next) → IsSound due.Claim p g → claimed p head ≡ Ok next → IsKept g next
+sound_claimed : (p : Progress) (g : Gathered) (head : Option Head) (next : Next)
+    → IsSound due.Claim p g
+    → claimed p head ≡ Ok next
+    → IsKept g next
 sound_claimed p g None next sound e = absurd cc
 sound_claimed p g (Some head) next sound e =
     let made : Next = (record p { due = due.Count head; claims = p.claims + 1 }, None) in
     elim (chosen (nat_le 8 p.claims) (Err faults.Limit) (done made) (Ok next) e) [
       | inl h ↦ err_not faults.Limit next (IsKept g next) h.1
-      | inr h ↦ let few : p.claims < 8 = grind (arith, nat_tests, h.0) in subst (IsKept g) (ok_is made next h.1) (p.claims, refl, few, sound)
+      | inr h ↦
+          let few : p.claims < 8 = grind (arith, nat_tests, h.0) in
+          subst (IsKept g) (ok_is made next h.1) (p.claims, refl, few, sound)
     ]
 
-sound_claim : (p : Progress) (g : Gathered) (line : Bytes) (next : Next) → IsSound due.Claim p g → claim_step p line ≡ Ok next → IsKept g next
-sound_claim p g line next sound e = elim (chosen (has_bar line) (Err faults.Place) (claimed p (head_of line)) (Ok next) e) [
-  | inl h ↦ err_not faults.Place next (IsKept g next) h.1
-  | inr h ↦ sound_claimed p g (head_of line) next sound h.1
-]
+sound_claim : (p : Progress) (g : Gathered) (line : Bytes) (next : Next)
+    → IsSound due.Claim p g
+    → claim_step p line ≡ Ok next
+    → IsKept g next
+sound_claim p g line next sound e =
+    elim (chosen (has_bar line) (Err faults.Place) (claimed p (head_of line)) (Ok next) e) [
+      | inl h ↦ err_not faults.Place next (IsKept g next) h.1
+      | inr h ↦ sound_claimed p g (head_of line) next sound h.1
+    ]
 
-sound_numbered : (head : Head) (p : Progress) (g : Gathered) (n : Option ℕ) (next : Next) → IsSound (due.Count head) p g → numbered head p n ≡ Ok next → IsKept g next
+sound_numbered : (head : Head) (p : Progress) (g : Gathered) (n : Option ℕ) (next : Next)
+    → IsSound (due.Count head) p g
+    → numbered head p n ≡ Ok next
+    → IsKept g next
 sound_numbered head p g None next sound e = absurd cc
 sound_numbered head p g (Some n) next sound e =
-    let made : Next = (record p { due = due.Node (n - 1); nodes = p.nodes + n }, Some (parts.Claim head.turn head.side head.goal n)) in
-    elim (chosen (n == 0) (Err faults.Number) (cond (nat_lt 100000 n || nat_lt 200000 (p.nodes + n)) (Err faults.Limit) (done made)) (Ok next) e) [
+    let made : Next = (
+      record p { due = due.Node (n - 1); nodes = p.nodes + n },
+      Some (parts.Claim head.turn head.side head.goal n),
+    ) in
+    elim (chosen (n == 0) (Err faults.Number)
+    (cond (nat_lt 100000 n || nat_lt 200000 (p.nodes + n)) (Err faults.Limit) (done made))
+    (Ok next) e) [
       | inl h ↦ err_not faults.Number next (IsKept g next) h.1
-      | inr h ↦ elim (chosen (nat_lt 100000 n || nat_lt 200000 (p.nodes + n)) (Err faults.Limit) (done made) (Ok next) h.1) [
-        | inl k ↦ err_not faults.Limit next (IsKept g next) k.1
-        | inr k ↦
-            let limits = or_parts (nat_lt 100000 n) (nat_lt 200000 (p.nodes + n)) k.0 in
-            let some : 0 < n = grind (arith, nat_tests, h.0) in
-            let few : n ≤ 100000 = ltb-false 100000 n limits.0 in
-            let room : p.nodes + n ≤ 200000 = ltb-false 200000 (p.nodes + n) limits.1 in
-            subst (IsKept g) (ok_is made next k.1) (record {
-              head = head;
-              is = refl;
-              claims = sound.0;
-              before = p.nodes;
-              counted = sound.1;
-              few = sound.2;
-              whole = sound.3;
-              nodes = tt;
-              bodies = tt;
-              total = omega arith;
-              sum = omega arith;
-              room = room;
-            })
-      ]
+      | inr h ↦ elim (chosen (nat_lt 100000 n || nat_lt 200000 (p.nodes + n)) (Err faults.Limit)
+          (done made) (Ok next) h.1) [
+            | inl k ↦ err_not faults.Limit next (IsKept g next) k.1
+            | inr k ↦
+                let limits = or_parts (nat_lt 100000 n) (nat_lt 200000 (p.nodes + n)) k.0 in
+                let some : 0 < n = grind (arith, nat_tests, h.0) in
+                let few : n ≤ 100000 = ltb-false 100000 n limits.0 in
+                let room : p.nodes + n ≤ 200000 = ltb-false 200000 (p.nodes + n) limits.1 in
+                subst (IsKept g) (ok_is made next k.1) (record {
+                  head = head;
+                  is = refl;
+                  claims = sound.0;
+                  before = p.nodes;
+                  counted = sound.1;
+                  few = sound.2;
+                  whole = sound.3;
+                  nodes = tt;
+                  bodies = tt;
+                  total = omega arith;
+                  sum = omega arith;
+                  room = room;
+                })
+          ]
     ]
 
-sound_counted : (head : Head) (p : Progress) (g : Gathered) (word : Option Bytes) (next : Next) → IsSound (due.Count head) p g → counted head p word ≡ Ok next → IsKept g next
+sound_counted : (head : Head) (p : Progress) (g : Gathered) (word : Option Bytes) (next : Next)
+    → IsSound (due.Count head) p g
+    → counted head p word ≡ Ok next
+    → IsKept g next
 sound_counted head p g None next sound e = absurd cc
 sound_counted head p g (Some word) next sound e = sound_numbered head p g (number word) next sound e
 
-pub push_each : {A : Type 0} (P : A → Type 0) (as_were : List A) (a : A) → AllByRecursion P as_were → P a → AllByRecursion P (as_were ++ a ∷ [])
+pub push_each : {A : Type 0} (P : A → Type 0) (as_were : List A) (a : A)
+    → AllByRecursion P as_were
+    → P a
+    → AllByRecursion P (as_were ++ a ∷ [])
 push_each P [] a h f = (f, tt)
 push_each P (b ∷ bs) a h f = (h.0, push_each P bs a h.1 f)
 
 -- one node more, where others come
-pub node_comes : (others : ℕ) (p : Progress) (d : Due) (g : Gathered) (node : Node) → AreComing (suc others) p g → IsRead p.version node → AreComing others (record p { due = d }) (record g { nodes = g.nodes ++ node ∷ [] })
+pub node_comes : (others : ℕ) (p : Progress) (d : Due) (g : Gathered) (node : Node)
+    → AreComing (suc others) p g
+    → IsRead p.version node
+    → AreComing others (record p { due = d }) (record g { nodes = g.nodes ++ node ∷ [] })
 node_comes others p d g node h fits =
     let len = length-append g.nodes (node ∷ []) in
     record {
@@ -149,23 +187,44 @@ node_comes others p d g node h fits =
     }
 
 abbrev pub claim_with : Head → List Node → Claim
-claim_with head nodes = record { turn = head.turn; side = head.side; goal = head.goal; nodes = nodes }
+claim_with head nodes = record {
+  turn = head.turn;
+  side = head.side;
+  goal = head.goal;
+  nodes = nodes;
+}
 
 -- the last node of a claim
-pub node_ends : (p : Progress) (g : Gathered) (node : Node) → AreComing 0 p g → IsRead p.version node → AreTold p.version p.claims p.nodes (closed (record g { nodes = g.nodes ++ node ∷ [] }))
+pub node_ends : (p : Progress) (g : Gathered) (node : Node)
+    → AreComing 0 p g
+    → IsRead p.version node
+    → AreTold p.version p.claims p.nodes (closed (record g { nodes = g.nodes ++ node ∷ [] }))
 node_ends p g node h fits =
     let len = length-append g.nodes (node ∷ []) in
     let all = g.nodes ++ node ∷ [] in
     let claim = claim_with h.head all in
-    let is : closed (record g { nodes = all }) ≡ g.whole ++ claim ∷ [] = ap (λ (o : Option Head). g.whole ++ last_claim o all) h.is in
-    let fit : IsClaim claim = record { some = omega (arith, len); few = omega (arith, len, h.total); nodes = All-from_recursion IsNode all (push_each IsNode g.nodes node h.nodes fits.0) } in
+    let is : closed (record g { nodes = all }) ≡ g.whole ++ claim ∷ [] =
+    ap (λ (o : Option Head). g.whole ++ last_claim o all) h.is in
+    let fit : IsClaim claim = record {
+      some = omega (arith, len);
+      few = omega (arith, len, h.total);
+      nodes = All-from_recursion IsNode all (push_each IsNode g.nodes node h.nodes fits.0);
+    } in
     let told : AreTold p.version p.claims p.nodes (g.whole ++ claim ∷ []) = record {
       count = omega (arith, length-append g.whole (claim ∷ []), h.whole.count, h.counted);
       few = omega (arith, h.few, h.counted);
       each = push_each IsClaim g.whole claim h.whole.each fit;
-      sum = omega (arith, sum_by_push (λ (c : Claim). length c.nodes) g.whole claim, h.whole.sum, len, h.sum);
+      sum = omega (
+        arith,
+        sum_by_push (λ (c : Claim). length c.nodes) g.whole claim,
+        h.whole.sum,
+        len,
+        h.sum,
+      );
       room = h.room;
-      bodies = push_each (IsOfVersion p.version) g.whole claim h.whole.bodies (All-from_recursion (HasNodeBody p.version) all (push_each (HasNodeBody p.version) g.nodes node h.bodies fits.1));
+      bodies = push_each (IsOfVersion p.version) g.whole claim h.whole.bodies
+          (All-from_recursion (HasNodeBody p.version) all
+          (push_each (HasNodeBody p.version) g.nodes node h.bodies fits.1));
     } in
     subst (AreTold p.version p.claims p.nodes) (sym is) told
 
@@ -175,24 +234,38 @@ behind_more others =
     let less : suc others - 1 ≡ others = omega arith in
     rw (some, less) refl
 
-sound_node : (others : ℕ) (p : Progress) (g : Gathered) (line : Bytes) (next : Next) → IsSound (due.Node others) p g → node_step others p line ≡ Ok next → IsKept g next
+sound_node : (others : ℕ) (p : Progress) (g : Gathered) (line : Bytes) (next : Next)
+    → IsSound (due.Node others) p g
+    → node_step others p line ≡ Ok next
+    → IsKept g next
 sound_node zero p g line next sound e =
-    let t = then_ok (node_line p.version line) (λ node. done (record p { due = due.Claim }, Some (parts.Node node))) next e in
-    subst (IsKept g) (ok_is (record p { due = due.Claim }, Some (parts.Node t.0)) next t.2) (node_ends p g t.0 sound (node_ok p.version line t.0 t.1))
+    let t = then_ok (node_line p.version line)
+    (λ node. done (record p { due = due.Claim }, Some (parts.Node node))) next e in
+    subst (IsKept g) (ok_is (record p { due = due.Claim }, Some (parts.Node t.0)) next t.2)
+    (node_ends p g t.0 sound (node_ok p.version line t.0 t.1))
 sound_node (suc others) p g line next sound e =
     let q : Progress = record p { due = behind (suc others) } in
     let less : behind (suc others) ≡ due.Node others = behind_more others in
     let t = then_ok (node_line p.version line) (λ node. done (q, Some (parts.Node node))) next e in
-    let comes : AreComing others q (record g { nodes = g.nodes ++ t.0 ∷ [] }) = node_comes others p (behind (suc others)) g t.0 sound (node_ok p.version line t.0 t.1) in
-    subst (IsKept g) (ok_is (q, Some (parts.Node t.0)) next t.2) (subst (λ (d : Due). IsSound d q (record g { nodes = g.nodes ++ t.0 ∷ [] })) (sym less) comes)
+    let comes : AreComing others q (record g { nodes = g.nodes ++ t.0 ∷ [] }) =
+    node_comes others p (behind (suc others)) g t.0 sound (node_ok p.version line t.0 t.1) in
+    subst (IsKept g) (ok_is (q, Some (parts.Node t.0)) next t.2)
+    (subst (λ (d : Due). IsSound d q (record g { nodes = g.nodes ++ t.0 ∷ [] })) (sym less) comes)
 
-sound_due : (d : Due) (p : Progress) (g : Gathered) (line : Bytes) (next : Next) → IsSound d p g → step_due d p line ≡ Ok next → IsKept g next
+sound_due : (d : Due) (p : Progress) (g : Gathered) (line : Bytes) (next : Next)
+    → IsSound d p g
+    → step_due d p line ≡ Ok next
+    → IsKept g next
 sound_due due.Header p g line next sound e = sound_headed p g (version_of line) next sound e
 sound_due due.Claim p g line next sound e = sound_claim p g line next sound e
-sound_due (due.Count head) p g line next sound e = sound_counted head p g (count_of line) next sound e
+sound_due (due.Count head) p g line next sound e =
+    sound_counted head p g (count_of line) next sound e
 sound_due (due.Node others) p g line next sound e = sound_node others p g line next sound e
 
-pub sound_step : (p : Progress) (g : Gathered) (line : Bytes) (next : Next) → IsSound p.due p g → step p line ≡ Ok next → IsKept g next
+pub sound_step : (p : Progress) (g : Gathered) (line : Bytes) (next : Next)
+    → IsSound p.due p g
+    → step p line ≡ Ok next
+    → IsKept g next
 unfolding step
 sound_step p g line next sound e = sound_due p.due p g line next sound e
 
@@ -202,12 +275,19 @@ sound_step p g line next sound e = sound_due p.due p g line next sound e
 abbrev pub IsSeen : Seen → Type 0
 IsSeen s = IsSound s.progress.due s.progress (gathered s.parts)
 
-sound_taken : (s : Seen) (r : Step) → IsSeen s → ((next : Next) → r ≡ Ok next → IsKept (gathered s.parts) next) → IsSeen (taken s r)
-sound_taken s (Ok next) seen h = subst (λ (g : Gathered). IsSound next.0.due next.0 g) (sym (gathered_more s.parts (listed next.1))) (h next refl)
+sound_taken : (s : Seen) (r : Step)
+    → IsSeen s
+    → ((next : Next) → r ≡ Ok next → IsKept (gathered s.parts) next)
+    → IsSeen (taken s r)
+sound_taken s (Ok next) seen h = subst (λ (g : Gathered). IsSound next.0.due next.0 g)
+    (sym (gathered_more s.parts (listed next.1))) (h next refl)
 sound_taken s (Err fault) seen h = seen
 
-sound_goes : (s : Seen) (line : Bytes) (fault : Option (Fault × ℕ)) → IsSeen s → IsSeen (goes_on fault s line)
-sound_goes s line None seen = sound_taken s (step s.progress line) seen (λ next e. sound_step s.progress (gathered s.parts) line next seen e)
+sound_goes : (s : Seen) (line : Bytes) (fault : Option (Fault × ℕ))
+    → IsSeen s
+    → IsSeen (goes_on fault s line)
+sound_goes s line None seen = sound_taken s (step s.progress line) seen
+    (λ next e. sound_step s.progress (gathered s.parts) line next seen e)
 sound_goes s line (Some fault) seen = seen
 
 pub sound_after : (s : Seen) (line : Bytes) → IsSeen s → IsSeen (after s line)
@@ -224,7 +304,10 @@ sound_seen ls = sound_lines ls nothing (gathered_none, refl, refl)
 
 -- ---- the end
 
-pub end_of : (d : Due) (p : Progress) (g : Gathered) → IsSound d p g → end_fault p d ≡ None → AreTold p.version p.claims p.nodes (closed g) × (0 < p.claims)
+pub end_of : (d : Due) (p : Progress) (g : Gathered)
+    → IsSound d p g
+    → end_fault p d ≡ None
+    → AreTold p.version p.claims p.nodes (closed g) × (0 < p.claims)
 end_of due.Header p g sound e = absurd cc
 end_of due.Claim p g sound e = elim (chosen (p.claims == 0) (Some faults.Form) None None e) [
   | inl h ↦ absurd (cc h.1)
@@ -237,18 +320,38 @@ pub none_at : (n : ℕ) (o : Option Fault) → at_number n o ≡ None → o ≡ 
 none_at n None e = refl
 none_at n (Some fault) e = absurd cc
 
-pub told_within : (version : Version) (claims nodes : ℕ) (cs : List Claim) → AreTold version claims nodes cs → 0 < claims → IsWithinLimits (record { version = version; claims = cs })
-told_within version claims nodes cs told some = record { some = omega (arith, told.count); few = omega (arith, told.count, told.few); claims = All-from_recursion IsClaim cs told.each; nodes = omega (arith, told.sum, told.room); bodies = All-from_recursion (IsOfVersion version) cs told.bodies }
+pub told_within : (version : Version) (claims nodes : ℕ) (cs : List Claim)
+    → AreTold version claims nodes cs
+    → 0 < claims
+    → IsWithinLimits (record { version = version; claims = cs })
+told_within version claims nodes cs told some = record {
+  some = omega (arith, told.count);
+  few = omega (arith, told.count, told.few);
+  claims = All-from_recursion IsClaim cs told.each;
+  nodes = omega (arith, told.sum, told.room);
+  bodies = All-from_recursion (IsOfVersion version) cs told.bodies;
+}
 
-ended : (s : Seen) (fault : Option (Fault × ℕ)) → IsSeen s → or_at_end s fault ≡ None → IsWithinLimits (record { version = s.progress.version; claims = closed (gathered s.parts) })
+ended : (s : Seen) (fault : Option (Fault × ℕ))
+    → IsSeen s
+    → or_at_end s fault ≡ None
+    → IsWithinLimits (record { version = s.progress.version; claims = closed (gathered s.parts) })
 ended s None sound e =
-    let t = end_of s.progress.due s.progress (gathered s.parts) sound (none_at (s.count + 1) (end_fault s.progress s.progress.due) e) in
-    told_within s.progress.version s.progress.claims s.progress.nodes (closed (gathered s.parts)) t.0 t.1
+    let t = end_of s.progress.due s.progress (gathered s.parts) sound
+    (none_at (s.count + 1) (end_fault s.progress s.progress.due) e) in
+    told_within s.progress.version s.progress.claims s.progress.nodes
+    (closed (gathered s.parts)) t.0 t.1
 ended s (Some fault) sound e = absurd cc
 
-without_fault : (text : Bytes) → fault_of text ≡ None → IsWithinLimits (record { version = text_version text; claims = closed (gathered (text_parts text)) })
+without_fault : (text : Bytes)
+    → fault_of text ≡ None
+    → IsWithinLimits (record {
+      version = text_version text;
+      claims = closed (gathered (text_parts text));
+    })
 unfolding fault_of text_version text_parts
-without_fault text e = ended (seen (lines text)) (seen (lines text)).fault (sound_seen (lines text)) e
+without_fault text e =
+    ended (seen (lines text)) (seen (lines text)).fault (sound_seen (lines text)) e
 
 abbrev whole : Cert → Result Cert (Fault × ℕ)
 whole c = Ok c
@@ -260,14 +363,22 @@ cert_or c (Err bad) = c
 cert_is : (c d : Cert) → whole c ≡ whole d → c ≡ d
 cert_is c d e = ap (cert_or c) e
 
-within : (o : Option (Fault × ℕ)) (version : Version) (ps : List Part) (c : Cert) → (o ≡ None → IsWithinLimits (record { version = version; claims = closed (gathered ps) })) → unless_faulty o version ps ≡ Ok c → IsWithinLimits c
-within None version ps c h e = subst IsWithinLimits (cert_is (record { version = version; claims = closed (gathered ps) }) c e) (h refl)
+within : (o : Option (Fault × ℕ)) (version : Version) (ps : List Part) (c : Cert)
+    → (o ≡ None → IsWithinLimits (record { version = version; claims = closed (gathered ps) }))
+    → unless_faulty o version ps ≡ Ok c
+    → IsWithinLimits c
+within None version ps c h e = subst IsWithinLimits
+    (cert_is (record { version = version; claims = closed (gathered ps) }) c e) (h refl)
 within (Some fault) version ps c h e = absurd cc
 
 -- what reading gives is within the limits
 pub read_within : (text : Bytes) (c : Cert) → certificate text ≡ Ok c → IsWithinLimits c
 unfolding certificate
-read_within text c e = elim (chosen (nat_lt 268435456 (length text)) (Err (faults.Size, 0)) (unless_faulty (fault_of text) (text_version text) (text_parts text)) (Ok c) e) [
+read_within text c e = elim (chosen (nat_lt 268435456 (length text)) (Err (
+  faults.Size,
+  0,
+)) (unless_faulty (fault_of text) (text_version text) (text_parts text)) (Ok c) e) [
   | inl h ↦ absurd (cc h.1)
-  | inr h ↦ within (fault_of text) (text_version text) (text_parts text) c (λ none. without_fault text none) h.1
+  | inr h ↦ within (fault_of text) (text_version text) (text_parts text) c
+      (λ none. without_fault text none) h.1
 ]

@@ -33,27 +33,41 @@ abbrev pub OnlyNumber : {A : Type 0} → Result A Fault → Type 0
 OnlyNumber (Ok a) = Unit {0}
 OnlyNumber (Err fault) = fault ≡ faults.Number
 
-pub only_then : {A B : Type 0} (r : Result A Fault) (next : A → Result B Fault) → OnlyNumber r → ((a : A) → OnlyNumber (next a)) → OnlyNumber (and_then r next)
+pub only_then : {A B : Type 0} (r : Result A Fault) (next : A → Result B Fault)
+    → OnlyNumber r
+    → ((a : A) → OnlyNumber (next a))
+    → OnlyNumber (and_then r next)
 only_then (Ok a) next h hs = hs a
 only_then (Err fault) next h hs = h
 
-only_onto : {A : Type 0} (r : Result A Fault) (rs : Result (List A) Fault) → OnlyNumber r → OnlyNumber rs → OnlyNumber (onto r rs)
+only_onto : {A : Type 0} (r : Result A Fault) (rs : Result (List A) Fault)
+    → OnlyNumber r
+    → OnlyNumber rs
+    → OnlyNumber (onto r rs)
 only_onto (Err fault) rs h hs = h
 only_onto (Ok a) (Err fault) h hs = hs
 only_onto (Ok a) (Ok others) h hs = tt
 
-pub only_each : {A : Type 0} (read : Bytes → Result A Fault) → ((w : Bytes) → OnlyNumber (read w)) → (ws : List Bytes) → OnlyNumber (each_of read ws)
+pub only_each : {A : Type 0} (read : Bytes → Result A Fault)
+    → ((w : Bytes) → OnlyNumber (read w))
+    → (ws : List Bytes) → OnlyNumber (each_of read ws)
 only_each read h [] = tt
 only_each read h (w ∷ ws) = only_onto (read w) (each_of read ws) (h w) (only_each read h ws)
 
-only_both : {A : Type 0} (make : ℕ → ℕ → A) (r s : Result ℕ Fault) → OnlyNumber r → OnlyNumber s → OnlyNumber (both_of make r s)
+only_both : {A : Type 0} (make : ℕ → ℕ → A) (r s : Result ℕ Fault)
+    → OnlyNumber r
+    → OnlyNumber s
+    → OnlyNumber (both_of make r s)
 only_both make (Err fault) s h k = h
 only_both make (Ok a) (Err fault) h k = k
 only_both make (Ok a) (Ok b) h k = tt
 
 only_below : (limit : ℕ) (n : Option ℕ) → OnlyNumber (below limit n)
 only_below limit None = refl
-only_below limit (Some n) = elim (cases_Bool (nat_lt n limit)) [ inl on ↦ rw on tt | inr off ↦ rw off refl ]
+only_below limit (Some n) = elim (cases_Bool (nat_lt n limit)) [
+  | inl on ↦ rw on tt
+  | inr off ↦ rw off refl
+]
 
 pub only_point : (w : Bytes) → OnlyNumber (point_of w)
 only_point w = only_below 1024 (number w)
@@ -62,112 +76,185 @@ only_child : (w : Bytes) → OnlyNumber (child_of w)
 only_child w = only_below 100000 (number w)
 
 only_ascending : {A : Type 0} (ps : List ℕ) (a : A) → OnlyNumber (if_ascending ps a)
-only_ascending ps a = elim (cases_Bool (ascend_from 0 ps)) [ inl on ↦ rw on tt | inr off ↦ rw off refl ]
+only_ascending ps a = elim (cases_Bool (ascend_from 0 ps)) [
+  | inl on ↦ rw on tt
+  | inr off ↦ rw off refl
+]
 
 pub only_points : (ws : List Bytes) → OnlyNumber (ascending_of ws)
-only_points ws = only_then (each_of point_of ws) (λ ps. if_ascending ps ps) (only_each point_of only_point ws) (λ ps. only_ascending ps ps)
+only_points ws = only_then (each_of point_of ws) (λ ps. if_ascending ps ps)
+    (only_each point_of only_point ws) (λ ps. only_ascending ps ps)
 
 only_reply : (p : Option (Bytes × Bytes)) → OnlyNumber (reply_of p)
 only_reply None = refl
-only_reply (Some p) = only_both (λ v j. record { point = v; child = j }) (point_of p.0) (child_of p.1) (only_point p.0) (only_child p.1)
+only_reply (Some p) = only_both (λ v j. record {
+  point = v;
+  child = j;
+}) (point_of p.0) (child_of p.1) (only_point p.0) (only_child p.1)
 
 only_pair : (p : Option (Bytes × Bytes)) → OnlyNumber (points_pair p)
 only_pair None = refl
-only_pair (Some p) = only_both (λ a b. record { a = a; b = b }) (point_of p.0) (point_of p.1) (only_point p.0) (only_point p.1)
+only_pair (Some p) = only_both (λ a b. record {
+  a = a;
+  b = b;
+}) (point_of p.0) (point_of p.1) (only_point p.0) (only_point p.1)
 
 only_move : (p : Option (Bytes × Bytes)) → OnlyNumber (move_of p)
 only_move None = refl
-only_move (Some p) = only_both (λ v j. bodies.Move v j) (point_of p.0) (child_of p.1) (only_point p.0) (only_child p.1)
+only_move (Some p) = only_both (λ v j. bodies.Move v j) (point_of p.0) (child_of p.1)
+    (only_point p.0) (only_child p.1)
 
 only_weaker : (word : Option Bytes) → OnlyNumber (weaker_of word)
 only_weaker None = refl
 only_weaker (Some word) = only_then (child_of word) _ (only_child word) (λ j. tt)
 
 only_edges : (with_e : Bool) (ws : List Bytes) → OnlyNumber (edges_with with_e ws)
-only_edges with_e ws = only_then (ascending_of (before_slash ws)) _ (only_points (before_slash ws)) (λ first. only_then (ascending_of (after_slash ws)) _ (only_points (after_slash ws)) (λ second. tt))
+only_edges with_e ws = only_then (ascending_of (before_slash ws)) _ (only_points (before_slash ws))
+    (λ first. only_then (ascending_of (after_slash ws)) _ (only_points (after_slash ws))
+    (λ second. tt))
 
 pub only_body : (form : Form) (ws : List Bytes) → OnlyNumber (body_of form ws)
 only_body forms.Over ws = tt
 only_body forms.Move ws = only_move (pair_of ws)
-only_body forms.All ws = only_then (replies_of ws) _ (only_then (each_of word_reply ws) _ (only_each word_reply (λ w. only_reply (two_parts COLON w)) ws) (λ rs. only_ascending (map (λ r. r.point) rs) rs)) (λ rs. tt)
-only_body forms.Pairs ws = only_then (each_of word_pair ws) _ (only_each word_pair (λ w. only_pair (two_parts HYPHEN w)) ws) (λ ps. tt)
+only_body forms.All ws = only_then (replies_of ws) _
+    (only_then (each_of word_reply ws) _
+    (only_each word_reply (λ w. only_reply (two_parts COLON w)) ws)
+    (λ rs. only_ascending (map (λ r. r.point) rs) rs)) (λ rs. tt)
+only_body forms.Pairs ws = only_then (each_of word_pair ws) _
+    (only_each word_pair (λ w. only_pair (two_parts HYPHEN w)) ws) (λ ps. tt)
 only_body forms.Potential ws = tt
-only_body forms.Trees ws = only_then (edges_of ws) _ (only_edges (begins_with_e ws) (after_e ws)) (λ e. tt)
-only_body forms.Cuts ws = only_then (edges_of ws) _ (only_edges (begins_with_e ws) (after_e ws)) (λ e. tt)
-only_body forms.Threat ws = only_then (each_of point_of ws) _ (only_each point_of only_point ws) (λ ps. tt)
+only_body forms.Trees ws =
+    only_then (edges_of ws) _ (only_edges (begins_with_e ws) (after_e ws)) (λ e. tt)
+only_body forms.Cuts ws =
+    only_then (edges_of ws) _ (only_edges (begins_with_e ws) (after_e ws)) (λ e. tt)
+only_body forms.Threat ws =
+    only_then (each_of point_of ws) _ (only_each point_of only_point ws) (λ ps. tt)
 only_body forms.Weaker ws = only_weaker (only_word ws)
 
-only_node_with : (shape : Shape) (x y : List ℕ) (body : Result Body Fault) → OnlyNumber body → OnlyNumber (node_with shape x y body)
+only_node_with : (shape : Shape) (x y : List ℕ) (body : Result Body Fault)
+    → OnlyNumber body
+    → OnlyNumber (node_with shape x y body)
 only_node_with shape x y (Err fault) h = h
-only_node_with shape x y (Ok body) h = elim (cases_Bool (is_touched (from_list x) y)) [ inl on ↦ rw on refl | inr off ↦ rw off tt ]
+only_node_with shape x y (Ok body) h = elim (cases_Bool (is_touched (from_list x) y)) [
+  | inl on ↦ rw on refl
+  | inr off ↦ rw off tt
+]
 
 pub only_node : (shape : Shape) → OnlyNumber (node_of shape)
-only_node shape = only_then (ascending_of (field_words shape.x)) _ (only_points (field_words shape.x)) (λ x. only_then (ascending_of (field_words shape.y)) _ (only_points (field_words shape.y)) (λ y. only_node_with shape x y (body_of shape.form shape.words) (only_body shape.form shape.words)))
+only_node shape =
+    only_then (ascending_of (field_words shape.x)) _ (only_points (field_words shape.x))
+    (λ x. only_then (ascending_of (field_words shape.y)) _ (only_points (field_words shape.y)) (λ y.
+    only_node_with shape x y (body_of shape.form shape.words) (only_body shape.form shape.words)))
 
 -- ---- each line
 
 abbrev applies : Fault → Option Fault
 applies fault = Some fault
 
-pub same : {A : Type 0} (f g : Fault) → ◌≡◌ {A = Result A Fault} (Err f) (Err g) → applies f ≡ applies g
+pub same : {A : Type 0} (f g : Fault)
+    → ◌≡◌ {A = Result A Fault} (Err f) (Err g)
+    → applies f ≡ applies g
 same f g e = let is : f ≡ g = cc in ap applies is
 
-headed_first : (p : Progress) (version : Option Version) (fault : Fault) → headed p version ≡ Err fault → least ((faults.Header, is_none version) ∷ []) ≡ Some fault
+headed_first : (p : Progress) (version : Option Version) (fault : Fault)
+    → headed p version ≡ Err fault
+    → least ((faults.Header, is_none version) ∷ []) ≡ Some fault
 headed_first p None fault e = same faults.Header fault e
 headed_first p (Some version) fault e = absurd cc
 
-claimed_first : (p : Progress) (head : Option Head) (fault : Fault) → claimed p head ≡ Err fault → least ((faults.Form, is_none head) ∷ (faults.Limit, nat_le 8 p.claims) ∷ []) ≡ Some fault
+claimed_first : (p : Progress) (head : Option Head) (fault : Fault)
+    → claimed p head ≡ Err fault
+    → least ((faults.Form, is_none head) ∷ (faults.Limit, nat_le 8 p.claims) ∷ []) ≡ Some fault
 claimed_first p None fault e = same faults.Form fault e
-claimed_first p (Some head) fault e = elim (chosen (nat_le 8 p.claims) (Err faults.Limit) (Ok (record p { due = due.Count head; claims = p.claims + 1 }, None)) (Err fault) e) [
+claimed_first p (Some head) fault e = elim (chosen (nat_le 8 p.claims) (Err faults.Limit) (Ok (
+  record p { due = due.Count head; claims = p.claims + 1 },
+  None,
+)) (Err fault) e) [
   | inl h ↦ rw h.0 (same faults.Limit fault h.1)
   | inr h ↦ absurd (cc h.1)
 ]
 
-claim_first : (p : Progress) (line : Bytes) (fault : Fault) → claim_step p line ≡ Err fault → least (line_faults due.Claim p line) ≡ Some fault
-claim_first p line fault e = elim (chosen (has_bar line) (Err faults.Place) (claimed p (head_of line)) (Err fault) e) [
-  | inl h ↦ rw h.0 (same faults.Place fault h.1)
-  | inr h ↦ rw h.0 (claimed_first p (head_of line) fault h.1)
-]
+claim_first : (p : Progress) (line : Bytes) (fault : Fault)
+    → claim_step p line ≡ Err fault
+    → least (line_faults due.Claim p line) ≡ Some fault
+claim_first p line fault e =
+    elim (chosen (has_bar line) (Err faults.Place) (claimed p (head_of line)) (Err fault) e) [
+      | inl h ↦ rw h.0 (same faults.Place fault h.1)
+      | inr h ↦ rw h.0 (claimed_first p (head_of line) fault h.1)
+    ]
 
-numbered_first : (head : Head) (p : Progress) (n : Option ℕ) (fault : Fault) → numbered head p n ≡ Err fault → least ((faults.Number, is_no_count n) ∷ (faults.Limit, is_too_many p n) ∷ []) ≡ Some fault
+numbered_first : (head : Head) (p : Progress) (n : Option ℕ) (fault : Fault)
+    → numbered head p n ≡ Err fault
+    → least ((faults.Number, is_no_count n) ∷ (faults.Limit, is_too_many p n) ∷ []) ≡ Some fault
 numbered_first head p None fault e = same faults.Number fault e
-numbered_first head p (Some n) fault e = elim (chosen (n == 0) (Err faults.Number) _ (Err fault) e) [
-  | inl h ↦ rw h.0 (same faults.Number fault h.1)
-  | inr h ↦ elim (chosen (nat_lt 100000 n || nat_lt 200000 (p.nodes + n)) (Err faults.Limit) _ (Err fault) h.1) [
-    | inl k ↦ rw (h.0, k.0) (same faults.Limit fault k.1)
-    | inr k ↦ absurd (cc k.1)
-  ]
-]
+numbered_first head p (Some n) fault e =
+    elim (chosen (n == 0) (Err faults.Number) _ (Err fault) e) [
+      | inl h ↦ rw h.0 (same faults.Number fault h.1)
+      | inr h ↦ elim (chosen (nat_lt 100000 n || nat_lt 200000 (p.nodes + n)) (Err faults.Limit) _
+          (Err fault) h.1) [
+            | inl k ↦ rw (h.0, k.0) (same faults.Limit fault k.1)
+            | inr k ↦ absurd (cc k.1)
+          ]
+    ]
 
-counted_first : (head : Head) (p : Progress) (word : Option Bytes) (fault : Fault) → counted head p word ≡ Err fault → least ((faults.Form, is_none word) ∷ (faults.Number, is_no_count (counted_number word)) ∷ (faults.Limit, is_too_many p (counted_number word)) ∷ []) ≡ Some fault
+counted_first : (head : Head) (p : Progress) (word : Option Bytes) (fault : Fault)
+    → counted head p word ≡ Err fault
+    → least ((faults.Form, is_none word) ∷ (faults.Number, is_no_count (counted_number word)) ∷ (
+      faults.Limit,
+      is_too_many p (counted_number word),
+    ) ∷ []) ≡ Some fault
 counted_first head p None fault e = same faults.Form fault e
 counted_first head p (Some word) fault e = numbered_first head p (number word) fault e
 
-pub node_first : {A : Type 0} (r : Result A Fault) (fault : Fault) → OnlyNumber r → r ≡ Err fault → least ((faults.Number, is_err r) ∷ []) ≡ Some fault
+pub node_first : {A : Type 0} (r : Result A Fault) (fault : Fault)
+    → OnlyNumber r
+    → r ≡ Err fault
+    → least ((faults.Number, is_err r) ∷ []) ≡ Some fault
 node_first (Ok a) fault only e = absurd (cc e)
 node_first (Err found) fault only e = ap applies (sym only) ∙ same found fault e
 
-pub formed_first : (shape : Option Shape) (fault : Fault) → formed shape ≡ Err fault → least ((faults.Form, is_none shape) ∷ (faults.Number, has_wrong_number shape) ∷ []) ≡ Some fault
+pub formed_first : (shape : Option Shape) (fault : Fault)
+    → formed shape ≡ Err fault
+    → least ((faults.Form, is_none shape) ∷ (faults.Number, has_wrong_number shape) ∷ [])
+    ≡ Some fault
 formed_first None fault e = same faults.Form fault e
 formed_first (Some shape) fault e = node_first (node_of shape) fault (only_node shape) e
 
-node_line_first : (p : Progress) (others : ℕ) (line : Bytes) (fault : Fault) → node_line p.version line ≡ Err fault → least (line_faults (due.Node others) p line) ≡ Some fault
+node_line_first : (p : Progress) (others : ℕ) (line : Bytes) (fault : Fault)
+    → node_line p.version line ≡ Err fault
+    → least (line_faults (due.Node others) p line) ≡ Some fault
 unfolding node_line
-node_line_first p others line fault e = elim (chosen (not (has_bar line)) (Err faults.Place) (formed (shape_of p.version line)) (Err fault) e) [
-  | inl h ↦ rw h.0 (same faults.Place fault h.1)
-  | inr h ↦ rw h.0 (formed_first (shape_of p.version line) fault h.1)
-]
+node_line_first p others line fault e = elim (chosen (not (has_bar line)) (Err faults.Place)
+    (formed (shape_of p.version line)) (Err fault) e) [
+      | inl h ↦ rw h.0 (same faults.Place fault h.1)
+      | inr h ↦ rw h.0 (formed_first (shape_of p.version line) fault h.1)
+    ]
 
-pub then_err : {A B : Type 0} (r : Result A Fault) (next : A → Result B Fault) (fault : Fault) → ((a : A) → is_err (next a) ≡ false) → and_then r next ≡ Err fault → r ≡ Err fault
-then_err (Ok a) next fault works e = let on : is_err (next a) ≡ true = ap is_err e in absurd (cc (works a))
-then_err (Err found) next fault works e = let is : found ≡ fault = cc in ap (λ (k : Fault). Err k) is
+pub then_err : {A B : Type 0} (r : Result A Fault) (next : A → Result B Fault) (fault : Fault)
+    → ((a : A) → is_err (next a) ≡ false)
+    → and_then r next ≡ Err fault
+    → r ≡ Err fault
+then_err (Ok a) next fault works e =
+    let on : is_err (next a) ≡ true = ap is_err e in
+    absurd (cc (works a))
+then_err (Err found) next fault works e =
+    let is : found ≡ fault = cc in
+    ap (λ (k : Fault). Err k) is
 
-due_first : (d : Due) (p : Progress) (line : Bytes) (fault : Fault) → step_due d p line ≡ Err fault → least (line_faults d p line) ≡ Some fault
+due_first : (d : Due) (p : Progress) (line : Bytes) (fault : Fault)
+    → step_due d p line ≡ Err fault
+    → least (line_faults d p line) ≡ Some fault
 due_first due.Header p line fault e = headed_first p (version_of line) fault e
 due_first due.Claim p line fault e = claim_first p line fault e
 due_first (due.Count head) p line fault e = counted_first head p (count_of line) fault e
-due_first (due.Node others) p line fault e = node_line_first p others line fault (then_err (node_line p.version line) (λ node. Ok (record p { due = behind others }, Some (parts.Node node))) fault (λ node. refl) e)
+due_first (due.Node others) p line fault e =
+    node_line_first p others line fault (then_err (node_line p.version line) (λ node. Ok (
+      record p { due = behind others },
+      Some (parts.Node node),
+    )) fault (λ node. refl) e)
 
-pub step_first : (p : Progress) (line : Bytes) (fault : Fault) → step p line ≡ Err fault → least (line_faults p.due p line) ≡ Some fault
+pub step_first : (p : Progress) (line : Bytes) (fault : Fault)
+    → step p line ≡ Err fault
+    → least (line_faults p.due p line) ≡ Some fault
 unfolding step
 step_first p line fault e = due_first p.due p line fault e

@@ -24,13 +24,21 @@ gathered_more ps qs = fold-append with_part none_gathered ps qs
 
 pub too_large : (text : Bytes) → 268435456 < length text → certificate text ≡ Err (faults.Size, 0)
 unfolding certificate
-too_large text more = let t : nat_lt 268435456 (length text) ≡ true = grind (arith, nat_tests) in rw t refl
+too_large text more =
+    let t : nat_lt 268435456 (length text) ≡ true = grind (arith, nat_tests) in
+    rw t refl
 
-pub fits_file : (text : Bytes) → length text ≤ 268435456 → certificate text ≡ unless_faulty (fault_of text) (text_version text) (text_parts text)
+pub fits_file : (text : Bytes)
+    → length text ≤ 268435456
+    → certificate text ≡ unless_faulty (fault_of text) (text_version text) (text_parts text)
 unfolding certificate
-fits_file text few = let t : nat_lt 268435456 (length text) ≡ false = grind (arith, nat_tests) in rw t refl
+fits_file text few =
+    let t : nat_lt 268435456 (length text) ≡ false = grind (arith, nat_tests) in
+    rw t refl
 
-pub err_from : (o : Option (Fault × ℕ)) (version : Version) (ps : List Part) (number line : ℕ) → IsBad number line o → IsErrAnd (unless_faulty o version ps) (λ bad. (number ≡ number_of bad.0) × (line ≡ bad.1))
+pub err_from : (o : Option (Fault × ℕ)) (version : Version) (ps : List Part) (number line : ℕ)
+    → IsBad number line o
+    → IsErrAnd (unless_faulty o version ps) (λ bad. (number ≡ number_of bad.0) × (line ≡ bad.1))
 err_from None version ps number line h = absurd h
 err_from (Some bad) version ps number line h = h
 

@@ -41,7 +41,9 @@ header_step p line = headed p (version_of line)
 -- a claim line of the right form: the ninth is too many
 abbrev pub claimed : Progress → Option Head → Step
 claimed p None = Err faults.Form
-claimed p (Some head) = if nat_le MAX_CLAIMS p.claims then Err faults.Limit else Ok (record p { due = due.Count head; claims = p.claims + 1 }, None)
+claimed p (Some head) = if nat_le MAX_CLAIMS p.claims
+    then Err faults.Limit
+    else Ok (record p { due = due.Count head; claims = p.claims + 1 }, None)
 
 -- where a claim line or the end is due, a node stands in the wrong place
 abbrev pub claim_step : Progress → Bytes → Step
@@ -50,10 +52,14 @@ claim_step p line = if has_bar line then Err faults.Place else claimed p (head_o
 -- the number of nodes: 1 to 100,000, and at most 200,000 in the file
 abbrev pub numbered : Head → Progress → Option ℕ → Step
 numbered head p None = Err faults.Number
-numbered head p (Some n) =
-    if n == 0 then Err faults.Number
-    else if nat_lt MAX_CLAIM_NODES n || nat_lt MAX_NODES (p.nodes + n) then Err faults.Limit
-    else Ok (record p { due = due.Node (n - 1); nodes = p.nodes + n }, Some (parts.Claim head.turn head.side head.goal n))
+numbered head p (Some n) = if n == 0
+    then Err faults.Number
+    else if nat_lt MAX_CLAIM_NODES n || nat_lt MAX_NODES (p.nodes + n)
+    then Err faults.Limit
+    else Ok (
+      record p { due = due.Node (n - 1); nodes = p.nodes + n },
+      Some (parts.Claim head.turn head.side head.goal n),
+    )
 
 -- a `nodes` line of the right form
 abbrev pub counted : Head → Progress → Option Bytes → Step
@@ -70,7 +76,8 @@ behind others = if others == 0 then due.Claim else due.Node (others - 1)
 
 -- where a node line is due
 abbrev pub node_step : ℕ → Progress → Bytes → Step
-node_step others p line = and_then (node_line p.version line) (λ node. Ok (record p { due = behind others }, Some (parts.Node node)))
+node_step others p line = and_then (node_line p.version line)
+    (λ node. Ok (record p { due = behind others }, Some (parts.Node node)))
 
 -- a line, by which line is due
 abbrev pub step_due : Due → Progress → Bytes → Step
@@ -102,7 +109,12 @@ listed (Some part) = part ∷ []
 
 -- one line more
 abbrev pub taken : Seen → Step → Seen
-taken s (Ok next) = record { progress = next.0; count = s.count + 1; fault = None; parts = s.parts ++ listed next.1 }
+taken s (Ok next) = record {
+  progress = next.0;
+  count = s.count + 1;
+  fault = None;
+  parts = s.parts ++ listed next.1;
+}
 taken s (Err fault) = record s { count = s.count + 1; fault = Some (fault, s.count + 1) }
 
 -- the first faulty line decides: after it nothing changes
@@ -160,7 +172,12 @@ pub record Gathered : Type 0 where
 -- the claim whose nodes are gathered, where there is one
 abbrev pub last_claim : Option Head → List Node → List Claim
 last_claim None nodes = []
-last_claim (Some head) nodes = record { turn = head.turn; side = head.side; goal = head.goal; nodes = nodes } ∷ []
+last_claim (Some head) nodes = record {
+  turn = head.turn;
+  side = head.side;
+  goal = head.goal;
+  nodes = nodes;
+} ∷ []
 
 -- the claims with the last one
 abbrev pub closed : Gathered → List Claim
@@ -168,7 +185,11 @@ closed g = g.whole ++ last_claim g.head g.nodes
 
 -- one part more: a claim ends the one before it
 abbrev pub with_part : Gathered → Part → Gathered
-with_part g (parts.Claim turn side goal nodes) = record { whole = closed g; head = Some (record { turn = turn; side = side; goal = goal }); nodes = [] }
+with_part g (parts.Claim turn side goal nodes) = record {
+  whole = closed g;
+  head = Some (record { turn = turn; side = side; goal = goal });
+  nodes = [];
+}
 with_part g (parts.Node node) = record g { nodes = g.nodes ++ node ∷ [] }
 
 -- no part yet
@@ -186,8 +207,11 @@ unless_faulty None version ps = Ok (record { version = version; claims = closed 
 
 -- the certificate of a file, or its first fault with the number of the line
 unfoldable pub certificate : Bytes → Result Cert (Fault × ℕ)
-certificate text = if nat_lt MAX_CERT_BYTES (length text) then Err (faults.Size, 0) else unless_faulty (fault_of text) (text_version text) (text_parts text)
+certificate text = if nat_lt MAX_CERT_BYTES (length text)
+    then Err (faults.Size, 0)
+    else unless_faulty (fault_of text) (text_version text) (text_parts text)
 
 -- the first fault of a file: C1 before all others
 abbrev pub file_fault : Bytes → Option (Fault × ℕ)
-file_fault text = if nat_lt MAX_CERT_BYTES (length text) then Some (faults.Size, 0) else fault_of text
+file_fault text =
+    if nat_lt MAX_CERT_BYTES (length text) then Some (faults.Size, 0) else fault_of text

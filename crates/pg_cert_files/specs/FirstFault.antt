@@ -34,12 +34,20 @@ abbrev pub has_wrong_number : Option Shape → Bool
 has_wrong_number None = false
 has_wrong_number (Some shape) = is_err (node_of shape)
 
--- the faults that a line can have where this one is due, each with whether it applies; what stands higher counts first
+-- the faults that a line can have where this one is due, each with whether it applies; what stands
+-- higher counts first
 abbrev pub line_faults : Due → Progress → Bytes → List (Fault × Bool)
 line_faults due.Header p line = (faults.Header, is_none (version_of line)) ∷ []
-line_faults due.Claim p line = (faults.Place, has_bar line) ∷ (faults.Form, is_none (head_of line)) ∷ (faults.Limit, nat_le MAX_CLAIMS p.claims) ∷ []
-line_faults (due.Count head) p line = (faults.Form, is_none (count_of line)) ∷ (faults.Number, is_no_count (counted_number (count_of line))) ∷ (faults.Limit, is_too_many p (counted_number (count_of line))) ∷ []
-line_faults (due.Node others) p line = (faults.Place, not (has_bar line)) ∷ (faults.Form, is_none (shape_of p.version line)) ∷ (faults.Number, has_wrong_number (shape_of p.version line)) ∷ []
+line_faults due.Claim p line = (faults.Place, has_bar line) ∷ (faults.Form, is_none (head_of line))
+    ∷ (faults.Limit, nat_le MAX_CLAIMS p.claims) ∷ []
+line_faults (due.Count head) p line = (faults.Form, is_none (count_of line)) ∷ (
+  faults.Number,
+  is_no_count (counted_number (count_of line)),
+) ∷ (faults.Limit, is_too_many p (counted_number (count_of line))) ∷ []
+line_faults (due.Node others) p line = (faults.Place, not (has_bar line)) ∷ (
+  faults.Form,
+  is_none (shape_of p.version line),
+) ∷ (faults.Number, has_wrong_number (shape_of p.version line)) ∷ []
 
 -- the file is too large
 pub record IsTooLarge (text : Bytes) (fault : Fault) (number : ℕ) : Type 0 where
@@ -56,7 +64,8 @@ pub record IsFaultOfLine (text : Bytes) (fault : Fault) (number : ℕ) : Type 0 
   pub place : number ≡ length before + 1
   pub sound : (seen before).fault ≡ None
   pub here : step (seen before).progress line ≡ Err fault
-  pub is_least : least (line_faults (seen before).progress.due (seen before).progress line) ≡ Some fault
+  pub is_least : least (line_faults (seen before).progress.due (seen before).progress line)
+      ≡ Some fault
 
 -- no line has a fault, and the file ends too early
 pub record IsFaultOfEnd (text : Bytes) (fault : Fault) (number : ℕ) : Type 0 where
@@ -66,4 +75,5 @@ pub record IsFaultOfEnd (text : Bytes) (fault : Fault) (number : ℕ) : Type 0 w
 
 -- the three ways
 abbrev pub IsFirstFault : Bytes → Fault → ℕ → Type 0
-IsFirstFault text fault number = IsTooLarge text fault number ⊎ (IsFaultOfLine text fault number ⊎ IsFaultOfEnd text fault number)
+IsFirstFault text fault number = IsTooLarge text fault number
+    ⊎ (IsFaultOfLine text fault number ⊎ IsFaultOfEnd text fault number)

@@ -19,7 +19,9 @@ has_bar line = list_any (λ b. b == BAR) line
 
 -- a turn in which Y still claims several points: its sign, and a digit from `2` to `7`
 abbrev pub several_of : Bytes → Option Turn
-several_of (sign ∷ digit ∷ []) = if sign == LETTER && nat_le FEWEST digit && nat_le digit MOST then Some (record { side = Y; left = digit - ZERO }) else None
+several_of (sign ∷ digit ∷ []) = if sign == LETTER && nat_le FEWEST digit && nat_le digit MOST
+    then Some (record { side = Y; left = digit - ZERO })
+    else None
 several_of _ = None
 
 -- the turn that a word names
@@ -115,7 +117,9 @@ pub record Shape : Type 0 where
 -- the line with these fields, if the body has its form
 abbrev pub with_form : Bytes → Bytes → Turn → Option Form → List Bytes → Option Shape
 with_form x y turn None ws = None
-with_form x y turn (Some form) ws = if fits form ws then Some (record { x = x; y = y; turn = turn; form = form; words = ws }) else None
+with_form x y turn (Some form) ws = if fits form ws
+    then Some (record { x = x; y = y; turn = turn; form = form; words = ws })
+    else None
 
 -- the same by the words of the body
 abbrev pub with_body : Version → Bytes → Bytes → Option Turn → List Bytes → Option Shape
@@ -124,7 +128,8 @@ with_body version x y _ _ = None
 
 -- the same by the four fields
 abbrev pub with_fields : Version → Option Four → Option Shape
-with_fields version (Some f) = with_body version f.first f.second (turn_of f.third) (parts SPACE f.fourth)
+with_fields version (Some f) =
+    with_body version f.first f.second (turn_of f.third) (parts SPACE f.fourth)
 with_fields version None = None
 
 -- a line that has the form of a node line of the version

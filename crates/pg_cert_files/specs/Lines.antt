@@ -1,4 +1,5 @@
--- A text as its whole lines and what stands behind them, and what first lines, claim lines and `nodes` lines say.
+-- A text as its whole lines and what stands behind them, and what first lines, claim lines and
+-- `nodes` lines say.
 use Rattle.std.specs.Prelude.{ℕ, ◌==◌, if◌then◌else◌, List, [], ◌∷◌, ◌++◌, fold, Option, Some, None, codes}
 use Rattle.std.specs.Str.{bytes_eq}
 use Rattle.pg_cert.specs.declared.cert.Version.{Version}
@@ -19,7 +20,9 @@ pub record Cut : Type 0 where
 
 -- one byte more
 abbrev pub with_byte : Cut → ℕ → Cut
-with_byte c b = if b == LINE_FEED then record { whole = c.whole ++ c.rest ∷ []; rest = [] } else record c { rest = c.rest ++ b ∷ [] }
+with_byte c b = if b == LINE_FEED
+    then record { whole = c.whole ++ c.rest ∷ []; rest = [] }
+    else record c { rest = c.rest ++ b ∷ [] }
 
 -- the text, byte for byte
 unfoldable pub cut : Bytes → Cut
@@ -34,13 +37,19 @@ version_of line =
 
 -- a claim of two sides and a goal
 abbrev pub head_with : Option Side → Option Side → Option Goal → Option Head
-head_with (Some turn) (Some side) (Some goal) = Some (record { turn = turn; side = side; goal = goal })
+head_with (Some turn) (Some side) (Some goal) = Some (record {
+  turn = turn;
+  side = side;
+  goal = goal;
+})
 head_with _ _ _ = None
 
 -- what four words claim
 abbrev pub head_of_four : Option Four → Option Head
 head_of_four None = None
-head_of_four (Some f) = if bytes_eq f.first (codes "claim") then head_with (side_of f.second) (side_of f.third) (goal_of f.fourth) else None
+head_of_four (Some f) = if bytes_eq f.first (codes "claim")
+    then head_with (side_of f.second) (side_of f.third) (goal_of f.fourth)
+    else None
 
 -- what a claim line says, if it has the form of one
 unfoldable pub head_of : Bytes → Option Head

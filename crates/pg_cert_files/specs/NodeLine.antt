@@ -111,7 +111,12 @@ after_slash (w ∷ ws) = if is_slash w then ws else after_slash ws
 
 -- the edges before and behind the slash
 abbrev pub edges_with : Bool → List Bytes → Result Edges Fault
-edges_with with_e ws = and_then (ascending_of (before_slash ws)) (λ first. and_then (ascending_of (after_slash ws)) (λ second. Ok (record { with_e = with_e; first = from_list first; second = from_list second })))
+edges_with with_e ws = and_then (ascending_of (before_slash ws))
+    (λ first. and_then (ascending_of (after_slash ws)) (λ second. Ok (record {
+      with_e = with_e;
+      first = from_list first;
+      second = from_list second;
+    })))
 
 -- the two sets of edges of trees or cuts
 abbrev pub edges_of : List Bytes → Result Edges Fault
@@ -132,17 +137,29 @@ body_of forms.Weaker ws = weaker_of (only_word ws)
 -- the node of these points
 abbrev pub node_with : Shape → List ℕ → List ℕ → Result Body Fault → Result Node Fault
 node_with shape x y (Err fault) = Err fault
-node_with shape x y (Ok body) = if is_touched (from_list x) y then Err faults.Number else Ok (record { x = from_list x; y = from_list y; turn = shape.turn.side; left = shape.turn.left; body = body })
+node_with shape x y (Ok body) = if is_touched (from_list x) y
+    then Err faults.Number
+    else Ok (record {
+      x = from_list x;
+      y = from_list y;
+      turn = shape.turn.side;
+      left = shape.turn.left;
+      body = body;
+    })
 
 -- the node of a line of the right form
 abbrev pub node_of : Shape → Result Node Fault
-node_of shape = and_then (ascending_of (field_words shape.x)) (λ x. and_then (ascending_of (field_words shape.y)) (λ y. node_with shape x y (body_of shape.form shape.words)))
+node_of shape = and_then (ascending_of (field_words shape.x))
+    (λ x. and_then (ascending_of (field_words shape.y))
+    (λ y. node_with shape x y (body_of shape.form shape.words)))
 
 -- the same where the form may be wrong
 abbrev pub formed : Option Shape → Result Node Fault
 formed None = Err faults.Form
 formed (Some shape) = node_of shape
 
--- the node of a line of the version: without a bar it stands in the wrong place, and its form comes before its numbers
+-- the node of a line of the version: without a bar it stands in the wrong place, and its form comes
+-- before its numbers
 unfoldable pub node_line : Version → Bytes → Result Node Fault
-node_line version line = if not (has_bar line) then Err faults.Place else formed (shape_of version line)
+node_line version line =
+    if not (has_bar line) then Err faults.Place else formed (shape_of version line)

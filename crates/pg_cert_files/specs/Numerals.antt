@@ -50,7 +50,8 @@ pub record AreTwoNumbers (sign : ℕ) (text : Bytes) (a b : ℕ) (others : Optio
   pub b_number : number second ≡ Some b
 
 -- the first word has the sign once, and this is what it says
-pub record SaysFirst {A : Type 0} (sign : ℕ) (read : Bytes → Result A Fault) (text : Bytes) (a : A) (others : Option Bytes) : Type 0 where
+pub record SaysFirst {A : Type 0} (sign : ℕ) (read : Bytes → Result A Fault) (text : Bytes) (a : A)
+    (others : Option Bytes) : Type 0 where
   pub word : Bytes
   pub cut : parts SPACE text ≡ word ∷ words_of others
   pub form : is_some (two_parts sign word) ≡ true

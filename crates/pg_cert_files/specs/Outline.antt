@@ -1,4 +1,5 @@
--- A node line that is cut where its signs stand, and read once: the body first, since its form comes before its numbers.
+-- A node line that is cut where its signs stand, and read once: the body first, since its form
+-- comes before its numbers.
 use Rattle.std.specs.Borrow.{Bor}
 use Rattle.std.specs.Prelude.{◌≡◌, ℕ, ◌+◌, ◌||◌, nat_lt, if◌then◌else◌, List, [], ◌∷◌, map, Option, Some, None, option_map, Result, Ok, Err}
 use Rattle.std.specs.FinSet.{FinSet, contains, empty, insert}
@@ -24,7 +25,13 @@ use Rattle.pg_cert_files.specs.declared.turn.Turn.{Turn}
 -- the line with these fields, if its body begins with a word of the version
 abbrev pub outline_form : Bytes → Bytes → Turn → Option Form → List Bytes → Option Shape
 outline_form x y turn None ws = None
-outline_form x y turn (Some form) ws = Some (record { x = x; y = y; turn = turn; form = form; words = ws })
+outline_form x y turn (Some form) ws = Some (record {
+  x = x;
+  y = y;
+  turn = turn;
+  form = form;
+  words = ws;
+})
 
 -- the same by the words of the body
 abbrev pub outline_body : Version → Bytes → Bytes → Option Turn → List Bytes → Option Shape
@@ -33,7 +40,8 @@ outline_body version x y _ _ = None
 
 -- the same by the four fields
 abbrev pub outline_fields : Version → Option Four → Option Shape
-outline_fields version (Some f) = outline_body version f.first f.second (turn_of f.third) (parts SPACE f.fourth)
+outline_fields version (Some f) =
+    outline_body version f.first f.second (turn_of f.third) (parts SPACE f.fourth)
 outline_fields version None = None
 
 -- a line whose body may not have its form
@@ -41,12 +49,17 @@ unfoldable pub outline_of : Version → Bytes → Option Shape
 outline_of version line = outline_fields version (four_parts BAR line)
 
 -- what each word says, where each has the sign once
-abbrev pub formed_each : {A : Type 0} → ℕ → (Bytes → Result A Fault) → List Bytes → Result (List A) Fault
+abbrev pub formed_each : {A : Type 0}
+    → ℕ
+    → (Bytes → Result A Fault)
+    → List Bytes
+    → Result (List A) Fault
 formed_each sign read ws = if each_has_one sign ws then each_of read ws else Err faults.Form
 
 -- replies whose points ascend, where each word has the sign once
 abbrev pub formed_replies : List Bytes → Result (List Reply) Fault
-formed_replies ws = and_then (formed_each COLON word_reply ws) (λ rs. if_ascending (map (λ r. r.point) rs) rs)
+formed_replies ws =
+    and_then (formed_each COLON word_reply ws) (λ rs. if_ascending (map (λ r. r.point) rs) rs)
 
 -- a body, where the words have its form
 abbrev pub formed_body : Form → List Bytes → Result Body Fault
@@ -59,14 +72,29 @@ IsFirstPoint (Err error) [] = ⊥
 IsFirstPoint (Ok p) (w ∷ ws) = (point_of w ≡ Ok p.0) × (ws ≡ words_of (option_map (λ b. b.now) p.1))
 IsFirstPoint (Err error) (w ∷ ws) = Fails error (point_of w)
 
--- points that ascend from a least one and aren't in the other set, put into a set one after the other
-abbrev pub gathered_from : FinSet nat_cmp → FinSet nat_cmp → ℕ → List Bytes → Result (FinSet nat_cmp) Fault
+-- points that ascend from a least one and aren't in the other set, put into a set one after the
+-- other
+abbrev pub gathered_from : FinSet nat_cmp
+    → FinSet nat_cmp
+    → ℕ
+    → List Bytes
+    → Result (FinSet nat_cmp) Fault
 gathered_from other s least [] = Ok s
-gathered_from other s least (w ∷ ws) = and_then (point_of w) (λ p. if nat_lt p least || contains other p then Err faults.Number else gathered_from other (insert s p) (p + 1) ws)
+gathered_from other s least (w ∷ ws) =
+    and_then (point_of w) (λ p. if nat_lt p least || contains other p
+    then Err faults.Number
+    else gathered_from other (insert s p) (p + 1) ws)
 
 -- the node with this body
 abbrev pub read_fields : Shape → Body → Result Node Fault
-read_fields shape body = and_then (gathered_from empty empty 0 (field_words shape.x)) (λ x. and_then (gathered_from x empty 0 (field_words shape.y)) (λ y. Ok (record { x = x; y = y; turn = shape.turn.side; left = shape.turn.left; body = body })))
+read_fields shape body = and_then (gathered_from empty empty 0 (field_words shape.x))
+    (λ x. and_then (gathered_from x empty 0 (field_words shape.y)) (λ y. Ok (record {
+      x = x;
+      y = y;
+      turn = shape.turn.side;
+      left = shape.turn.left;
+      body = body;
+    })))
 
 -- the node of an outline
 abbrev pub read_node : Shape → Result Node Fault

@@ -33,9 +33,10 @@ pub record AreAllParts (text : Bytes) (all : List Part) : Type 0 where
   pub limits : IsWithinLimits cert
   pub parts : all ≡ parts_of cert
 
--- What the end of the input gives: the last part, where its line feed was lacking, and then all parts have been given; or the text's
--- fault, unless memory ran out.
+-- What the end of the input gives: the last part, where its line feed was lacking, and then all
+-- parts have been given; or the text's fault, unless memory ran out.
 abbrev pub IsEnd : Result (Option Part) FileError → Bytes → Type 0
 IsEnd (Ok last) text = AreAllParts text (parts_told text ++ listed last)
 IsEnd (Err outcomes.Memory) text = Unit {0}
-IsEnd (Err (outcomes.Bad number line)) text = IsErrAnd (certificate text) (λ bad. (number ≡ number_of bad.0) × (line ≡ bad.1))
+IsEnd (Err (outcomes.Bad number line)) text =
+    IsErrAnd (certificate text) (λ bad. (number ≡ number_of bad.0) × (line ≡ bad.1))

@@ -27,7 +27,11 @@ IsBad number line None = ⊥
 IsBad number line (Some bad) = (number ≡ number_of bad.0) × (line ≡ bad.1)
 
 -- what the end of the lines gives: the fault, or the last part, unless memory ran out
-abbrev pub IsLinesEnd : Result (Option Part) FileError → Option (Fault × ℕ) → List Part → List Part → Type 0
+abbrev pub IsLinesEnd : Result (Option Part) FileError
+    → Option (Fault × ℕ)
+    → List Part
+    → List Part
+    → Type 0
 IsLinesEnd (Ok part) fault all before = (fault ≡ None) × (all ≡ before ++ listed part)
 IsLinesEnd (Err outcomes.Memory) fault all before = Unit {0}
 IsLinesEnd (Err (outcomes.Bad number line)) fault all before = IsBad number line fault

@@ -71,7 +71,8 @@ short_result (Err fault) = Err fault
 -- with any bytes behind them both texts have the same first fault, or say certificates that are
 -- the same when they are cut short
 abbrev pub AreAlike : Bytes → Bytes → Type 0
-AreAlike text other = (more : Bytes) → short_result (says (text ++ more)) ≡ short_result (says (other ++ more))
+AreAlike text other =
+    (more : Bytes) → short_result (says (text ++ more)) ≡ short_result (says (other ++ more))
 
 -- ---- a reader that forgets what no certificate needs
 
@@ -80,7 +81,8 @@ pub record HasBeenFed (r : CertReader) : Type 0 where
   pub text : Bytes
   pub fed : IsFed r text
 
--- The reader is as if it had been fed a text that is like this one and no longer, and that makes the same parts so far.
+-- The reader is as if it had been fed a text that is like this one and no longer, and that makes
+-- the same parts so far.
 pub record IsFedShort (r : CertReader) (text : Bytes) : Type 0 where
   pub short : Bytes
   pub fed : IsFed r short

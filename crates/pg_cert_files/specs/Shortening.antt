@@ -16,7 +16,8 @@ use Rattle.pg_cert_files.specs.declared.progress.Progress.{Progress}
 use Rattle.pg_cert_files.specs.declared.reader.LineReader.{LineReader}
 use Rattle.pg_cert_files.specs.declared.signs.TheConstants.{HYPHEN}
 
--- the text begins with words that say these pairs, each with a space behind it, and this stands behind them
+-- the text begins with words that say these pairs, each with a space behind it, and this stands
+-- behind them
 pub record ArePairs (text : Bytes) (pairs : List Pair) (rest : Bytes) : Type 0 where
   pub front : Bytes
   pub cut : text ≡ front ++ rest
@@ -42,7 +43,8 @@ pub record HasMet (text : Bytes) (points : FinSet nat_cmp) (rest : Bytes) : Type
   pub are : ArePairs text pairs rest
   pub met : (v : ℕ) → contains points v ≡ true → is_paired pairs v ≡ true
 
--- the line has three fields, and a body that begins with the word of pairs and goes on with these words
+-- the line has three fields, and a body that begins with the word of pairs and goes on with these
+-- words
 pub record IsFront (line words : Bytes) : Type 0 where
   pub x : Bytes
   pub y : Bytes
@@ -60,8 +62,8 @@ short_step (Err fault) = Err fault
 -- where a node is due both lines say the same, cut short, whatever comes behind them
 abbrev pub SayTheSame : Bytes → Bytes → Type 0
 SayTheSame line other =
-    (others : ℕ) (p : Progress) (more : Bytes)
-    → short_step (node_step others p (line ++ more)) ≡ short_step (node_step others p (other ++ more))
+    (others : ℕ) (p : Progress) (more : Bytes) → short_step (node_step others p (line ++ more))
+    ≡ short_step (node_step others p (other ++ more))
 
 -- what stands in the line between its front and its end may be left out
 pub record IsSpare (line kept rest : Bytes) : Type 0 where

@@ -35,9 +35,13 @@ impl CertReader {
         requires { self.old.size + length piece.now ≤ MAX_CERT_BYTES }
         ensures used { IfOk result (λ fed. fed.used ≤ length piece.now) }
         ensures all { IfOk result (λ fed. IfNone fed.part (fed.used ≡ length piece.now)) }
-        ensures fed { IfOk result (λ fed. (text : List ℕ) → IsFed self.old text → IsFed self.new (text ++ take fed.used piece.now)) }
-        ensures parts { IfOk result (λ fed. (text : List ℕ) → IsFed self.old text → parts_told (text ++ take fed.used piece.now) ≡ parts_told text ++ listed fed.part) }
-        ensures last { IfOk result (λ fed. IfSome fed.part (λ _. (0 < fed.used) × ((text : List ℕ) → IsFed self.old text → parts_told (text ++ take (fed.used - 1) piece.now) ≡ parts_told text))) }
+        ensures fed { IfOk result (λ fed. (text : List ℕ) → IsFed self.old text
+            → IsFed self.new (text ++ take fed.used piece.now)) }
+        ensures parts { IfOk result (λ fed. (text : List ℕ) → IsFed self.old text
+            → parts_told (text ++ take fed.used piece.now) ≡ parts_told text ++ listed fed.part) }
+        ensures last { IfOk result (λ fed. IfSome fed.part (λ _. (0 < fed.used)
+            × ((text : List ℕ) → IsFed self.old text
+            → parts_told (text ++ take (fed.used - 1) piece.now) ≡ parts_told text))) }
     {
         let before = self.size;
         self.size = before + piece.len();
@@ -48,15 +52,19 @@ impl CertReader {
 
     /// Uses bytes of the piece until a part is whole, and none behind it, or else all of them.
     ///
-    /// No part is given of a file's bytes behind its limit, nor of those behind its first fault of form. The parts that
-    /// have been given begin those of a certificate within the limits, also where a fault comes later. After want of memory
-    /// the reader can only be dropped.
+    /// No part is given of a file's bytes behind its limit, nor of those behind its first fault of
+    /// form. The parts that have been given begin those of a certificate within the limits, also
+    /// where a fault comes later. After want of memory the reader can only be dropped.
     pub fn feed(&mut self, alloc: Global, piece: &[u8]) -> Result<Fed, Memory>
         ensures used { IfOk result (λ fed. fed.used ≤ length piece.now) }
         ensures all { IfOk result (λ fed. IfNone fed.part (fed.used ≡ length piece.now)) }
-        ensures fed { IfOk result (λ fed. (text : List ℕ) → IsFed self.old text → IsFed self.new (text ++ take fed.used piece.now)) }
-        ensures parts { IfOk result (λ fed. (text : List ℕ) → IsFed self.old text → parts_told (text ++ take fed.used piece.now) ≡ parts_told text ++ listed fed.part) }
-        ensures last { IfOk result (λ fed. IfSome fed.part (λ _. (0 < fed.used) × ((text : List ℕ) → IsFed self.old text → parts_told (text ++ take (fed.used - 1) piece.now) ≡ parts_told text))) }
+        ensures fed { IfOk result (λ fed. (text : List ℕ) → IsFed self.old text
+            → IsFed self.new (text ++ take fed.used piece.now)) }
+        ensures parts { IfOk result (λ fed. (text : List ℕ) → IsFed self.old text
+            → parts_told (text ++ take fed.used piece.now) ≡ parts_told text ++ listed fed.part) }
+        ensures last { IfOk result (λ fed. IfSome fed.part (λ _. (0 < fed.used)
+            × ((text : List ℕ) → IsFed self.old text
+            → parts_told (text ++ take (fed.used - 1) piece.now) ≡ parts_told text))) }
     {
         if self.size > MAX_CERT_BYTES {
             return Ok(Fed {
@@ -81,15 +89,19 @@ impl CertReader {
 
     /// The version of the certificate, once all of it was fed.
     pub(crate) fn version(&self) -> Version
-        ensures { (text : List ℕ) (cert : Cert) → IsFed self.now text → certificate text ≡ Ok cert → result ≡ cert.version }
+        ensures { (text : List ℕ) (cert : Cert) → IsFed self.now text
+            → certificate text ≡ Ok cert
+            → result ≡ cert.version }
     {
         self.lines.progress.version
     }
 
-    /// Ends the input: the last node, where its line feed was lacking, or the first fault of all that was fed.
+    /// Ends the input: the last node, where its line feed was lacking, or the first fault of all
+    /// that was fed.
     pub fn end(self, alloc: Global) -> Result<Option<Part>, FileError>
         ensures end { (text : List ℕ) → IsFed self text → IsEnd result text }
-        ensures begins { IfOk result (λ last. (text : List ℕ) → IsFed self text → BeginCert (parts_told text ++ listed last)) }
+        ensures begins { IfOk result (λ last. (text : List ℕ) → IsFed self text
+            → BeginCert (parts_told text ++ listed last)) }
     {
         if self.size > MAX_CERT_BYTES {
             return Err(FileError::at_line(Fault::Size, 0));

@@ -5,7 +5,8 @@ ghost use Rattle.pg_cert_files.specs.declared.limits.TheConstants.{MAX_CERT_BYTE
 
 use crate::reader::LineReader;
 
-/// A certificate that comes in pieces. Feed it bytes with `feed` until all have been used, and then call `end`.
+/// A certificate that comes in pieces. Feed it bytes with `feed` until all have been used, and then
+/// call `end`.
 ///
 /// It keeps the line in hand and no part that it gave.
 #[derive(Debug, Drop)]

@@ -165,10 +165,17 @@ pub(crate) fn has_one_slash(words: Words) -> bool
     false
 }
 
-/// The outline of a line in the version: its fields and its body's words, whose form isn't tested yet.
+/// The outline of a line in the version: its fields and its body's words, whose form isn't tested
+/// yet.
 #[tactic(auto, unfolding(crate::specs::Outline::outline_of))]
 pub(crate) fn outline_of(version: Version, line: &[u8]) -> Option<Outline>
-    ensures { option_map (λ s. record { x = s.x.now; y = s.y.now; turn = s.turn; form = s.form; words = words_of (option_map (λ w. w.now) s.words) }) result ≡ outline_of version line.now }
+    ensures { option_map (λ s. record {
+      x = s.x.now;
+      y = s.y.now;
+      turn = s.turn;
+      form = s.form;
+      words = words_of (option_map (λ w. w.now) s.words);
+    }) result ≡ outline_of version line.now }
 {
     let (x, y, turn, body) = four_parts(b'|', line)?;
     let turn = turn_of(turn)?;

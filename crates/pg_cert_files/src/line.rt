@@ -89,7 +89,8 @@ fn move_of(words: Words) -> Result<Body, LineError<Fault>>
 
 /// The two sets of edges of trees or cuts.
 fn edges_of(alloc: Global, words: Words) -> Result<Edges, LineError<Fault>>
-    ensures { Gives (λ e. e) result (if has_one_slash words.entry then edges_of words.entry else Err Fault.Form) }
+    ensures { Gives (λ e. e) result
+        (if has_one_slash words.entry then edges_of words.entry else Err Fault.Form) }
 {
     if !has_one_slash(words.again()) {
         return Err(LineError::Fault(Fault::Form));
@@ -123,7 +124,8 @@ fn weaker_of(words: Words) -> Result<Body, LineError<Fault>>
 /// The body that the words of the text say, without spare room. Their form comes before their
 /// numbers.
 fn body_of(alloc: Global, form: Form, text: Option<&[u8]>) -> Result<Body, LineError<Fault>>
-    ensures { Gives (λ b. b) result (formed_body form (words_of (option_map (λ w. w.now) text.entry))) }
+    ensures { Gives (λ b. b) result
+        (formed_body form (words_of (option_map (λ w. w.now) text.entry))) }
 {
     match form {
         Form::Over => bare(words_in(text), Body::Over),
@@ -160,9 +162,16 @@ fn body_of(alloc: Global, form: Form, text: Option<&[u8]>) -> Result<Body, LineE
     }
 }
 
-/// The node of a line's outline: the body first, and then each point of its fields straight into a set.
+/// The node of a line's outline: the body first, and then each point of its fields straight into a
+/// set.
 pub fn read_node(alloc: Global, outline: Outline) -> Result<Option<Part>, LineError<Fault>>
-    ensures { Gives (λ p. p) result (node_part (read_node (record { x = outline.entry.x.now; y = outline.entry.y.now; turn = outline.entry.turn; form = outline.entry.form; words = words_of (option_map (λ w. w.now) outline.entry.words) }))) }
+    ensures { Gives (λ p. p) result (node_part (read_node (record {
+      x = outline.entry.x.now;
+      y = outline.entry.y.now;
+      turn = outline.entry.turn;
+      form = outline.entry.form;
+      words = words_of (option_map (λ w. w.now) outline.entry.words);
+    }))) }
 {
     let body = body_of(alloc, outline.form, outline.words)?;
     let x = set_apart(&PointSet::empty(), outline.x)?;

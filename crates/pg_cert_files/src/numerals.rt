@@ -60,7 +60,8 @@ fn leading(text: &[u8]) -> Option<Digits>
     Some(found)
 }
 
-/// The number of the first word, where it is one digit with a space behind it, and the text of the other words.
+/// The number of the first word, where it is one digit with a space behind it, and the text of the
+/// other words.
 fn first_digit(text: &[u8]) -> Option<(u32, &[u8])>
     ensures { IfSome result (λ p. IsFirstNumber text.now p.0 (Some p.1.now)) }
 {
@@ -104,12 +105,13 @@ fn number_before(sign: u8, text: &[u8]) -> Option<(u32, &[u8])>
     Some((found.value, &text[found.count + 1..]))
 }
 
-/// The two numbers that the first word is, with the sign between them, and the text of the other words if there are any.
-/// The sign is neither a digit nor a space.
+/// The two numbers that the first word is, with the sign between them, and the text of the other
+/// words if there are any. The sign is neither a digit nor a space.
 pub(crate) fn two_numbers(sign: u8, text: &[u8]) -> Option<(u32, u32, Option<&[u8]>)>
     requires digit { is_ascii_digit sign ≡ false }
     requires space { sign ≢ SPACE }
-    ensures { IfSome result (λ t. AreTwoNumbers sign text.now t.0 t.1 (option_map (λ w. w.now) t.2)) }
+    ensures { IfSome result
+        (λ t. AreTwoNumbers sign text.now t.0 t.1 (option_map (λ w. w.now) t.2)) }
 {
     let (a, behind) = number_before(sign, text)?;
     let (b, others) = first_number(behind)?;

@@ -46,7 +46,8 @@ impl LineReader {
     fn keep(&mut self, bytes: &[u8]) -> Result<(), Memory>
         requires { Lacks LINE_FEED bytes.now }
         ensures count { self.new.count ≡ self.old.count }
-        ensures stands { IfOk result (λ _. (text : List ℕ) → StandsFor self.old text → StandsFor self.new (text ++ bytes.now) × (told (text ++ bytes.now) ≡ told text)) }
+        ensures stands { IfOk result (λ _. (text : List ℕ) → StandsFor self.old text
+            → StandsFor self.new (text ++ bytes.now) × (told (text ++ bytes.now) ≡ told text)) }
     {
         if self.fault.is_none() {
             self.pending.extend_from_slice(bytes)?;
@@ -56,7 +57,8 @@ impl LineReader {
 
     /// Reads the line in hand, whose last bytes these are.
     fn read_line(&mut self, alloc: Global, last: &[u8]) -> Result<Option<Part>, LineError<Fault>>
-        ensures steps { Steps result self.new.progress (step self.old.progress (self.old.pending.items ++ last.now)) }
+        ensures steps { Steps result self.new.progress
+            (step self.old.progress (self.old.pending.items ++ last.now)) }
         ensures count { self.new.count ≡ self.old.count }
         ensures fault { self.new.fault ≡ self.old.fault }
         ensures pending { IfOk result (λ _. self.new.pending.items ≡ []) }
@@ -77,7 +79,8 @@ impl LineReader {
         ensures count { self.new.count ≤ self.old.count + 1 }
         ensures stands { IfOk result (λ part. (text : List ℕ) → StandsFor self.old text
             → StandsFor self.new (text ++ (last.now ++ LINE_FEED ∷ []))
-            × ((told (text ++ (last.now ++ LINE_FEED ∷ []))).parts ≡ (told text).parts ++ listed part)) }
+            × ((told (text ++ (last.now ++ LINE_FEED ∷ []))).parts
+            ≡ (told text).parts ++ listed part)) }
     {
         if self.fault.is_some() {
             return Ok(None);
@@ -101,11 +104,13 @@ impl LineReader {
         ensures some { IfOk result (λ fed. IfSome fed.part (λ _. 0 < fed.used)) }
         ensures count { IfOk result (λ fed. self.new.count ≤ self.old.count + fed.used) }
         ensures most { self.new.count ≤ self.old.count + length piece.now }
-        ensures last { IfOk result (λ fed. IfSome fed.part (λ _. (text : List ℕ) → StandsFor self.old text
+        ensures last { IfOk result
+            (λ fed. IfSome fed.part (λ _. (text : List ℕ) → StandsFor self.old text
             → (told (text ++ take (fed.used - 1) piece.now)).parts ≡ (told text).parts)) }
         ensures stands { IfOk result (λ fed. (text : List ℕ) → StandsFor self.old text
             → StandsFor self.new (text ++ take fed.used piece.now)
-            × ((told (text ++ take fed.used piece.now)).parts ≡ (told text).parts ++ listed fed.part)) }
+            × ((told (text ++ take fed.used piece.now)).parts
+            ≡ (told text).parts ++ listed fed.part)) }
     {
         let mut rest = piece;
         while let Some((line, behind)) = cut_at(b'\n', rest) {
@@ -138,10 +143,12 @@ impl LineReader {
         }
     }
 
-    /// Ends the input: the last part, where its line feed was lacking, or the fault of all that was fed.
+    /// Ends the input: the last part, where its line feed was lacking, or the fault of all that was
+    /// fed.
     pub(crate) fn end(self, alloc: Global) -> Result<Option<Part>, FileError>
         requires { self.count + 1 < 2 ^ 31 }
-        ensures { (text : List ℕ) → StandsFor self text → IsLinesEnd result (fault_of text) (text_parts text) (told text).parts }
+        ensures { (text : List ℕ) → StandsFor self text
+            → IsLinesEnd result (fault_of text) (text_parts text) (told text).parts }
     {
         if let Some((fault, line)) = self.fault {
             return Err(FileError::at_line(fault, line));

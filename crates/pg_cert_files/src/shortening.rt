@@ -115,7 +115,8 @@ impl LineReader {
     fn shorten(&mut self, alloc: Global) -> Result<(), Memory>
         ensures count { self.new.count ≡ self.old.count }
         ensures fewer { length self.new.pending.items ≤ length self.old.pending.items }
-        ensures short { IfOk result (λ _. (text : List ℕ) → StandsFor self.old text → StandsShort self.old self.new text) }
+        ensures short { IfOk result
+            (λ _. (text : List ℕ) → StandsFor self.old text → StandsShort self.old self.new text) }
     {
         if self.fault.is_some() {
             return Ok(());
@@ -139,7 +140,8 @@ impl CertReader {
     fn cut_line(&mut self, alloc: Global) -> Result<(), Memory>
         requires fed { HasBeenFed self.old }
         requires small { self.old.size ≤ MAX_CERT_BYTES }
-        ensures { IfOk result (λ _. (text : List ℕ) → IsFed self.old text → IsFedShort self.new text) }
+        ensures { IfOk result
+            (λ _. (text : List ℕ) → IsFed self.old text → IsFedShort self.new text) }
     {
         let before = self.lines.pending.len();
         self.lines.shorten(alloc)?;
@@ -149,13 +151,15 @@ impl CertReader {
         Ok(())
     }
 
-    /// Cuts the line in hand short, if it is long and has pairs that no certificate needs: those behind two that share a
-    /// point. The reader is then as if it had been fed a text that is like this one.
+    /// Cuts the line in hand short, if it is long and has pairs that no certificate needs: those
+    /// behind two that share a point. The reader is then as if it had been fed a text that is like
+    /// this one.
     ///
     /// A line that stayed long is looked at again when it has twice that length.
     pub fn shorten(&mut self, alloc: Global) -> Result<(), Memory>
         requires { HasBeenFed self.old }
-        ensures { IfOk result (λ _. (text : List ℕ) → IsFed self.old text → IsFedShort self.new text) }
+        ensures { IfOk result
+            (λ _. (text : List ℕ) → IsFed self.old text → IsFedShort self.new text) }
     {
         let length = self.lines.pending.len();
         if self.size > MAX_CERT_BYTES {

@@ -155,10 +155,12 @@ fn pair(word: &[u8]) -> Result<Pair, LineError<Fault>>
     Ok(Pair { a, b })
 }
 
-/// The pair that the first word says, if it is two points with a sign between them, and the text of the other words.
+/// The pair that the first word says, if it is two points with a sign between them, and the text of
+/// the other words.
 #[tactic(auto, using(crate::proofs::Outlines::says_pair))]
 pub(crate) fn first_pair(text: &[u8]) -> Option<(Pair, Option<&[u8]>)>
-    ensures says { IfSome result (λ p. SaysFirst HYPHEN word_pair text.now p.0 (option_map (λ w. w.now) p.1)) }
+    ensures says { IfSome result
+        (λ p. SaysFirst HYPHEN word_pair text.now p.0 (option_map (λ w. w.now) p.1)) }
     ensures small { IfSome result (λ p. (p.0.a < MAX_MEMBERS) × (p.0.b < MAX_MEMBERS)) }
 {
     let (a, b, others) = two_numbers(HYPHEN, text)?;
@@ -183,10 +185,12 @@ fn pairs_by_word(alloc: Global, words: Words) -> Result<Vec<Pair>, LineError<Fau
     words.each(alloc, |word| pair(word))
 }
 
-/// The pairs that the words of the text say. Where one isn't a pair of points, its fault is found word by word.
+/// The pairs that the words of the text say. Where one isn't a pair of points, its fault is found
+/// word by word.
 #[tactic(auto, using(crate::proofs::Outlines::reads_begin, crate::proofs::Outlines::reads_on, crate::proofs::Outlines::reads_end))]
 pub(crate) fn pairs(alloc: Global, text: Option<&[u8]>) -> Result<Vec<Pair>, LineError<Fault>>
-    ensures { Gives (λ v. v.items) result (formed_each HYPHEN word_pair (words_of (option_map (λ w. w.now) text.entry))) }
+    ensures { Gives (λ v. v.items) result
+        (formed_each HYPHEN word_pair (words_of (option_map (λ w. w.now) text.entry))) }
 {
     let mut found = Vec::new(alloc);
     let mut rest = text;
@@ -200,11 +204,12 @@ pub(crate) fn pairs(alloc: Global, text: Option<&[u8]>) -> Result<Vec<Pair>, Lin
     Ok(found)
 }
 
-/// The reply that the first word says, if it is a point and a child with a sign between them, and the text of the other
-/// words.
+/// The reply that the first word says, if it is a point and a child with a sign between them, and
+/// the text of the other words.
 #[tactic(auto, using(crate::proofs::Outlines::says_reply))]
 fn first_reply(text: &[u8]) -> Option<(Reply, Option<&[u8]>)>
-    ensures { IfSome result (λ r. SaysFirst COLON word_reply text.now r.0 (option_map (λ w. w.now) r.1)) }
+    ensures { IfSome result
+        (λ r. SaysFirst COLON word_reply text.now r.0 (option_map (λ w. w.now) r.1)) }
 {
     let (point, child, others) = two_numbers(COLON, text)?;
     if point >= u32::from(MAX_MEMBERS) || child >= MAX_CLAIM_NODES {
@@ -227,10 +232,12 @@ fn replies_by_word(alloc: Global, words: Words) -> Result<Vec<Reply>, LineError<
     words.each(alloc, |word| reply(word))
 }
 
-/// The replies that the words of the text say. Where one isn't a reply, its fault is found word by word.
+/// The replies that the words of the text say. Where one isn't a reply, its fault is found word by
+/// word.
 #[tactic(auto, using(crate::proofs::Outlines::reads_begin, crate::proofs::Outlines::reads_on, crate::proofs::Outlines::reads_end))]
 fn reply_list(alloc: Global, text: Option<&[u8]>) -> Result<Vec<Reply>, LineError<Fault>>
-    ensures { Gives (λ v. v.items) result (formed_each COLON word_reply (words_of (option_map (λ w. w.now) text.entry))) }
+    ensures { Gives (λ v. v.items) result
+        (formed_each COLON word_reply (words_of (option_map (λ w. w.now) text.entry))) }
 {
     let mut found = Vec::new(alloc);
     let mut rest = text;
@@ -253,7 +260,8 @@ fn replies_ascend(replies: &[Reply]) -> bool
 
 /// The replies that the words of the text say, if their points ascend.
 pub(crate) fn replies(alloc: Global, text: Option<&[u8]>) -> Result<Vec<Reply>, LineError<Fault>>
-    ensures { Gives (λ v. v.items) result (formed_replies (words_of (option_map (λ w. w.now) text.entry))) }
+    ensures { Gives (λ v. v.items) result
+        (formed_replies (words_of (option_map (λ w. w.now) text.entry))) }
 {
     let found = reply_list(alloc, text)?;
     if replies_ascend(&found) {

@@ -12,8 +12,14 @@ below_next : (s : FinSet nat_cmp) (n : ℕ) → AreBelow s n → AreBelow s (suc
 below_next s n below v h = let low = below v h in omega arith
 
 -- edges of the game stay at most e where e is put to them
-pub with_e-below : (g : Game) (with_e : Bool) (first w : FinSet nat_cmp) → w ≡ with_e_named g with_e first → AreBelow first (point_count g) → AreBelow w (suc (point_count g))
+pub with_e-below : (g : Game) (with_e : Bool) (first w : FinSet nat_cmp)
+    → w ≡ with_e_named g with_e first
+    → AreBelow first (point_count g)
+    → AreBelow w (suc (point_count g))
 with_e-below g true first w is below =
     subst (λ (s : FinSet nat_cmp). AreBelow s (suc (point_count g))) (sym is)
-    (AreBelow-insert first (point_count g) (suc (point_count g)) (below_next first (point_count g) below) (omega arith))
-with_e-below g false first w is below = subst (λ (s : FinSet nat_cmp). AreBelow s (suc (point_count g))) (sym is) (below_next first (point_count g) below)
+    (AreBelow-insert first (point_count g) (suc (point_count g))
+    (below_next first (point_count g) below) (omega arith))
+with_e-below g false first w is below =
+    subst (λ (s : FinSet nat_cmp). AreBelow s (suc (point_count g))) (sym is)
+    (below_next first (point_count g) below)

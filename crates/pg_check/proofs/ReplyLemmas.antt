@@ -25,51 +25,83 @@ pub points_from-start : (replies : List Reply) → points_from replies 0 ≡ map
 unfolding points_from
 points_from-start replies = refl
 
-more : (p : Position) (v n : ℕ) (k : ℕ) → n ≡ suc k → range_with_len v n ≡ v ∷ range_with_len (v + 1) k
+more : (p : Position) (v n : ℕ) (k : ℕ)
+    → n ≡ suc k
+    → range_with_len v n ≡ v ∷ range_with_len (v + 1) k
 more p v n k e = rw e refl
 
-pub free_from-free : (g : Game) (p : Position) (v : ℕ) → v < point_count g → is_free p v ≡ true → free_from g p v ≡ v ∷ free_from g p (v + 1)
+pub free_from-free : (g : Game) (p : Position) (v : ℕ)
+    → v < point_count g
+    → is_free p v ≡ true
+    → free_from g p v ≡ v ∷ free_from g p (v + 1)
 unfolding free_from
 free_from-free g p v lt on =
     let count : point_count g - v ≡ suc (point_count g - (v + 1)) = omega arith in
-    ap (filter (is_free p)) (more p v (point_count g - v) (point_count g - (v + 1)) count) ∙ rw on refl
+    ap (filter (is_free p)) (more p v (point_count g - v) (point_count g - (v + 1)) count)
+    ∙ rw on refl
 
-pub free_from-taken : (g : Game) (p : Position) (v : ℕ) → v < point_count g → is_free p v ≡ false → free_from g p v ≡ free_from g p (v + 1)
+pub free_from-taken : (g : Game) (p : Position) (v : ℕ)
+    → v < point_count g
+    → is_free p v ≡ false
+    → free_from g p v ≡ free_from g p (v + 1)
 unfolding free_from
 free_from-taken g p v lt off =
     let count : point_count g - v ≡ suc (point_count g - (v + 1)) = omega arith in
-    ap (filter (is_free p)) (more p v (point_count g - v) (point_count g - (v + 1)) count) ∙ rw off refl
+    ap (filter (is_free p)) (more p v (point_count g - v) (point_count g - (v + 1)) count)
+    ∙ rw off refl
 
 pub free_from-end : (g : Game) (p : Position) (v : ℕ) → point_count g ≤ v → free_from g p v ≡ []
 unfolding free_from
 free_from-end g p v h = let e : point_count g - v ≡ 0 = omega arith in rw e refl
 
-pub points_from-next : (replies : List Reply) (k : ℕ) (d : Reply) → k < length replies → points_from replies k ≡ (get_or replies k d).point ∷ points_from replies (k + 1)
+pub points_from-next : (replies : List Reply) (k : ℕ) (d : Reply)
+    → k < length replies
+    → points_from replies k ≡ (get_or replies k d).point ∷ points_from replies (k + 1)
 unfolding points_from
-points_from-next replies k d lt =
-    ap (map (λ q. q.point)) (drop-cons replies k d lt)
-    ∙ ap (λ j. (get_or replies k d).point ∷ map (λ s. s.point) (drop j replies)) (let e : suc k ≡ k + 1 = omega arith in e)
+points_from-next replies k d lt = ap (map (λ q. q.point)) (drop-cons replies k d lt)
+    ∙ ap (λ j. (get_or replies k d).point ∷ map (λ s. s.point) (drop j replies))
+    (let e : suc k ≡ k + 1 = omega arith in e)
 
-pub points_from-end : (replies : List Reply) (k : ℕ) → length replies ≤ k → points_from replies k ≡ []
+pub points_from-end : (replies : List Reply) (k : ℕ)
+    → length replies ≤ k
+    → points_from replies k ≡ []
 unfolding points_from
 points_from-end replies k h = ap (map (λ r. r.point)) (drop_all k replies h)
 
 -- lists that agree in their heads agree where their rests do
-pub same_rest : (x y : ℕ) (xs ys us vs : List ℕ) → us ≡ x ∷ xs → vs ≡ y ∷ ys → x ≡ y → us ≡ vs → xs ≡ ys
+pub same_rest : (x y : ℕ) (xs ys us vs : List ℕ)
+    → us ≡ x ∷ xs
+    → vs ≡ y ∷ ys
+    → x ≡ y
+    → us ≡ vs
+    → xs ≡ ys
 same_rest x y xs ys us vs ea eb h e = let f : x ∷ xs ≡ y ∷ ys = sym ea ∙ e ∙ eb in cc
 
-pub same_whole : (x y : ℕ) (xs ys us vs : List ℕ) → us ≡ x ∷ xs → vs ≡ y ∷ ys → x ≡ y → xs ≡ ys → us ≡ vs
+pub same_whole : (x y : ℕ) (xs ys us vs : List ℕ)
+    → us ≡ x ∷ xs
+    → vs ≡ y ∷ ys
+    → x ≡ y
+    → xs ≡ ys
+    → us ≡ vs
 same_whole x y xs ys us vs ea eb h e = cc
 
 pub other_head : (x y : ℕ) (xs ys us vs : List ℕ) → us ≡ x ∷ xs → vs ≡ y ∷ ys → x ≢ y → us ≡ vs → ⊥
-other_head x y xs ys us vs ea eb ne e = let f : x ∷ xs ≡ y ∷ ys = sym ea ∙ e ∙ eb in let h : x ≡ y = cc in ne h
+other_head x y xs ys us vs ea eb ne e =
+    let f : x ∷ xs ≡ y ∷ ys = sym ea ∙ e ∙ eb in
+    let h : x ≡ y = cc in
+    ne h
 
 pub no_head : (y : ℕ) (ys us vs : List ℕ) → us ≡ [] → vs ≡ y ∷ ys → us ≡ vs → ⊥
 no_head y ys us vs ea eb e = let f : [] ≡ y ∷ ys = sym ea ∙ e ∙ eb in cc
 
 -- what holds of each member before a place, and of the one there
-pub each-more : {A : Type 0} (P : A → Type 0) (xs : List A) (i : ℕ) (x : A) → i < length xs → x ≡ get_or xs i x → P x → ((j : ℕ) (d : A) → j < i → P (get_or xs j d))
-    → (j : ℕ) (d : A) → j < i + 1 → P (get_or xs j d)
+pub each-more : {A : Type 0} (P : A → Type 0) (xs : List A) (i : ℕ) (x : A)
+    → i < length xs
+    → x ≡ get_or xs i x
+    → P x
+    → ((j : ℕ) (d : A) → j < i → P (get_or xs j d))
+    → (j : ℕ) (d : A) → j < i + 1
+    → P (get_or xs j d)
 each-more P xs i x lt is here before j d below = elim (cases_eq j i) [
   | inl e ↦ subst P (is ∙ get_or_default xs i x d lt ∙ ap (λ n. get_or xs n d) (sym e)) here
   | inr ne ↦ before j d (omega (arith, below, ne))

@@ -17,10 +17,12 @@ use Rattle.pg_check.specs.declared.present.Present.{Present}
 
 -- the claims before this one are valid
 abbrev pub AreValidBefore : Game → List Claim → ℕ → Type 0
-AreValidBefore g claims i = (j : ℕ) (c : Claim) → j < i → slice_get claims j ≡ Some c → IsValidClaim g c
+AreValidBefore g claims i =
+    (j : ℕ) (c : Claim) → j < i → slice_get claims j ≡ Some c → IsValidClaim g c
 
 -- the claim in hand of a certificate, of which this rest of its parts is still to come
-pub record IsInHand (g : Game) (c : Present) (begun : ℕ) (cert : Cert) (rest : List Part) : Type 0 where
+pub record IsInHand (g : Game) (c : Present) (begun : ℕ) (cert : Cert)
+    (rest : List Part) : Type 0 where
   pub before : ℕ
   pub begun_is : begun ≡ before + 1
   pub claim : Claim
@@ -30,7 +32,8 @@ pub record IsInHand (g : Game) (c : Present) (begun : ℕ) (cert : Cert) (rest :
   pub within : length (kept c.marks) ≤ length claim.nodes
   pub made : AreMarksOf g c.marks
   pub sound : AreSoundBefore g claim (length (kept c.marks))
-  pub rest_is : rest ≡ map parts.Node (drop (length (kept c.marks)) claim.nodes) ++ all_parts (drop begun cert.claims)
+  pub rest_is : rest ≡ map parts.Node (drop (length (kept c.marks)) claim.nodes)
+      ++ all_parts (drop begun cert.claims)
 
 -- without a fault so far
 abbrev pub Goes : Game → Option Present → ℕ → Cert → List Part → Type 0
@@ -42,10 +45,14 @@ abbrev pub Stands : Game → Option Rejected → Option Present → ℕ → Cert
 Stands g (Some r) present begun cert rest = IsFirstFault g cert r.claim r.node r.why
 Stands g None present begun cert rest = Goes g present begun cert rest
 
--- these parts have been checked: whatever certificate within the limits they begin, its first fault among them has been found
+-- these parts have been checked: whatever certificate within the limits they begin, its first fault
+-- among them has been found
 pub record StandsFor (c : Checking) (fed : List Part) : Type 0 where
   pub ready : IsReadyFor c.tester c.game.now
-  pub told : (cert : Cert) (rest : List Part) → IsWithinLimits cert → fed ++ rest ≡ parts_of cert → Stands c.game.now c.found c.present c.begun cert rest
+  pub told : (cert : Cert) (rest : List Part)
+      → IsWithinLimits cert
+      → fed ++ rest ≡ parts_of cert
+      → Stands c.game.now c.found c.present c.begun cert rest
 
 -- a list for which the checking stands, and that with these parts begins a certificate
 pub record AreNext (c : Checking) (coming : List Part) : Type 0 where

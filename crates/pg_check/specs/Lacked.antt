@@ -9,7 +9,9 @@ use Rattle.pg_game.specs.Potential.{is_on}
 abbrev pub filled_but : FinSet nat_cmp → ℕ → List ℕ → Bool
 filled_but s u line = list_all (λ q. q == u || contains s q) line
 
--- what of the line has been seen: each point is in the set, or the one that was found is the only one that isn't
+-- what of the line has been seen: each point is in the set, or the one that was found is the only
+-- one that isn't
 abbrev pub IsLackedSoFar : FinSet nat_cmp → List ℕ → Option ℕ → Type 0
 IsLackedSoFar s seen None = list_all (contains s) seen ≡ true
-IsLackedSoFar s seen (Some u) = (is_on u seen ≡ true) × (contains s u ≡ false) × (filled_but s u seen ≡ true)
+IsLackedSoFar s seen (Some u) =
+    (is_on u seen ≡ true) × (contains s u ≡ false) × (filled_but s u seen ≡ true)

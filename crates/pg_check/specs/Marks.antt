@@ -35,7 +35,8 @@ position_at words width turns k = record {
 
 -- the positions in the order in which they came
 unfoldable pub kept : Marks → List Position
-kept m = map (position_at m.words.items m.width m.turns.items) (range_with_len 0 (length m.turns.items))
+kept m =
+    map (position_at m.words.items m.width m.turns.items) (range_with_len 0 (length m.turns.items))
 
 -- two rows for each turn, of at most sixteen words
 pub record AreFlat (m : Marks) : Type 0 where

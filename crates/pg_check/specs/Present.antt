@@ -1,4 +1,5 @@
--- The claim that is being checked: what it says, how many nodes it has, and the positions of those that were checked.
+-- The claim that is being checked: what it says, how many nodes it has, and the positions of those
+-- that were checked.
 use Rattle.std.specs.Prelude.{◌≡◌, ℕ, ◌+◌, ◌<◌, length, map, take}
 use Rattle.pg_game.specs.declared.game.Game.{Game}
 use Rattle.pg_game.specs.declared.position.Position.{Position}
@@ -22,7 +23,8 @@ bare p = record { x = p.x; y = p.y; turn = p.turn; left = p.left; body = Over }
 abbrev pub known : Present → Claim
 known c = record { turn = c.turn; side = c.side; goal = c.goal; nodes = map bare (kept c.marks) }
 
--- what a node owes under each fault's name, by what is known: the last node is told by the number of nodes
+-- what a node owes under each fault's name, by what is known: the last node is told by the number
+-- of nodes
 abbrev pub PassesSoFar : Game → Present → ℕ → Node → NodeFault → Type 0
 PassesSoFar g c k n faults.Root = k + 1 ≡ c.count → position_of n ≡ with_turn g c.turn
 PassesSoFar g c k n fault = Passes g (known c) k n fault
@@ -32,9 +34,12 @@ abbrev pub IsSoundSoFar : Game → Present → ℕ → Node → Type 0
 IsSoundSoFar g c k n = (fault : NodeFault) → PassesSoFar g c k n fault
 
 -- the fault of least number
-pub record IsLeastSoFar (g : Game) (c : Present) (k : ℕ) (n : Node) (fault : NodeFault) : Type 0 where
+pub record IsLeastSoFar (g : Game) (c : Present) (k : ℕ) (n : Node)
+    (fault : NodeFault) : Type 0 where
   pub fails : PassesSoFar g c k n fault → ⊥
-  pub lesser : (before : NodeFault) → fault_number before < fault_number fault → PassesSoFar g c k n before
+  pub lesser : (before : NodeFault)
+      → fault_number before < fault_number fault
+      → PassesSoFar g c k n before
 
 -- this is what is known of the claim when its first k nodes have been checked
 pub record IsKnownOf (c : Present) (claim : Claim) (k : ℕ) : Type 0 where

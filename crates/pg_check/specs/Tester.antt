@@ -11,7 +11,8 @@ use Rattle.pg_check.specs.declared.tester.Tester.{Tester}
 abbrev pub ArePointsOf : FinSet nat_cmp → Game → Type 0
 ArePointsOf s g = (v : ℕ) → contains s v ≡ nat_lt v (point_count g)
 
--- the judge is made for the game, and so is the joiner where it is on a graph; the points are the game's
+-- the judge is made for the game, and so is the joiner where it is on a graph; the points are the
+-- game's
 pub record IsReadyFor (t : Tester) (g : Game) : Type 0 where
   pub judge : IsMadeForGame t.judge g
   pub joiner : IsMadeForGame (room_of t.joiner) g

@@ -54,14 +54,17 @@ fn verdict(alloc: Global, g: &Game, c: &Cert) -> Result<Result<(), Rejected>, Me
     Ok(checking.finish())
 }
 
-/// Checks a certificate against a game, node by node: each is tried by all tests of the table, and the first that fails
-/// is named. A certificate is accepted exactly where it is valid; then each claim is forced by its side.
+/// Checks a certificate against a game, node by node: each is tried by all tests of the table, and
+/// the first that fails is named. A certificate is accepted exactly where it is valid; then each
+/// claim is forced by its side.
 pub fn check<'a>(alloc: Global, g: &'a Game, c: &'a Cert) -> Result<Checked<'a>, CheckFault>
     requires { IsWithinLimits c.now }
     ensures game { IfOk result (λ checked. checked.game.now ≡ g.now) }
     ensures cert { IfOk result (λ checked. checked.cert.now ≡ c.now) }
     ensures valid { IfOk result (λ _. IsValid g.now c.now) }
-    ensures reject { (claim : ℕ) → (node : ℕ) → (why : ℕ) → result ≡ Err (CheckFault.Reject claim node why) → IsFirstFault g.now c.now claim node why }
+    ensures reject { (claim : ℕ) → (node : ℕ) → (why : ℕ)
+        → result ≡ Err (CheckFault.Reject claim node why)
+        → IsFirstFault g.now c.now claim node why }
 {
     let Ok(found) = verdict(alloc, g, c) else {
         return Err(CheckFault::Memory);
@@ -80,14 +83,23 @@ pub fn check<'a>(alloc: Global, g: &'a Game, c: &'a Cert) -> Result<Checked<'a>,
     }
 }
 
-/// A valid certificate has no first fault, and any other has one at most: so nothing but want of memory is left open in
-/// what `check` answers.
+/// A valid certificate has no first fault, and any other has one at most: so nothing but want of
+/// memory is left open in what `check` answers.
 pub fn faults_are_told()
-    ensures none { (g : Game) → (c : Cert) → IsValid g c → (claim : ℕ) → (node : ℕ) → (why : ℕ) → IsFirstFault g c claim node why → ⊥ }
-    ensures one { (g : Game) → (c : Cert) → (i : ℕ) → (k : ℕ) → (w : ℕ) → (claim : ℕ) → (node : ℕ) → (why : ℕ) → IsFirstFault g c i k w → IsFirstFault g c claim node why → (i ≡ claim) × (k ≡ node) × (w ≡ why) }
+    ensures none { (g : Game) → (c : Cert) → IsValid g c
+        → (claim : ℕ) → (node : ℕ) → (why : ℕ) → IsFirstFault g c claim node why
+        → ⊥ }
+    ensures one { (g : Game) → (c : Cert) → (i : ℕ) → (k : ℕ) → (w : ℕ) → (claim : ℕ) → (node : ℕ)
+        → (why : ℕ) → IsFirstFault g c i k w
+        → IsFirstFault g c claim node why
+        → (i ≡ claim) × (k ≡ node) × (w ≡ why) }
 {}
 
-/// Every claim of a valid certificate is forced: its side forces its goal from the game's marks with the claim's turn.
+/// Every claim of a valid certificate is forced: its side forces its goal from the game's marks
+/// with the claim's turn.
 pub fn valid_claims_are_forced()
-    ensures { (g : Game) → (c : Cert) → IsWithinLimits c → IsValid g c → (i : ℕ) → (claim : Claim) → slice_get c.claims i ≡ Some claim → Forces g (with_turn g claim.turn) claim.side claim.goal }
+    ensures { (g : Game) → (c : Cert) → IsWithinLimits c
+        → IsValid g c
+        → (i : ℕ) → (claim : Claim) → slice_get c.claims i ≡ Some claim
+        → Forces g (with_turn g claim.turn) claim.side claim.goal }
 {}

@@ -26,8 +26,8 @@ pub struct Rejected {
     pub why: u8,
 }
 
-/// A certificate that is checked as its parts come. Of earlier nodes it keeps marks and turns alone, and only those of
-/// the claim in hand.
+/// A certificate that is checked as its parts come. Of earlier nodes it keeps marks and turns
+/// alone, and only those of the claim in hand.
 #[derive(Debug, Drop)]
 pub struct Checking<'a> {
     /// The game.
@@ -61,7 +61,8 @@ impl<'a> Checking<'a> {
     pub(crate) fn claim(&mut self, alloc: Global, turn: Side, side: Side, goal: Goal, count: u32)
         requires next { AreNext self.old (Part.Claim turn side goal count ∷ []) }
         ensures game { self.new.game ≡ self.old.game }
-        ensures stands { (fed : List Part) → StandsFor self.old fed → StandsFor self.new (fed ++ Part.Claim turn side goal count ∷ []) }
+        ensures stands { (fed : List Part) → StandsFor self.old fed
+            → StandsFor self.new (fed ++ Part.Claim turn side goal count ∷ []) }
     {
         if self.found.is_some() {
             return;
@@ -81,7 +82,8 @@ impl<'a> Checking<'a> {
         requires next { AreNext self.old (Part.Node node.now ∷ []) }
         requires sound { self.old.found ≡ None }
         ensures game { self.new.game ≡ self.old.game }
-        ensures stands { IfOk result (λ _. (fed : List Part) → StandsFor self.old fed → StandsFor self.new (fed ++ Part.Node node.now ∷ [])) }
+        ensures stands { IfOk result (λ _. (fed : List Part) → StandsFor self.old fed
+            → StandsFor self.new (fed ++ Part.Node node.now ∷ [])) }
     {
         let Some(mut present) = self.present.take() else {
             unreachable!();
@@ -105,7 +107,8 @@ impl<'a> Checking<'a> {
     pub(crate) fn node(&mut self, node: &Node) -> Result<(), Memory>
         requires next { AreNext self.old (Part.Node node.now ∷ []) }
         ensures game { self.new.game ≡ self.old.game }
-        ensures stands { IfOk result (λ _. (fed : List Part) → StandsFor self.old fed → StandsFor self.new (fed ++ Part.Node node.now ∷ [])) }
+        ensures stands { IfOk result (λ _. (fed : List Part) → StandsFor self.old fed
+            → StandsFor self.new (fed ++ Part.Node node.now ∷ [])) }
     {
         if self.found.is_some() {
             return Ok(());
@@ -113,12 +116,13 @@ impl<'a> Checking<'a> {
         self.test(node)
     }
 
-    /// Checks the next part. After the first fault parts are taken and not looked at. After want of memory the checking
-    /// can only be dropped.
+    /// Checks the next part. After the first fault parts are taken and not looked at. After want of
+    /// memory the checking can only be dropped.
     pub fn part(&mut self, alloc: Global, p: &Part) -> Result<(), Memory>
         requires next { AreNext self.old (p.now ∷ []) }
         ensures game { self.new.game ≡ self.old.game }
-        ensures stands { IfOk result (λ _. (fed : List Part) → StandsFor self.old fed → StandsFor self.new (fed ++ p.now ∷ [])) }
+        ensures stands { IfOk result (λ _. (fed : List Part) → StandsFor self.old fed
+            → StandsFor self.new (fed ++ p.now ∷ [])) }
     {
         match p {
             Part::Claim {
@@ -134,11 +138,13 @@ impl<'a> Checking<'a> {
         }
     }
 
-    /// The verdict on a certificate of which all parts have been fed: accepted exactly where it is valid, and else its
-    /// first fault.
+    /// The verdict on a certificate of which all parts have been fed: accepted exactly where it is
+    /// valid, and else its first fault.
     pub fn finish(self) -> Result<(), Rejected>
         requires { IsWhole self }
-        ensures { (cert : Cert) → IsWithinLimits cert → StandsFor self.entry (parts_of cert) → IsVerdict result self.entry.game.now cert }
+        ensures { (cert : Cert) → IsWithinLimits cert
+            → StandsFor self.entry (parts_of cert)
+            → IsVerdict result self.entry.game.now cert }
     {
         match self.found {
             None => Ok(()),

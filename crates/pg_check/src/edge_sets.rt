@@ -18,7 +18,8 @@ fn are_edge_sets(g: &Game, first: &PointSet, second: &PointSet) -> bool
     first.is_below(g.points()) && second.is_below(g.points())
 }
 
-/// Whether both sets are of the game's edges, and are trees for X, the first with e where that is named.
+/// Whether both sets are of the game's edges, and are trees for X, the first with e where that is
+/// named.
 pub(crate) fn trees_hold(
     joiner: &mut Option<Joiner>,
     g: &Game,
@@ -30,7 +31,9 @@ pub(crate) fn trees_hold(
     requires switching { g.now.kind ≡ Switching }
     requires made { IsMadeForGame (room_of joiner.old) g.now }
     requires position { IsPosition g.now p.now }
-    ensures trees { IsTrue result ↔ (AreEdgeSets g.now first.now second.now × TreesHold g.now p.now (with_e_named g.now with_e first.now) second.now) }
+    ensures trees { IsTrue result
+        ↔ (AreEdgeSets g.now first.now second.now
+        × TreesHold g.now p.now (with_e_named g.now with_e first.now) second.now) }
     ensures kept { joiner.new ≡ joiner.old }
 {
     let Some(joiner) = joiner else { unreachable!() };
@@ -40,7 +43,8 @@ pub(crate) fn trees_hold(
     pg_switch::trees_hold(g, joiner, p, &with_e_named(g, with_e, first), second)
 }
 
-/// Whether both sets are of the game's edges, and are cuts for Y, the first with e where that is named.
+/// Whether both sets are of the game's edges, and are cuts for Y, the first with e where that is
+/// named.
 pub(crate) fn cuts_hold(
     joiner: &mut Option<Joiner>,
     g: &Game,
@@ -52,7 +56,9 @@ pub(crate) fn cuts_hold(
     requires switching { g.now.kind ≡ Switching }
     requires made { IsMadeForGame (room_of joiner.old) g.now }
     requires position { IsPosition g.now p.now }
-    ensures cuts { IsTrue result ↔ (AreEdgeSets g.now first.now second.now × CutsHold g.now p.now (with_e_named g.now with_e first.now) second.now) }
+    ensures cuts { IsTrue result
+        ↔ (AreEdgeSets g.now first.now second.now
+        × CutsHold g.now p.now (with_e_named g.now with_e first.now) second.now) }
     ensures kept { joiner.new ≡ joiner.old }
 {
     let Some(joiner) = joiner else { unreachable!() };

@@ -15,7 +15,8 @@ use std::alloc::Global;
 fn feed_nodes(checking: &mut Checking, nodes: &[Node]) -> Result<(), Memory>
     requires { AreNext checking.old (map Part.Node nodes.now) }
     ensures game { checking.new.game ≡ checking.old.game }
-    ensures stands { IfOk result (λ _. (fed : List Part) → StandsFor checking.old fed → StandsFor checking.new (fed ++ map Part.Node nodes.now)) }
+    ensures stands { IfOk result (λ _. (fed : List Part) → StandsFor checking.old fed
+        → StandsFor checking.new (fed ++ map Part.Node nodes.now)) }
 {
     for node in nodes {
         checking.node(node)?;
@@ -28,7 +29,8 @@ fn feed_claim(checking: &mut Checking, alloc: Global, claim: &Claim) -> Result<(
     requires next { AreNext checking.old (claim_parts claim.now) }
     requires limits { IsClaim claim.now }
     ensures game { checking.new.game ≡ checking.old.game }
-    ensures stands { IfOk result (λ _. (fed : List Part) → StandsFor checking.old fed → StandsFor checking.new (fed ++ claim_parts claim.now)) }
+    ensures stands { IfOk result (λ _. (fed : List Part) → StandsFor checking.old fed
+        → StandsFor checking.new (fed ++ claim_parts claim.now)) }
 {
     let nodes = claim.nodes.as_slice();
     checking.claim(
@@ -50,7 +52,8 @@ pub(crate) fn feed_claims(
     requires next { AreNext checking.old (all_parts claims.now) }
     requires limits { All IsClaim claims.now }
     ensures game { checking.new.game ≡ checking.old.game }
-    ensures stands { IfOk result (λ _. (fed : List Part) → StandsFor checking.old fed → StandsFor checking.new (fed ++ all_parts claims.now)) }
+    ensures stands { IfOk result (λ _. (fed : List Part) → StandsFor checking.old fed
+        → StandsFor checking.new (fed ++ all_parts claims.now)) }
 {
     for claim in claims {
         feed_claim(checking, alloc, claim)?;

@@ -39,7 +39,8 @@ fn potential_fits(g: &Game, side: Side, p: &Position) -> bool
 
 /// Whether a potential meets its condition.
 pub(crate) fn has_potential(g: &Game, side: Side, p: &Position, body: &Body) -> bool
-    requires allowed { (bias : ℕ) × (s : Side) × (goal : Goal) × (is_allowed g.now.kind bias s goal body.now ≡ true) }
+    requires allowed { (bias : ℕ) × (s : Side) × (goal : Goal)
+        × (is_allowed g.now.kind bias s goal body.now ≡ true) }
     requires position { IsPosition g.now p.now }
     ensures { IsTrue result ↔ HasPotential g.now side p.now body.now }
 {
@@ -51,7 +52,8 @@ pub(crate) fn has_potential(g: &Game, side: Side, p: &Position, body: &Body) -> 
 
 /// Whether the sets of edges are trees.
 pub(crate) fn has_trees(joiner: &mut Option<Joiner>, g: &Game, p: &Position, body: &Body) -> bool
-    requires allowed { (bias : ℕ) × (s : Side) × (goal : Goal) × (is_allowed g.now.kind bias s goal body.now ≡ true) }
+    requires allowed { (bias : ℕ) × (s : Side) × (goal : Goal)
+        × (is_allowed g.now.kind bias s goal body.now ≡ true) }
     requires made { IsMadeForGame (room_of joiner.old) g.now }
     requires position { IsPosition g.now p.now }
     ensures trees { IsTrue result ↔ HasTrees g.now p.now body.now }
@@ -70,7 +72,8 @@ pub(crate) fn has_trees(joiner: &mut Option<Joiner>, g: &Game, p: &Position, bod
 
 /// Whether the sets of edges are cuts.
 pub(crate) fn has_cuts(joiner: &mut Option<Joiner>, g: &Game, p: &Position, body: &Body) -> bool
-    requires allowed { (bias : ℕ) × (s : Side) × (goal : Goal) × (is_allowed g.now.kind bias s goal body.now ≡ true) }
+    requires allowed { (bias : ℕ) × (s : Side) × (goal : Goal)
+        × (is_allowed g.now.kind bias s goal body.now ≡ true) }
     requires made { IsMadeForGame (room_of joiner.old) g.now }
     requires position { IsPosition g.now p.now }
     ensures cuts { IsTrue result ↔ HasCuts g.now p.now body.now }

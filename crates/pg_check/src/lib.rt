@@ -1,4 +1,5 @@
-//! The checker of certificates: it accepts exactly the valid ones, and names the first fault of any other.
+//! The checker of certificates: it accepts exactly the valid ones, and names the first fault of any
+//! other.
 #![tactic(auto)]
 
 mod allowed;

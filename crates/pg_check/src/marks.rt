@@ -17,7 +17,8 @@ pub(crate) struct Turn {
     pub(crate) left: u8,
 }
 
-/// Positions by number, in the order in which they came. A set of points takes as many words as the game's points need.
+/// Positions by number, in the order in which they came. A set of points takes as many words as the
+/// game's points need.
 #[derive(Debug, Drop)]
 pub(crate) struct Marks {
     /// How many words a set of points takes.
@@ -33,7 +34,8 @@ fn are_within(mine: &[u64], theirs: &[u64], count: usize) -> bool
     requires mine { count ≤ length mine.now }
     requires theirs { count ≤ length theirs.now }
     requires fit { (i : ℕ) → (get_or mine.now i 0 < 2 ^ 64) × (get_or theirs.now i 0 < 2 ^ 64) }
-    ensures { IsTrue result ↔ AreWithin (members_below mine.now (64 * count)) (members_below theirs.now (64 * count)) }
+    ensures { IsTrue result
+        ↔ AreWithin (members_below mine.now (64 * count)) (members_below theirs.now (64 * count)) }
 {
     for i in 0..count {
         if mine[i] & !theirs[i] != 0 {
@@ -80,7 +82,8 @@ impl Marks {
         requires flat { AreFlat self.now }
         requires row { row < 2 * length self.now.turns.items }
         requires below { AreBelow set.now (64 * self.now.width) }
-        ensures { IsTrue result ↔ AreWithin (set_at self.now.words.items self.now.width row) set.now }
+        ensures { IsTrue result
+            ↔ AreWithin (set_at self.now.words.items self.now.width row) set.now }
     {
         are_within(&self.words[self.width * row..], set.words(), self.width)
     }
@@ -90,18 +93,22 @@ impl Marks {
         requires flat { AreFlat self.now }
         requires row { row < 2 * length self.now.turns.items }
         requires below { AreBelow set.now (64 * self.now.width) }
-        ensures { IsTrue result ↔ AreWithin set.now (set_at self.now.words.items self.now.width row) }
+        ensures { IsTrue result
+            ↔ AreWithin set.now (set_at self.now.words.items self.now.width row) }
     {
         are_within(set.words(), &self.words[self.width * row..], self.width)
     }
 
-    /// Whether the side has all its points of the position of this number, and the other side no others than there.
+    /// Whether the side has all its points of the position of this number, and the other side no
+    /// others than there.
     fn keeps_points(&self, side: Side, k: usize, p: &Position) -> bool
         requires flat { AreFlat self.now }
         requires place { k < length self.now.turns.items }
         requires x { AreBelow p.now.x (64 * self.now.width) }
         requires y { AreBelow p.now.y (64 * self.now.width) }
-        ensures { IsTrue result ↔ KeepsPoints side (position_at self.now.words.items self.now.width self.now.turns.items k) p.now }
+        ensures { IsTrue result
+            ↔ KeepsPoints side
+            (position_at self.now.words.items self.now.width self.now.turns.items k) p.now }
     {
         match side {
             Side::X => self.is_within(2 * k, &p.x) && self.has_within(2 * k + 1, &p.y),
@@ -109,7 +116,8 @@ impl Marks {
         }
     }
 
-    /// Whether in the position of this number the same side is to move as in p, and still claims as many points.
+    /// Whether in the position of this number the same side is to move as in p, and still claims as
+    /// many points.
     fn has_turn(&self, k: usize, p: &Position) -> bool
         requires { k < length self.now.turns.items }
         ensures { IsTrue result ↔ HasTurnOf p.now (get_or self.now.turns.items k no_turn) }

@@ -32,7 +32,8 @@ pub(crate) fn names_earlier(k: usize, body: &Body) -> bool
     }
 }
 
-/// Whether the position is no worse for the side than that of the child that `weaker` names, which has been checked.
+/// Whether the position is no worse for the side than that of the child that `weaker` names, which
+/// has been checked.
 pub(crate) fn has_weaker(marks: &Marks, side: Side, p: &Position, body: &Body) -> bool
     requires flat { AreFlat marks.now }
     requires x { AreBelow p.now.x (64 * marks.now.width) }
@@ -74,7 +75,9 @@ fn follows_move(g: &Game, marks: &Marks, p: &Position, point: u16, child: u32) -
 fn all_follow(g: &Game, marks: &Marks, p: &Position, replies: &[Reply]) -> bool
     requires made { AreMarksOf g.now marks.now }
     requires position { IsPosition g.now p.now }
-    ensures { IsTrue result ↔ All (λ r. FollowsMove g.now (map bare (kept marks.now)) p.now r.point r.child) replies.now }
+    ensures { IsTrue result
+        ↔ All (λ r. FollowsMove g.now (map bare (kept marks.now)) p.now r.point r.child)
+        replies.now }
 {
     for reply in replies {
         if !follows_move(g, marks, p, reply.point, reply.child) {

@@ -27,8 +27,8 @@ fn is_owed(points: &PointSet, g: &Game, claim: &Present, node: &Node) -> bool
     is_allowed(g.kind, g.bias, claim.side, claim.goal, &node.body) && is_in_game(points, g, node)
 }
 
-/// Whether the node's marks are points of the game, and its side claims no more than in a whole turn. A node of which
-/// more is asked needs no second look.
+/// Whether the node's marks are points of the game, and its side claims no more than in a whole
+/// turn. A node of which more is asked needs no second look.
 fn is_seen_in_game(points: &PointSet, g: &Game, claim: &Present, node: &Node, owed: bool) -> bool
     requires points { ArePointsOf points.now g.now }
     requires owed { IsTrue owed ↔ IsOwed g.now (known claim.now) node.now }
@@ -44,7 +44,8 @@ fn is_seen_in_game(points: &PointSet, g: &Game, claim: &Present, node: &Node, ow
 fn is_won(judge: &mut Judge, g: &Game, side: Side, goal: Goal, p: &Position) -> bool
     requires made { IsMadeForGame judge.old g.now }
     requires position { IsPosition g.now p.now }
-    ensures won { IsTrue result ↔ ((is_over g.now p.now ≡ true) × (reaches side goal (outcome g.now p.now) ≡ true)) }
+    ensures won { IsTrue result
+        ↔ ((is_over g.now p.now ≡ true) × (reaches side goal (outcome g.now p.now) ≡ true)) }
     ensures kept { judge.new ≡ judge.old }
 {
     match judge.over(g, p) {
@@ -53,7 +54,8 @@ fn is_won(judge: &mut Judge, g: &Game, side: Side, goal: Goal, p: &Position) -> 
     }
 }
 
-/// Whether the game is over where the body says so, with the goal reached, and isn't where the body moves on.
+/// Whether the game is over where the body says so, with the goal reached, and isn't where the body
+/// moves on.
 fn ends_right(
     judge: &mut Judge,
     g: &Game,
@@ -74,7 +76,8 @@ fn ends_right(
     }
 }
 
-/// Whether the claim's last node is the game's marks with the claim's turn, where this is the last node.
+/// Whether the claim's last node is the game's marks with the claim's turn, where this is the last
+/// node.
 fn is_root(g: &Game, claim: &Present, k: usize, p: &Position) -> bool
     requires { k < claim.now.count }
     ensures { IsTrue result ↔ (k + 1 ≡ claim.now.count → p.now ≡ with_turn g.now claim.now.turn) }

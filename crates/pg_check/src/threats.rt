@@ -35,9 +35,14 @@ fn fills_some_from(g: &Game, points: &PointSet, first: usize) -> bool
 /// The point of the line that isn't in the set, where there is just one.
 pub(crate) fn only_lacked(points: &PointSet, line: &Line) -> Option<u16>
     requires { All (λ v. v < MAX_MEMBERS) line.now }
-    ensures one { IfSome result (λ u. (is_on u line.now ≡ true) × (contains points.now u ≡ false) × (filled_but points.now u line.now ≡ true)) }
+    ensures one { IfSome result (λ u. (is_on u line.now ≡ true)
+        × (contains points.now u ≡ false)
+        × (filled_but points.now u line.now ≡ true)) }
     ensures few { IfSome result (λ u. u < MAX_MEMBERS) }
-    ensures none { IfNone result ((u : ℕ) → is_on u line.now ≡ true → contains points.now u ≡ false → filled_but points.now u line.now ≡ true → ⊥) }
+    ensures none { IfNone result ((u : ℕ) → is_on u line.now ≡ true
+        → contains points.now u ≡ false
+        → filled_but points.now u line.now ≡ true
+        → ⊥) }
 {
     let mut lacked = None;
     for i in 0..line.len() {

@@ -25,31 +25,60 @@ use Rattle.pg_talk.specs.declared.halt.Halt.TheVariants.{Refused, Stopped}
 use Rattle.pg_talk.proofs.Runs.{performs_more, silent}
 
 -- a player was opened, and its claim is said and played
-pub plays_opened : (side : Side) (g : Game) (e : Evidence) (c : Cert) (before after : ConsoleTold) (play : Play) (r : Result ℕ Halt) → StandsFor g e c → IsValid g c → chosen_claim g c side ≡ Some play.claim → play.game ≡ g → play.position ≡ start g
-    → Performs (λ _. ⊥) (IsPlay (player_of play)) before after r → Performs (RefusesPlay side (read_of g e)) (PlaysOn side (read_of g e)) before after r
+pub plays_opened : (side : Side) (g : Game) (e : Evidence) (c : Cert) (before after : ConsoleTold)
+    (play : Play) (r : Result ℕ Halt)
+    → StandsFor g e c
+    → IsValid g c
+    → chosen_claim g c side ≡ Some play.claim
+    → play.game ≡ g
+    → play.position ≡ start g
+    → Performs (λ _. ⊥) (IsPlay (player_of play)) before after r
+    → Performs (RefusesPlay side (read_of g e)) (PlaysOn side (read_of g e)) before after r
 plays_opened side g e c before after play r stands valid chosen same at_start performs =
-    performs_more (λ _. ⊥) (RefusesPlay side (read_of g e)) (IsPlay (player_of play)) (PlaysOn side (read_of g e)) (λ refusal none. absurd none) acts before after r performs
+    performs_more (λ _. ⊥) (RefusesPlay side (read_of g e)) (IsPlay (player_of play))
+    (PlaysOn side (read_of g e)) (λ refusal none. absurd none) acts before after r performs
   where
     seen : player_of play ≡ claimer g play.claim
-    seen = ap (λ (h : Game). contender_of h play.claim.side play.claim.goal play.position) same ∙ ap (λ (p : Position). contender_of g play.claim.side play.claim.goal p) at_start
+    seen = ap (λ (h : Game). contender_of h play.claim.side play.claim.goal play.position) same
+        ∙ ap (λ (p : Position). contender_of g play.claim.side play.claim.goal p) at_start
 
-    acts : (entries : List Entry) (end : End) → IsPlay (player_of play) entries end → PlaysOn side (read_of g e) entries end
-    acts entries end is = (g, play.claim, (c, refl, stands, valid, chosen), subst (λ (k : Contender). IsPlay k entries end) seen is)
+    acts : (entries : List Entry) (end : End)
+        → IsPlay (player_of play) entries end
+        → PlaysOn side (read_of g e) entries end
+    acts entries end is = (
+      g,
+      play.claim,
+      (c, refl, stands, valid, chosen),
+      subst (λ (k : Contender). IsPlay k entries end) seen is,
+    )
 
 -- what stands against a play
-pub play_rejected : (side : Side) (g : Game) (e : Evidence) (claim node why : ℕ) (console : ConsoleTold) → HasFault g e claim node why
-    → Performs (RefusesPlay side (read_of g e)) (PlaysOn side (read_of g e)) console console (Err (Refused (refusals.Rejected claim node why)))
-play_rejected side g e claim node why console fault = ((g, refl, inl (inr (claim, node, why, fault, refl))), silent Starved console console refl refl)
+pub play_rejected : (side : Side) (g : Game) (e : Evidence) (claim node why : ℕ)
+    (console : ConsoleTold)
+    → HasFault g e claim node why
+    → Performs (RefusesPlay side (read_of g e)) (PlaysOn side (read_of g e)) console console
+    (Err (Refused (refusals.Rejected claim node why)))
+play_rejected side g e claim node why console fault =
+    ((g, refl, inl (inr (claim, node, why, fault, refl))), silent Starved console console refl refl)
 
-pub play_unclaimed : (side : Side) (g : Game) (e : Evidence) (c : Cert) (console : ConsoleTold) → StandsFor g e c → IsValid g c → chosen_claim g c side ≡ None
-    → Performs (RefusesPlay side (read_of g e)) (PlaysOn side (read_of g e)) console console (Err (Refused (refusals.NoClaim side)))
-play_unclaimed side g e c console stands valid none = ((g, refl, inr (c, stands, valid, none, refl)), silent Starved console console refl refl)
+pub play_unclaimed : (side : Side) (g : Game) (e : Evidence) (c : Cert) (console : ConsoleTold)
+    → StandsFor g e c
+    → IsValid g c
+    → chosen_claim g c side ≡ None
+    → Performs (RefusesPlay side (read_of g e)) (PlaysOn side (read_of g e)) console console
+    (Err (Refused (refusals.NoClaim side)))
+play_unclaimed side g e c console stands valid none =
+    ((g, refl, inr (c, stands, valid, none, refl)), silent Starved console console refl refl)
 
 -- it stands for no certificate, or memory is wanting
-pub play_unmade : (side : Side) (g : Game) (e : Evidence) (halt : Halt) (console : ConsoleTold) → MakesStanding g e (Err halt)
-    → Performs (RefusesPlay side (read_of g e)) (PlaysOn side (read_of g e)) console console (Err halt)
-play_unmade side g e (Refused refusal) console made = ((g, refl, inl (inl made)), silent Starved console console refl refl)
-play_unmade side g e (Stopped stop) console made = ([], inl refl, silent (stop_end stop) console console refl refl)
+pub play_unmade : (side : Side) (g : Game) (e : Evidence) (halt : Halt) (console : ConsoleTold)
+    → MakesStanding g e (Err halt)
+    → Performs (RefusesPlay side (read_of g e)) (PlaysOn side (read_of g e)) console console
+    (Err halt)
+play_unmade side g e (Refused refusal) console made =
+    ((g, refl, inl (inl made)), silent Starved console console refl refl)
+play_unmade side g e (Stopped stop) console made =
+    ([], inl refl, silent (stop_end stop) console console refl refl)
 
 pub unmade_halts : (halt : Halt) → IsInnerHalt halt → IsPlayHalt halt
 unmade_halts (Refused refusals.NoMeaning) inner = absurd inner

@@ -19,16 +19,37 @@ use Rattle.pg_talk.proofs.Runs.{silent, talked_texts}
 
 module _ (g : Game) (e : Evidence) (before after : ConsoleTold) where
   -- what there is to say was said
-  pub reported : (text : Bytes) (status : ℕ) → Accounts g e text status → Grows before.log after.log (Said text ∷ []) → after.left ≡ before.left
+  pub reported : (text : Bytes) (status : ℕ)
+      → Accounts g e text status
+      → Grows before.log after.log (Said text ∷ [])
+      → after.left ≡ before.left
       → Performs (RefusesReport (read_of g e)) (Reports (read_of g e)) before after (Ok status)
-  reported text status told says left = (Said text ∷ [], (g, refl, text, told, refl), talked_texts (Finished status) before after (text ∷ []) says left)
+  reported text status told says left = (
+    Said text ∷ [],
+    (g, refl, text, told, refl),
+    talked_texts (Finished status) before after (text ∷ []) says left,
+  )
 
   -- nothing was said
-  pub unreported : (stop : Stop) → after.log ≡ before.log → after.left ≡ before.left → Performs (RefusesReport (read_of g e)) (Reports (read_of g e)) before after (Err (Stopped stop))
+  pub unreported : (stop : Stop)
+      → after.log ≡ before.log
+      → after.left ≡ before.left
+      → Performs (RefusesReport (read_of g e)) (Reports (read_of g e)) before after
+      (Err (Stopped stop))
   unreported stop same left = ([], inl refl, silent (stop_end stop) before after same left)
 
 -- ---- what there is to say
 
 -- the first fault is told
-pub told_fault : (g : Game) (e : Evidence) (claim node : ℕ) (code : Code) (text : Bytes) → HasCode g e claim node code → text ≡ rejection_text claim node code → Accounts g e text REFUSED
-told_fault g e claim node code text first is = inr (record { claim = claim; node = node; code = code; first = first; text_is = is; status_is = refl })
+pub told_fault : (g : Game) (e : Evidence) (claim node : ℕ) (code : Code) (text : Bytes)
+    → HasCode g e claim node code
+    → text ≡ rejection_text claim node code
+    → Accounts g e text REFUSED
+told_fault g e claim node code text first is = inr (record {
+  claim = claim;
+  node = node;
+  code = code;
+  first = first;
+  text_is = is;
+  status_is = refl;
+})

@@ -26,50 +26,78 @@ use Rattle.pg_cli.proofs.Tasks.{task_leaves, task_memory, task_quiet}
 
 -- ---- a game and a certificate that were read, for a check and for a play
 
-module _ (files files' : FilesTold) (g c : Bytes) (pair : Game × Evidence) (before after : ConsoleTold) (same : files'.held ≡ files.held)
+module _ (files files' : FilesTold) (g c : Bytes) (pair : Game × Evidence)
+    (before after : ConsoleTold) (same : files'.held ≡ files.held)
     (opens : OpensBoth files.held g c (Ok pair)) where
-  read_both : (held : Holding) → files.held ≡ Some held → both_held (held g) (held c) ≡ read_of pair.0 pair.1
+  read_both : (held : Holding)
+      → files.held ≡ Some held
+      → both_held (held g) (held c) ≡ read_of pair.0 pair.1
   read_both held is = opened_two pair_entry both_held files.held g c held is pair opens
 
-  pub carries_check : (work : Expanded) (r : Result ℕ Halt) → Performs (RefusesCheck (read_of pair.0 pair.1)) (AcceptsAll (read_of pair.0 pair.1)) before after r
+  pub carries_check : (work : Expanded) (r : Result ℕ Halt)
+      → Performs (RefusesCheck (read_of pair.0 pair.1))
+      (AcceptsAll (read_of pair.0 pair.1)) before after r
       → Carries (Some (Check g c)) work files files' before after r
-  carries_check work r performs = runs_read files files' same RefusesCheck AcceptsAll (λ held. both_held (held g) (held c)) (read_of pair.0 pair.1) read_both before after r performs
+  carries_check work r performs =
+      runs_read files files' same RefusesCheck AcceptsAll (λ held. both_held (held g) (held c))
+      (read_of pair.0 pair.1) read_both before after r performs
 
-  pub carries_play : (side : Side) (work : Expanded) (r : Result ℕ Halt) → Performs (RefusesPlay side (read_of pair.0 pair.1)) (PlaysOn side (read_of pair.0 pair.1)) before after r
+  pub carries_play : (side : Side) (work : Expanded) (r : Result ℕ Halt)
+      → Performs (RefusesPlay side (read_of pair.0 pair.1))
+      (PlaysOn side (read_of pair.0 pair.1)) before after r
       → Carries (Some (Play g c side)) work files files' before after r
-  carries_play side work r performs = runs_read files files' same (RefusesPlay side) (PlaysOn side) (λ held. both_held (held g) (held c)) (read_of pair.0 pair.1) read_both before after r performs
+  carries_play side work r performs = runs_read files files' same (RefusesPlay side) (PlaysOn side)
+      (λ held. both_held (held g) (held c))
+      (read_of pair.0 pair.1) read_both before after r performs
 
-  pub carries_report : (work : Expanded) (r : Result ℕ Halt) → Performs (RefusesReport (read_of pair.0 pair.1)) (Reports (read_of pair.0 pair.1)) before after r
+  pub carries_report : (work : Expanded) (r : Result ℕ Halt)
+      → Performs (RefusesReport (read_of pair.0 pair.1))
+      (Reports (read_of pair.0 pair.1)) before after r
       → Carries (Some (Report g c)) work files files' before after r
-  carries_report work r performs = runs_read files files' same RefusesReport Reports (λ held. both_held (held g) (held c)) (read_of pair.0 pair.1) read_both before after r performs
+  carries_report work r performs =
+      runs_read files files' same RefusesReport Reports (λ held. both_held (held g) (held c))
+      (read_of pair.0 pair.1) read_both before after r performs
 
 -- ---- a command that ends while it reads
 
 module _ (files files' : FilesTold) (console : ConsoleTold) (same : files'.held ≡ files.held) where
   -- nothing was said, and what stands against the command was read
-  pub carries_halt : (command : Option Command) (work : Expanded) (halt : Halt) → ((held : Holding) (refusal : Refusal) → files.held ≡ Some held → halt ≡ Refused refusal → Refuses held command refusal)
+  pub carries_halt : (command : Option Command) (work : Expanded) (halt : Halt)
+      → ((held : Holding) (refusal : Refusal) → files.held ≡ Some held
+      → halt ≡ Refused refusal
+      → Refuses held command refusal)
       → Carries command work files files' console console (Err halt)
-  carries_halt command work halt against = runs_halt files files' same (λ held. Refuses held command) (λ held. Acts held command work) console halt against
+  carries_halt command work halt against = runs_halt files files' same
+      (λ held. Refuses held command) (λ held. Acts held command work) console halt against
 
-  module _ (g c : Bytes) (work : Expanded) (halt : Halt) (opens : OpensBoth files.held g c (Err halt)) where
+  module _ (g c : Bytes) (work : Expanded) (halt : Halt)
+      (opens : OpensBoth files.held g c (Err halt)) where
     -- what was read stands against the commands that read a game and a certificate
-    read_refusal : (held : Holding) (refusal : Refusal) → files.held ≡ Some held → halt ≡ Refused refusal → both_held (held g) (held c) ≡ Err (Refused refusal)
-    read_refusal held refusal is this = not_opened_two pair_entry both_held files.held g c held is halt refusal this opens
+    read_refusal : (held : Holding) (refusal : Refusal)
+        → files.held ≡ Some held
+        → halt ≡ Refused refusal
+        → both_held (held g) (held c) ≡ Err (Refused refusal)
+    read_refusal held refusal is this =
+        not_opened_two pair_entry both_held files.held g c held is halt refusal this opens
 
     pub halted_check : Carries (Some (Check g c)) work files files' console console (Err halt)
-    halted_check = carries_halt (Some (Check g c)) work halt
-        (λ held refusal is this. subst (λ (read : Result (GameEntry × Evidence) Halt). RefusesCheck read refusal) (sym (read_refusal held refusal is this)) refl)
+    halted_check = carries_halt (Some (Check g c)) work halt (λ held refusal is this.
+        subst (λ (read : Result (GameEntry × Evidence) Halt). RefusesCheck read refusal)
+        (sym (read_refusal held refusal is this)) refl)
 
-    pub halted_play : (side : Side) → Carries (Some (Play g c side)) work files files' console console (Err halt)
-    halted_play side = carries_halt (Some (Play g c side)) work halt
-        (λ held refusal is this. subst (λ (read : Result (GameEntry × Evidence) Halt). RefusesPlay side read refusal) (sym (read_refusal held refusal is this)) refl)
+    pub halted_play : (side : Side)
+        → Carries (Some (Play g c side)) work files files' console console (Err halt)
+    halted_play side = carries_halt (Some (Play g c side)) work halt (λ held refusal is this.
+        subst (λ (read : Result (GameEntry × Evidence) Halt). RefusesPlay side read refusal)
+        (sym (read_refusal held refusal is this)) refl)
 
     pub halted_report : Carries (Some (Report g c)) work files files' console console (Err halt)
     halted_report = carries_halt (Some (Report g c)) work halt read_refusal
 
 -- ---- quiet
 
-pub quiet_halt : (command : Option Command) (console : ConsoleTold) (halt : Halt) → Quiets command console console (Err halt)
+pub quiet_halt : (command : Option Command) (console : ConsoleTold) (halt : Halt)
+    → Quiets command console console (Err halt)
 quiet_halt command console (Refused refusal) = Grows-nothing console.log
 quiet_halt (Some (Play g c side)) console (Stopped Read) = tt
 quiet_halt None console (Stopped Read) = Grows-nothing console.log
@@ -95,8 +123,11 @@ quiet_halt (Some (Review g r positions)) console (Stopped Memory) = tt
 -- ---- words
 
 -- memory for the words is wanting
-pub carries_memory : (files : FilesTold) (console : ConsoleTold) (command : Option Command) (work : Expanded) → Carries command work files files console console (Err (Stopped Memory))
-carries_memory files console command work = carries_halt files files console refl command work (Stopped Memory) (λ held refusal is this. absurd (cc this))
+pub carries_memory : (files : FilesTold) (console : ConsoleTold) (command : Option Command)
+    (work : Expanded)
+    → Carries command work files files console console (Err (Stopped Memory))
+carries_memory files console command work = carries_halt files files console refl command work
+    (Stopped Memory) (λ held refusal is this. absurd (cc this))
 
 module _ (command : Option Command) where
   pub leaves_all : (files : FilesTold) → LeavesFiles command files files

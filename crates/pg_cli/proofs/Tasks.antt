@@ -1,4 +1,5 @@
--- What a task done with a game of a family gives, says and leaves; a check and a play of any other game have the same statuses.
+-- What a task done with a game of a family gives, says and leaves; a check and a play of any other
+-- game have the same statuses.
 use Rattle.std.proofs.Common.{◌≡◌, ℕ, List, Ok, Err, refl, sym, subst, inl, inr, arith}
 use Rattle.std.specs.List.{Contains}
 use Rattle.pg_io.specs.Console.{ConsoleTold}
@@ -23,22 +24,34 @@ pub at_place : (l : List ℕ) (n m : ℕ) → n ≡ m → Contains l m → Conta
 at_place l n m is there = subst (λ (s : ℕ). Contains l s) (sym is) there
 
 -- a task that is done has a status of its own
-pub task_finishes : (task : FamilyTask) (status : ℕ) → GivesInFamily task (Ok status) → ending status ≡ Finished status
+pub task_finishes : (task : FamilyTask) (status : ℕ)
+    → GivesInFamily task (Ok status)
+    → ending status ≡ Finished status
 task_finishes Solve status is = subst (λ (s : ℕ). ending s ≡ Finished s) (sym is) refl
 task_finishes Check status is = subst (λ (s : ℕ). ending s ≡ Finished s) (sym is) refl
 task_finishes (Play side) status (inl is) = subst (λ (s : ℕ). ending s ≡ Finished s) (sym is) refl
-task_finishes (Play side) status (inr (inl is)) = subst (λ (s : ℕ). ending s ≡ Finished s) (sym is) refl
-task_finishes (Play side) status (inr (inr is)) = subst (λ (s : ℕ). ending s ≡ Finished s) (sym is) refl
+task_finishes (Play side) status (inr (inl is)) =
+    subst (λ (s : ℕ). ending s ≡ Finished s) (sym is) refl
+task_finishes (Play side) status (inr (inr is)) =
+    subst (λ (s : ℕ). ending s ≡ Finished s) (sym is) refl
 
-pub task_done : (task : FamilyTask) (status : ℕ) → GivesInFamily task (Ok status) → Contains (statuses_in_family task) status
-task_done Solve status is = at_place (statuses_in_family Solve) status DONE is (0, omega arith, refl)
-task_done Check status is = at_place (statuses_in_family Check) status DONE is (0, omega arith, refl)
-task_done (Play side) status (inl is) = at_place (statuses_in_family (Play side)) status DONE is (0, omega arith, refl)
-task_done (Play side) status (inr (inl is)) = at_place (statuses_in_family (Play side)) status INPUT_ENDED is (7, omega arith, refl)
-task_done (Play side) status (inr (inr is)) = at_place (statuses_in_family (Play side)) status OUT_OF_REPLIES is (8, omega arith, refl)
+pub task_done : (task : FamilyTask) (status : ℕ)
+    → GivesInFamily task (Ok status)
+    → Contains (statuses_in_family task) status
+task_done Solve status is =
+    at_place (statuses_in_family Solve) status DONE is (0, omega arith, refl)
+task_done Check status is =
+    at_place (statuses_in_family Check) status DONE is (0, omega arith, refl)
+task_done (Play side) status (inl is) =
+    at_place (statuses_in_family (Play side)) status DONE is (0, omega arith, refl)
+task_done (Play side) status (inr (inl is)) =
+    at_place (statuses_in_family (Play side)) status INPUT_ENDED is (7, omega arith, refl)
+task_done (Play side) status (inr (inr is)) =
+    at_place (statuses_in_family (Play side)) status OUT_OF_REPLIES is (8, omega arith, refl)
 
 -- what stops a task has a status of its table
-pub task_stops : (task : FamilyTask) (stop : Stop) → Contains (statuses_in_family task) (stop_status stop)
+pub task_stops : (task : FamilyTask) (stop : Stop)
+    → Contains (statuses_in_family task) (stop_status stop)
 task_stops Solve Read = (2, omega arith, refl)
 task_stops Solve Write = (3, omega arith, refl)
 task_stops Solve Memory = (4, omega arith, refl)
@@ -50,7 +63,9 @@ task_stops (Play side) Write = (5, omega arith, refl)
 task_stops (Play side) Memory = (6, omega arith, refl)
 
 -- and so has what stands against it
-pub task_refuses : (task : FamilyTask) (refusal : Refusal) → GivesInFamily task (Err (Refused refusal)) → Contains (statuses_in_family task) (refusal_status refusal)
+pub task_refuses : (task : FamilyTask) (refusal : Refusal)
+    → GivesInFamily task (Err (Refused refusal))
+    → Contains (statuses_in_family task) (refusal_status refusal)
 task_refuses Solve NoMeaning gives = absurd gives
 task_refuses Solve (NoClaim side) gives = absurd gives
 task_refuses Solve (Game number line) gives = (1, omega arith, refl)
@@ -81,12 +96,15 @@ task_refuses (Play side) (Record number line) gives = absurd gives
 
 -- ---- where memory for the words is wanting
 
-pub task_quiet : (task : FamilyTask) (console : ConsoleTold) → QuietAtReadInFamily task console console
+pub task_quiet : (task : FamilyTask) (console : ConsoleTold)
+    → QuietAtReadInFamily task console console
 task_quiet Solve console = Grows-nothing console.log
 task_quiet Check console = Grows-nothing console.log
 task_quiet (Play side) console = tt
 
-pub task_leaves : (task : FamilyTask) (c : Bytes) (files : FilesTold) → ReadsOnly files files → LeavesFamilyFiles task c files files
+pub task_leaves : (task : FamilyTask) (c : Bytes) (files : FilesTold)
+    → ReadsOnly files files
+    → LeavesFamilyFiles task c files files
 task_leaves Solve c files reads = inl reads
 task_leaves Check c files reads = reads
 task_leaves (Play side) c files reads = reads

@@ -34,4 +34,7 @@ RefusesCheck (Ok pair) refusal = (g : Game) × IsSaidBy pair.0 g × RejectsEvide
 -- the certificate for which it stands is valid, and each of its claims is accepted in order
 abbrev pub AcceptsAll : Result (GameEntry × Evidence) Halt → List Entry → End → Type 0
 AcceptsAll (Err halt) entries end = ⊥
-AcceptsAll (Ok pair) entries end = (g : Game) × (c : Cert) × IsSaidBy pair.0 g × StandsFor g pair.1 c × IsValid g c × SaysAll (map acceptance c.claims) entries end
+AcceptsAll (Ok pair) entries end = (g : Game) × (c : Cert) × IsSaidBy pair.0 g
+    × StandsFor g pair.1 c
+    × IsValid g c
+    × SaysAll (map acceptance c.claims) entries end

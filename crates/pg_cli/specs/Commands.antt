@@ -31,7 +31,8 @@ use Rattle.pg_solve.specs.Left.{LeavesSearch}
 
 -- a command whose numbers are within their ranges; any other has no meaning
 abbrev pub built : Command → Option Command
-built (Solve g c positions images) = option_map (λ n. Solve g c (Some n) images) (positions_for positions)
+built (Solve g c positions images) =
+    option_map (λ n. Solve g c (Some n) images) (positions_for positions)
 built (Check g c) = Some (Check g c)
 built (Play g c side) = Some (Play g c side)
 built (Gen which g c) = if has_source which then Some (Gen which g c) else None
@@ -46,14 +47,22 @@ asked words = option_and_then built (meaning_of words)
 
 -- the statuses with which a command may end
 abbrev pub statuses_of : Option Command → List ℕ
-statuses_of (Some (Solve g c positions images)) = DONE ∷ UNKNOWN ∷ FAULTY_GAME ∷ READ_FAILED ∷ WRITE_FAILED ∷ NO_MEMORY ∷ []
-statuses_of (Some (Check g c)) = DONE ∷ FAULTY_GAME ∷ REFUSED ∷ READ_FAILED ∷ WRITE_FAILED ∷ NO_MEMORY ∷ []
-statuses_of (Some (Play g c side)) = DONE ∷ NO_MEANING ∷ FAULTY_GAME ∷ REFUSED ∷ READ_FAILED ∷ WRITE_FAILED ∷ NO_MEMORY ∷ INPUT_ENDED ∷ OUT_OF_REPLIES ∷ []
-statuses_of (Some (Report g c)) = DONE ∷ FAULTY_GAME ∷ REFUSED ∷ READ_FAILED ∷ WRITE_FAILED ∷ NO_MEMORY ∷ []
+statuses_of (Some (Solve g c positions images)) =
+    DONE ∷ UNKNOWN ∷ FAULTY_GAME ∷ READ_FAILED ∷ WRITE_FAILED ∷ NO_MEMORY ∷ []
+statuses_of (Some (Check g c)) =
+    DONE ∷ FAULTY_GAME ∷ REFUSED ∷ READ_FAILED ∷ WRITE_FAILED ∷ NO_MEMORY ∷ []
+statuses_of (Some (Play g c side)) = DONE ∷ NO_MEANING ∷ FAULTY_GAME ∷ REFUSED ∷ READ_FAILED
+    ∷ WRITE_FAILED ∷ NO_MEMORY ∷ INPUT_ENDED ∷ OUT_OF_REPLIES ∷ []
+statuses_of (Some (Report g c)) =
+    DONE ∷ FAULTY_GAME ∷ REFUSED ∷ READ_FAILED ∷ WRITE_FAILED ∷ NO_MEMORY ∷ []
 statuses_of (Some (OfFamily family task g c)) = statuses_in_family task
-statuses_of (Some (Gen which g c)) = if searches which c then DONE ∷ UNKNOWN ∷ WRITE_FAILED ∷ NO_MEMORY ∷ [] else DONE ∷ WRITE_FAILED ∷ NO_MEMORY ∷ []
-statuses_of (Some (Record g r)) = DONE ∷ FAULTY_GAME ∷ READ_FAILED ∷ WRITE_FAILED ∷ NO_MEMORY ∷ OUT_OF_REPLIES ∷ []
-statuses_of (Some (Review g r positions)) = DONE ∷ UNKNOWN ∷ FAULTY_GAME ∷ READ_FAILED ∷ WRITE_FAILED ∷ NO_MEMORY ∷ FAULTY_RECORD ∷ []
+statuses_of (Some (Gen which g c)) = if searches which c
+    then DONE ∷ UNKNOWN ∷ WRITE_FAILED ∷ NO_MEMORY ∷ []
+    else DONE ∷ WRITE_FAILED ∷ NO_MEMORY ∷ []
+statuses_of (Some (Record g r)) =
+    DONE ∷ FAULTY_GAME ∷ READ_FAILED ∷ WRITE_FAILED ∷ NO_MEMORY ∷ OUT_OF_REPLIES ∷ []
+statuses_of (Some (Review g r positions)) =
+    DONE ∷ UNKNOWN ∷ FAULTY_GAME ∷ READ_FAILED ∷ WRITE_FAILED ∷ NO_MEMORY ∷ FAULTY_RECORD ∷ []
 statuses_of None = NO_MEANING ∷ WRITE_FAILED ∷ NO_MEMORY ∷ []
 
 -- what is said where a read has failed: nothing, but in play, and in a session that is recorded
@@ -63,7 +72,9 @@ QuietAtRead (Some (Record g r)) before after = ⊤
 QuietAtRead (Some (OfFamily family task g c)) before after = QuietAtReadInFamily task before after
 QuietAtRead _ before after = Grows before.log after.log []
 
--- what is said where memory is wanting: nothing, so it isn't wanting once a claim was accepted or is played; of a game that is made and to be solved, perhaps its size; of a session that is recorded, and of a review, what came before
+-- what is said where memory is wanting: nothing, so it isn't wanting once a claim was accepted or
+-- is played; of a game that is made and to be solved, perhaps its size; of a session that is
+-- recorded, and of a review, what came before
 abbrev pub QuietAtMemory : Option Command → ConsoleTold → ConsoleTold → Type 0
 QuietAtMemory (Some (Gen which g c)) before after = TellsSize which c before after
 QuietAtMemory (Some (Record g r)) before after = ⊤
@@ -72,7 +83,8 @@ QuietAtMemory _ before after = Grows before.log after.log []
 
 -- what is said by a command before what stands against it is said, and where it was stopped
 abbrev pub Quiets : Option Command → ConsoleTold → ConsoleTold → Result ℕ Halt → Type 0
-Quiets command before after result = QuietsBy (QuietAtRead command before after) (QuietAtMemory command before after) before after result
+Quiets command before after result = QuietsBy (QuietAtRead command before after)
+    (QuietAtMemory command before after) before after result
 
 -- where a command is done or ends early, so it may end
 abbrev pub Gives : Option Command → Result ℕ Halt → Type 0
@@ -82,7 +94,8 @@ Gives (Some (Check g c)) (Ok status) = status ≡ DONE
 Gives (Some (Check g c)) (Err halt) = IsReadHalt halt
 Gives (Some (Play g c side)) (Ok status) = IsPlayEnd status
 Gives (Some (Play g c side)) (Err halt) = IsPlayHalt halt
-Gives (Some (Gen which g c)) (Ok status) = (status ≡ DONE) ⊎ ((searches which c ≡ true) × (status ≡ UNKNOWN))
+Gives (Some (Gen which g c)) (Ok status) =
+    (status ≡ DONE) ⊎ ((searches which c ≡ true) × (status ≡ UNKNOWN))
 Gives (Some (Gen which g c)) (Err halt) = IsWriteHalt halt
 Gives (Some (Report g c)) (Ok status) = IsReportEnd status
 Gives (Some (Report g c)) (Err halt) = IsReadHalt halt
@@ -93,7 +106,8 @@ Gives None (Ok status) = ⊥
 Gives None (Err halt) = (halt ≡ Refused NoMeaning) ⊎ (halt ≡ Stopped Memory)
 
 -- what was said at a status that tells of a failed read, or of want of memory
-pub record Silences (command : Option Command) (before after : ConsoleTold) (status : ℕ) : Type 0 where
+pub record Silences (command : Option Command) (before after : ConsoleTold)
+    (status : ℕ) : Type 0 where
   pub at_read : status ≡ READ_FAILED → QuietAtRead command before after
   pub at_memory : status ≡ NO_MEMORY → QuietAtMemory command before after
 
@@ -116,7 +130,8 @@ IsGameHeld None name g = ⊤
 IsGameHeld (Some held) name g = game_held (held name) ≡ Ok (entry g)
 
 -- what a command leaves of the work of a search: all, unless it searches; then at every status what
--- a search may leave of the game that was read or made, or of a position of the record that was read
+-- a search may leave of the game that was read or made, or of a position of the record that was
+-- read
 abbrev pub LeavesWork : Option Holding → Option Command → Expanded → Expanded → Type 0
 LeavesWork told (Some (Solve g c None images)) before after =
     LeavesSearch (IsGameHeld told g) DEFAULT_POSITIONS before after

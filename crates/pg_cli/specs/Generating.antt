@@ -45,15 +45,17 @@ game_file name g = (name, printed (entry g))
 abbrev pub size_texts : Game → List Bytes
 size_texts g = size_text g.field ∷ []
 
--- the game is stored and its size said; and where a certificate is wanted, the game is solved, and behind the result the counts are said
+-- the game is stored and its size said; and where a certificate is wanted, the game is solved, and
+-- behind the result the counts are said
 abbrev pub StoresGame : Game → Bytes → Option Bytes → Expanded → Done → End → Type 0
 StoresGame g name None work done end = Delivers (game_file name g) (size_texts g) done end
-StoresGame g name (Some certificate) work done end =
-    DeliversThen (game_file name g) (size_texts g) (SolvesGame false (result_and_counts g work) g certificate DEFAULT_POSITIONS work) done end
+StoresGame g name (Some certificate) work done end = DeliversThen (game_file name g) (size_texts g)
+    (SolvesGame false (result_and_counts g work) g certificate DEFAULT_POSITIONS work) done end
 
 -- what making a game does
 abbrev pub Generates : Source → Bytes → Option Bytes → Expanded → Done → End → Type 0
-Generates which name certificate work done end = (g : Game) × IsMade which g × StoresGame g name certificate work done end
+Generates which name certificate work done end =
+    (g : Game) × IsMade which g × StoresGame g name certificate work done end
 
 -- the names under which something may be stored
 abbrev pub names_of : Bytes → Option Bytes → List Bytes
@@ -69,7 +71,8 @@ searches which (Some certificate) = true
 -- where memory is wanting nothing was said, or just the size of the game that is to be solved
 abbrev pub TellsSize : Source → Option Bytes → ConsoleTold → ConsoleTold → Type 0
 TellsSize which None before after = Grows before.log after.log []
-TellsSize which (Some certificate) before after = Grows before.log after.log [] ⊎ ((g : Game) × IsMade which g × Grows before.log after.log (Said (size_text g.field) ∷ []))
+TellsSize which (Some certificate) before after = Grows before.log after.log []
+    ⊎ ((g : Game) × IsMade which g × Grows before.log after.log (Said (size_text g.field) ∷ []))
 
 -- the game that was made, none just where a number is outside its range
 abbrev pub IsMadeOf : Source → Option Game → Type 0

@@ -1,4 +1,5 @@
--- What names hold: the game and the certificate that a command reads, in either form, or what stands against them.
+-- What names hold: the game and the certificate that a command reads, in either form, or what
+-- stands against them.
 use Rattle.std.specs.Prelude.{Option, Result, Ok}
 use Rattle.pg_io.specs.Files.{Bytes, Holding}
 use Rattle.pg_game.specs.declared.game.Game.{Game}
@@ -12,7 +13,8 @@ use Rattle.pg_talk.specs.declared.halt.Halt.{Halt}
 
 -- the game and the certificate that two names hold, or what stands against the first of them
 abbrev pub both_held : Option Bytes → Option Bytes → Result (GameEntry × Evidence) Halt
-both_held game_bytes certificate_bytes = both (game_held game_bytes) (evidence_held certificate_bytes)
+both_held game_bytes certificate_bytes =
+    both (game_held game_bytes) (evidence_held certificate_bytes)
 
 -- ---- what the code has read
 

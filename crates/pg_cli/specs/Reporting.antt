@@ -42,14 +42,17 @@ pub record TellsFault (g : Game) (e : Evidence) (text : Bytes) (status : ℕ) : 
 abbrev pub Accounts : Game → Evidence → Bytes → ℕ → Type 0
 Accounts g e text status = TellsClaims g e text status ⊎ TellsFault g e text status
 
--- what stands against a report of what was read: a fault of a file alone, for that the certificate is rejected is what a report tells
+-- what stands against a report of what was read: a fault of a file alone, for that the certificate
+-- is rejected is what a report tells
 abbrev pub RefusesReport : Result (GameEntry × Evidence) Halt → Refusal → Type 0
 RefusesReport read refusal = read ≡ Err (Refused refusal)
 
 -- what there is to say of what was read is said at once; where that fails, nothing is said
 abbrev pub Reports : Result (GameEntry × Evidence) Halt → List Entry → End → Type 0
 Reports (Err halt) entries end = ⊥
-Reports (Ok pair) entries (Finished status) = (g : Game) × IsSaidBy pair.0 g × (text : Bytes) × Accounts g pair.1 text status × (entries ≡ Said text ∷ [])
+Reports (Ok pair) entries (Finished status) = (g : Game) × IsSaidBy pair.0 g
+    × (text : Bytes) × Accounts g pair.1 text status
+    × (entries ≡ Said text ∷ [])
 Reports (Ok pair) entries Failed = ⊥
 Reports (Ok pair) entries Starved = ⊥
 

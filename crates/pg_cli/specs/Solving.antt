@@ -38,7 +38,8 @@ use Rattle.pg_talk.specs.Storing.{Delivers}
 use Rattle.pg_cli.specs.declared.solving.TheConstants.{DEFAULT_POSITIONS}
 use Rattle.pg_talk.specs.declared.halt.Halt.{Halt}
 
--- how many positions may be expanded: as many as are asked for, where they may be, and as usual where none are said
+-- how many positions may be expanded: as many as are asked for, where they may be, and as usual
+-- where none are said
 abbrev pub positions_for : Option ℕ → Option ℕ
 positions_for None = Some DEFAULT_POSITIONS
 positions_for (Some n) = if nat_le MIN_POSITIONS n && nat_le n MAX_POSITIONS then Some n else None
@@ -55,7 +56,8 @@ solution_text g (Value score certificate) = result_text g.kind score
 solution_text g (ForClass class certificate) = class_text class
 solution_text g Unknown = []
 
--- the certificate shows what was found: the value of a game on lines from its position, or the class of a switching game
+-- the certificate shows what was found: the value of a game on lines from its position, or the
+-- class of a switching game
 pub record Shows (g : Game) (solution : Solution) (c : Cert) : Type 0 where
   pub own : certificate_of solution ≡ Some c
   pub kind : is_class solution ≡ is_switching g.kind
@@ -66,18 +68,23 @@ pub record Shows (g : Game) (solution : Solution) (c : Cert) : Type 0 where
   -- the claims are those that are due, by turn, side and goal
   pub claims : map heading c.claims ≡ due g.turn solution
 
--- the certificate folded, which has no fault, and stands for valid certificates alone, with the same claims
+-- the certificate folded, which has no fault, and stands for valid certificates alone, with the
+-- same claims
 pub record IsFoldedFrom (g : Game) (c : Cert) (folded : ImageCert) : Type 0 where
   pub well : FoldsWell g c folded
   pub faultless : IsFaultless g folded
   pub limits : IsImageWithinLimits folded
   pub valid : (u : Unfolded) → IsUnfoldedCert g folded u → IsValid g u.cert
-  pub claims : (u : Unfolded) → IsUnfoldedCert g folded u → map heading u.cert.claims ≡ map heading c.claims
+  pub claims : (u : Unfolded)
+      → IsUnfoldedCert g folded u
+      → map heading u.cert.claims ≡ map heading c.claims
 
--- THE FILE of a certificate: as it is printed; or where images are asked for, as the folded one is printed, unless the game isn't symmetric or the folded one lacks room
+-- THE FILE of a certificate: as it is printed; or where images are asked for, as the folded one is
+-- printed, unless the game isn't symmetric or the folded one lacks room
 abbrev pub IsFileOf : Bool → Game → Cert → Bytes → Type 0
 IsFileOf false g c text = text ≡ printed_certificate c
-IsFileOf true g c text = ((folded : ImageCert) × IsFoldedFrom g c folded × (text ≡ printed_image_certificate folded))
+IsFileOf true g c text =
+    ((folded : ImageCert) × IsFoldedFrom g c folded × (text ≡ printed_image_certificate folded))
     ⊎ (IsFoldedWell g c None × (text ≡ printed_certificate c))
 
 -- what is said of what was found and of the certificate that shows it
@@ -88,46 +95,65 @@ Told = Solution → Cert → List Bytes
 abbrev pub result_alone : Game → Told
 result_alone g solution c = solution_text g solution ∷ []
 
--- the result is said, and then how many positions were expanded and how many nodes the certificate has
+-- the result is said, and then how many positions were expanded and how many nodes the certificate
+-- has
 abbrev pub result_and_counts : Game → Expanded → Told
-result_and_counts g work solution c = solution_text g solution ∷ expanded_text (length work.positions) (node_count c.claims) ∷ []
+result_and_counts g work solution c =
+    solution_text g solution ∷ expanded_text (length work.positions) (node_count c.claims) ∷ []
 
--- the work holds the question that was asked last of a game on lines, and by the rules the positions expanded for it, by which the certificate shows what was found; a class is shown by sets of edges
-pub record IsLeftBehind (g : Game) (positions : ℕ) (work : Expanded) (solution : Solution) : Type 0 where
+-- the work holds the question that was asked last of a game on lines, and by the rules the
+-- positions expanded for it, by which the certificate shows what was found; a class is shown by
+-- sets of edges
+pub record IsLeftBehind (g : Game) (positions : ℕ) (work : Expanded)
+    (solution : Solution) : Type 0 where
   pub last : IsAskedLast g.kind work.question solution
   pub left : g.kind ≢ Switching → IsLeft g (budget g positions) work
   pub shown : IsShown g (budget g positions) work.positions solution
 
--- the question that was asked last of a game on lines is open after as many positions as the budget allows, and that is said
-pub record StaysOpen (g : Game) (positions : ℕ) (work : Expanded) (done : Done) (status : ℕ) : Type 0 where
+-- the question that was asked last of a game on lines is open after as many positions as the budget
+-- allows, and that is said
+pub record StaysOpen (g : Game) (positions : ℕ) (work : Expanded) (done : Done)
+    (status : ℕ) : Type 0 where
   pub on_lines : is_switching g.kind ≡ false
   pub left_open : IsLeftOpen g (budget g positions) work
   pub said : done.entries ≡ Said (unknown_text (budget g positions)) ∷ []
   pub stored : done.stored ≡ []
   pub status_is : status ≡ UNKNOWN
 
--- a certificate that shows what was found is stored under the name as its file, and then what was found is said
+-- a certificate that shows what was found is stored under the name as its file, and then what was
+-- found is said
 abbrev pub DeliversSolution : Bool → Told → Game → Bytes → ℕ → Expanded → Done → End → Type 0
-DeliversSolution images told g name positions work done end = (solution : Solution) × (c : Cert) × Shows g solution c × IsLeftBehind g positions work solution
-    × (text : Bytes) × IsFileOf images g c text × Delivers (name, text) (told solution c) done end
+DeliversSolution images told g name positions work done end =
+    (solution : Solution) × (c : Cert) × Shows g solution c
+    × IsLeftBehind g positions work solution
+    × (text : Bytes) × IsFileOf images g c text
+    × Delivers (name, text) (told solution c) done end
 
 -- what solving a game does, with images or without
 abbrev pub SolvesGame : Bool → Told → Game → Bytes → ℕ → Expanded → Done → End → Type 0
-SolvesGame images told g name positions work done (Finished status) = StaysOpen g positions work done status ⊎ DeliversSolution images told g name positions work done (Finished status)
-SolvesGame images told g name positions work done Failed = DeliversSolution images told g name positions work done Failed
+SolvesGame images told g name positions work done (Finished status) =
+    StaysOpen g positions work done status
+    ⊎ DeliversSolution images told g name positions work done (Finished status)
+SolvesGame images told g name positions work done Failed =
+    DeliversSolution images told g name positions work done Failed
 SolvesGame images told g name positions work done Starved = ⊥
 
 -- the same of what was read
 abbrev pub Solves : Bool → Result GameEntry Halt → Bytes → ℕ → Expanded → Done → End → Type 0
 Solves images (Err halt) name positions work done end = ⊥
-Solves images (Ok e) name positions work done end = (g : Game) × IsSaidBy e g × SolvesGame images (result_alone g) g name positions work done end
+Solves images (Ok e) name positions work done end =
+    (g : Game) × IsSaidBy e g × SolvesGame images (result_alone g) g name positions work done end
 
 -- ---- the code that solves
 
--- the message of what was found, and the certificate that shows it; none where the question stays open
+-- the message of what was found, and the certificate that shows it; none where the question stays
+-- open
 abbrev pub IsFound : Game → ℕ → Expanded → Option (Message × Cert) → Type 0
-IsFound g positions work None = (is_switching g.kind ≡ false) × IsLeftOpen g (budget g positions) work
-IsFound g positions work (Some found) = (solution : Solution) × Shows g solution found.1 × IsLeftBehind g positions work solution × (message_text found.0 ≡ solution_text g solution)
+IsFound g positions work None =
+    (is_switching g.kind ≡ false) × IsLeftOpen g (budget g positions) work
+IsFound g positions work (Some found) = (solution : Solution) × Shows g solution found.1
+    × IsLeftBehind g positions work solution
+    × (message_text found.0 ≡ solution_text g solution)
 
 -- how solving a game ends: only a game on lines may stay open
 abbrev pub IsSolveEnd : Kind → ℕ → Type 0

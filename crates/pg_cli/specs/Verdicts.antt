@@ -10,9 +10,13 @@ use Rattle.pg_cli.specs.Reading.{both_held, read_of}
 use Rattle.pg_talk.specs.declared.halt.Halt.{Halt}
 use Rattle.pg_talk.specs.declared.halt.Halt.TheVariants.{Refused, Stopped}
 
--- a game was read, and a certificate for it read and judged; or what stands against the first of them
-abbrev pub IsBothJudgedAs : Result (GameEntry × Evidence) Halt → Result (Game × Verdict) Halt → Type 0
-IsBothJudgedAs read (Ok judged) = (e : Evidence) × (read ≡ read_of judged.0 e) × IsFound judged.0 e judged.1
+-- a game was read, and a certificate for it read and judged; or what stands against the first of
+-- them
+abbrev pub IsBothJudgedAs : Result (GameEntry × Evidence) Halt
+    → Result (Game × Verdict) Halt
+    → Type 0
+IsBothJudgedAs read (Ok judged) =
+    (e : Evidence) × (read ≡ read_of judged.0 e) × IsFound judged.0 e judged.1
 IsBothJudgedAs read (Err (Refused refusal)) = read ≡ Err (Refused refusal)
 IsBothJudgedAs read (Err (Stopped stop)) = ⊤
 

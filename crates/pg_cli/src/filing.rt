@@ -13,8 +13,9 @@ use pg_game::Game;
 use pg_image::print_image;
 use std::alloc::Global;
 
-/// The text of a certificate; where images are asked for, that of the folded one, unless no turn or reflection of the
-/// board but the one of number 0 fits the game, or a claim of the folded one, or all together, have too many nodes unfolded.
+/// The text of a certificate; where images are asked for, that of the folded one, unless no turn or
+/// reflection of the board but the one of number 0 fits the game, or a claim of the folded one, or
+/// all together, have too many nodes unfolded.
 pub fn print_solution(
     alloc: Global,
     game: &Game,

@@ -32,8 +32,8 @@ use pg_texts::{Message, Refusal, UNKNOWN};
 use pg_words::Source;
 use std::alloc::Global;
 
-/// The game that is made of the numbers; none where a number is outside its range. The words ask for no such
-/// number.
+/// The game that is made of the numbers; none where a number is outside its range. The words ask
+/// for no such number.
 fn made(alloc: Global, which: Source) -> Result<Option<Game>, Memory>
     ensures { IfOk result (IsMadeOf which) }
 {
@@ -105,8 +105,8 @@ fn deliver_game<F: Files, C: Console>(
     deliver(name, &text, size_message(game), None, files, console)
 }
 
-/// Solves a game that was made, and says behind the result how many positions were expanded and how many nodes
-/// the certificate has.
+/// Solves a game that was made, and says behind the result how many positions were expanded and how
+/// many nodes the certificate has.
 fn solve_made<F: Files, C: Console>(
     alloc: Global,
     game: &Game,
@@ -116,14 +116,16 @@ fn solve_made<F: Files, C: Console>(
     work: &mut Work,
 ) -> Result<u8, Halt>
     requires { work.old.positions ≡ [] }
-    ensures solved { Does (SolvesGame false (result_and_counts game.now work.new) game.now certificate.now
-        DEFAULT_POSITIONS work.new)
+    ensures solved { Does
+        (SolvesGame false
+        (result_and_counts game.now work.new) game.now certificate.now DEFAULT_POSITIONS work.new)
         (F.told files.old) (F.told files.new) (C.told console.old) (C.told console.new) result }
     ensures files { StoresAt (certificate.now ∷ []) (F.told files.old) (F.told files.new) }
     ensures causes { BothCauses ⊥ (F.told files.old) (F.told files.new)
         (C.told console.old) (C.told console.new) result }
     ensures quiet { MuteAtMemory (C.told console.old) (C.told console.new) result }
-    ensures work { game.now.kind ≢ Switching → IsLeft game.now (budget game.now DEFAULT_POSITIONS) work.new }
+    ensures work { game.now.kind ≢ Switching
+        → IsLeft game.now (budget game.now DEFAULT_POSITIONS) work.new }
     ensures untouched { game.now.kind ≡ Switching → work.new ≡ work.old }
     ensures done { IfOk result (IsSolveEnd game.now.kind) }
     ensures halts { IfErr result IsWriteHalt }
@@ -154,8 +156,8 @@ fn solve_made<F: Files, C: Console>(
     }
 }
 
-/// Makes a game and stores it under a name; and where a certificate is wanted, solves the game and stores the
-/// certificate under its name.
+/// Makes a game and stores it under a name; and where a certificate is wanted, solves the game and
+/// stores the certificate under its name.
 pub fn generate<F: Files, C: Console>(
     alloc: Global,
     which: Source,

@@ -12,8 +12,8 @@ use pg_opening::open_game;
 use pg_talk::Halt;
 use std::alloc::Global;
 
-/// The game under one name, and what judging the certificate under another for it finds. The certificate is
-/// opened only where the game is taken.
+/// The game under one name, and what judging the certificate under another for it finds. The
+/// certificate is opened only where the game is taken.
 pub(crate) fn judge_both<F: Files>(
     alloc: Global,
     files: &mut F,

@@ -12,7 +12,8 @@ use pg_opening::open_game;
 use pg_talk::Halt;
 use std::alloc::Global;
 
-/// The game and the certificate under these names. The certificate is opened only where the game is taken.
+/// The game and the certificate under these names. The certificate is opened only where the game is
+/// taken.
 pub fn open_both<F: Files>(
     alloc: Global,
     files: &mut F,

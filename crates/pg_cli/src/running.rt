@@ -33,11 +33,13 @@ fn carry_out<F: Files, C: Console>(
     requires { work.old.positions ≡ [] }
     ensures ran { Carries (asked (map string_bytes words.now)) work.new
         (F.told files.old) (F.told files.new) (C.told console.old) (C.told console.new) result }
-    ensures causes { BothCauses (IsLacking (F.told files.old).held (asked (map string_bytes words.now)))
-        (F.told files.old) (F.told files.new) (C.told console.old) (C.told console.new) result }
+    ensures causes { BothCauses
+        (IsLacking (F.told files.old).held (asked (map string_bytes words.now))) (F.told files.old)
+        (F.told files.new) (C.told console.old) (C.told console.new) result }
     ensures quiet { Quiets (asked (map string_bytes words.now))
         (C.told console.old) (C.told console.new) result }
-    ensures files { LeavesFiles (asked (map string_bytes words.now)) (F.told files.old) (F.told files.new) }
+    ensures files { LeavesFiles (asked (map string_bytes words.now)) (F.told files.old)
+        (F.told files.new) }
     ensures work { LeavesWork (F.told files.old).held (asked (map string_bytes words.now))
         work.old work.new }
     ensures prompt { SpeaksInTime (F.told files.old).held (asked (map string_bytes words.now))
@@ -124,16 +126,17 @@ fn end_early<C: Console>(console: &mut C, halt: Halt) -> u8
 /// | 9 | the hundredth reply, or the hundredth line of a session, was refused |
 /// | 10 | the record file has a fault |
 ///
-/// A game that is made is stored before its size is said, and solved only then. Where the files tell what they
-/// hold, `ran` says what is said and stored at each status, by the command; in play, that the log is a dialogue
-/// of the side to its end, and that at 0 the outcome reaches the goal of the claim; in a session, that the log is one by its rules. `forced` says that at any
-/// status every claim that is accepted or played is forced by its side in the game that the file says, of a family
-/// where the command is a family's. `silent` says what is said at 5 and 7, `words` what is said of words without a
-/// meaning, `files` and `work` what is left, `prompt` that a review says each loss before it searches
-/// on, `statuses` which statuses the command may give, and `causes` when a status comes from a failed
-/// call. Of files and consoles that tell nothing, as the system's, four clauses alone say something:
-/// `work` what it holds, though not of which game, `statuses`, `causes`, and `files` that no file is
-/// being made afterwards where none was before.
+/// A game that is made is stored before its size is said, and solved only then. Where the files
+/// tell what they hold, `ran` says what is said and stored at each status, by the command; in play,
+/// that the log is a dialogue of the side to its end, and that at 0 the outcome reaches the goal of
+/// the claim; in a session, that the log is one by its rules. `forced` says that at any status
+/// every claim that is accepted or played is forced by its side in the game that the file says, of
+/// a family where the command is a family's. `silent` says what is said at 5 and 7, `words` what is
+/// said of words without a meaning, `files` and `work` what is left, `prompt` that a review says
+/// each loss before it searches on, `statuses` which statuses the command may give, and `causes`
+/// when a status comes from a failed call. Of files and consoles that tell nothing, as the
+/// system's, four clauses alone say something: `work` what it holds, though not of which game,
+/// `statuses`, `causes`, and `files` that no file is being made afterwards where none was before.
 pub fn run<F: Files, C: Console>(
     alloc: Global,
     words: &[String],
@@ -148,7 +151,8 @@ pub fn run<F: Files, C: Console>(
         (C.told console.old).log (C.told console.new).log }
     ensures silent { Silences (asked (map string_bytes words.now))
         (C.told console.old) (C.told console.new) result }
-    ensures files { LeavesFiles (asked (map string_bytes words.now)) (F.told files.old) (F.told files.new) }
+    ensures files { LeavesFiles (asked (map string_bytes words.now)) (F.told files.old)
+        (F.told files.new) }
     ensures work { LeavesWork (F.told files.old).held (asked (map string_bytes words.now))
         work.old work.new }
     ensures prompt { SpeaksInTime (F.told files.old).held (asked (map string_bytes words.now))
@@ -156,8 +160,9 @@ pub fn run<F: Files, C: Console>(
     ensures statuses { Contains (statuses_of (asked (map string_bytes words.now))) result }
     ensures words { asked (map string_bytes words.now) ≡ None
         → SaysNoMeaning (C.told console.old) (C.told console.new) result }
-    ensures causes { HasCause (IsLacking (F.told files.old).held (asked (map string_bytes words.now)))
-        (F.told files.old) (F.told files.new) (C.told console.old) (C.told console.new) result }
+    ensures causes { HasCause
+        (IsLacking (F.told files.old).held (asked (map string_bytes words.now))) (F.told files.old)
+        (F.told files.new) (C.told console.old) (C.told console.new) result }
 {
     announced_claims_are_forced();
     match carry_out(alloc, words, files, console, work) {

@@ -37,12 +37,13 @@ pub const DEFAULT_POSITIONS: u32 = 20_000;
 pub struct Options {
     /// How many positions may be expanded.
     pub positions: u32,
-    /// Whether the certificate is to be folded: a node that is turned or reflected is said as the image of another.
+    /// Whether the certificate is to be folded: a node that is turned or reflected is said as the
+    /// image of another.
     pub images: bool,
 }
 
-/// How many positions may be expanded, where so many are asked for or none are said. The words ask for no
-/// number that isn't allowed.
+/// How many positions may be expanded, where so many are asked for or none are said. The words ask
+/// for no number that isn't allowed.
 pub fn positions_for(positions: Option<u32>) -> Option<u32>
     ensures exact { result ≡ positions_for positions }
     ensures within { IfSome result (λ n. (MIN_POSITIONS ≤ n) × (n ≤ MAX_POSITIONS)) }
@@ -65,8 +66,8 @@ fn class_message(class: Class) -> Message
     }
 }
 
-/// Stores a certificate that shows what was found, and says what was found, and a further message where it is
-/// given.
+/// Stores a certificate that shows what was found, and says what was found, and a further message
+/// where it is given.
 pub fn deliver_solution<F: Files, C: Console>(
     alloc: Global,
     name: &str,
@@ -91,8 +92,8 @@ pub fn deliver_solution<F: Files, C: Console>(
     deliver(name, &text, message, further, files, console)
 }
 
-/// What is found of a game: the message that says it, and the certificate that shows it; none where the
-/// question that was asked last stays open.
+/// What is found of a game: the message that says it, and the certificate that shows it; none where
+/// the question that was asked last stays open.
 pub fn find(
     alloc: Global,
     game: &Game,
@@ -103,7 +104,8 @@ pub fn find(
     requires most { positions ≤ MAX_POSITIONS }
     ensures found { IfOk result (IsFound game.now positions work.new) }
     ensures few { work.old.positions ≡ [] → length work.new.positions ≤ MAX_POSITIONS }
-    ensures work { game.now.kind ≢ Switching → IsLeft game.now (budget game.now positions) work.new }
+    ensures work { game.now.kind ≢ Switching
+        → IsLeft game.now (budget game.now positions) work.new }
     ensures untouched { game.now.kind ≡ Switching → work.new ≡ work.old }
 {
     match pg_solve::solve(alloc, game, positions, work)? {
@@ -128,14 +130,16 @@ fn solve_game<F: Files, C: Console>(
 ) -> Result<u8, Halt>
     requires some { MIN_POSITIONS ≤ options.positions }
     requires most { options.positions ≤ MAX_POSITIONS }
-    ensures solved { Does (SolvesGame options.images (result_alone game.now) game.now certificate.now
-        options.positions work.new)
+    ensures solved { Does
+        (SolvesGame options.images
+        (result_alone game.now) game.now certificate.now options.positions work.new)
         (F.told files.old) (F.told files.new) (C.told console.old) (C.told console.new) result }
     ensures files { StoresAt (certificate.now ∷ []) (F.told files.old) (F.told files.new) }
     ensures causes { BothCauses ⊥ (F.told files.old) (F.told files.new)
         (C.told console.old) (C.told console.new) result }
     ensures quiet { MuteAtMemory (C.told console.old) (C.told console.new) result }
-    ensures work { game.now.kind ≢ Switching → IsLeft game.now (budget game.now options.positions) work.new }
+    ensures work { game.now.kind ≢ Switching
+        → IsLeft game.now (budget game.now options.positions) work.new }
     ensures untouched { game.now.kind ≡ Switching → work.new ≡ work.old }
     ensures done { IfOk result (IsSolveEnd game.now.kind) }
     ensures halts { IfErr result IsWriteHalt }
@@ -167,18 +171,20 @@ pub fn solve<F: Files, C: Console>(
 ) -> Result<u8, Halt>
     requires some { MIN_POSITIONS ≤ options.positions }
     requires most { options.positions ≤ MAX_POSITIONS }
-    ensures ran { Carries (Some (Solve game.now certificate.now (Some options.positions) options.images))
-        work.new (F.told files.old) (F.told files.new) (C.told console.old) (C.told console.new) result }
+    ensures ran { Carries
+        (Some (Solve game.now certificate.now (Some options.positions) options.images)) work.new
+        (F.told files.old) (F.told files.new) (C.told console.old) (C.told console.new) result }
     ensures causes { BothCauses (IsGameLacking (F.told files.old).held game.now)
         (F.told files.old) (F.told files.new) (C.told console.old) (C.told console.new) result }
-    ensures quiet { Quiets (Some (Solve game.now certificate.now (Some options.positions) options.images))
+    ensures quiet { Quiets
+        (Some (Solve game.now certificate.now (Some options.positions) options.images))
         (C.told console.old) (C.told console.new) result }
     ensures files { StoresAt (certificate.now ∷ []) (F.told files.old) (F.told files.new) }
     ensures work { LeavesWork (F.told files.old).held
         (Some (Solve game.now certificate.now (Some options.positions) options.images))
         work.old work.new }
-    ensures gives { Gives (Some (Solve game.now certificate.now (Some options.positions) options.images))
-        result }
+    ensures gives { Gives
+        (Some (Solve game.now certificate.now (Some options.positions) options.images)) result }
 {
     let game = open_game(alloc, files, game)?;
     solve_game(alloc, &game, certificate, options, files, console, work)

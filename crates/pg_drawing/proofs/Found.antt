@@ -23,23 +23,41 @@ use Rattle.pg_drawing.specs.declared.picturing.Telling.{Telling}
 -- ---- a game
 
 module _ (b : Board) (text : Bytes) where
-  pub positional_drawn : (g : Game) → b ≡ boards.Positional g → DrawsGame g text → IsDueOfGame (Ok (board_entry b)) text DONE
-  positional_drawn g is draws = subst (λ (b : Board). IsDueOfGame (Ok (board_entry b)) text DONE) (sym is) (g, refl, draws, refl)
+  pub positional_drawn : (g : Game)
+      → b ≡ boards.Positional g
+      → DrawsGame g text
+      → IsDueOfGame (Ok (board_entry b)) text DONE
+  positional_drawn g is draws = subst (λ (b : Board). IsDueOfGame (Ok (board_entry b)) text DONE)
+      (sym is) (g, refl, draws, refl)
 
-  pub connectivity_drawn : (g : SpanGame) → b ≡ boards.Connectivity g → DrawsSpanGame g text → IsDueOfGame (Ok (board_entry b)) text DONE
-  connectivity_drawn g is draws = subst (λ (b : Board). IsDueOfGame (Ok (board_entry b)) text DONE) (sym is) (g, refl, draws, refl)
+  pub connectivity_drawn : (g : SpanGame)
+      → b ≡ boards.Connectivity g
+      → DrawsSpanGame g text
+      → IsDueOfGame (Ok (board_entry b)) text DONE
+  connectivity_drawn g is draws = subst (λ (b : Board). IsDueOfGame (Ok (board_entry b)) text DONE)
+      (sym is) (g, refl, draws, refl)
 
 -- ---- a certificate
 
 module _ (certificate : Bytes) (name : Option NodeName) where
-  pub node_drawn : (h : Option Holding) (g : Game) (c : Cert) (told : Telling) → OpensCertificate h certificate (Ok c) → IsCertDue g c (chosen c name) (string_bytes told.words) told.status
-      → Finds h (λ held. IsDueOfBoth name (with_certificate (Ok (Positional (entry g))) (held certificate))) (Ok told)
+  pub node_drawn : (h : Option Holding) (g : Game) (c : Cert) (told : Telling)
+      → OpensCertificate h certificate (Ok c)
+      → IsCertDue g c (chosen c name) (string_bytes told.words) told.status
+      → Finds h
+      (λ held. IsDueOfBoth name (with_certificate (Ok (Positional (entry g))) (held certificate)))
+      (Ok told)
   node_drawn None g c told opens due = tt
-  node_drawn (Some held) g c told opens due =
-      subst (λ (r : Result Cert Halt). IsDueOfBoth name (positional_pair (entry g) r) (string_bytes told.words) told.status) (sym opens) (g, refl, due)
+  node_drawn (Some held) g c told opens due = subst
+      (λ (r : Result Cert Halt). IsDueOfBoth name (positional_pair (entry g) r)
+      (string_bytes told.words) told.status) (sym opens) (g, refl, due)
 
-  pub claim_drawn : (h : Option Holding) (g : SpanGame) (c : SpanCert) (told : Telling) → OpensSpanCert h certificate (Ok c) → IsSpanCertDue g c (chosen_claim name) (string_bytes told.words) told.status
-      → Finds h (λ held. IsDueOfBoth name (with_certificate (Ok (Connectivity (span_entry g))) (held certificate))) (Ok told)
+  pub claim_drawn : (h : Option Holding) (g : SpanGame) (c : SpanCert) (told : Telling)
+      → OpensSpanCert h certificate (Ok c)
+      → IsSpanCertDue g c (chosen_claim name) (string_bytes told.words) told.status
+      → Finds h
+      (λ held. IsDueOfBoth name
+      (with_certificate (Ok (Connectivity (span_entry g))) (held certificate))) (Ok told)
   claim_drawn None g c told opens due = tt
-  claim_drawn (Some held) g c told opens due =
-      subst (λ (r : Result SpanCert Halt). IsDueOfBoth name (connectivity_pair (span_entry g) r) (string_bytes told.words) told.status) (sym opens) (g, refl, due)
+  claim_drawn (Some held) g c told opens due = subst
+      (λ (r : Result SpanCert Halt). IsDueOfBoth name (connectivity_pair (span_entry g) r)
+      (string_bytes told.words) told.status) (sym opens) (g, refl, due)

@@ -18,15 +18,25 @@ unfolding game
 game_long text long = rw long refl
 
 -- one byte more than the limit tells as much as the whole file
-board_cut : (all : Bytes) → board_held (Some (take (MAX_GAME_BYTES + 1) all)) ≡ board_held (Some all)
-board_cut all = cut_same MAX_GAME_BYTES (λ (text : Bytes). board_held (Some text)) (Err (game_fault 1 0)) (λ text long. rw (game_long text long) refl) all
+board_cut : (all : Bytes)
+    → board_held (Some (take (MAX_GAME_BYTES + 1) all)) ≡ board_held (Some all)
+board_cut all = cut_same MAX_GAME_BYTES (λ (text : Bytes). board_held (Some text))
+    (Err (game_fault 1 0)) (λ text long. rw (game_long text long) refl) all
 
 by_name : (o : Option Bytes) → held_as (λ text. board_held (Some text)) o ≡ board_held o
 by_name None = refl
 by_name (Some text) = refl
 
-pub opens_board : (h : Option Holding) (name text : Bytes) (r : Result Board Halt) → IsFile h name MAX_GAME_BYTES text → IsReadAs board_entry (board_held (Some text)) r → Opens board_entry board_held h name r
-opens_board h name text r whole is = go h (opens_whole MAX_GAME_BYTES (λ (text : Bytes). board_held (Some text)) board_cut board_entry h name text r whole is) where
-  go : (h : Option Holding) → Opens board_entry (held_as (λ text. board_held (Some text))) h name r → Opens board_entry board_held h name r
-  go None opens = tt
-  go (Some held) opens = subst (λ (read : Result BoardEntry Halt). IsReadAs board_entry read r) (by_name (held name)) opens
+pub opens_board : (h : Option Holding) (name text : Bytes) (r : Result Board Halt)
+    → IsFile h name MAX_GAME_BYTES text
+    → IsReadAs board_entry (board_held (Some text)) r
+    → Opens board_entry board_held h name r
+opens_board h name text r whole is = go h
+    (opens_whole MAX_GAME_BYTES
+    (λ (text : Bytes). board_held (Some text)) board_cut board_entry h name text r whole is) where
+      go : (h : Option Holding)
+          → Opens board_entry (held_as (λ text. board_held (Some text))) h name r
+          → Opens board_entry board_held h name r
+      go None opens = tt
+      go (Some held) opens = subst (λ (read : Result BoardEntry Halt). IsReadAs board_entry read r)
+          (by_name (held name)) opens

@@ -35,10 +35,12 @@ as_connectivity (Err halt) = Err halt
 abbrev pub is_other_kind : ℕ → Bool
 is_other_kind number = number == number_of Header
 
--- what the first reader says, unless that is that the file is of another kind: then what the reader of connectivity games says
+-- what the first reader says, unless that is that the file is of another kind: then what the reader
+-- of connectivity games says
 abbrev pub first_or : Result GameEntry Halt → Result SpanEntry Halt → Result BoardEntry Halt
 first_or (Ok e) span = Ok (Positional e)
-first_or (Err (Refused (FaultyGame number line))) span = if is_other_kind number then as_connectivity span else Err (game_fault number line)
+first_or (Err (Refused (FaultyGame number line))) span =
+    if is_other_kind number then as_connectivity span else Err (game_fault number line)
 first_or (Err halt) span = Err halt
 
 -- the game that a name holds, or what stands against it
@@ -61,7 +63,8 @@ abbrev pub connectivity_pair : SpanEntry → Result SpanCert Halt → Result Pai
 connectivity_pair e (Ok cert) = Ok (ConnectivityPair e cert)
 connectivity_pair e (Err halt) = Err halt
 
--- a game with the certificate that a name holds, read as one of its family, or what stands against the first of them
+-- a game with the certificate that a name holds, read as one of its family, or what stands against
+-- the first of them
 abbrev pub with_certificate : Result BoardEntry Halt → Option Bytes → Result PairEntry Halt
 with_certificate (Err halt) bytes = Err halt
 with_certificate (Ok (Positional e)) bytes = positional_pair e (certificate_held bytes)

@@ -44,7 +44,8 @@ pub record DrawsGame (g : Game) (text : Bytes) : Type 0 where
   pub text_is : text ≡ scene_text scene
 
 -- the text is that of the picture of a scene of a node, and of its fault where it has this one
-pub record DrawsNode (g : Game) (c : Cert) (claim node : ℕ) (fault : Option ℕ) (text : Bytes) : Type 0 where
+pub record DrawsNode (g : Game) (c : Cert) (claim node : ℕ) (fault : Option ℕ)
+    (text : Bytes) : Type 0 where
   pub scene : Scene
   pub shown : IsSceneOfNode g c claim node fault scene
   pub text_is : text ≡ scene_text scene
@@ -56,7 +57,8 @@ pub record DrawsSpanGame (g : SpanGame) (text : Bytes) : Type 0 where
   pub text_is : text ≡ scene_text scene
 
 -- the text is that of the picture of a scene of a claim, and of its fault where it has this one
-pub record DrawsSpanClaim (g : SpanGame) (c : SpanCert) (claim : ℕ) (fault : Option ℕ) (text : Bytes) : Type 0 where
+pub record DrawsSpanClaim (g : SpanGame) (c : SpanCert) (claim : ℕ) (fault : Option ℕ)
+    (text : Bytes) : Type 0 where
   pub scene : Scene
   pub shown : IsSceneOfSpanClaim g c claim fault scene
   pub text_is : text ≡ scene_text scene
@@ -69,8 +71,8 @@ SaysNoNode text status = (text ≡ NO_NODE.now) × (status ≡ NO_MEANING)
 
 -- a node of a valid certificate: its picture, or that the certificate has no such node
 abbrev pub IsNodeDue : Game → Cert → NodeName → Bytes → ℕ → Type 0
-IsNodeDue g c name text status =
-    (DrawsNode g c name.claim name.node None text × (status ≡ DONE)) ⊎ (LacksNode c name.claim name.node × SaysNoNode text status)
+IsNodeDue g c name text status = (DrawsNode g c name.claim name.node None text × (status ≡ DONE))
+    ⊎ (LacksNode c name.claim name.node × SaysNoNode text status)
 
 -- the picture of the first faulty node of a certificate that isn't valid
 pub record IsFaultDue (g : Game) (c : Cert) (text : Bytes) (status : ℕ) : Type 0 where
@@ -83,7 +85,8 @@ pub record IsFaultDue (g : Game) (c : Cert) (text : Bytes) (status : ℕ) : Type
 
 -- a node of a certificate, or the first faulty one where there is one
 abbrev pub IsCertDue : Game → Cert → NodeName → Bytes → ℕ → Type 0
-IsCertDue g c name text status = (IsValid g c × IsNodeDue g c name text status) ⊎ IsFaultDue g c text status
+IsCertDue g c name text status =
+    (IsValid g c × IsNodeDue g c name text status) ⊎ IsFaultDue g c text status
 
 -- ---- certificates of connectivity games
 
@@ -91,10 +94,12 @@ IsCertDue g c name text status = (IsValid g c × IsNodeDue g c name text status)
 abbrev pub LacksSpanNode : SpanCert → NodeName → Type 0
 LacksSpanNode c name = (name.node ≢ 0) ⊎ (slice_get c.claims name.claim ≡ None)
 
--- a claim of a valid certificate, by the name of its node: its picture, or that the certificate has no such node
+-- a claim of a valid certificate, by the name of its node: its picture, or that the certificate has
+-- no such node
 abbrev pub IsSpanNodeDue : SpanGame → SpanCert → NodeName → Bytes → ℕ → Type 0
 IsSpanNodeDue g c name text status =
-    ((name.node ≡ 0) × DrawsSpanClaim g c name.claim None text × (status ≡ DONE)) ⊎ (LacksSpanNode c name × SaysNoNode text status)
+    ((name.node ≡ 0) × DrawsSpanClaim g c name.claim None text × (status ≡ DONE))
+    ⊎ (LacksSpanNode c name × SaysNoNode text status)
 
 -- the picture of the first faulty claim of a certificate that isn't valid
 pub record IsFlawDue (g : SpanGame) (c : SpanCert) (text : Bytes) (status : ℕ) : Type 0 where
@@ -106,32 +111,39 @@ pub record IsFlawDue (g : SpanGame) (c : SpanCert) (text : Bytes) (status : ℕ)
 
 -- a claim of a certificate, or the first faulty one where there is one
 abbrev pub IsSpanCertDue : SpanGame → SpanCert → NodeName → Bytes → ℕ → Type 0
-IsSpanCertDue g c name text status = (IsSpanValid g c × IsSpanNodeDue g c name text status) ⊎ IsFlawDue g c text status
+IsSpanCertDue g c name text status =
+    (IsSpanValid g c × IsSpanNodeDue g c name text status) ⊎ IsFlawDue g c text status
 
 -- ---- what was read
 
 -- what stands against reading it is said
 abbrev pub IsHaltDue : Halt → Bytes → ℕ → Type 0
-IsHaltDue (Refused refusal) text status = (text ≡ refusal_text refusal) × (status ≡ refusal_status refusal)
+IsHaltDue (Refused refusal) text status =
+    (text ≡ refusal_text refusal) × (status ≡ refusal_status refusal)
 IsHaltDue (Stopped stop) text status = ⊥
 
 -- a game that was read
 abbrev pub IsDueOfGame : Result BoardEntry Halt → Bytes → ℕ → Type 0
 IsDueOfGame (Err halt) text status = IsHaltDue halt text status
-IsDueOfGame (Ok (Positional e)) text status = (g : Game) × IsSaidBy e g × DrawsGame g text × (status ≡ DONE)
-IsDueOfGame (Ok (Connectivity e)) text status = (g : SpanGame) × (span_entry g ≡ e) × DrawsSpanGame g text × (status ≡ DONE)
+IsDueOfGame (Ok (Positional e)) text status =
+    (g : Game) × IsSaidBy e g × DrawsGame g text × (status ≡ DONE)
+IsDueOfGame (Ok (Connectivity e)) text status =
+    (g : SpanGame) × (span_entry g ≡ e) × DrawsSpanGame g text × (status ≡ DONE)
 
 -- a game and a certificate that were read
 abbrev pub IsDueOfBoth : Option NodeName → Result PairEntry Halt → Bytes → ℕ → Type 0
 IsDueOfBoth name (Err halt) text status = IsHaltDue halt text status
-IsDueOfBoth name (Ok (PositionalPair e c)) text status = (g : Game) × IsSaidBy e g × IsCertDue g c (chosen c name) text status
-IsDueOfBoth name (Ok (ConnectivityPair e c)) text status = (g : SpanGame) × (span_entry g ≡ e) × IsSpanCertDue g c (chosen_claim name) text status
+IsDueOfBoth name (Ok (PositionalPair e c)) text status =
+    (g : Game) × IsSaidBy e g × IsCertDue g c (chosen c name) text status
+IsDueOfBoth name (Ok (ConnectivityPair e c)) text status =
+    (g : SpanGame) × (span_entry g ≡ e) × IsSpanCertDue g c (chosen_claim name) text status
 
 -- what is due to what was asked for, where the names hold these bytes
 abbrev pub IsDue : Option Order → Holding → Bytes → ℕ → Type 0
 IsDue None held text status = IsHaltDue (Refused NoMeaning) text status
 IsDue (Some (OfGame game)) held text status = IsDueOfGame (board_held (held game)) text status
-IsDue (Some (OfNode game certificate name)) held text status = IsDueOfBoth name (both_held (held game) (held certificate)) text status
+IsDue (Some (OfNode game certificate name)) held text status =
+    IsDueOfBoth name (both_held (held game) (held certificate)) text status
 
 -- ---- what the code finds
 

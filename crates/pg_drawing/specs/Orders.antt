@@ -13,9 +13,11 @@ use Rattle.pg_drawing.specs.declared.name.TheConstants.{DOT}
 abbrev pub node_of : ℕ → ℕ → NodeName
 node_of c k = record { claim = c; node = k }
 
--- the numbers of a claim and of a node with a dot between them, or that of a node of the first claim
+-- the numbers of a claim and of a node with a dot between them, or that of a node of the first
+-- claim
 abbrev pub named_by : Option (Bytes × Bytes) → Bytes → Option NodeName
-named_by (Some parts) word = option_and_then (λ c. option_map (node_of c) (number parts.1)) (number parts.0)
+named_by (Some parts) word =
+    option_and_then (λ c. option_map (node_of c) (number parts.1)) (number parts.0)
 named_by None word = option_map (node_of 0) (number word)
 
 -- the node that a word names
@@ -48,5 +50,6 @@ pub data Order : Type 0 where
 abbrev pub order_of : List Bytes → Option Order
 order_of (game ∷ []) = Some (OfGame game)
 order_of (game ∷ certificate ∷ []) = Some (OfNode game certificate None)
-order_of (game ∷ certificate ∷ word ∷ []) = option_map (λ name. OfNode game certificate (Some name)) (node_named word)
+order_of (game ∷ certificate ∷ word ∷ []) =
+    option_map (λ name. OfNode game certificate (Some name)) (node_named word)
 order_of _ = None

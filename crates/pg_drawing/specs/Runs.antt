@@ -26,12 +26,14 @@ IsStopped status = (status ≡ READ_FAILED) ⊎ ((status ≡ WRITE_FAILED) ⊎ (
 abbrev pub statuses_of : Option Order → List ℕ
 statuses_of None = NO_MEANING ∷ WRITE_FAILED ∷ []
 statuses_of (Some (OfGame game)) = DONE ∷ FAULTY_GAME ∷ READ_FAILED ∷ WRITE_FAILED ∷ NO_MEMORY ∷ []
-statuses_of (Some (OfNode game certificate name)) = DONE ∷ NO_MEANING ∷ FAULTY_GAME ∷ REFUSED ∷ READ_FAILED ∷ WRITE_FAILED ∷ NO_MEMORY ∷ []
+statuses_of (Some (OfNode game certificate name)) =
+    DONE ∷ NO_MEANING ∷ FAULTY_GAME ∷ REFUSED ∷ READ_FAILED ∷ WRITE_FAILED ∷ NO_MEMORY ∷ []
 
 -- ---- what was said
 
 -- what is due was said at once, and nothing else
-pub record SaysDue (order : Option Order) (held : Holding) (before after : ConsoleTold) (status : ℕ) : Type 0 where
+pub record SaysDue (order : Option Order) (held : Holding) (before after : ConsoleTold)
+    (status : ℕ) : Type 0 where
   pub text : Bytes
   pub due : IsDue order held text status
   pub said : Grows before.log after.log (Said text ∷ [])
@@ -43,7 +45,8 @@ pub record SaysNothing (before after : ConsoleTold) (status : ℕ) : Type 0 wher
 
 -- a run, where it is told what the names hold
 abbrev pub Ran : Option Order → Option Holding → ConsoleTold → ConsoleTold → ℕ → Type 0
-Ran order told before after status = IfSome told (λ held. SaysDue order held before after status ⊎ SaysNothing before after status)
+Ran order told before after status =
+    IfSome told (λ held. SaysDue order held before after status ⊎ SaysNothing before after status)
 
 -- ---- causes
 
@@ -71,5 +74,11 @@ Gives (Some (OfNode game certificate name)) (Err halt) = IsReadHalt halt
 -- the text was said, with the status; or that fails, and nothing was said
 abbrev pub EndsWith : Bytes → ℕ → ConsoleTold → ConsoleTold → ℕ → Type 0
 EndsWith text status before after result =
-    ((result ≡ status) × Grows before.log after.log (Said text ∷ []) × (after.left ≡ before.left) × (after.faults ≡ before.faults))
-    ⊎ ((result ≡ WRITE_FAILED) × (after.log ≡ before.log) × (after.left ≡ before.left) × Rose before.faults.writes after.faults.writes)
+    ((result ≡ status)
+    × Grows before.log after.log (Said text ∷ [])
+    × (after.left ≡ before.left)
+    × (after.faults ≡ before.faults))
+    ⊎ ((result ≡ WRITE_FAILED)
+    × (after.log ≡ before.log)
+    × (after.left ≡ before.left)
+    × Rose before.faults.writes after.faults.writes)

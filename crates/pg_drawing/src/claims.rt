@@ -22,7 +22,8 @@ pub(crate) fn span_game_text(alloc: Global, game: &SpanGame) -> Result<String, M
     Ok(text_of(alloc, &scene)?)
 }
 
-/// The text of the picture of a claim with its fault, and None exactly where the certificate has no such claim.
+/// The text of the picture of a claim with its fault, and None exactly where the certificate has no
+/// such claim.
 fn claim_text(
     alloc: Global,
     game: &SpanGame,
@@ -30,7 +31,8 @@ fn claim_text(
     claim: u32,
     fault: Option<u8>,
 ) -> Result<Option<String>, Memory>
-    ensures drawn { IfOk result (λ found. IfSome found (λ text. DrawsSpanClaim game.now cert.now claim fault (string_bytes text))) }
+    ensures drawn { IfOk result (λ found. IfSome found
+        (λ text. DrawsSpanClaim game.now cert.now claim fault (string_bytes text))) }
     ensures none { IfOk result (λ found. IfNone found (slice_get cert.now.claims claim ≡ None)) }
 {
     span_scenes_can_be_laid_out();
@@ -49,7 +51,8 @@ fn flawed(
     why: SpanFlaw,
 ) -> Result<Telling, Memory>
     requires { IsFirstFlaw game.now cert.now claim why }
-    ensures { IfOk result (λ told. IsFlawDue game.now cert.now (string_bytes told.words) told.status) }
+    ensures { IfOk result
+        (λ told. IsFlawDue game.now cert.now (string_bytes told.words) told.status) }
 {
     let Some(words) = claim_text(alloc, game, cert, claim, Some(why.number()))? else {
         unreachable!();
@@ -60,14 +63,16 @@ fn flawed(
     })
 }
 
-/// The picture of a claim of a valid certificate, by the name of its one node, or that there is no such node.
+/// The picture of a claim of a valid certificate, by the name of its one node, or that there is no
+/// such node.
 fn sound_claim(
     alloc: Global,
     game: &SpanGame,
     cert: &SpanCert,
     name: NodeName,
 ) -> Result<Telling, Memory>
-    ensures { IfOk result (λ told. IsSpanNodeDue game.now cert.now name (string_bytes told.words) told.status) }
+    ensures { IfOk result
+        (λ told. IsSpanNodeDue game.now cert.now name (string_bytes told.words) told.status) }
 {
     if name.node != 0 {
         return no_node(alloc);
@@ -81,7 +86,8 @@ fn sound_claim(
     }
 }
 
-/// The picture of a claim of a certificate, which is checked first: the first faulty claim where it isn't valid.
+/// The picture of a claim of a certificate, which is checked first: the first faulty claim where it
+/// isn't valid.
 pub(crate) fn tell_span_certificate(
     alloc: Global,
     game: &SpanGame,
@@ -89,7 +95,8 @@ pub(crate) fn tell_span_certificate(
     name: Option<NodeName>,
 ) -> Result<Telling, Memory>
     requires { IsWithinRanges cert.now }
-    ensures { IfOk result (λ told. IsSpanCertDue game.now cert.now (chosen_claim name) (string_bytes told.words) told.status) }
+    ensures { IfOk result (λ told. IsSpanCertDue game.now cert.now (chosen_claim name)
+        (string_bytes told.words) told.status) }
 {
     match span_check(alloc, game, cert) {
         Ok(_) => sound_claim(alloc, game, cert, chosen_claim(name)),

@@ -50,7 +50,8 @@ pub(crate) fn chosen(cert: &Cert, name: Option<NodeName>) -> NodeName
     }
 }
 
-/// The node that is named, or else that of the first claim, where each claim has one node, number 0.
+/// The node that is named, or else that of the first claim, where each claim has one node,
+/// number 0.
 pub(crate) fn chosen_claim(name: Option<NodeName>) -> NodeName
     ensures { result ≡ chosen_claim name }
 {

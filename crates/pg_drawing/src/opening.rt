@@ -33,7 +33,8 @@ fn read_connectivity(alloc: Global, text: &[u8]) -> Result<Board, FileError>
     }
 }
 
-/// The game that the text says. It is read as a connectivity game where it doesn't begin as one of the others.
+/// The game that the text says. It is read as a connectivity game where it doesn't begin as one of
+/// the others.
 fn read_board(alloc: Global, text: &[u8]) -> Result<Board, FileError>
     ensures { IsBoardRead result (board_held (Some text.now)) }
 {

@@ -57,7 +57,8 @@ pub(crate) fn game_text(alloc: Global, game: &Game) -> Result<String, Memory>
     Ok(text_of(alloc, &scene)?)
 }
 
-/// The text of the picture of a node with its fault, and None exactly where the certificate has no such node.
+/// The text of the picture of a node with its fault, and None exactly where the certificate has no
+/// such node.
 fn node_text(
     alloc: Global,
     game: &Game,
@@ -65,7 +66,8 @@ fn node_text(
     name: NodeName,
     fault: Option<u8>,
 ) -> Result<Option<String>, Memory>
-    ensures drawn { IfOk result (λ found. IfSome found (λ text. DrawsNode game.now cert.now name.claim name.node fault (string_bytes text))) }
+    ensures drawn { IfOk result (λ found. IfSome found
+        (λ text. DrawsNode game.now cert.now name.claim name.node fault (string_bytes text))) }
     ensures none { IfOk result (λ found. IfNone found (LacksNode cert.now name.claim name.node)) }
 {
     scenes_can_be_laid_out();
@@ -84,7 +86,8 @@ fn faulty(
     why: u8,
 ) -> Result<Telling, Memory>
     requires { IsFirstFault game.now cert.now name.claim name.node why }
-    ensures { IfOk result (λ told. IsFaultDue game.now cert.now (string_bytes told.words) told.status) }
+    ensures { IfOk result
+        (λ told. IsFaultDue game.now cert.now (string_bytes told.words) told.status) }
 {
     let Some(words) = node_text(alloc, game, cert, name, Some(why))? else {
         unreachable!();
@@ -97,7 +100,8 @@ fn faulty(
 
 /// The picture of a node of a valid certificate, or that there is no such node.
 fn sound(alloc: Global, game: &Game, cert: &Cert, name: NodeName) -> Result<Telling, Memory>
-    ensures { IfOk result (λ told. IsNodeDue game.now cert.now name (string_bytes told.words) told.status) }
+    ensures { IfOk result
+        (λ told. IsNodeDue game.now cert.now name (string_bytes told.words) told.status) }
 {
     match node_text(alloc, game, cert, name, None)? {
         Some(words) => Ok(Telling {
@@ -108,7 +112,8 @@ fn sound(alloc: Global, game: &Game, cert: &Cert, name: NodeName) -> Result<Tell
     }
 }
 
-/// The picture of a node of a certificate, which is checked first: the first faulty node where it isn't valid.
+/// The picture of a node of a certificate, which is checked first: the first faulty node where it
+/// isn't valid.
 pub(crate) fn tell_certificate(
     alloc: Global,
     game: &Game,
@@ -116,7 +121,8 @@ pub(crate) fn tell_certificate(
     name: Option<NodeName>,
 ) -> Result<Telling, Memory>
     requires { IsWithinLimits cert.now }
-    ensures { IfOk result (λ told. IsCertDue game.now cert.now (chosen cert.now name) (string_bytes told.words) told.status) }
+    ensures { IfOk result (λ told. IsCertDue game.now cert.now (chosen cert.now name)
+        (string_bytes told.words) told.status) }
 {
     match check(alloc, game, cert) {
         Ok(_) => sound(alloc, game, cert, chosen(cert, name)),

@@ -23,10 +23,12 @@ fn end_with<C: Console>(console: &mut C, text: &str, status: u8) -> u8
     }
 }
 
-/// Says the picture that the words ask for, and gives the status. `GAME` is the file of a game on lines, of a switching game or of a connectivity game, of which
-/// the board is drawn; `GAME CERTIFICATE` draws the root of the certificate's first claim, `GAME CERTIFICATE K` node K of that claim, and
-/// `GAME CERTIFICATE C.K` node K of claim C, all counted from 0. A claim of a connectivity game has one node, number 0. The certificate is checked first: where it
-/// isn't valid its first faulty node is drawn, with the fault.
+/// Says the picture that the words ask for, and gives the status. `GAME` is the file of a game on
+/// lines, of a switching game or of a connectivity game, of which the board is drawn;
+/// `GAME CERTIFICATE` draws the root of the certificate's first claim, `GAME CERTIFICATE K` node K
+/// of that claim, and `GAME CERTIFICATE C.K` node K of claim C, all counted from 0. A claim of a
+/// connectivity game has one node, number 0. The certificate is checked first: where it isn't valid
+/// its first faulty node is drawn, with the fault.
 ///
 /// | status | when |
 /// |---|---|
@@ -38,8 +40,10 @@ fn end_with<C: Console>(console: &mut C, text: &str, status: u8) -> u8
 /// | 6 | a call that writes has failed; nothing is said |
 /// | 7 | memory is wanting; nothing is said |
 ///
-/// Where the files tell what they hold, `ran` says which text is said, alone and at once, at each status. `silent` says that nothing is said at 5 to 7,
-/// `statuses` which statuses there are, `files` that files are only read, `input` that nothing is heard, and `causes` when a status comes from a failed call.
+/// Where the files tell what they hold, `ran` says which text is said, alone and at once, at each
+/// status. `silent` says that nothing is said at 5 to 7, `statuses` which statuses there are,
+/// `files` that files are only read, `input` that nothing is heard, and `causes` when a status
+/// comes from a failed call.
 pub fn draw<F: Files, C: Console>(
     alloc: Global,
     words: &[String],
@@ -52,7 +56,8 @@ pub fn draw<F: Files, C: Console>(
     ensures statuses { Contains (statuses_of (order_of (map string_bytes words.now))) result }
     ensures files { ReadsOnly (F.told files.old) (F.told files.new) }
     ensures input { (C.told console.new).left ≡ (C.told console.old).left }
-    ensures causes { HasCause (IsLacking (F.told files.old).held (order_of (map string_bytes words.now)))
+    ensures causes { HasCause
+        (IsLacking (F.told files.old).held (order_of (map string_bytes words.now)))
         (F.told files.old) (F.told files.new) (C.told console.old) (C.told console.new) result }
 {
     match tell(alloc, words, files) {

@@ -28,7 +28,8 @@ use std::alloc::Global;
 
 /// The text of the picture of a game.
 fn board_text(alloc: Global, board: &Board) -> Result<String, Memory>
-    ensures { IfOk result (λ text. IsDueOfGame (Ok (board_entry board.now)) (string_bytes text) DONE) }
+    ensures { IfOk result
+        (λ text. IsDueOfGame (Ok (board_entry board.now)) (string_bytes text) DONE) }
 {
     match board {
         Board::Positional(game) => game_text(alloc, game),
@@ -38,7 +39,8 @@ fn board_text(alloc: Global, board: &Board) -> Result<String, Memory>
 
 /// The picture of the game under a name.
 fn tell_game<F: Files>(alloc: Global, files: &mut F, game: &str) -> Result<Telling, Halt>
-    ensures found { Finds (F.told files.old).held (λ held. IsDueOfGame (board_held (held game.now))) result }
+    ensures found { Finds (F.told files.old).held
+        (λ held. IsDueOfGame (board_held (held game.now))) result }
     ensures done { IfOk result (λ told. told.status ≡ DONE) }
     ensures halts { IfErr result IsGameHalt }
     ensures causes { HaltCauses (IsLackingOne board_held (F.told files.old).held game.now)
@@ -61,7 +63,9 @@ fn tell_node_of<F: Files>(
     certificate: &str,
     name: Option<NodeName>,
 ) -> Result<Telling, Halt>
-    ensures found { Finds (F.told files.old).held (λ held. IsDueOfBoth name (with_certificate (Ok (Positional (entry game.now))) (held certificate.now))) result }
+    ensures found { Finds (F.told files.old).held
+        (λ held. IsDueOfBoth name
+        (with_certificate (Ok (Positional (entry game.now))) (held certificate.now))) result }
     ensures done { IfOk result (λ told. IsCertEnd told.status) }
     ensures halts { IfErr result IsReadHalt }
     ensures causes { HaltCauses (IsAbsent (F.told files.old).held certificate.now)
@@ -80,7 +84,10 @@ fn tell_claim_of<F: Files>(
     certificate: &str,
     name: Option<NodeName>,
 ) -> Result<Telling, Halt>
-    ensures found { Finds (F.told files.old).held (λ held. IsDueOfBoth name (with_certificate (Ok (Connectivity (span_entry game.now))) (held certificate.now))) result }
+    ensures found { Finds (F.told files.old).held
+        (λ held. IsDueOfBoth name
+        (with_certificate (Ok (Connectivity (span_entry game.now))) (held certificate.now)))
+        result }
     ensures done { IfOk result (λ told. IsCertEnd told.status) }
     ensures halts { IfErr result IsReadHalt }
     ensures causes { HaltCauses (IsAbsent (F.told files.old).held certificate.now)
@@ -91,7 +98,8 @@ fn tell_claim_of<F: Files>(
     Ok(tell_span_certificate(alloc, game, &cert, name)?)
 }
 
-/// The picture of a node of the certificate under a name for this game. The certificate is read as one of the game's family.
+/// The picture of a node of the certificate under a name for this game. The certificate is read as
+/// one of the game's family.
 fn tell_node_on<F: Files>(
     alloc: Global,
     files: &mut F,
@@ -99,7 +107,9 @@ fn tell_node_on<F: Files>(
     certificate: &str,
     name: Option<NodeName>,
 ) -> Result<Telling, Halt>
-    ensures found { Finds (F.told files.old).held (λ held. IsDueOfBoth name (with_certificate (Ok (board_entry board.now)) (held certificate.now))) result }
+    ensures found { Finds (F.told files.old).held
+        (λ held. IsDueOfBoth name
+        (with_certificate (Ok (board_entry board.now)) (held certificate.now))) result }
     ensures done { IfOk result (λ told. IsCertEnd told.status) }
     ensures halts { IfErr result IsReadHalt }
     ensures causes { HaltCauses (IsAbsent (F.told files.old).held certificate.now)
@@ -112,7 +122,8 @@ fn tell_node_on<F: Files>(
     }
 }
 
-/// The picture of a node of the certificate under one name for the game under another. The certificate is opened only where the game is taken.
+/// The picture of a node of the certificate under one name for the game under another. The
+/// certificate is opened only where the game is taken.
 fn tell_node<F: Files>(
     alloc: Global,
     files: &mut F,
@@ -120,10 +131,12 @@ fn tell_node<F: Files>(
     certificate: &str,
     name: Option<NodeName>,
 ) -> Result<Telling, Halt>
-    ensures found { Finds (F.told files.old).held (λ held. IsDueOfBoth name (both_held (held game.now) (held certificate.now))) result }
+    ensures found { Finds (F.told files.old).held
+        (λ held. IsDueOfBoth name (both_held (held game.now) (held certificate.now))) result }
     ensures done { IfOk result (λ told. IsCertEnd told.status) }
     ensures halts { IfErr result IsReadHalt }
-    ensures causes { HaltCauses (IsLackingTwo both_held (F.told files.old).held game.now certificate.now)
+    ensures causes { HaltCauses
+        (IsLackingTwo both_held (F.told files.old).held game.now certificate.now)
         (F.told files.old).faults (F.told files.new).faults result }
     ensures kept { ReadsOnly (F.told files.old) (F.told files.new) }
 {
@@ -137,9 +150,11 @@ pub(crate) fn tell<F: Files>(
     words: &[String],
     files: &mut F,
 ) -> Result<Telling, Halt>
-    ensures found { Finds (F.told files.old).held (IsDue (order_of (map string_bytes words.now))) result }
+    ensures found { Finds (F.told files.old).held
+        (IsDue (order_of (map string_bytes words.now))) result }
     ensures gives { Gives (order_of (map string_bytes words.now)) result }
-    ensures causes { HaltCauses (IsLacking (F.told files.old).held (order_of (map string_bytes words.now)))
+    ensures causes { HaltCauses
+        (IsLacking (F.told files.old).held (order_of (map string_bytes words.now)))
         (F.told files.old).faults (F.told files.new).faults result }
     ensures kept { ReadsOnly (F.told files.old) (F.told files.new) }
 {

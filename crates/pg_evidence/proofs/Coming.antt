@@ -15,19 +15,27 @@ pub come_none : (i : Incoming) → HasCome i i []
 come_none i = record { game = refl; taken = λ text h. subst (HasTaken i) (sym (append-nil text)) h }
 
 judged_none : (j : Judging) → HasComeTo j j []
-judged_none j = record { game = refl; stands = λ text h. subst (HasBeenFed j) (sym (append-nil text)) h }
+judged_none j =
+    record { game = refl; stands = λ text h. subst (HasBeenFed j) (sym (append-nil text)) h }
 
 -- a piece more came
-pub come_more : (before after : Incoming) (piece : Bytes) → ((first : Judging) (bytes : Bytes) → HasComeTo first before.judging bytes → HasComeTo first after.judging (bytes ++ piece))
-    → ((text : Bytes) → IsKept (option_map (λ bytes. bytes.items) before.kept) text → IsKept (option_map (λ bytes. bytes.items) after.kept) (text ++ piece))
-    → (first : Incoming) (bytes : Bytes) → HasCome first before bytes → HasCome first after (bytes ++ piece)
+pub come_more : (before after : Incoming) (piece : Bytes)
+    → ((first : Judging) (bytes : Bytes) → HasComeTo first before.judging bytes
+    → HasComeTo first after.judging (bytes ++ piece))
+    → ((text : Bytes) → IsKept (option_map (λ bytes. bytes.items) before.kept) text
+    → IsKept (option_map (λ bytes. bytes.items) after.kept) (text ++ piece))
+    → (first : Incoming) (bytes : Bytes) → HasCome first before bytes
+    → HasCome first after (bytes ++ piece)
 come_more before after piece judged keeps first bytes come =
-    let now : HasComeTo before.judging after.judging piece = judged before.judging [] (judged_none before.judging) in
+    let now : HasComeTo before.judging after.judging piece =
+    judged before.judging [] (judged_none before.judging) in
     record {
       game = ap (λ g. g.now) now.game ∙ come.game;
       taken = λ text h. let there = come.taken text h in record {
-        judged = subst (HasBeenFed after.judging) (append_assoc text bytes piece) (now.stands (text ++ bytes) there.judged);
-        kept = subst (IsKept (option_map (λ bytes. bytes.items) after.kept)) (append_assoc text bytes piece) (keeps (text ++ bytes) there.kept);
+        judged = subst (HasBeenFed after.judging) (append_assoc text bytes piece)
+            (now.stands (text ++ bytes) there.judged);
+        kept = subst (IsKept (option_map (λ bytes. bytes.items) after.kept))
+            (append_assoc text bytes piece) (keeps (text ++ bytes) there.kept);
       };
     }
 

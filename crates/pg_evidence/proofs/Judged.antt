@@ -30,28 +30,46 @@ use Rattle.pg_evidence.proofs.Coming.{arrive_none, come_none}
 
 -- ---- in which form a text is read
 
-plain_way : (text : Bytes) → has_images text ≡ false → evidence text ≡ and_then (certificate text) (λ (c : Cert). Ok (Plain c))
-plain_way text none =
-    ap (λ (b : Bool). if b then and_then (image_certificate text) (λ (c : ImageCert). Ok (Folded c)) else and_then (certificate text) (λ (c : Cert). Ok (Plain c))) none
+plain_way : (text : Bytes)
+    → has_images text ≡ false
+    → evidence text ≡ and_then (certificate text) (λ (c : Cert). Ok (Plain c))
+plain_way text none = ap (λ (b : Bool). if b
+    then and_then (image_certificate text) (λ (c : ImageCert). Ok (Folded c))
+    else and_then (certificate text) (λ (c : Cert). Ok (Plain c))) none
 
-folded_way : (text : Bytes) → has_images text ≡ true → evidence text ≡ and_then (image_certificate text) (λ (c : ImageCert). Ok (Folded c))
-folded_way text has =
-    ap (λ (b : Bool). if b then and_then (image_certificate text) (λ (c : ImageCert). Ok (Folded c)) else and_then (certificate text) (λ (c : Cert). Ok (Plain c))) has
+folded_way : (text : Bytes)
+    → has_images text ≡ true
+    → evidence text ≡ and_then (image_certificate text) (λ (c : ImageCert). Ok (Folded c))
+folded_way text has = ap (λ (b : Bool). if b
+    then and_then (image_certificate text) (λ (c : ImageCert). Ok (Folded c))
+    else and_then (certificate text) (λ (c : Cert). Ok (Plain c))) has
 
-pub said_plain : (text : Bytes) (c : Cert) → has_images text ≡ false → certificate text ≡ Ok c → evidence text ≡ Ok (Plain c)
-said_plain text c none e = plain_way text none ∙ ap (λ (r : Result Cert (Fault × ℕ)). and_then r (λ (c : Cert). Ok (Plain c))) e
+pub said_plain : (text : Bytes) (c : Cert)
+    → has_images text ≡ false
+    → certificate text ≡ Ok c
+    → evidence text ≡ Ok (Plain c)
+said_plain text c none e = plain_way text none
+    ∙ ap (λ (r : Result Cert (Fault × ℕ)). and_then r (λ (c : Cert). Ok (Plain c))) e
 
-pub said_folded : (text : Bytes) (c : ImageCert) → has_images text ≡ true → image_certificate text ≡ Ok c → evidence text ≡ Ok (Folded c)
-said_folded text c has e = folded_way text has ∙ ap (λ (r : Result ImageCert (Fault × ℕ)). and_then r (λ (c : ImageCert). Ok (Folded c))) e
+pub said_folded : (text : Bytes) (c : ImageCert)
+    → has_images text ≡ true
+    → image_certificate text ≡ Ok c
+    → evidence text ≡ Ok (Folded c)
+said_folded text c has e = folded_way text has
+    ∙ ap (λ (r : Result ImageCert (Fault × ℕ)). and_then r (λ (c : ImageCert). Ok (Folded c))) e
 
 -- what is said as one of plain nodes was read so
 pub read_plain : (text : Bytes) (c : Cert) → evidence text ≡ Ok (Plain c) → certificate text ≡ Ok c
 read_plain text c said = go (has_images text) refl where
-  folded : (r : Result ImageCert (Fault × ℕ)) → and_then r (λ (i : ImageCert). Ok (Folded i)) ≡ Ok (Plain c) → ⊥
+  folded : (r : Result ImageCert (Fault × ℕ))
+      → and_then r (λ (i : ImageCert). Ok (Folded i)) ≡ Ok (Plain c)
+      → ⊥
   folded (Ok i) e = cc e
   folded (Err fault) e = cc e
 
-  plain : (r : Result Cert (Fault × ℕ)) → and_then r (λ (d : Cert). Ok (Plain d)) ≡ Ok (Plain c) → r ≡ Ok c
+  plain : (r : Result Cert (Fault × ℕ))
+      → and_then r (λ (d : Cert). Ok (Plain d)) ≡ Ok (Plain c)
+      → r ≡ Ok c
   plain (Ok d) e = let same : d ≡ c = cc e in ap (λ (x : Cert). Ok x) same
   plain (Err fault) e = absurd (cc e)
 
@@ -70,49 +88,79 @@ abbrev pub held_text : Bytes → Result Evidence Halt
 held_text text = evidence_held (Some text)
 
 pub held_ok : (text : Bytes) (e : Evidence) → evidence text ≡ Ok e → held_text text ≡ Ok e
-held_ok text e is = ap (or_halt (λ (fault : Fault × ℕ). certificate_fault (number_of fault.0) fault.1)) is
+held_ok text e is =
+    ap (or_halt (λ (fault : Fault × ℕ). certificate_fault (number_of fault.0) fault.1)) is
 
-pub held_bad : (text : Bytes) (number line : ℕ) → HasFormFault (evidence text) number line → held_text text ≡ Err (certificate_fault number line)
+pub held_bad : (text : Bytes) (number line : ℕ)
+    → HasFormFault (evidence text) number line
+    → held_text text ≡ Err (certificate_fault number line)
 held_bad text number line h = read_bad number_of certificate_fault (evidence text) number line h
 
 -- one byte more than the limit tells as much as the whole file
-long_plain : (text : Bytes) → nat_lt MAX_CERT_BYTES (length text) ≡ true → certificate text ≡ Err (Size, 0)
+long_plain : (text : Bytes)
+    → nat_lt MAX_CERT_BYTES (length text) ≡ true
+    → certificate text ≡ Err (Size, 0)
 unfolding certificate
 long_plain text long = rw long refl
 
-long_folded : (text : Bytes) → nat_lt MAX_CERT_BYTES (length text) ≡ true → image_certificate text ≡ Err (Size, 0)
+long_folded : (text : Bytes)
+    → nat_lt MAX_CERT_BYTES (length text) ≡ true
+    → image_certificate text ≡ Err (Size, 0)
 unfolding image_certificate
 long_folded text long = rw long refl
 
-long_said : (text : Bytes) → nat_lt MAX_CERT_BYTES (length text) ≡ true → evidence text ≡ Err (Size, 0)
+long_said : (text : Bytes)
+    → nat_lt MAX_CERT_BYTES (length text) ≡ true
+    → evidence text ≡ Err (Size, 0)
 long_said text long = go (has_images text) refl where
   go : (b : Bool) → has_images text ≡ b → evidence text ≡ Err (Size, 0)
-  go true has = folded_way text has ∙ ap (λ (r : Result ImageCert (Fault × ℕ)). and_then r (λ (c : ImageCert). Ok (Folded c))) (long_folded text long)
-  go false none = plain_way text none ∙ ap (λ (r : Result Cert (Fault × ℕ)). and_then r (λ (c : Cert). Ok (Plain c))) (long_plain text long)
+  go true has = folded_way text has
+      ∙ ap (λ (r : Result ImageCert (Fault × ℕ)). and_then r (λ (c : ImageCert). Ok (Folded c)))
+      (long_folded text long)
+  go false none = plain_way text none
+      ∙ ap (λ (r : Result Cert (Fault × ℕ)). and_then r (λ (c : Cert). Ok (Plain c)))
+      (long_plain text long)
 
 held_cut : (all : Bytes) → held_text (take (MAX_CERT_BYTES + 1) all) ≡ held_text all
-held_cut all = ap (or_halt (λ (fault : Fault × ℕ). certificate_fault (number_of fault.0) fault.1)) (cut_same MAX_CERT_BYTES evidence (Err (Size, 0)) long_said all)
+held_cut all = ap (or_halt (λ (fault : Fault × ℕ). certificate_fault (number_of fault.0) fault.1))
+    (cut_same MAX_CERT_BYTES evidence (Err (Size, 0)) long_said all)
 
-pub whole_evidence : (o : Option Bytes) (text : Bytes) → IsWhole o MAX_CERT_BYTES text → evidence_held o ≡ held_text text
+pub whole_evidence : (o : Option Bytes) (text : Bytes)
+    → IsWhole o MAX_CERT_BYTES text
+    → evidence_held o ≡ held_text text
 whole_evidence o text whole = whole_read MAX_CERT_BYTES held_text held_cut o text whole
 
-pub opens_evidence : (h : Option Holding) (name text : Bytes) (r : Result Evidence Halt) → IsFile h name MAX_CERT_BYTES text → IsHeldAs (λ x. x) (held_text text) r → OpensEvidence h name r
-opens_evidence h name text r whole is = opens_whole MAX_CERT_BYTES held_text held_cut (λ (x : Evidence). x) h name text r whole is
+pub opens_evidence : (h : Option Holding) (name text : Bytes) (r : Result Evidence Halt)
+    → IsFile h name MAX_CERT_BYTES text
+    → IsHeldAs (λ x. x) (held_text text) r
+    → OpensEvidence h name r
+opens_evidence h name text r whole is =
+    opens_whole MAX_CERT_BYTES held_text held_cut (λ (x : Evidence). x) h name text r whole is
 
 -- ---- what was judged as it came
 
 -- nothing was kept
-pub never_kept : (o : Option Bytes) (text : Bytes) → o ≡ None → IsKept o text → has_images text ≡ false
-never_kept o text none kept = ap has_images (sym (append-nil text)) ∙ subst (λ (o : Option Bytes). IsKept o text) none kept []
+pub never_kept : (o : Option Bytes) (text : Bytes)
+    → o ≡ None
+    → IsKept o text
+    → has_images text ≡ false
+never_kept o text none kept =
+    ap has_images (sym (append-nil text)) ∙ subst (λ (o : Option Bytes). IsKept o text) none kept []
 
 -- what came is what the name holds
-pub judged_evidence : (h : Option Holding) (g : Game) (name : Bytes) (before after : Incoming) (r : Result Verdict Halt) → game_of before ≡ g → HasTaken before []
+pub judged_evidence : (h : Option Holding) (g : Game) (name : Bytes) (before after : Incoming)
+    (r : Result Verdict Halt)
+    → game_of before ≡ g
+    → HasTaken before []
     → Pours h name MAX_CERT_BYTES (λ first now bytes. HasCome first now bytes) before after
-    → ((text : Bytes) → HasTaken after text → game_of after ≡ g → IsJudgedAs g (held_text text) r) → JudgesEvidence h g name r
+    → ((text : Bytes) → HasTaken after text → game_of after ≡ g → IsJudgedAs g (held_text text) r)
+    → JudgesEvidence h g name r
 judged_evidence None g name before after r same taken pours judged = tt
 judged_evidence (Some held) g name before after r same taken (text, whole, goes) judged =
     let come : HasCome before after text = goes before [] (come_none before) in
-    subst (λ (read : Result Evidence Halt). IsJudgedAs g read r) (sym (whole_evidence (held name) text whole)) (judged text (come.taken [] taken) (come.game ∙ same))
+    subst (λ (read : Result Evidence Halt). IsJudgedAs g read r)
+    (sym (whole_evidence (held name) text whole))
+    (judged text (come.taken [] taken) (come.game ∙ same))
 
 -- ---- what was gathered as it came
 

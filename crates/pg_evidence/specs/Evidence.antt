@@ -28,13 +28,17 @@ begins_with_images (line ∷ others) = bytes_eq line image_header
 abbrev pub has_images : Bytes → Bool
 has_images text = begins_with_images (lines text)
 
--- the certificate of a text, in the form of its first line, or its first fault with the number of the line
+-- the certificate of a text, in the form of its first line, or its first fault with the number of
+-- the line
 abbrev pub evidence : Bytes → Result Evidence (Fault × ℕ)
-evidence text = if has_images text then and_then (image_certificate text) (λ c. Ok (Folded c)) else and_then (certificate text) (λ c. Ok (Plain c))
+evidence text = if has_images text
+    then and_then (image_certificate text) (λ c. Ok (Folded c))
+    else and_then (certificate text) (λ c. Ok (Plain c))
 
 -- the certificate that a name holds, or what stands against it
 abbrev pub evidence_held : Option Bytes → Result Evidence Halt
-evidence_held o = held_as (λ text. or_halt (λ fault. certificate_fault (number_of fault.0) fault.1) (evidence text)) o
+evidence_held o = held_as
+    (λ text. or_halt (λ fault. certificate_fault (number_of fault.0) fault.1) (evidence text)) o
 
 -- it is within the limits of its form
 abbrev pub IsWithinItsLimits : Evidence → Type 0

@@ -23,7 +23,8 @@ pub record Unfolds (g : Game) (c : ImageCert) (u : Unfolded) : Type 0 where
   pub unfolded : IsUnfoldedCert g c u
   pub limits : IsWithinLimits u.cert
 
--- one of plain nodes stands for itself; one with images, where it has no fault, for that of its unfolding
+-- one of plain nodes stands for itself; one with images, where it has no fault, for that of its
+-- unfolding
 abbrev pub StandsFor : Game → Evidence → Cert → Type 0
 StandsFor g (Plain c) cert = cert ≡ c
 StandsFor g (Folded c) cert = (u : Unfolded) × Unfolds g c u × (cert ≡ u.cert)
@@ -40,10 +41,13 @@ pub record CameFrom (sources : List (List ℕ)) (claim place node : ℕ) : Type 
   pub at_claim : slice_get sources claim ≡ Some origins
   pub at_place : slice_get origins place ≡ Some node
 
--- the first fault of the certificate for which it stands, said of the node from which the faulty one came
+-- the first fault of the certificate for which it stands, said of the node from which the faulty
+-- one came
 abbrev pub HasFault : Game → Evidence → ℕ → ℕ → ℕ → Type 0
 HasFault g (Plain c) claim node why = IsFirstFault g c claim node why
-HasFault g (Folded c) claim node why = (u : Unfolded) × Unfolds g c u × (place : ℕ) × IsFirstFault g u.cert claim place why × CameFrom u.sources claim place node
+HasFault g (Folded c) claim node why = (u : Unfolded) × Unfolds g c u
+    × (place : ℕ) × IsFirstFault g u.cert claim place why
+    × CameFrom u.sources claim place node
 
 -- the first fault by which it stands for no certificate
 abbrev pub HasImageFault : Game → Evidence → ℕ → ℕ → ℕ → Type 0
@@ -52,11 +56,13 @@ HasImageFault g (Folded c) claim node why = IsFirstImageFault g c claim node why
 
 -- it stands for no certificate
 abbrev pub RejectsImages : Game → Evidence → Refusal → Type 0
-RejectsImages g e refusal = (claim : ℕ) × (node : ℕ) × (why : ℕ) × HasImageFault g e claim node why × (refusal ≡ RejectedImage claim node why)
+RejectsImages g e refusal = (claim : ℕ) × (node : ℕ) × (why : ℕ) × HasImageFault g e claim node why
+    × (refusal ≡ RejectedImage claim node why)
 
 -- it stands for a certificate that isn't valid
 abbrev pub RejectsNodes : Game → Evidence → Refusal → Type 0
-RejectsNodes g e refusal = (claim : ℕ) × (node : ℕ) × (why : ℕ) × HasFault g e claim node why × (refusal ≡ Rejected claim node why)
+RejectsNodes g e refusal = (claim : ℕ) × (node : ℕ) × (why : ℕ) × HasFault g e claim node why
+    × (refusal ≡ Rejected claim node why)
 
 -- it is rejected at its first fault
 abbrev pub RejectsEvidence : Game → Evidence → Refusal → Type 0
@@ -86,7 +92,8 @@ HasSource sources claim place = (node : ℕ) × CameFromIn sources claim place n
 -- the certificate for which it stands, with the nodes from which those of an unfolding came
 abbrev pub IsStanding : Game → Evidence → Standing → Type 0
 IsStanding g (Plain c) s = (s.cert ≡ c) × (s.sources ≡ None)
-IsStanding g (Folded c) s = (u : Unfolded) × Unfolds g c u × (s.cert ≡ u.cert) × (s.sources ≡ Some u.sources)
+IsStanding g (Folded c) s =
+    (u : Unfolded) × Unfolds g c u × (s.cert ≡ u.cert) × (s.sources ≡ Some u.sources)
 
 -- the first fault of the certificate, said of the node from which the faulty one came
 pub record HasFaultIn (g : Game) (s : Standing) (claim node why : ℕ) : Type 0 where
@@ -94,7 +101,8 @@ pub record HasFaultIn (g : Game) (s : Standing) (claim node why : ℕ) : Type 0 
   pub first : IsFirstFault g s.cert claim place why
   pub from : CameFromIn s.sources claim place node
 
--- the certificate for which it stands was made, or it stands for none; where memory is wanting nothing is said
+-- the certificate for which it stands was made, or it stands for none; where memory is wanting
+-- nothing is said
 abbrev pub MakesStanding : Game → Evidence → Result Standing Halt → Type 0
 MakesStanding g e (Ok s) = IsStanding g e s
 MakesStanding g e (Err (Refused refusal)) = RejectsImages g e refusal

@@ -16,7 +16,12 @@ use Rattle.pg_evidence.specs.declared.verdict.Verdict.TheVariants.{Valid, Faulty
 
 -- what a claim with images says before its nodes, and how many these are as the file has them
 abbrev pub image_head : ImageClaim → ClaimHead
-image_head claim = record { turn = claim.turn; side = claim.side; goal = claim.goal; nodes = length claim.nodes }
+image_head claim = record {
+  turn = claim.turn;
+  side = claim.side;
+  goal = claim.goal;
+  nodes = length claim.nodes;
+}
 
 -- what the claims say before their nodes, and how many these are as the file has them
 abbrev pub heads_of_evidence : Evidence → List ClaimHead

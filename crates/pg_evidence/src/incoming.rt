@@ -12,7 +12,8 @@ use std::alloc::Global;
 
 /// A certificate for a game whose bytes come piece by piece, in either form: a sink of its bytes.
 ///
-/// It is judged as one of plain nodes as it comes, and kept whole while it may be one with images, which its first line shows.
+/// It is judged as one of plain nodes as it comes, and kept whole while it may be one with images,
+/// which its first line shows.
 #[derive(Drop)]
 pub(crate) struct Incoming<'a> {
     /// What the bytes say as those of a certificate of plain nodes.
@@ -23,7 +24,8 @@ pub(crate) struct Incoming<'a> {
 
 /// The bytes with this piece behind them, unless they have no images.
 pub(crate) fn keep(kept: Option<Vec<u8>>, piece: &[u8]) -> Result<Option<Vec<u8>>, Memory>
-    ensures { IfOk result (λ now. (text : List ℕ) → IsKept (option_map (λ bytes. bytes.items) kept) text
+    ensures { IfOk result
+        (λ now. (text : List ℕ) → IsKept (option_map (λ bytes. bytes.items) kept) text
         → IsKept (option_map (λ bytes. bytes.items) now) (text ++ piece.now)) }
 {
     let Some(mut text) = kept else {

@@ -92,7 +92,8 @@ fn judge_plain(alloc: Global, judging: Judging<'_>) -> Result<Verdict, Halt>
 /// What judging the certificate for a game finds whose bytes have come.
 fn judge_come(alloc: Global, game: &Game, incoming: Incoming<'_>) -> Result<Verdict, Halt>
     requires { IsReady incoming.judging }
-    ensures judged { (text : List ℕ) → HasTaken incoming.entry text → game_of incoming.entry ≡ game.now
+    ensures judged { (text : List ℕ) → HasTaken incoming.entry text
+        → game_of incoming.entry ≡ game.now
         → IsJudgedAs game.now (evidence_held (Some text)) result }
     ensures halts { IfErr result IsInnerHalt }
 {
@@ -103,13 +104,15 @@ fn judge_come(alloc: Global, game: &Game, incoming: Incoming<'_>) -> Result<Verd
     }
 }
 
-/// What judging the certificate under this name for a game finds. One of plain nodes is judged piece by piece as it is read,
-/// to its end; one with images is read whole, and then its unfolding is checked.
+/// What judging the certificate under this name for a game finds. One of plain nodes is judged
+/// piece by piece as it is read, to its end; one with images is read whole, and then its unfolding
+/// is checked.
 ///
 /// # Errors
 ///
-/// `Halt::Refused` with `Certificate` exactly where the file has a fault, with the first. Else `Halt::Stopped`: with `Stop::Read`
-/// where a call has failed or the name isn't held, and with `Stop::Memory` where no memory is found.
+/// `Halt::Refused` with `Certificate` exactly where the file has a fault, with the first. Else
+/// `Halt::Stopped`: with `Stop::Read` where a call has failed or the name isn't held, and with
+/// `Stop::Memory` where no memory is found.
 pub fn judge_evidence<F: Files>(
     alloc: Global,
     files: &mut F,

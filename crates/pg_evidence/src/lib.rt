@@ -1,4 +1,5 @@
-//! Certificates of either form, with images or without: which form a file has, for what it stands, and what judging it finds.
+//! Certificates of either form, with images or without: which form a file has, for what it stands,
+//! and what judging it finds.
 #![tactic(auto)]
 
 mod arriving;

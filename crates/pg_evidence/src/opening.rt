@@ -62,8 +62,9 @@ fn read_arrived(alloc: Global, arriving: Arriving) -> Result<Evidence, CertFault
 ///
 /// # Errors
 ///
-/// `Halt::Refused` with `Certificate` exactly where the file has a fault, with the first. Else `Halt::Stopped`: with `Stop::Read`
-/// where a call has failed or the name isn't held, and with `Stop::Memory` where no memory is found.
+/// `Halt::Refused` with `Certificate` exactly where the file has a fault, with the first. Else
+/// `Halt::Stopped`: with `Stop::Read` where a call has failed or the name isn't held, and with
+/// `Stop::Memory` where no memory is found.
 pub fn open_evidence<F: Files>(alloc: Global, files: &mut F, name: &str) -> Result<Evidence, Halt>
     ensures opened { OpensEvidence (F.told files.old).held name.now result }
     ensures limits { IfOk result IsWithinItsLimits }

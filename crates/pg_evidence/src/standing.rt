@@ -26,7 +26,8 @@ pub struct Standing {
 impl From<Unfolded> for Standing {
     ghost use Rattle.std.specs.Prelude.{◌≡◌, Some};
 
-    ghost from_gives = { λ unfolded standing. standing ≡ record { cert = unfolded.cert; sources = Some unfolded.sources } };
+    ghost from_gives = { λ unfolded standing. standing
+        ≡ record { cert = unfolded.cert; sources = Some unfolded.sources } };
 
     fn from(unfolded: Unfolded) -> Standing {
         Standing {
@@ -53,8 +54,8 @@ impl Standing {
 ///
 /// # Errors
 ///
-/// `Halt::Refused` with `RejectedImage` exactly where it stands for none, with its first fault (I1 to I4). Else `Halt::Stopped`
-/// with `Stop::Memory` where no memory is found.
+/// `Halt::Refused` with `RejectedImage` exactly where it stands for none, with its first fault (I1
+/// to I4). Else `Halt::Stopped` with `Stop::Memory` where no memory is found.
 pub fn standing_of(alloc: Global, game: &Game, evidence: Evidence) -> Result<Standing, Halt>
     requires { IsWithinItsLimits evidence }
     ensures made { MakesStanding game.now evidence result }
@@ -83,8 +84,8 @@ pub fn standing_of(alloc: Global, game: &Game, evidence: Evidence) -> Result<Sta
 ///
 /// # Errors
 ///
-/// `Reject` exactly where it isn't valid, with its first fault; the node is the file's, from which the faulty one came. Else
-/// `Memory` where no memory is found.
+/// `Reject` exactly where it isn't valid, with its first fault; the node is the file's, from which
+/// the faulty one came. Else `Memory` where no memory is found.
 pub fn check_standing<'a>(
     alloc: Global,
     game: &'a Game,
@@ -94,7 +95,9 @@ pub fn check_standing<'a>(
     ensures game { IfOk result (λ checked. checked.game.now ≡ game.now) }
     ensures cert { IfOk result (λ checked. checked.cert.now ≡ standing.now.cert) }
     ensures valid { IfOk result (λ _. IsValid game.now standing.now.cert) }
-    ensures reject { (claim : ℕ) → (node : ℕ) → (why : ℕ) → result ≡ Err (CheckFault.Reject claim node why) → HasFaultIn game.now standing.now claim node why }
+    ensures reject { (claim : ℕ) → (node : ℕ) → (why : ℕ)
+        → result ≡ Err (CheckFault.Reject claim node why)
+        → HasFaultIn game.now standing.now claim node why }
 {
     match check(alloc, game, &standing.cert) {
         Ok(checked) => Ok(checked),

@@ -4,7 +4,8 @@ use pg_judge::ClaimHead;
 /// What judging a certificate for a game finds.
 #[derive(Debug, Drop)]
 pub enum Verdict {
-    /// The certificate for which it stands is valid, and its claims say this. Nodes are counted as the file has them.
+    /// The certificate for which it stands is valid, and its claims say this. Nodes are counted as
+    /// the file has them.
     Valid(Vec<ClaimHead>),
     /// The certificate for which it stands isn't valid.
     Faulty {

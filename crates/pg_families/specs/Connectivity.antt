@@ -36,15 +36,19 @@ use Rattle.pg_families.specs.Judged.{AcceptsValid, PlaysValid, RefusesChecked, R
 
 -- the game that a name holds, or what stands against it
 abbrev pub span_held : Option Bytes → Result SpanEntry Halt
-span_held o = held_as (λ text. or_halt (λ fault. game_fault (game_fault_number fault.0) fault.1) (span_game text)) o
+span_held o = held_as
+    (λ text. or_halt (λ fault. game_fault (game_fault_number fault.0) fault.1) (span_game text)) o
 
 -- the certificate that a name holds, or what stands against it
 abbrev pub span_cert_held : Option Bytes → Result SpanCert Halt
-span_cert_held o = held_as (λ text. or_halt (λ fault. certificate_fault (certificate_fault_number fault.0) fault.1) (span_cert text)) o
+span_cert_held o = held_as
+    (λ text. or_halt (λ fault. certificate_fault (certificate_fault_number fault.0) fault.1)
+    (span_cert text)) o
 
 -- both, or what stands against the first of them
 abbrev pub span_both_held : Option Bytes → Option Bytes → Result (SpanEntry × SpanCert) Halt
-span_both_held game_bytes certificate_bytes = both (span_held game_bytes) (span_cert_held certificate_bytes)
+span_both_held game_bytes certificate_bytes =
+    both (span_held game_bytes) (span_cert_held certificate_bytes)
 
 -- ---- checking and playing
 
@@ -57,7 +61,8 @@ span_acceptances c = map span_acceptance c.claims
 
 -- the certificate is rejected at its first faulty claim
 abbrev pub RejectsSpan : SpanGame → SpanCert → Refusal → Type 0
-RejectsSpan g c refusal = (claim : ℕ) × (why : SpanFlaw) × IsFirstFlaw g c claim why × (refusal ≡ RejectedSpan claim (flaw_number why))
+RejectsSpan g c refusal = (claim : ℕ) × (why : SpanFlaw) × IsFirstFlaw g c claim why
+    × (refusal ≡ RejectedSpan claim (flaw_number why))
 
 -- the certificate has a claim of the side with the game's turn, or has none
 abbrev pub HasSpanClaim : Side → SpanGame → SpanCert → Type 0
@@ -66,25 +71,39 @@ HasSpanClaim side g c = (claim : SpanClaim) × (chosen_span_claim g c side ≡ S
 abbrev pub LacksSpanClaim : Side → SpanGame → SpanCert → Type 0
 LacksSpanClaim side g c = chosen_span_claim g c side ≡ None
 
--- what is seen of a player: the rules of the game with the words maker and breaker, and the goal to win
+-- what is seen of a player: the rules of the game with the words maker and breaker, and the goal to
+-- win
 abbrev pub span_player : SpanPlay → Contender
-span_player play = record { contest = record { rules = span_rules_of play.game; kind = MakerBreaker }; side = play.side; goal = Win; position = play.position }
+span_player play = record {
+  contest = record { rules = span_rules_of play.game; kind = MakerBreaker };
+  side = play.side;
+  goal = Win;
+  position = play.position;
+}
 
 -- the side at the game's position
 abbrev pub span_contender : Side → SpanGame → Contender
-span_contender side g = record { contest = record { rules = span_rules_of g; kind = MakerBreaker }; side = side; goal = Win; position = span_start g }
+span_contender side g = record {
+  contest = record { rules = span_rules_of g; kind = MakerBreaker };
+  side = side;
+  goal = Win;
+  position = span_start g;
+}
 
 abbrev pub RefusesSpanCheck : Result (SpanEntry × SpanCert) Halt → Refusal → Type 0
 RefusesSpanCheck read refusal = RefusesChecked span_entry RejectsSpan read refusal
 
 abbrev pub AcceptsSpans : Result (SpanEntry × SpanCert) Halt → List Entry → End → Type 0
-AcceptsSpans read entries end = AcceptsValid span_entry IsSpanValid span_acceptances read entries end
+AcceptsSpans read entries end =
+    AcceptsValid span_entry IsSpanValid span_acceptances read entries end
 
 abbrev pub RefusesSpanPlay : Side → Result (SpanEntry × SpanCert) Halt → Refusal → Type 0
-RefusesSpanPlay side read refusal = RefusesPlayed span_entry IsSpanValid RejectsSpan (LacksSpanClaim side) side read refusal
+RefusesSpanPlay side read refusal =
+    RefusesPlayed span_entry IsSpanValid RejectsSpan (LacksSpanClaim side) side read refusal
 
 abbrev pub PlaysSpan : Side → Result (SpanEntry × SpanCert) Halt → List Entry → End → Type 0
-PlaysSpan side read entries end = PlaysValid span_entry IsSpanValid (HasSpanClaim side) (span_contender side) read entries end
+PlaysSpan side read entries end =
+    PlaysValid span_entry IsSpanValid (HasSpanClaim side) (span_contender side) read entries end
 
 -- ---- solving
 
@@ -94,7 +113,8 @@ span_class_text Maker = class_maker_text
 span_class_text Breaker = class_breaker_text
 span_class_text First = class_first_mover_text
 
--- the class is that of the values with X and with Y to move, and the certificate shows it by two valid claims, of the side that wins with X and of the one that wins with Y to move
+-- the class is that of the values with X and with Y to move, and the certificate shows it by two
+-- valid claims, of the side that wins with X and of the one that wins with Y to move
 pub record ShowsSpanClass (g : SpanGame) (class : SpanClass) (c : SpanCert) : Type 0 where
   pub class_is : span_class g ≡ Some (named class)
   pub valid : IsSpanValid g c
@@ -104,12 +124,14 @@ pub record ShowsSpanClass (g : SpanGame) (class : SpanClass) (c : SpanCert) : Ty
 
 -- a certificate that shows the class is stored under the name, and then the class is said
 abbrev pub SolvesSpanGame : SpanGame → Bytes → Done → End → Type 0
-SolvesSpanGame g name done end = (class : SpanClass) × (c : SpanCert) × ShowsSpanClass g class c × Delivers (name, printed_span c) (span_class_text class ∷ []) done end
+SolvesSpanGame g name done end = (class : SpanClass) × (c : SpanCert) × ShowsSpanClass g class c
+    × Delivers (name, printed_span c) (span_class_text class ∷ []) done end
 
 -- the same of what was read
 abbrev pub SolvesSpan : Result SpanEntry Halt → Bytes → Done → End → Type 0
 SolvesSpan (Err halt) name done end = ⊥
-SolvesSpan (Ok e) name done end = (g : SpanGame) × (span_entry g ≡ e) × SolvesSpanGame g name done end
+SolvesSpan (Ok e) name done end =
+    (g : SpanGame) × (span_entry g ≡ e) × SolvesSpanGame g name done end
 
 -- ---- what the code has read
 
@@ -123,7 +145,11 @@ OpensSpanCert h name r = Opens (λ x. x) span_cert_held h name r
 abbrev pub span_pair : SpanGame × SpanCert → SpanEntry × SpanCert
 span_pair pair = (span_entry pair.0, pair.1)
 
-abbrev pub OpensSpanBoth : Option Holding → Bytes → Bytes → Result (SpanGame × SpanCert) Halt → Type 0
+abbrev pub OpensSpanBoth : Option Holding
+    → Bytes
+    → Bytes
+    → Result (SpanGame × SpanCert) Halt
+    → Type 0
 OpensSpanBoth h g c r = OpensTwo span_pair span_both_held h g c r
 
 -- it is told that a name that is wanted isn't held

@@ -34,19 +34,32 @@ use Rattle.pg_families.specs.Vectors.{AcceptsVectors, AreVectorsLacking, IsVecto
 abbrev pub RefusesFamily : Family → FamilyTask → Option Bytes → Option Bytes → Refusal → Type 0
 RefusesFamily Connectivity Solve g c refusal = span_held g ≡ Err (Refused refusal)
 RefusesFamily Connectivity Check g c refusal = RefusesSpanCheck (span_both_held g c) refusal
-RefusesFamily Connectivity (Play side) g c refusal = RefusesSpanPlay side (span_both_held g c) refusal
+RefusesFamily Connectivity (Play side) g c refusal =
+    RefusesSpanPlay side (span_both_held g c) refusal
 RefusesFamily Vectors Solve g c refusal = vectors_held g ≡ Err (Refused refusal)
 RefusesFamily Vectors Check g c refusal = RefusesVectorCheck (vectors_both_held g c) refusal
-RefusesFamily Vectors (Play side) g c refusal = RefusesVectorPlay side (vectors_both_held g c) refusal
+RefusesFamily Vectors (Play side) g c refusal =
+    RefusesVectorPlay side (vectors_both_held g c) refusal
 
 -- the task is done, and ends so; a certificate that is made goes under the name
-abbrev pub ActsInFamily : Family → FamilyTask → Option Bytes → Option Bytes → Bytes → Done → End → Type 0
+abbrev pub ActsInFamily : Family
+    → FamilyTask
+    → Option Bytes
+    → Option Bytes
+    → Bytes
+    → Done
+    → End
+    → Type 0
 ActsInFamily Connectivity Solve g c name done end = SolvesSpan (span_held g) name done end
-ActsInFamily Connectivity Check g c name done end = AcceptsSpans (span_both_held g c) done.entries end × (done.stored ≡ [])
-ActsInFamily Connectivity (Play side) g c name done end = PlaysSpan side (span_both_held g c) done.entries end × (done.stored ≡ [])
+ActsInFamily Connectivity Check g c name done end =
+    AcceptsSpans (span_both_held g c) done.entries end × (done.stored ≡ [])
+ActsInFamily Connectivity (Play side) g c name done end =
+    PlaysSpan side (span_both_held g c) done.entries end × (done.stored ≡ [])
 ActsInFamily Vectors Solve g c name done end = SolvesVectors (vectors_held g) name done end
-ActsInFamily Vectors Check g c name done end = AcceptsVectors (vectors_both_held g c) done.entries end × (done.stored ≡ [])
-ActsInFamily Vectors (Play side) g c name done end = PlaysVectors side (vectors_both_held g c) done.entries end × (done.stored ≡ [])
+ActsInFamily Vectors Check g c name done end =
+    AcceptsVectors (vectors_both_held g c) done.entries end × (done.stored ≡ [])
+ActsInFamily Vectors (Play side) g c name done end =
+    PlaysVectors side (vectors_both_held g c) done.entries end × (done.stored ≡ [])
 
 -- a name that is read for the task, in the order of its work, isn't held
 abbrev pub LacksInFamily : Family → FamilyTask → Option Bytes → Option Bytes → Type 0
@@ -75,8 +88,10 @@ LeavesFamilyFiles (Play side) c before after = ReadsOnly before after
 -- the statuses with which a task may end
 abbrev pub statuses_in_family : FamilyTask → List ℕ
 statuses_in_family Solve = DONE ∷ FAULTY_GAME ∷ READ_FAILED ∷ WRITE_FAILED ∷ NO_MEMORY ∷ []
-statuses_in_family Check = DONE ∷ FAULTY_GAME ∷ REFUSED ∷ READ_FAILED ∷ WRITE_FAILED ∷ NO_MEMORY ∷ []
-statuses_in_family (Play side) = DONE ∷ NO_MEANING ∷ FAULTY_GAME ∷ REFUSED ∷ READ_FAILED ∷ WRITE_FAILED ∷ NO_MEMORY ∷ INPUT_ENDED ∷ OUT_OF_REPLIES ∷ []
+statuses_in_family Check =
+    DONE ∷ FAULTY_GAME ∷ REFUSED ∷ READ_FAILED ∷ WRITE_FAILED ∷ NO_MEMORY ∷ []
+statuses_in_family (Play side) = DONE ∷ NO_MEANING ∷ FAULTY_GAME ∷ REFUSED ∷ READ_FAILED
+    ∷ WRITE_FAILED ∷ NO_MEMORY ∷ INPUT_ENDED ∷ OUT_OF_REPLIES ∷ []
 
 -- where a task is done or ends early, so it may end
 abbrev pub GivesInFamily : FamilyTask → Result ℕ Halt → Type 0
@@ -108,19 +123,30 @@ pub record SaysVectorGame (bytes : Option Bytes) (g : VecGame) : Type 0 where
 
 -- these bytes say a game of the family, and the side forces the goal from its marks with this turn
 abbrev pub IsForcedInFamilyFrom : Family → Option Bytes → Side → Side → Goal → Type 0
-IsForcedInFamilyFrom Connectivity bytes turn side goal = (g : SpanGame) × SaysSpanGame bytes g × ForcesBy (span_rules_of g) (marks_at g turn) side goal
-IsForcedInFamilyFrom Vectors bytes turn side goal = (g : VecGame) × SaysVectorGame bytes g × ForcesBy (vector_rules g) (at_turn g turn) side goal
+IsForcedInFamilyFrom Connectivity bytes turn side goal =
+    (g : SpanGame) × SaysSpanGame bytes g × ForcesBy (span_rules_of g) (marks_at g turn) side goal
+IsForcedInFamilyFrom Vectors bytes turn side goal =
+    (g : VecGame) × SaysVectorGame bytes g × ForcesBy (vector_rules g) (at_turn g turn) side goal
 
 -- the same from its position
 abbrev pub IsForcedInFamily : Family → Option Bytes → Side → Goal → Type 0
-IsForcedInFamily Connectivity bytes side goal = (g : SpanGame) × SaysSpanGame bytes g × ForcesBy (span_rules_of g) (marks_at g g.turn) side goal
-IsForcedInFamily Vectors bytes side goal = (g : VecGame) × SaysVectorGame bytes g × ForcesBy (vector_rules g) (at_turn g g.turn) side goal
+IsForcedInFamily Connectivity bytes side goal =
+    (g : SpanGame) × SaysSpanGame bytes g × ForcesBy (span_rules_of g) (marks_at g g.turn) side goal
+IsForcedInFamily Vectors bytes side goal =
+    (g : VecGame) × SaysVectorGame bytes g × ForcesBy (vector_rules g) (at_turn g g.turn) side goal
 
--- each claim that is accepted among what was said is forced so from its turn, and each that is played is forced so
-pub record AreForcedBy (From : Side → Side → Goal → Type 0) (Here : Side → Goal → Type 0) (entries : List Entry) : Type 0 where
-  pub accepted : (turn side : Side) (goal : Goal) → Contains entries (Said (accepted_text turn side goal)) → From turn side goal
-  pub claimed : (side : Side) (goal : Goal) → Contains entries (Said (claim_text side goal)) → Here side goal
+-- each claim that is accepted among what was said is forced so from its turn, and each that is
+-- played is forced so
+pub record AreForcedBy (From : Side → Side → Goal → Type 0) (Here : Side → Goal → Type 0)
+    (entries : List Entry) : Type 0 where
+  pub accepted : (turn side : Side) (goal : Goal)
+      → Contains entries (Said (accepted_text turn side goal))
+      → From turn side goal
+  pub claimed : (side : Side) (goal : Goal)
+      → Contains entries (Said (claim_text side goal))
+      → Here side goal
 
 -- each is forced in the game of the family that these bytes say
 abbrev pub AreForcedInFamily : Family → Option Bytes → List Entry → Type 0
-AreForcedInFamily family bytes entries = AreForcedBy (IsForcedInFamilyFrom family bytes) (IsForcedInFamily family bytes) entries
+AreForcedInFamily family bytes entries =
+    AreForcedBy (IsForcedInFamilyFrom family bytes) (IsForcedInFamily family bytes) entries

@@ -36,11 +36,13 @@ use Rattle.pg_families.specs.Judged.{AcceptsValid, PlaysValid, RefusesChecked, R
 
 -- the game that a name holds, or what stands against it
 abbrev pub vectors_held : Option Bytes → Result VectorEntry Halt
-vectors_held o = held_as (λ text. or_halt (λ fault. game_fault (game_fault_number fault.0) fault.1) (vector_game text)) o
+vectors_held o = held_as
+    (λ text. or_halt (λ fault. game_fault (game_fault_number fault.0) fault.1) (vector_game text)) o
 
 -- a game and a certificate, or what stands against the first of them
 abbrev pub vectors_both_held : Option Bytes → Option Bytes → Result (VectorEntry × Cert) Halt
-vectors_both_held game_bytes certificate_bytes = both (vectors_held game_bytes) (certificate_held certificate_bytes)
+vectors_both_held game_bytes certificate_bytes =
+    both (vectors_held game_bytes) (certificate_held certificate_bytes)
 
 -- ---- checking and playing
 
@@ -53,7 +55,9 @@ vec_acceptances c = map vec_acceptance c.claims
 
 -- the certificate is rejected at its first faulty claim
 abbrev pub RejectsVectors : VecGame → Cert → Refusal → Type 0
-RejectsVectors g c refusal = (claim : ℕ) × (node : ℕ) × (why : VecFlaw) × IsFirstVecFault g c claim node why × (refusal ≡ RejectedVectors claim node (flaw_number why))
+RejectsVectors g c refusal =
+    (claim : ℕ) × (node : ℕ) × (why : VecFlaw) × IsFirstVecFault g c claim node why
+    × (refusal ≡ RejectedVectors claim node (flaw_number why))
 
 -- the certificate has a claim of the side with the game's turn, or has none
 abbrev pub HasVecClaim : Side → VecGame → Cert → Type 0
@@ -64,23 +68,36 @@ LacksVecClaim side g c = chosen_vec_claim g c side ≡ None
 
 -- what is seen of a player: the rules of the game with the words short and cut, and the goal to win
 abbrev pub vec_player : VecPlay → Contender
-vec_player play = record { contest = record { rules = vector_rules play.game; kind = Switching }; side = play.side; goal = Win; position = play.position }
+vec_player play = record {
+  contest = record { rules = vector_rules play.game; kind = Switching };
+  side = play.side;
+  goal = Win;
+  position = play.position;
+}
 
 -- the side at the game's position
 abbrev pub vec_contender : Side → VecGame → Contender
-vec_contender side g = record { contest = record { rules = vector_rules g; kind = Switching }; side = side; goal = Win; position = vec_start g }
+vec_contender side g = record {
+  contest = record { rules = vector_rules g; kind = Switching };
+  side = side;
+  goal = Win;
+  position = vec_start g;
+}
 
 abbrev pub RefusesVectorCheck : Result (VectorEntry × Cert) Halt → Refusal → Type 0
 RefusesVectorCheck read refusal = RefusesChecked vector_entry RejectsVectors read refusal
 
 abbrev pub AcceptsVectors : Result (VectorEntry × Cert) Halt → List Entry → End → Type 0
-AcceptsVectors read entries end = AcceptsValid vector_entry IsVecValid vec_acceptances read entries end
+AcceptsVectors read entries end =
+    AcceptsValid vector_entry IsVecValid vec_acceptances read entries end
 
 abbrev pub RefusesVectorPlay : Side → Result (VectorEntry × Cert) Halt → Refusal → Type 0
-RefusesVectorPlay side read refusal = RefusesPlayed vector_entry IsVecValid RejectsVectors (LacksVecClaim side) side read refusal
+RefusesVectorPlay side read refusal =
+    RefusesPlayed vector_entry IsVecValid RejectsVectors (LacksVecClaim side) side read refusal
 
 abbrev pub PlaysVectors : Side → Result (VectorEntry × Cert) Halt → List Entry → End → Type 0
-PlaysVectors side read entries end = PlaysValid vector_entry IsVecValid (HasVecClaim side) (vec_contender side) read entries end
+PlaysVectors side read entries end =
+    PlaysValid vector_entry IsVecValid (HasVecClaim side) (vec_contender side) read entries end
 
 -- ---- solving
 
@@ -90,7 +107,8 @@ vec_class_text (Short a1 a2) = class_short_text
 vec_class_text (Cut d1 d2) = class_cut_text
 vec_class_text (First a1 a2 d1 d2) = class_first_mover_text
 
--- the class of the sets is that of the values with X and with Y to move, and the certificate shows it by two valid claims of one node each, which stand on the sets
+-- the class of the sets is that of the values with X and with Y to move, and the certificate shows
+-- it by two valid claims of one node each, which stand on the sets
 pub record ShowsVecClass (g : VecGame) (sets : Class) (c : Cert) : Type 0 where
   pub class_is : vector_class g ≡ Some (named sets)
   pub valid : IsVecValid g c
@@ -99,12 +117,14 @@ pub record ShowsVecClass (g : VecGame) (sets : Class) (c : Cert) : Type 0 where
 
 -- a certificate that shows the class is stored under the name, and then the class is said
 abbrev pub SolvesVectorGame : VecGame → Bytes → Done → End → Type 0
-SolvesVectorGame g name done end = (sets : Class) × (c : Cert) × ShowsVecClass g sets c × Delivers (name, printed_certificate c) (vec_class_text sets ∷ []) done end
+SolvesVectorGame g name done end = (sets : Class) × (c : Cert) × ShowsVecClass g sets c
+    × Delivers (name, printed_certificate c) (vec_class_text sets ∷ []) done end
 
 -- the same of what was read
 abbrev pub SolvesVectors : Result VectorEntry Halt → Bytes → Done → End → Type 0
 SolvesVectors (Err halt) name done end = ⊥
-SolvesVectors (Ok e) name done end = (g : VecGame) × (vector_entry g ≡ e) × SolvesVectorGame g name done end
+SolvesVectors (Ok e) name done end =
+    (g : VecGame) × (vector_entry g ≡ e) × SolvesVectorGame g name done end
 
 -- ---- what the code has read
 

@@ -53,7 +53,8 @@ pub fn open_span_cert<F: Files>(alloc: Global, files: &mut F, name: &str) -> Res
     }
 }
 
-/// The connectivity game and the certificate under these names. The certificate is opened only where the game is taken.
+/// The connectivity game and the certificate under these names. The certificate is opened only
+/// where the game is taken.
 pub fn open_span_both<F: Files>(
     alloc: Global,
     files: &mut F,
@@ -88,7 +89,8 @@ pub fn open_vectors<F: Files>(alloc: Global, files: &mut F, name: &str) -> Resul
     }
 }
 
-/// The game on vectors and the certificate under these names. The certificate is opened only where the game is taken.
+/// The game on vectors and the certificate under these names. The certificate is opened only where
+/// the game is taken.
 pub fn open_vectors_both<F: Files>(
     alloc: Global,
     files: &mut F,

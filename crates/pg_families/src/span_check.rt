@@ -78,10 +78,12 @@ pub fn check_span<F: Files, C: Console>(
     files: &mut F,
     console: &mut C,
 ) -> Result<u8, Halt>
-    ensures ran { Runs (λ held. RefusesSpanCheck (span_both_held (held game.now) (held certificate.now)))
-        (λ held done end. AcceptsSpans (span_both_held (held game.now) (held certificate.now))
-        done.entries end × (done.stored ≡ []))
-        (F.told files.old) (F.told files.new) (C.told console.old) (C.told console.new) result }
+    ensures ran { Runs
+        (λ held. RefusesSpanCheck (span_both_held (held game.now) (held certificate.now)))
+        (λ held done end.
+        AcceptsSpans (span_both_held (held game.now) (held certificate.now)) done.entries end
+        × (done.stored ≡ [])) (F.told files.old) (F.told files.new) (C.told console.old)
+        (C.told console.new) result }
     ensures causes { BothCauses (AreSpansLacking (F.told files.old).held game.now certificate.now)
         (F.told files.old) (F.told files.new) (C.told console.old) (C.told console.new) result }
     ensures quiet { QuietsBy (Grows (C.told console.old).log (C.told console.new).log [])

@@ -58,7 +58,8 @@ fn deliver_class<F: Files, C: Console>(
     )
 }
 
-/// Solves the connectivity game under one name, and stores the certificate that shows its class under another.
+/// Solves the connectivity game under one name, and stores the certificate that shows its class
+/// under another.
 pub fn solve_span<F: Files, C: Console>(
     alloc: Global,
     game: &str,

@@ -81,10 +81,12 @@ pub fn check_vectors<F: Files, C: Console>(
     files: &mut F,
     console: &mut C,
 ) -> Result<u8, Halt>
-    ensures ran { Runs (λ held. RefusesVectorCheck (vectors_both_held (held game.now) (held certificate.now)))
-        (λ held done end. AcceptsVectors (vectors_both_held (held game.now) (held certificate.now))
-        done.entries end × (done.stored ≡ []))
-        (F.told files.old) (F.told files.new) (C.told console.old) (C.told console.new) result }
+    ensures ran { Runs
+        (λ held. RefusesVectorCheck (vectors_both_held (held game.now) (held certificate.now)))
+        (λ held done end.
+        AcceptsVectors (vectors_both_held (held game.now) (held certificate.now)) done.entries end
+        × (done.stored ≡ [])) (F.told files.old) (F.told files.new) (C.told console.old)
+        (C.told console.new) result }
     ensures causes { BothCauses (AreVectorsLacking (F.told files.old).held game.now certificate.now)
         (F.told files.old) (F.told files.new) (C.told console.old) (C.told console.new) result }
     ensures quiet { QuietsBy (Grows (C.told console.old).log (C.told console.new).log [])

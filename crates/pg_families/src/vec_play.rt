@@ -68,9 +68,10 @@ fn play_vectors_by<C: Console>(
     side: Side,
 ) -> Result<u8, Halt>
     requires { IsWithinLimits certificate.now }
-    ensures played { Performs (RefusesVectorPlay side (Ok (vectors_pair (game.now, certificate.now))))
-        (PlaysVectors side (Ok (vectors_pair (game.now, certificate.now))))
-        (C.told console.old) (C.told console.new) result }
+    ensures played { Performs
+        (RefusesVectorPlay side (Ok (vectors_pair (game.now, certificate.now))))
+        (PlaysVectors side (Ok (vectors_pair (game.now, certificate.now)))) (C.told console.old)
+        (C.told console.new) result }
     ensures causes { HaltCauses ⊥ (C.told console.old).faults (C.told console.new).faults result }
     ensures done { IfOk result IsPlayEnd }
     ensures halts { IfErr result IsPlayHalt }
@@ -106,9 +107,10 @@ pub fn play_vectors<F: Files, C: Console>(
 ) -> Result<u8, Halt>
     ensures ran { Runs
         (λ held. RefusesVectorPlay side (vectors_both_held (held game.now) (held certificate.now)))
-        (λ held done end. PlaysVectors side (vectors_both_held (held game.now) (held certificate.now))
-        done.entries end × (done.stored ≡ []))
-        (F.told files.old) (F.told files.new) (C.told console.old) (C.told console.new) result }
+        (λ held done end. PlaysVectors side
+        (vectors_both_held (held game.now) (held certificate.now)) done.entries end
+        × (done.stored ≡ [])) (F.told files.old) (F.told files.new) (C.told console.old)
+        (C.told console.new) result }
     ensures causes { BothCauses (AreVectorsLacking (F.told files.old).held game.now certificate.now)
         (F.told files.old) (F.told files.new) (C.told console.old) (C.told console.new) result }
     ensures quiet { QuietsBy ⊤ (Grows (C.told console.old).log (C.told console.new).log [])

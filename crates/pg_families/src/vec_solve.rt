@@ -60,7 +60,8 @@ fn deliver_class<F: Files, C: Console>(
     )
 }
 
-/// Solves the game on vectors under one name, and stores the certificate that shows its class under another.
+/// Solves the game on vectors under one name, and stores the certificate that shows its class under
+/// another.
 pub fn solve_vectors<F: Files, C: Console>(
     alloc: Global,
     game: &str,

@@ -53,4 +53,5 @@ signs_again (suc r) v small =
     omega (arith, rest, (lowest v).value)
 
 pub vector_again : (r v : ℕ) → v < 2 ^ r → vector_of r (signs_of r v) ≡ Some v
-vector_again r v small = rw (eq-eqb (length (signs_of r v)) r (signs_length r v), signs_are r v) (ap (λ (n : ℕ). Some n) (signs_again r v small))
+vector_again r v small = rw (eq-eqb (length (signs_of r v)) r (signs_length r v), signs_are r v)
+    (ap (λ (n : ℕ). Some n) (signs_again r v small))

@@ -6,6 +6,9 @@ use Rattle.pg_text.specs.Text.{Bytes, spelled}
 use Rattle.pg_span.specs.declared.cert.SpanClaim.{SpanClaim}
 use Rattle.pg_family_files.specs.SpanCertPrint.{claim_lines}
 
-pub claims_text : (cs : List SpanClaim) → flat_map spelled (flat_map claim_lines cs) ≡ flat_map (λ c. flat_map spelled (claim_lines c)) cs
+pub claims_text : (cs : List SpanClaim)
+    → flat_map spelled (flat_map claim_lines cs)
+    ≡ flat_map (λ c. flat_map spelled (claim_lines c)) cs
 claims_text [] = refl
-claims_text (c ∷ cs) = simp flat_map-append (ap (λ (t : Bytes). flat_map spelled (claim_lines c) ++ t) (claims_text cs))
+claims_text (c ∷ cs) = simp flat_map-append
+    (ap (λ (t : Bytes). flat_map spelled (claim_lines c) ++ t) (claims_text cs))

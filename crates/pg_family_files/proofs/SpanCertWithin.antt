@@ -41,25 +41,38 @@ value_or a (Err fault) = a
 pub ok_is : {A F : Type 0} (a b : A) → ◌≡◌ {A = Result A F} (Ok a) (Ok b) → a ≡ b
 ok_is a b e = ap (λ (r : Result _ _). value_or a r) e
 
-then_ok : {A B F : Type 0} (r : Result A F) (f : A → Result B F) (b : B) → and_then r f ≡ Ok b → (a : A) × (r ≡ Ok a) × (f a ≡ Ok b)
+then_ok : {A B F : Type 0} (r : Result A F) (f : A → Result B F) (b : B)
+    → and_then r f ≡ Ok b
+    → (a : A) × (r ≡ Ok a) × (f a ≡ Ok b)
 then_ok (Ok a) f b e = (a, refl, e)
 then_ok (Err fault) f b e = absurd cc
 
 -- an if-chain, by the way that the test went
-pub chosen : {A : Type 0} (b : Bool) (x y z : A) → cond b x y ≡ z → ((b ≡ true) × (x ≡ z)) ⊎ ((b ≡ false) × (y ≡ z))
+pub chosen : {A : Type 0} (b : Bool) (x y z : A)
+    → cond b x y ≡ z
+    → ((b ≡ true) × (x ≡ z)) ⊎ ((b ≡ false) × (y ≡ z))
 chosen true x y z e = inl (refl, e)
 chosen false x y z e = inr (refl, e)
 
 -- ---- numbers
 
-onto_ok : {A F : Type 0} (P : A → Type 0) (r : Result A F) (rs : Result (List A) F) (found : List A) → ((a : A) → r ≡ Ok a → P a) → ((others : List A) → rs ≡ Ok others → AllByRecursion P others) → onto r rs ≡ Ok found → AllByRecursion P found
+onto_ok : {A F : Type 0} (P : A → Type 0) (r : Result A F) (rs : Result (List A) F) (found : List A)
+    → ((a : A) → r ≡ Ok a → P a)
+    → ((others : List A) → rs ≡ Ok others → AllByRecursion P others)
+    → onto r rs ≡ Ok found
+    → AllByRecursion P found
 onto_ok P (Err fault) rs found h hs e = absurd cc
 onto_ok P (Ok a) (Err fault) found h hs e = absurd cc
-onto_ok P (Ok a) (Ok others) found h hs e = subst (AllByRecursion P) (ok_is (a ∷ others) found e) (h a refl, hs others refl)
+onto_ok P (Ok a) (Ok others) found h hs e =
+    subst (AllByRecursion P) (ok_is (a ∷ others) found e) (h a refl, hs others refl)
 
-each_ok : {A F : Type 0} (read : Bytes → Result A F) (P : A → Type 0) → ((w : Bytes) (a : A) → read w ≡ Ok a → P a) → (ws : List Bytes) (found : List A) → each_of read ws ≡ Ok found → AllByRecursion P found
+each_ok : {A F : Type 0} (read : Bytes → Result A F) (P : A → Type 0)
+    → ((w : Bytes) (a : A) → read w ≡ Ok a → P a)
+    → (ws : List Bytes) (found : List A) → each_of read ws ≡ Ok found
+    → AllByRecursion P found
 each_ok read P h [] found e = subst (AllByRecursion P) (ok_is [] found e) tt
-each_ok read P h (w ∷ ws) found e = onto_ok P (read w) (each_of read ws) found (h w) (λ others f. each_ok read P h ws others f) e
+each_ok read P h (w ∷ ws) found e =
+    onto_ok P (read w) (each_of read ws) found (h w) (λ others f. each_ok read P h ws others f) e
 
 within : (n : ℕ) → nat_le n 999 ≡ true → n ≤ 999
 within n e = grind (arith, nat_tests, e)
@@ -74,11 +87,15 @@ small_ok (Some m) n e = elim (chosen (nat_le m 999) (done m) (Err faults.Number)
   | inr h ↦ absurd (cc h.1)
 ]
 
-numbers_ok : (ws : List Bytes) (ns : List ℕ) → each_of number_in ws ≡ Ok ns → AllByRecursion (λ n. n ≤ 999) ns
+numbers_ok : (ws : List Bytes) (ns : List ℕ)
+    → each_of number_in ws ≡ Ok ns
+    → AllByRecursion (λ n. n ≤ 999) ns
 numbers_ok ws ns e = each_ok number_in (λ n. n ≤ 999) (λ w n f. small_ok (number w) n f) ws ns e
 
 -- the numbers that code reads
-pub small_numbers : (r : Result (Vec ℕ) (LineError Fault)) (ws : List Bytes) → Gives (λ (v : Vec ℕ). v.items) r (each_of number_in ws) → IfOk r (λ v. All (λ n. n ≤ 999) v.items)
+pub small_numbers : (r : Result (Vec ℕ) (LineError Fault)) (ws : List Bytes)
+    → Gives (λ (v : Vec ℕ). v.items) r (each_of number_in ws)
+    → IfOk r (λ v. All (λ n. n ≤ 999) v.items)
 small_numbers (Ok v) ws h = All-from_recursion (λ n. n ≤ 999) v.items (numbers_ok ws v.items h)
 small_numbers (Err e) ws h = tt
 
@@ -87,7 +104,10 @@ small_numbers (Err e) ws h = tt
 same_number : (a b : ℕ) → nat_eq a b ≡ true → a ≡ b
 same_number a b e = grind (arith, nat_tests)
 
-in_list : (P : ℕ → Type 0) (ps : List ℕ) (v : ℕ) → AllByRecursion P ps → list_any (λ y. nat_eq y v) ps ≡ true → P v
+in_list : (P : ℕ → Type 0) (ps : List ℕ) (v : ℕ)
+    → AllByRecursion P ps
+    → list_any (λ y. nat_eq y v) ps ≡ true
+    → P v
 in_list P [] v h e = absurd (false≢true e)
 in_list P (p ∷ ps) v h e = elim (or_cases (nat_eq p v) (list_any (λ y. nat_eq y v) ps) e) [
   | inl here ↦ subst P (same_number p v here) h.0
@@ -114,17 +134,21 @@ edges_small ws s e =
 abbrev pub some_done : ℕ → Result (Option ℕ) Fault
 some_done v = Ok (Some v)
 
-first_small : (word : Option Bytes) (first : Option ℕ) → first_edge word ≡ Ok first → IfSome first (λ v. v ≤ 999)
+first_small : (word : Option Bytes) (first : Option ℕ)
+    → first_edge word ≡ Ok first
+    → IfSome first (λ v. v ≤ 999)
 first_small None first e = subst (λ (o : Option ℕ). IfSome o (λ v. v ≤ 999)) (ok_is None first e) tt
 first_small (Some word) first e =
     let t = then_ok (number_in word) (λ v. some_done v) first e in
-    subst (λ (o : Option ℕ). IfSome o (λ v. v ≤ 999)) (ok_is (Some t.0) first t.2) (small_ok (number word) t.0 t.1)
+    subst (λ (o : Option ℕ). IfSome o (λ v. v ≤ 999)) (ok_is (Some t.0) first t.2)
+    (small_ok (number word) t.0 t.1)
 
 abbrev pub body_done : SpanBody → Result SpanBody Fault
 body_done b = Ok b
 
 abbrev pub of_second : TreeWords → Option ℕ → FinSet nat_cmp → Result SpanBody Fault
-of_second t first a1 = and_then (edges_of (after_slash t.sets)) (λ a2. body_done (bodies.Trees first a1 a2))
+of_second t first a1 =
+    and_then (edges_of (after_slash t.sets)) (λ a2. body_done (bodies.Trees first a1 a2))
 
 abbrev pub of_first : TreeWords → Option ℕ → Result SpanBody Fault
 of_first t first = and_then (edges_of (before_slash t.sets)) (of_second t first)
@@ -136,8 +160,13 @@ sets_small : (t : TreeWords) (b : SpanBody) → of_sets t ≡ Ok b → IsSmallBo
 sets_small t b e =
     let f = then_ok (first_edge t.first) (of_first t) b e in
     let g = then_ok (edges_of (before_slash t.sets)) (of_second t f.0) b f.2 in
-    let h = then_ok (edges_of (after_slash t.sets)) (λ a2. body_done (bodies.Trees f.0 g.0 a2)) b g.2 in
-    subst IsSmallBody (ok_is (bodies.Trees f.0 g.0 h.0) b h.2) (first_small t.first f.0 f.1, edges_small (before_slash t.sets) g.0 g.1, edges_small (after_slash t.sets) h.0 h.1)
+    let h =
+    then_ok (edges_of (after_slash t.sets)) (λ a2. body_done (bodies.Trees f.0 g.0 a2)) b g.2 in
+    subst IsSmallBody (ok_is (bodies.Trees f.0 g.0 h.0) b h.2) (
+      first_small t.first f.0 f.1,
+      edges_small (before_slash t.sets) g.0 g.1,
+      edges_small (after_slash t.sets) h.0 h.1,
+    )
 
 trees_small : (t : TreeWords) (b : SpanBody) → trees_of t ≡ Ok b → IsSmallBody b
 trees_small t b e = elim (chosen (has_one_slash t.sets) (of_sets t) (Err faults.Form) (Ok b) e) [
@@ -148,17 +177,20 @@ trees_small t b e = elim (chosen (has_one_slash t.sets) (of_sets t) (Err faults.
 parts_small : (ws : List Bytes) (b : SpanBody) → parts_of ws ≡ Ok b → IsSmallBody b
 parts_small ws b e =
     let t = then_ok (each_of number_in ws) (λ ns. body_done (bodies.Parts ns)) b e in
-    subst IsSmallBody (ok_is (bodies.Parts t.0) b t.2) (All-from_recursion (λ n. n ≤ 999) t.0 (numbers_ok ws t.0 t.1))
+    subst IsSmallBody (ok_is (bodies.Parts t.0) b t.2)
+    (All-from_recursion (λ n. n ≤ 999) t.0 (numbers_ok ws t.0 t.1))
 
 words_small : (ws : List Bytes) (b : SpanBody) → body_from ws ≡ Ok b → IsSmallBody b
 words_small [] b e = absurd cc
-words_small (name ∷ ws) b e = elim (chosen (bytes_eq name (codes "trees")) (trees_of (cut_first ws)) _ (body_done b) e) [
-  | inl h ↦ trees_small (cut_first ws) b h.1
-  | inr h ↦ elim (chosen (bytes_eq name (codes "parts")) (parts_of ws) (Err faults.Form) (body_done b) h.1) [
-    | inl k ↦ parts_small ws b k.1
-    | inr k ↦ absurd (cc k.1)
-  ]
-]
+words_small (name ∷ ws) b e =
+    elim (chosen (bytes_eq name (codes "trees")) (trees_of (cut_first ws)) _ (body_done b) e) [
+      | inl h ↦ trees_small (cut_first ws) b h.1
+      | inr h ↦ elim (chosen (bytes_eq name (codes "parts")) (parts_of ws) (Err faults.Form)
+          (body_done b) h.1) [
+            | inl k ↦ parts_small ws b k.1
+            | inr k ↦ absurd (cc k.1)
+          ]
+    ]
 
 body_small : (line : Bytes) (b : SpanBody) → body_of line ≡ Ok b → IsSmallBody b
 unfolding body_of
@@ -179,57 +211,105 @@ record IsSmallDraft (d : Draft) : Type 0 where
 abbrev pub draft_done : Draft → Result Draft Fault
 draft_done d = Ok d
 
-header_keeps : (cs : List SpanClaim) (line : Bytes) (next : Draft) → IsSmallDraft (record { due = due.Header; claims = cs }) → header_line (record { due = due.Header; claims = cs }) line ≡ Ok next → IsSmallDraft next
-header_keeps cs line next h e = elim (chosen (bytes_eq line (codes "posgame-span-cert 1")) (draft_done (record { due = due.Claim; claims = cs })) (Err faults.Header) (Ok next) e) [
-  | inl k ↦ subst IsSmallDraft (ok_is (record { due = due.Claim; claims = cs }) next k.1) (record { room = h.room; numbers = h.numbers })
-  | inr k ↦ absurd (cc k.1)
-]
+header_keeps : (cs : List SpanClaim) (line : Bytes) (next : Draft)
+    → IsSmallDraft (record { due = due.Header; claims = cs })
+    → header_line (record { due = due.Header; claims = cs }) line ≡ Ok next
+    → IsSmallDraft next
+header_keeps cs line next h e =
+    elim (chosen (bytes_eq line (codes "posgame-span-cert 1")) (draft_done (record {
+      due = due.Claim;
+      claims = cs;
+    })) (Err faults.Header) (Ok next) e) [
+      | inl k ↦ subst IsSmallDraft (ok_is (record { due = due.Claim; claims = cs }) next k.1)
+          (record { room = h.room; numbers = h.numbers })
+      | inr k ↦ absurd (cc k.1)
+    ]
 
 fewer : (n : ℕ) → nat_le 8 n ≡ false → n < 8
 fewer n e = grind (arith, nat_tests, e)
 
-claimed_keeps : (cs : List SpanClaim) (head : Option Head) (next : Draft) → IsSmallDraft (record { due = due.Claim; claims = cs }) → claimed (record { due = due.Claim; claims = cs }) head ≡ Ok next → IsSmallDraft next
+claimed_keeps : (cs : List SpanClaim) (head : Option Head) (next : Draft)
+    → IsSmallDraft (record { due = due.Claim; claims = cs })
+    → claimed (record { due = due.Claim; claims = cs }) head ≡ Ok next
+    → IsSmallDraft next
 claimed_keeps cs None next h e = absurd cc
-claimed_keeps cs (Some head) next h e = elim (chosen (nat_le 8 (length cs)) (Err faults.Limit) (draft_done (record { due = due.Body head; claims = cs })) (Ok next) e) [
-  | inl k ↦ absurd (cc k.1)
-  | inr k ↦ subst IsSmallDraft (ok_is (record { due = due.Body head; claims = cs }) next k.1) (record { room = fewer (length cs) k.0; numbers = h.numbers })
-]
+claimed_keeps cs (Some head) next h e =
+    elim (chosen (nat_le 8 (length cs)) (Err faults.Limit) (draft_done (record {
+      due = due.Body head;
+      claims = cs;
+    })) (Ok next) e) [
+      | inl k ↦ absurd (cc k.1)
+      | inr k ↦ subst IsSmallDraft (ok_is (record { due = due.Body head; claims = cs }) next k.1)
+          (record { room = fewer (length cs) k.0; numbers = h.numbers })
+    ]
 
 abbrev pub claim_of : Head → SpanBody → SpanClaim
 claim_of head b = record { turn = head.turn; side = head.side; body = b }
 
-body_keeps : (head : Head) (cs : List SpanClaim) (line : Bytes) (next : Draft) → IsSmallDraft (record { due = due.Body head; claims = cs }) → body_line head (record { due = due.Body head; claims = cs }) line ≡ Ok next → IsSmallDraft next
+body_keeps : (head : Head) (cs : List SpanClaim) (line : Bytes) (next : Draft)
+    → IsSmallDraft (record { due = due.Body head; claims = cs })
+    → body_line head (record { due = due.Body head; claims = cs }) line ≡ Ok next
+    → IsSmallDraft next
 body_keeps head cs line next h e =
-    let t = then_ok (body_of line) (λ b. draft_done (record { due = due.Claim; claims = cs ++ claim_of head b ∷ [] })) next e in
-    subst IsSmallDraft (ok_is (record { due = due.Claim; claims = cs ++ claim_of head t.0 ∷ [] }) next t.2)
-    (record { room = omega (arith, h.room, length-append cs (claim_of head t.0 ∷ [])); numbers = all_append (λ (c : SpanClaim). IsSmallBody c.body) cs (claim_of head t.0 ∷ []) h.numbers (body_small line t.0 t.1, tt) })
+    let t = then_ok (body_of line)
+    (λ b. draft_done (record { due = due.Claim; claims = cs ++ claim_of head b ∷ [] })) next e in
+    subst IsSmallDraft
+    (ok_is (record { due = due.Claim; claims = cs ++ claim_of head t.0 ∷ [] }) next t.2) (record {
+      room = omega (arith, h.room, length-append cs (claim_of head t.0 ∷ []));
+      numbers = all_append (λ (c : SpanClaim). IsSmallBody c.body) cs
+          (claim_of head t.0 ∷ []) h.numbers (body_small line t.0 t.1, tt);
+    })
 
-line_keeps : (d : Due) (cs : List SpanClaim) (line : Bytes) (next : Draft) → IsSmallDraft (record { due = d; claims = cs }) → line_due d (record { due = d; claims = cs }) line ≡ Ok next → IsSmallDraft next
+line_keeps : (d : Due) (cs : List SpanClaim) (line : Bytes) (next : Draft)
+    → IsSmallDraft (record { due = d; claims = cs })
+    → line_due d (record { due = d; claims = cs }) line ≡ Ok next
+    → IsSmallDraft next
 line_keeps due.Header cs line next h e = header_keeps cs line next h e
 line_keeps due.Claim cs line next h e = claimed_keeps cs (head_of line) next h e
 line_keeps (due.Body head) cs line next h e = body_keeps head cs line next h e
 
-after_keeps : (d : Draft) (line : Bytes) (next : Draft) → IsSmallDraft d → after d line ≡ Ok next → IsSmallDraft next
+after_keeps : (d : Draft) (line : Bytes) (next : Draft)
+    → IsSmallDraft d
+    → after d line ≡ Ok next
+    → IsSmallDraft next
 unfolding after
 after_keeps d line next h e = line_keeps d.due d.claims line next h e
 
 -- what each line keeps, all lines keep
-read_keeps : (n : ℕ) (d last : Draft) (ls : List Bytes) → IsSmallDraft d → reading after n d ls ≡ Ok last → IsSmallDraft last
+read_keeps : (n : ℕ) (d last : Draft) (ls : List Bytes)
+    → IsSmallDraft d
+    → reading after n d ls ≡ Ok last
+    → IsSmallDraft last
 unfolding reading
 read_keeps n d last [] h e = subst IsSmallDraft (ok_is d last e) h
-read_keeps n d last (line ∷ ls) h e = went n d last line ls h (after d line) refl e (λ next k f. read_keeps (n + 1) next last ls k f)
+read_keeps n d last (line ∷ ls) h e =
+    went n d last line ls h (after d line) refl e (λ next k f. read_keeps (n + 1) next last ls k f)
   where
-    went : (n : ℕ) (d last : Draft) (line : Bytes) (ls : List Bytes) → IsSmallDraft d → (r : Result Draft Fault) → after d line ≡ r → go_on n r (λ next. reading after (n + 1) next ls) ≡ Ok last
-        → ((next : Draft) → IsSmallDraft next → reading after (n + 1) next ls ≡ Ok last → IsSmallDraft last) → IsSmallDraft last
+    went : (n : ℕ) (d last : Draft) (line : Bytes) (ls : List Bytes)
+        → IsSmallDraft d
+        → (r : Result Draft Fault) → after d line ≡ r
+        → go_on n r (λ next. reading after (n + 1) next ls) ≡ Ok last
+        → ((next : Draft) → IsSmallDraft next
+        → reading after (n + 1) next ls ≡ Ok last
+        → IsSmallDraft last)
+        → IsSmallDraft last
     went n d last line ls h (Ok next) is e others = others next (after_keeps d line next h is) e
     went n d last line ls h (Err fault) is e others = absurd cc
 
-ended_within : (n : ℕ) (d : Due) (cs : List SpanClaim) (c : SpanCert) → IsSmallDraft (record { due = d; claims = cs }) → ended n (record { due = d; claims = cs }) (end_fault (record { due = d; claims = cs })) ≡ Ok c → IsWithinRanges c
+ended_within : (n : ℕ) (d : Due) (cs : List SpanClaim) (c : SpanCert)
+    → IsSmallDraft (record { due = d; claims = cs })
+    → ended n (record { due = d; claims = cs }) (end_fault (record { due = d; claims = cs })) ≡ Ok c
+    → IsWithinRanges c
 ended_within n due.Header cs c h e = absurd cc
 ended_within n (due.Body head) cs c h e = absurd cc
 ended_within n due.Claim [] c h e = absurd cc
-ended_within n due.Claim (claim ∷ cs) c h e =
-    subst IsWithinRanges (ok_is (record { claims = claim ∷ cs }) c (sym (ends_well (claim ∷ cs) n (omega arith)) ∙ e)) (record { some = omega arith; few = h.room; numbers = All-from_recursion (λ (c : SpanClaim). IsSmallBody c.body) (claim ∷ cs) h.numbers })
+ended_within n due.Claim (claim ∷ cs) c h e = subst IsWithinRanges (ok_is (record {
+  claims = claim ∷ cs;
+}) c (sym (ends_well (claim ∷ cs) n (omega arith)) ∙ e)) (record {
+  some = omega arith;
+  few = h.room;
+  numbers = All-from_recursion (λ (c : SpanClaim). IsSmallBody c.body) (claim ∷ cs) h.numbers;
+})
 
 at_first : IsSmallDraft nothing
 at_first = record { room = omega arith; numbers = tt }
@@ -241,12 +321,17 @@ said_within ls c e =
 
 pub read_within : (text : Bytes) (c : SpanCert) → span_cert text ≡ Ok c → IsWithinRanges c
 unfolding span_cert
-read_within text c e = elim (chosen (nat_lt 4194304 (length text)) (Err (faults.Size, 0)) (said (lines text)) (Ok c) e) [
+read_within text c e = elim (chosen (nat_lt 4194304 (length text)) (Err (
+  faults.Size,
+  0,
+)) (said (lines text)) (Ok c) e) [
   | inl h ↦ absurd (cc h.1)
   | inr h ↦ said_within (lines text) c h.1
 ]
 
 -- the same of what code answers
-pub answer_within : (r : Result SpanCert FileError) (text : Bytes) → IsReadAs (λ (c : SpanCert). c) r (span_cert text) → IfOk r IsWithinRanges
+pub answer_within : (r : Result SpanCert FileError) (text : Bytes)
+    → IsReadAs (λ (c : SpanCert). c) r (span_cert text)
+    → IfOk r IsWithinRanges
 answer_within (Ok c) text h = read_within text c h
 answer_within (Err e) text h = tt

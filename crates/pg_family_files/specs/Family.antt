@@ -25,7 +25,8 @@ key_name keys.Turn = codes "turn"
 
 -- all keys
 abbrev pub all_keys : List Key
-all_keys = keys.Vertices ∷ keys.Edge ∷ keys.Rows ∷ keys.Target ∷ keys.Vector ∷ keys.X ∷ keys.Y ∷ keys.Turn ∷ []
+all_keys = keys.Vertices ∷ keys.Edge ∷ keys.Rows ∷ keys.Target ∷ keys.Vector ∷ keys.X ∷ keys.Y
+    ∷ keys.Turn ∷ []
 
 abbrev pub is_connectivity : Family → Bool
 is_connectivity families.Connectivity = true

@@ -43,7 +43,18 @@ pub record Draft : Type 0 where
 
 -- the draft before the first line
 abbrev pub nothing : Draft
-nothing = record { begun = false; rank = 0; vertices = 0; ends = []; rows = 0; target = 0; vectors = []; x = empty; y = empty; turn = None }
+nothing = record {
+  begun = false;
+  rank = 0;
+  vertices = 0;
+  ends = [];
+  rows = 0;
+  target = 0;
+  vectors = [];
+  x = empty;
+  y = empty;
+  turn = None;
+}
 
 -- how many points a game of the family has, by the numbers of its edges and of its vectors
 abbrev pub points_for : Family → ℕ → ℕ → ℕ
@@ -67,7 +78,8 @@ signs_value (b ∷ bs) = (if b == 49 then 1 else 0) + 2 * signs_value bs
 
 -- the vector that a word of as many signs as rows writes
 abbrev pub vector_of : ℕ → Bytes → Option ℕ
-vector_of rows word = if length word == rows && list_all is_sign word then Some (signs_value word) else None
+vector_of rows word =
+    if length word == rows && list_all is_sign word then Some (signs_value word) else None
 
 -- ---- the faults of a line
 
@@ -76,9 +88,11 @@ abbrev pub is_unknown_choice : Key → List Bytes → Bool
 is_unknown_choice keys.Turn (word ∷ others) = is_none (side_of word)
 is_unknown_choice _ _ = false
 
--- a key whose rank is below the greatest so far or repeats one other than 4, or before which a needed key lacks
+-- a key whose rank is below the greatest so far or repeats one other than 4, or before which a
+-- needed key lacks
 abbrev pub is_out_of_place : Family → Draft → Key → Bool
-is_out_of_place family d key = nat_lt (rank_of key) d.rank || ((rank_of key == d.rank && not (rank_of key == 4)) || nat_lt d.rank (needed_rank family key))
+is_out_of_place family d key = nat_lt (rank_of key) d.rank
+    || ((rank_of key == d.rank && not (rank_of key == 4)) || nat_lt d.rank (needed_rank family key))
 
 -- the wrong number of arguments, or one in a number's place that is none
 abbrev pub is_ill_formed : Key → List Bytes → Bool
@@ -90,7 +104,8 @@ is_ill_formed keys.Rows arguments = not (length arguments == 1) || is_none (numb
 is_ill_formed keys.Edge arguments = not (length arguments == 2) || is_none (numbers arguments)
 is_ill_formed _ arguments = is_none (numbers arguments)
 
--- a point that isn't below the number of points, or a vertex that isn't below the number of vertices
+-- a point that isn't below the number of points, or a vertex that isn't below the number of
+-- vertices
 abbrev pub is_out_of_range : Family → Draft → Key → List ℕ → Bool
 is_out_of_range family d keys.X ns = not (list_all (λ n. nat_lt n (points_so_far family d)) ns)
 is_out_of_range family d keys.Y ns = not (list_all (λ n. nat_lt n (points_so_far family d)) ns)
@@ -140,11 +155,18 @@ first_vector d arguments = unwrap_or (vector_of d.rows (first arguments)) 0
 
 -- the draft after a line without a fault
 abbrev pub said : Draft → Key → List Bytes → Draft
-said d keys.Vertices arguments = record d { rank = rank_of keys.Vertices; vertices = first_number (numbers_of arguments) }
-said d keys.Rows arguments = record d { rank = rank_of keys.Rows; rows = first_number (numbers_of arguments) }
-said d keys.Target arguments = record d { rank = rank_of keys.Target; target = first_vector d arguments }
-said d keys.Edge arguments = record d { rank = rank_of keys.Edge; ends = d.ends ++ (first_number (numbers_of arguments), second_number (numbers_of arguments)) ∷ [] }
-said d keys.Vector arguments = record d { rank = rank_of keys.Vector; vectors = d.vectors ++ first_vector d arguments ∷ [] }
+said d keys.Vertices arguments =
+    record d { rank = rank_of keys.Vertices; vertices = first_number (numbers_of arguments) }
+said d keys.Rows arguments =
+    record d { rank = rank_of keys.Rows; rows = first_number (numbers_of arguments) }
+said d keys.Target arguments =
+    record d { rank = rank_of keys.Target; target = first_vector d arguments }
+said d keys.Edge arguments = record d {
+  rank = rank_of keys.Edge;
+  ends = d.ends ++ (first_number (numbers_of arguments), second_number (numbers_of arguments)) ∷ [];
+}
+said d keys.Vector arguments =
+    record d { rank = rank_of keys.Vector; vectors = d.vectors ++ first_vector d arguments ∷ [] }
 said d keys.X arguments = record d { rank = rank_of keys.X; x = set_of (numbers_of arguments) }
 said d keys.Y arguments = record d { rank = rank_of keys.Y; y = set_of (numbers_of arguments) }
 said d keys.Turn arguments = record d { rank = rank_of keys.Turn; turn = side_of (first arguments) }
@@ -160,16 +182,25 @@ named family d (Some key) arguments = keyed family d key arguments
 
 -- the words of the first significant line
 abbrev pub is_header : Family → List Bytes → Bool
-is_header family (word ∷ version ∷ []) = bytes_eq word (header_word family) && bytes_eq version (codes "1")
+is_header family (word ∷ version ∷ []) =
+    bytes_eq word (header_word family) && bytes_eq version (codes "1")
 is_header family _ = false
 
 -- The draft after a significant line, or its fault.
 unfoldable pub significant : Family → Draft → List Bytes → Result Draft Fault
-significant family d ws = if d.begun then named family d (key_of family (first ws)) (rest ws) else if is_header family ws then Ok (record d { begun = true }) else Err faults.Header
+significant family d ws = if d.begun
+    then named family d (key_of family (first ws)) (rest ws)
+    else if is_header family ws
+    then Ok (record d { begun = true })
+    else Err faults.Header
 
 -- The draft after a line, or the line's fault.
 unfoldable pub after : Family → Draft → Bytes → Result Draft Fault
-after family d line = if not (list_all is_printable line) then Err faults.Bytes else if begins_comment line || length (words line) == 0 then Ok d else significant family d (words line)
+after family d line = if not (list_all is_printable line)
+    then Err faults.Bytes
+    else if begins_comment line || length (words line) == 0
+    then Ok d
+    else significant family d (words line)
 
 -- ---- the whole file
 
@@ -190,7 +221,9 @@ ended (Ok d) = if d.begun then turned d d.turn else Err (faults.Header, 0)
 
 -- What a file of the family says, or its fault with the number of the line.
 unfoldable pub whole : Family → Bytes → Result Whole (Fault × ℕ)
-whole family text = if nat_lt MAX_GAME_BYTES (length text) then Err (faults.Size, 0) else ended (reading (after family) 1 nothing (lines text))
+whole family text = if nat_lt MAX_GAME_BYTES (length text)
+    then Err (faults.Size, 0)
+    else ended (reading (after family) 1 nothing (lines text))
 
 -- what is made of a whole file, if it has no fault
 abbrev pub made : {G : Type 0} → (Whole → G) → Result Whole (Fault × ℕ) → Result G (Fault × ℕ)
@@ -207,7 +240,12 @@ pub record SpanEntry : Type 0 where
   pub turn : Side
 
 abbrev pub span_of : Whole → SpanEntry
-span_of w = record { graph = record { vertices = w.draft.vertices; s = 0; t = 1; ends = w.draft.ends }; x = w.draft.x; y = w.draft.y; turn = w.turn }
+span_of w = record {
+  graph = record { vertices = w.draft.vertices; s = 0; t = 1; ends = w.draft.ends };
+  x = w.draft.x;
+  y = w.draft.y;
+  turn = w.turn;
+}
 
 -- The connectivity game that a text says, or its fault with the number of the line.
 abbrev pub span_game : Bytes → Result SpanEntry (Fault × ℕ)
@@ -225,7 +263,14 @@ pub record VectorEntry : Type 0 where
   pub turn : Side
 
 abbrev pub vectors_of : Whole → VectorEntry
-vectors_of w = record { rows = w.draft.rows; target = w.draft.target; vectors = w.draft.vectors; x = w.draft.x; y = w.draft.y; turn = w.turn }
+vectors_of w = record {
+  rows = w.draft.rows;
+  target = w.draft.target;
+  vectors = w.draft.vectors;
+  x = w.draft.x;
+  y = w.draft.y;
+  turn = w.turn;
+}
 
 -- The game on vectors that a text says, or its fault with the number of the line.
 abbrev pub vector_game : Bytes → Result VectorEntry (Fault × ℕ)

@@ -19,11 +19,17 @@ named_faults family d (Some key) arguments = keyed_faults family d key arguments
 
 -- the faults that a line of these words can have
 abbrev pub words_faults : Family → Draft → List Bytes → List (Fault × Bool)
-words_faults family d ws = if d.begun then (faults.Key, is_none (key_of family (first ws))) ∷ named_faults family d (key_of family (first ws)) (rest ws) else (faults.Header, not (is_header family ws)) ∷ []
+words_faults family d ws = if d.begun
+    then (faults.Key, is_none (key_of family (first ws)))
+    ∷ named_faults family d (key_of family (first ws)) (rest ws)
+    else (faults.Header, not (is_header family ws)) ∷ []
 
 -- the faults that a line can have, in ascending order, each with whether it applies
 abbrev pub line_faults : Family → Draft → Bytes → List (Fault × Bool)
-line_faults family d line = (faults.Bytes, not (list_all is_printable line)) ∷ (if begins_comment line || length (words line) == 0 then [] else words_faults family d (words line))
+line_faults family d line = (faults.Bytes, not (list_all is_printable line))
+    ∷ (if begins_comment line || length (words line) == 0
+    then []
+    else words_faults family d (words line))
 
 -- the lines before this one have no fault, and it has this one as its least
 pub record IsFirstFault (family : Family) (text : Bytes) (fault : Fault) (number : ℕ) : Type 0 where
@@ -36,9 +42,11 @@ pub record IsFirstFault (family : Family) (text : Bytes) (fault : Fault) (number
   pub least : IsLeast fault (line_faults family draft line)
   pub counted : number ≡ length before + 1
 
--- what is told where no line has a fault: that there is no significant line, or else that the turn lacks
+-- what is told where no line has a fault: that there is no significant line, or else that the turn
+-- lacks
 abbrev pub Lacks : Draft → Fault → Type 0
-Lacks draft fault = ((draft.begun ≡ false) × (fault ≡ faults.Header)) ⊎ ((draft.begun ≡ true) × (draft.turn ≡ None) × (fault ≡ faults.Ends))
+Lacks draft fault = ((draft.begun ≡ false) × (fault ≡ faults.Header))
+    ⊎ ((draft.begun ≡ true) × (draft.turn ≡ None) × (fault ≡ faults.Ends))
 
 -- no line has a fault, and at the end something lacks
 pub record IsFaultOfEnd (family : Family) (text : Bytes) (fault : Fault) : Type 0 where
@@ -48,4 +56,5 @@ pub record IsFaultOfEnd (family : Family) (text : Bytes) (fault : Fault) : Type 
 
 -- the text is too long, or no line has a fault and something lacks
 pub record IsWholeFault (family : Family) (text : Bytes) (fault : Fault) : Type 0 where
-  pub why : ((MAX_GAME_BYTES < length text) × (fault ≡ faults.Size)) ⊎ IsFaultOfEnd family text fault
+  pub why : ((MAX_GAME_BYTES < length text) × (fault ≡ faults.Size))
+      ⊎ IsFaultOfEnd family text fault

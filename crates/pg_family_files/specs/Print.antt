@@ -34,11 +34,13 @@ vector_words rows v = worded keys.Vector (signs_of rows v)
 
 -- the lines of a connectivity game, each as its words
 abbrev pub span_lines : SpanGame → List (List Bytes)
-span_lines g = header families.Connectivity ∷ numbered keys.Vertices (g.graph.vertices ∷ []) ∷ (map edge_words g.graph.ends ++ last_lines g.x g.y g.turn)
+span_lines g = header families.Connectivity ∷ numbered keys.Vertices (g.graph.vertices ∷ [])
+    ∷ (map edge_words g.graph.ends ++ last_lines g.x g.y g.turn)
 
 -- the lines of a game on vectors, each as its words
 abbrev pub vector_lines : VecGame → List (List Bytes)
-vector_lines g = header families.Vectors ∷ numbered keys.Rows (g.rows ∷ []) ∷ worded keys.Target (signs_of g.rows g.target) ∷ (map (vector_words g.rows) g.vectors ++ last_lines g.x g.y g.turn)
+vector_lines g = header families.Vectors ∷ numbered keys.Rows (g.rows ∷ []) ∷ worded keys.Target
+    (signs_of g.rows g.target) ∷ (map (vector_words g.rows) g.vectors ++ last_lines g.x g.y g.turn)
 
 -- The printed text of a connectivity game.
 unfoldable pub printed_span : SpanGame → Bytes

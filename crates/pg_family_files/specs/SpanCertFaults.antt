@@ -17,13 +17,19 @@ use Rattle.pg_family_files.specs.declared.cert_limits.TheConstants.{MAX_SPAN_CER
 -- the words have the form of a body, save for their numbers
 abbrev pub has_form : List Bytes → Bool
 has_form [] = false
-has_form (name ∷ ws) = if bytes_eq name (codes "trees") then has_one_slash (cut_first ws).sets else bytes_eq name (codes "parts")
+has_form (name ∷ ws) = if bytes_eq name (codes "trees")
+    then has_one_slash (cut_first ws).sets
+    else bytes_eq name (codes "parts")
 
--- the faults that a line can have where this one is due behind so many claims, in ascending order, each with whether it applies
+-- the faults that a line can have where this one is due behind so many claims, in ascending order,
+-- each with whether it applies
 abbrev pub line_faults : Due → ℕ → Bytes → List (Fault × Bool)
-line_faults due.Header claims line = (faults.Header, not (bytes_eq line (codes "posgame-span-cert 1"))) ∷ []
-line_faults due.Claim claims line = (faults.Form, is_none (head_of line)) ∷ (faults.Limit, nat_le MAX_CLAIMS claims) ∷ []
-line_faults (due.Body head) claims line = (faults.Form, not (has_form (parts SPACE line))) ∷ (faults.Number, is_err (body_of line)) ∷ []
+line_faults due.Header claims line =
+    (faults.Header, not (bytes_eq line (codes "posgame-span-cert 1"))) ∷ []
+line_faults due.Claim claims line =
+    (faults.Form, is_none (head_of line)) ∷ (faults.Limit, nat_le MAX_CLAIMS claims) ∷ []
+line_faults (due.Body head) claims line =
+    (faults.Form, not (has_form (parts SPACE line))) ∷ (faults.Number, is_err (body_of line)) ∷ []
 
 -- the file is too large
 pub record IsTooLarge (text : Bytes) (fault : Fault) (number : ℕ) : Type 0 where
@@ -51,4 +57,5 @@ pub record IsFaultOfEnd (text : Bytes) (fault : Fault) (number : ℕ) : Type 0 w
 
 -- the three ways
 abbrev pub IsFirstFault : Bytes → Fault → ℕ → Type 0
-IsFirstFault text fault number = IsTooLarge text fault number ⊎ (IsFaultOfLine text fault number ⊎ IsFaultOfEnd text fault number)
+IsFirstFault text fault number = IsTooLarge text fault number
+    ⊎ (IsFaultOfLine text fault number ⊎ IsFaultOfEnd text fault number)

@@ -1,4 +1,5 @@
--- Certificate files of connectivity games: which line is due, what each line adds, and the first fault.
+-- Certificate files of connectivity games: which line is due, what each line adds, and the first
+-- fault.
 use Rattle.std.specs.Prelude.{ℕ, ◌+◌, ◌==◌, nat_lt, nat_le, if◌then◌else◌, List, [], ◌∷◌, ◌++◌, length, Option, Some, None, Result, Ok, Err, codes}
 use Rattle.std.specs.Str.{bytes_eq}
 use Rattle.pg_text.specs.Faults.{and_then, reading}
@@ -27,12 +28,16 @@ nothing = record { due = due.Header; claims = [] }
 
 -- the first line
 abbrev pub header_line : Draft → Bytes → Result Draft Fault
-header_line d line = if bytes_eq line (codes "posgame-span-cert 1") then Ok (record d { due = due.Claim }) else Err faults.Header
+header_line d line = if bytes_eq line (codes "posgame-span-cert 1")
+    then Ok (record d { due = due.Claim })
+    else Err faults.Header
 
 -- a claim line of the right form: the ninth is too many
 abbrev pub claimed : Draft → Option Head → Result Draft Fault
 claimed d None = Err faults.Form
-claimed d (Some head) = if nat_le MAX_CLAIMS (length d.claims) then Err faults.Limit else Ok (record d { due = due.Body head })
+claimed d (Some head) = if nat_le MAX_CLAIMS (length d.claims)
+    then Err faults.Limit
+    else Ok (record d { due = due.Body head })
 
 -- where a claim line is due
 abbrev pub claim_line : Draft → Bytes → Result Draft Fault
@@ -40,7 +45,10 @@ claim_line d line = claimed d (head_of line)
 
 -- where the body of a claim is due
 abbrev pub body_line : Head → Draft → Bytes → Result Draft Fault
-body_line head d line = and_then (body_of line) (λ body. Ok (record { due = due.Claim; claims = d.claims ++ record { turn = head.turn; side = head.side; body = body } ∷ [] }))
+body_line head d line = and_then (body_of line) (λ body. Ok (record {
+  due = due.Claim;
+  claims = d.claims ++ record { turn = head.turn; side = head.side; body = body } ∷ [];
+}))
 
 -- a line, by which one is due
 abbrev pub line_due : Due → Draft → Bytes → Result Draft Fault
@@ -66,10 +74,12 @@ abbrev pub ended : ℕ → Draft → Option Fault → Result SpanCert (Fault × 
 ended number d None = Ok (record { claims = d.claims })
 ended number d (Some fault) = Err (fault, number)
 
--- what the lines say: the first faulty line decides, and else the end, which stands behind the last line
+-- what the lines say: the first faulty line decides, and else the end, which stands behind the last
+-- line
 abbrev pub said : List Bytes → Result SpanCert (Fault × ℕ)
 said ls = and_then (reading after 1 nothing ls) (λ d. ended (length ls + 1) d (end_fault d))
 
 -- the certificate of a file, or its first fault with the number of the line
 unfoldable pub span_cert : Bytes → Result SpanCert (Fault × ℕ)
-span_cert text = if nat_lt MAX_SPAN_CERT_BYTES (length text) then Err (faults.Size, 0) else said (lines text)
+span_cert text =
+    if nat_lt MAX_SPAN_CERT_BYTES (length text) then Err (faults.Size, 0) else said (lines text)

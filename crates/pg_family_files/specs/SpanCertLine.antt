@@ -26,7 +26,8 @@ head_with _ _ = None
 
 -- what three words claim
 abbrev pub head_from : List Bytes → Option Head
-head_from (name ∷ turn ∷ side ∷ []) = if bytes_eq name (codes "claim") then head_with (side_of turn) (side_of side) else None
+head_from (name ∷ turn ∷ side ∷ []) =
+    if bytes_eq name (codes "claim") then head_with (side_of turn) (side_of side) else None
 head_from _ = None
 
 -- what a claim line says, if it has the form of one
@@ -78,9 +79,9 @@ first_edge (Some word) = and_then (number_in word) (λ v. Ok (Some v))
 
 -- two sets of edges with one slash between them; their form comes before their numbers
 abbrev pub trees_of : TreeWords → Result SpanBody Fault
-trees_of t =
-    if has_one_slash t.sets
-    then and_then (first_edge t.first) (λ first. and_then (edges_of (before_slash t.sets)) (λ a1. and_then (edges_of (after_slash t.sets)) (λ a2. Ok (bodies.Trees first a1 a2))))
+trees_of t = if has_one_slash t.sets
+    then and_then (first_edge t.first) (λ first. and_then (edges_of (before_slash t.sets))
+    (λ a1. and_then (edges_of (after_slash t.sets)) (λ a2. Ok (bodies.Trees first a1 a2))))
     else Err faults.Form
 
 -- a number for each vertex

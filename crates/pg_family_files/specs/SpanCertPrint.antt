@@ -22,7 +22,8 @@ AreSmall s = (v : ℕ) → contains s v ≡ true → v ≤ MAX_SPAN_NUMBER
 
 -- no number of the body is above the limit
 abbrev pub IsSmallBody : SpanBody → Type 0
-IsSmallBody (bodies.Trees first a1 a2) = IfSome first (λ v. v ≤ MAX_SPAN_NUMBER) × AreSmall a1 × AreSmall a2
+IsSmallBody (bodies.Trees first a1 a2) =
+    IfSome first (λ v. v ≤ MAX_SPAN_NUMBER) × AreSmall a1 × AreSmall a2
 IsSmallBody (bodies.Parts ns) = All (λ n. n ≤ MAX_SPAN_NUMBER) ns
 
 -- one to eight claims, and no number above the limit
@@ -48,7 +49,8 @@ first_words (Some v) = codes "first" ∷ decimal v ∷ []
 
 -- the words of a body: trees with a slash between the two sets, or the numbers of the parts
 abbrev pub body_words : SpanBody → List Bytes
-body_words (bodies.Trees first a1 a2) = codes "trees" ∷ (first_words first ++ (set_words a1 ++ codes "/" ∷ set_words a2))
+body_words (bodies.Trees first a1 a2) =
+    codes "trees" ∷ (first_words first ++ (set_words a1 ++ codes "/" ∷ set_words a2))
 body_words (bodies.Parts ns) = codes "parts" ∷ map decimal ns
 
 -- the two lines of a claim, each as its words

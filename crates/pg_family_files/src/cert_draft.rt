@@ -110,7 +110,8 @@ impl CertDraft {
         }
     }
 
-    /// The certificate that the lines have said, or what lacks at the end, which has this number as a line.
+    /// The certificate that the lines have said, or what lacks at the end, which has this number as
+    /// a line.
     pub(crate) fn finish(self, number: u32) -> Result<SpanCert, FileError>
         ensures { IsReadAs (λ c. c) result (ended number (view self) (end_fault (view self))) }
     {

@@ -17,7 +17,9 @@ use std::fmt::Write;
 /// Puts an edge behind a space where it is in the set.
 fn put_member(out: &mut String, set: &PointSet, p: u16) -> Result<(), AllocError>
     requires { p < MAX_MEMBERS }
-    ensures { OnOk result (string_bytes out.new ≡ string_bytes out.old ++ separated true (one_where (contains set.now p) p)) }
+    ensures { OnOk result
+        (string_bytes out.new
+        ≡ string_bytes out.old ++ separated true (one_where (contains set.now p) p)) }
 {
     if set.has(p) {
         write!(out, " {p}")?;
@@ -27,7 +29,8 @@ fn put_member(out: &mut String, set: &PointSet, p: u16) -> Result<(), AllocError
 
 /// Puts the edges of a set, each behind a space.
 fn put_set(out: &mut String, set: &PointSet) -> Result<(), AllocError>
-    ensures { OnOk result (string_bytes out.new ≡ string_bytes out.old ++ behind_spaces (set_words set.now)) }
+    ensures { OnOk result
+        (string_bytes out.new ≡ string_bytes out.old ++ behind_spaces (set_words set.now)) }
 {
     for p in 0..MAX_MEMBERS {
         put_member(out, set, p)?;
@@ -37,7 +40,8 @@ fn put_set(out: &mut String, set: &PointSet) -> Result<(), AllocError>
 
 /// Puts numbers, each behind a space.
 fn put_numbers(out: &mut String, numbers: &[u16]) -> Result<(), AllocError>
-    ensures { OnOk result (string_bytes out.new ≡ string_bytes out.old ++ behind_spaces (map decimal numbers.now)) }
+    ensures { OnOk result
+        (string_bytes out.new ≡ string_bytes out.old ++ behind_spaces (map decimal numbers.now)) }
 {
     for n in numbers {
         write!(out, " {n}")?;
@@ -47,7 +51,8 @@ fn put_numbers(out: &mut String, numbers: &[u16]) -> Result<(), AllocError>
 
 /// Puts the edge that is claimed first, where there is one.
 fn put_first(out: &mut String, first: Option<u16>) -> Result<(), AllocError>
-    ensures { OnOk result (string_bytes out.new ≡ string_bytes out.old ++ behind_spaces (first_words first)) }
+    ensures { OnOk result
+        (string_bytes out.new ≡ string_bytes out.old ++ behind_spaces (first_words first)) }
 {
     if let Some(v) = first {
         write!(out, " first {v}")?;
@@ -57,7 +62,8 @@ fn put_first(out: &mut String, first: Option<u16>) -> Result<(), AllocError>
 
 /// Puts the line of a body.
 fn put_body(out: &mut String, body: &SpanBody) -> Result<(), AllocError>
-    ensures { OnOk result (string_bytes out.new ≡ string_bytes out.old ++ spelled (body_words body.now)) }
+    ensures { OnOk result
+        (string_bytes out.new ≡ string_bytes out.old ++ spelled (body_words body.now)) }
 {
     match body {
         SpanBody::Trees { first, a1, a2 } => {
@@ -78,7 +84,8 @@ fn put_body(out: &mut String, body: &SpanBody) -> Result<(), AllocError>
 
 /// Puts the two lines of a claim.
 fn put_claim(out: &mut String, claim: &SpanClaim) -> Result<(), AllocError>
-    ensures { OnOk result (string_bytes out.new ≡ string_bytes out.old ++ flat_map spelled (claim_lines claim.now)) }
+    ensures { OnOk result
+        (string_bytes out.new ≡ string_bytes out.old ++ flat_map spelled (claim_lines claim.now)) }
 {
     let turn = claim.turn.word();
     let side = claim.side.word();
@@ -88,7 +95,9 @@ fn put_claim(out: &mut String, claim: &SpanClaim) -> Result<(), AllocError>
 
 /// Puts the lines of claims.
 fn put_claims(out: &mut String, claims: &[SpanClaim]) -> Result<(), AllocError>
-    ensures { OnOk result (string_bytes out.new ≡ string_bytes out.old ++ flat_map (λ c. flat_map spelled (claim_lines c)) claims.now) }
+    ensures { OnOk result
+        (string_bytes out.new
+        ≡ string_bytes out.old ++ flat_map (λ c. flat_map spelled (claim_lines c)) claims.now) }
 {
     for claim in claims {
         put_claim(out, claim)?;
@@ -96,7 +105,8 @@ fn put_claims(out: &mut String, claims: &[SpanClaim]) -> Result<(), AllocError>
     Ok(())
 }
 
-/// The text of a certificate of one to eight claims without a number above `MAX_SPAN_NUMBER`, with a line feed after every line.
+/// The text of a certificate of one to eight claims without a number above `MAX_SPAN_NUMBER`, with
+/// a line feed after every line.
 ///
 /// # Errors
 ///

@@ -6,7 +6,8 @@ ghost use Rattle.pg_gf2.specs.declared.game.TheConstants.{MAX_ROWS, MAX_VECTORS}
 
 use pg_base::{PointSet, Side};
 
-/// What the lines of a file have said so far. Of the parts that one family alone has, the other says nothing.
+/// What the lines of a file have said so far. Of the parts that one family alone has, the other
+/// says nothing.
 #[derive(Debug, Drop)]
 pub struct Draft {
     /// Whether the header has stood.

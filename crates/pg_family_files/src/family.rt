@@ -107,7 +107,8 @@ impl Key {
         }
     }
 
-    /// The greatest rank below its own of which a key is needed in games of the family, 0 where none is.
+    /// The greatest rank below its own of which a key is needed in games of the family, 0 where
+    /// none is.
     pub fn needed_rank(self, family: Family) -> u8
         ensures { result ≡ needed_rank family self }
     {

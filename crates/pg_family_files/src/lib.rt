@@ -1,5 +1,5 @@
-//! Files of connectivity games and of games on vectors: game files, read by one reader, and certificate files of connectivity
-//! games; all read with the first fault, and printed.
+//! Files of connectivity games and of games on vectors: game files, read by one reader, and
+//! certificate files of connectivity games; all read with the first fault, and printed.
 #![tactic(auto)]
 
 mod cert_draft;

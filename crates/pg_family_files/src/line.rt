@@ -60,7 +60,8 @@ impl Draft {
 
     #[tactic(auto, unfolding(crate::specs::FamilyFile::keyed, pg_text::specs::Text::numbers))]
     fn add_vertices(&mut self, family: Family, arguments: &[&[u8]]) -> Result<(), LineError<Fault>>
-        ensures { Becomes result (view self.new) (keyed family (view self.old) keys.Vertices (map (λ w. w.now) arguments.now)) }
+        ensures { Becomes result (view self.new)
+            (keyed family (view self.old) keys.Vertices (map (λ w. w.now) arguments.now)) }
     {
         if self.is_out_of_place(family, Key::Vertices) {
             return Err(LineError::Fault(Fault::Order));
@@ -81,7 +82,8 @@ impl Draft {
 
     #[tactic(auto, unfolding(crate::specs::FamilyFile::keyed, pg_text::specs::Text::numbers))]
     fn add_rows(&mut self, family: Family, arguments: &[&[u8]]) -> Result<(), LineError<Fault>>
-        ensures { Becomes result (view self.new) (keyed family (view self.old) keys.Rows (map (λ w. w.now) arguments.now)) }
+        ensures { Becomes result (view self.new)
+            (keyed family (view self.old) keys.Rows (map (λ w. w.now) arguments.now)) }
     {
         if self.is_out_of_place(family, Key::Rows) {
             return Err(LineError::Fault(Fault::Order));
@@ -102,7 +104,8 @@ impl Draft {
 
     #[tactic(auto, unfolding(crate::specs::FamilyFile::keyed))]
     fn add_target(&mut self, family: Family, arguments: &[&[u8]]) -> Result<(), LineError<Fault>>
-        ensures { Becomes result (view self.new) (keyed family (view self.old) keys.Target (map (λ w. w.now) arguments.now)) }
+        ensures { Becomes result (view self.new)
+            (keyed family (view self.old) keys.Target (map (λ w. w.now) arguments.now)) }
     {
         if self.is_out_of_place(family, Key::Target) {
             return Err(LineError::Fault(Fault::Order));
@@ -120,7 +123,8 @@ impl Draft {
 
     #[tactic(auto, unfolding(crate::specs::FamilyFile::keyed, pg_text::specs::Text::numbers))]
     fn add_edge(&mut self, family: Family, arguments: &[&[u8]]) -> Result<(), LineError<Fault>>
-        ensures { Becomes result (view self.new) (keyed family (view self.old) keys.Edge (map (λ w. w.now) arguments.now)) }
+        ensures { Becomes result (view self.new)
+            (keyed family (view self.old) keys.Edge (map (λ w. w.now) arguments.now)) }
     {
         if self.is_out_of_place(family, Key::Edge) {
             return Err(LineError::Fault(Fault::Order));
@@ -142,7 +146,8 @@ impl Draft {
 
     #[tactic(auto, unfolding(crate::specs::FamilyFile::keyed))]
     fn add_vector(&mut self, family: Family, arguments: &[&[u8]]) -> Result<(), LineError<Fault>>
-        ensures { Becomes result (view self.new) (keyed family (view self.old) keys.Vector (map (λ w. w.now) arguments.now)) }
+        ensures { Becomes result (view self.new)
+            (keyed family (view self.old) keys.Vector (map (λ w. w.now) arguments.now)) }
     {
         if self.is_out_of_place(family, Key::Vector) {
             return Err(LineError::Fault(Fault::Order));
@@ -163,7 +168,10 @@ impl Draft {
 
     /// The fault of marks with these numbers, none of which may be in the set.
     fn marks_fault(&self, family: Family, numbers: &[u32], apart: PointSet) -> Option<Fault>
-        ensures fault { result ≡ least ((faults.Range, not (list_all (λ n. nat_lt n (points_so_far family (view self.now))) numbers.now)) ∷ (faults.Repeated, repeats apart numbers.now) ∷ []) }
+        ensures fault { result ≡ least ((
+          faults.Range,
+          not (list_all (λ n. nat_lt n (points_so_far family (view self.now))) numbers.now),
+        ) ∷ (faults.Repeated, repeats apart numbers.now) ∷ []) }
         ensures below { IfNone result (IsTrue (list_all (λ n. nat_lt n MAX_MEMBERS) numbers.now)) }
     {
         if !are_below(numbers, self.points_so_far(family)) {
@@ -182,7 +190,8 @@ impl Draft {
         family: Family,
         arguments: &[&[u8]],
     ) -> Result<(), LineError<Fault>>
-        ensures { Becomes result (view self.new) (keyed family (view self.old) keys.X (map (λ w. w.now) arguments.now)) }
+        ensures { Becomes result (view self.new)
+            (keyed family (view self.old) keys.X (map (λ w. w.now) arguments.now)) }
     {
         if self.is_out_of_place(family, Key::X) {
             return Err(LineError::Fault(Fault::Order));
@@ -206,7 +215,8 @@ impl Draft {
         family: Family,
         arguments: &[&[u8]],
     ) -> Result<(), LineError<Fault>>
-        ensures { Becomes result (view self.new) (keyed family (view self.old) keys.Y (map (λ w. w.now) arguments.now)) }
+        ensures { Becomes result (view self.new)
+            (keyed family (view self.old) keys.Y (map (λ w. w.now) arguments.now)) }
     {
         if self.is_out_of_place(family, Key::Y) {
             return Err(LineError::Fault(Fault::Order));
@@ -225,7 +235,8 @@ impl Draft {
 
     #[tactic(auto, unfolding(crate::specs::FamilyFile::keyed))]
     fn add_turn(&mut self, family: Family, arguments: &[&[u8]]) -> Result<(), LineError<Fault>>
-        ensures { Becomes result (view self.new) (keyed family (view self.old) keys.Turn (map (λ w. w.now) arguments.now)) }
+        ensures { Becomes result (view self.new)
+            (keyed family (view self.old) keys.Turn (map (λ w. w.now) arguments.now)) }
     {
         let Some(word) = arguments.first() else {
             if self.is_out_of_place(family, Key::Turn) {
@@ -254,7 +265,8 @@ impl Draft {
         key: Key,
         arguments: &[&[u8]],
     ) -> Result<(), LineError<Fault>>
-        ensures { Becomes result (view self.new) (keyed family (view self.old) key (map (λ w. w.now) arguments.now)) }
+        ensures { Becomes result (view self.new)
+            (keyed family (view self.old) key (map (λ w. w.now) arguments.now)) }
     {
         match key {
             Key::Vertices => self.add_vertices(family, arguments),
@@ -275,7 +287,8 @@ impl Draft {
         family: Family,
         words: &[&[u8]],
     ) -> Result<(), LineError<Fault>>
-        ensures { Becomes result (view self.new) (significant family (view self.old) (map (λ w. w.now) words.now)) }
+        ensures { Becomes result (view self.new)
+            (significant family (view self.old) (map (λ w. w.now) words.now)) }
     {
         if !self.begun {
             if !is_header(family, words) {

@@ -42,7 +42,9 @@ fn put_signs(out: &mut String, rows: u8, vector: u128) -> Result<(), AllocError>
 
 /// A line of a key and a vector.
 fn put_vector(out: &mut String, key: Key, rows: u8, vector: u128) -> Result<(), AllocError>
-    ensures { OnOk result (string_bytes out.new ≡ string_bytes out.old ++ spelled (worded key (signs_of rows vector))) }
+    ensures { OnOk result
+        (string_bytes out.new
+        ≡ string_bytes out.old ++ spelled (worded key (signs_of rows vector))) }
 {
     let name = key.name();
     write!(out, "{name} ")?;
@@ -53,7 +55,9 @@ fn put_vector(out: &mut String, key: Key, rows: u8, vector: u128) -> Result<(), 
 
 /// The vectors of a game.
 fn put_vectors(out: &mut String, rows: u8, vectors: &[u128]) -> Result<(), AllocError>
-    ensures { OnOk result (string_bytes out.new ≡ string_bytes out.old ++ flat_map (λ v. spelled (vector_words rows v)) vectors.now) }
+    ensures { OnOk result
+        (string_bytes out.new
+        ≡ string_bytes out.old ++ flat_map (λ v. spelled (vector_words rows v)) vectors.now) }
 {
     for vector in vectors {
         put_vector(out, Key::Vector, rows, *vector)?;
@@ -78,8 +82,8 @@ pub fn print_span(alloc: Global, g: &SpanGame) -> Result<Vec<u8>, Memory>
 
 /// The text of a game on vectors: reading it gives the game back.
 ///
-/// The first sign of a vector is row 0, which is the lowest bit. The marks of each side stand in ascending order, and a
-/// side without marks has no line.
+/// The first sign of a vector is row 0, which is the lowest bit. The marks of each side stand in
+/// ascending order, and a side without marks has no line.
 #[tactic(auto, unfolding(crate::specs::Print::printed_vectors))]
 pub fn print_vectors(alloc: Global, g: &VecGame) -> Result<Vec<u8>, Memory>
     ensures { IfOk result (λ text. text.items ≡ printed_vectors g.now) }

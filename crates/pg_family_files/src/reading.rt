@@ -45,7 +45,8 @@ fn finish(draft: Draft) -> Result<(Draft, Side), FileError>
     Ok((draft, turn))
 }
 
-/// What a text of the family says, with the side to move, or the first fault with the number of its line.
+/// What a text of the family says, with the side to move, or the first fault with the number of its
+/// line.
 #[tactic(auto, unfolding(crate::specs::FamilyFile::whole))]
 fn read_text(alloc: Global, family: Family, bytes: &[u8]) -> Result<(Draft, Side), FileError>
     ensures { IsReadAs whole_view result (whole family bytes.now) }
@@ -61,8 +62,9 @@ fn read_text(alloc: Global, family: Family, bytes: &[u8]) -> Result<(Draft, Side
 
 /// The connectivity game that the text says, or the first fault with the number of its line.
 ///
-/// Of several faulty lines the first counts, and of its faults the one with the least number. The fault of the whole
-/// file, such as a missing last line, comes only where no line is faulty, with line 0.
+/// Of several faulty lines the first counts, and of its faults the one with the least number. The
+/// fault of the whole file, such as a missing last line, comes only where no line is faulty, with
+/// line 0.
 pub fn read_span(alloc: Global, bytes: &[u8]) -> Result<SpanGame, FileError>
     ensures { IsReadAs span_entry result (span_game bytes.now) }
 {
@@ -82,7 +84,8 @@ pub fn read_span(alloc: Global, bytes: &[u8]) -> Result<SpanGame, FileError>
     }
 }
 
-/// The game on vectors that the text says, or the first fault with the number of its line, as `read_span` tells it.
+/// The game on vectors that the text says, or the first fault with the number of its line, as
+/// `read_span` tells it.
 ///
 /// The first sign of a vector is row 0, which is the lowest bit.
 pub fn read_vectors(alloc: Global, bytes: &[u8]) -> Result<VecGame, FileError>

@@ -30,19 +30,32 @@ module _ (grid : Grid) (t : MapTable) (is : IsTable grid t) where
   come_from-at v =
       ap (λ vs. get_or vs v v) is.sources
       ∙ elim (cases_lt v (grid.width * grid.height)) [
-        | inl lt ↦ get_or-map-range_with_len back 0 (grid.width * grid.height) v v v lt (omega arith)
-        | inr ge ↦ get_or_past (map back (range_with_len 0 (grid.width * grid.height))) v v (subst (λ n. n ≤ v) (sym (length-map-range_with_len back 0 (grid.width * grid.height))) ge) ∙ sym (image-beyond grid (reverse_of t.map) v ge)
+        | inl lt ↦
+            get_or-map-range_with_len back 0 (grid.width * grid.height) v v v lt (omega arith)
+        | inr ge ↦ get_or_past (map back (range_with_len 0 (grid.width * grid.height))) v v
+            (subst (λ n. n ≤ v)
+            (sym (length-map-range_with_len back 0 (grid.width * grid.height))) ge)
+            ∙ sym (image-beyond grid (reverse_of t.map) v ge)
       ]
 
   come_from-is : come_from t ≡ back
   come_from-is = λ i v. come_from-at v i
 
   -- the position that the map takes to one whose marks are at hand
-  pub image_before-is : (marks : Marks) (p : Position) → marks.x.items ≡ members p.x → marks.y.items ≡ members p.y → image_before t marks p ≡ image_position back p
-  image_before-is marks p x y =
-      ap₂ (λ (a b : FinSet nat_cmp). record { x = a; y = b; turn = p.turn; left = p.left }) (by marks.x.items (members p.x) x) (by marks.y.items (members p.y) y)
+  pub image_before-is : (marks : Marks) (p : Position)
+      → marks.x.items ≡ members p.x
+      → marks.y.items ≡ members p.y
+      → image_before t marks p ≡ image_position back p
+  image_before-is marks p x y = ap₂ (λ (a b : FinSet nat_cmp). record {
+    x = a;
+    y = b;
+    turn = p.turn;
+    left = p.left;
+  }) (by marks.x.items (members p.x) x) (by marks.y.items (members p.y) y)
     where
-      by : (vs ws : List ℕ) → vs ≡ ws → from_list {R = nat_cmp} (map (come_from t) vs) ≡ from_list (map back ws)
+      by : (vs ws : List ℕ)
+          → vs ≡ ws
+          → from_list {R = nat_cmp} (map (come_from t) vs) ≡ from_list (map back ws)
       by vs ws same = ap₂ (λ (f : ℕ → ℕ) (us : List ℕ). from_list (map f us)) come_from-is same
 
 -- ---- lists of tables
@@ -50,13 +63,21 @@ module _ (grid : Grid) (t : MapTable) (is : IsTable grid t) where
 pub tables-none : (grid : Grid) → AreTablesOf grid [] []
 tables-none grid = record { maps_are = refl; each = All-nil (IsTable grid) }
 
-pub tables-push : (grid : Grid) (maps : List GridMap) (m : GridMap) (tables : List MapTable) (t : MapTable) → AreTablesOf grid maps tables → IsTable grid t → t.map ≡ m → AreTablesOf grid (maps ++ m ∷ []) (tables ++ t ∷ [])
+pub tables-push : (grid : Grid) (maps : List GridMap) (m : GridMap) (tables : List MapTable)
+    (t : MapTable)
+    → AreTablesOf grid maps tables
+    → IsTable grid t
+    → t.map ≡ m
+    → AreTablesOf grid (maps ++ m ∷ []) (tables ++ t ∷ [])
 tables-push grid maps m tables t are is same = record {
-  maps_are = map_push (λ (s : MapTable). s.map) tables t ∙ ap₂ (λ (ms : List GridMap) (h : GridMap). ms ++ h ∷ []) are.maps_are same;
+  maps_are = map_push (λ (s : MapTable). s.map) tables t
+      ∙ ap₂ (λ (ms : List GridMap) (h : GridMap). ms ++ h ∷ []) are.maps_are same;
   each = All-push (IsTable grid) tables t are.each is;
 }
 
-pub map-at : (tables : List MapTable) (i : ℕ) (t : MapTable) → slice_get tables i ≡ Some t → slice_get (maps_of tables) i ≡ Some t.map
+pub map-at : (tables : List MapTable) (i : ℕ) (t : MapTable)
+    → slice_get tables i ≡ Some t
+    → slice_get (maps_of tables) i ≡ Some t.map
 map-at [] i t at = absurd (none-some t at)
 map-at (s ∷ ss) zero t at = ap (λ (r : MapTable). Some r.map) (same_some at)
 map-at (s ∷ ss) (suc i) t at = map-at ss i t at
@@ -72,29 +93,53 @@ small-members s = from_recursion (λ v. v < 1024) (members s) (points_below-smal
 
 -- ---- the maps that fit
 
-fit-of : (g : Game) (grid : Grid) (m : GridMap) → board_of g.field ≡ Some grid → Fits g m → IsMapOf grid m
+fit-of : (g : Game) (grid : Grid) (m : GridMap)
+    → board_of g.field ≡ Some grid
+    → Fits g m
+    → IsMapOf grid m
 fit-of g grid m has fits = subst (λ (board : Option Grid). IsMapOn board m) has fits.is_map
 
-pub fits-all : (g : Game) (grid : Grid) (maps : List GridMap) → board_of g.field ≡ Some grid → ((m : GridMap) → Contains maps m ↔ Fits g m) → All (IsMapOf grid) maps
-fits-all g grid maps has fit = λ k d lt. fit-of g grid (get_or maps k d) has ((fit (get_or maps k d)).0 (at_contains maps k (get_or maps k d) (slice_get-get_or maps k d lt)))
+pub fits-all : (g : Game) (grid : Grid) (maps : List GridMap)
+    → board_of g.field ≡ Some grid
+    → ((m : GridMap) → Contains maps m ↔ Fits g m)
+    → All (IsMapOf grid) maps
+fits-all g grid maps has fit = λ k d lt. fit-of g grid (get_or maps k d) has
+    ((fit (get_or maps k d)).0
+    (at_contains maps k (get_or maps k d) (slice_get-get_or maps k d lt)))
 
-pub tables-fit : (g : Game) (grid : Grid) (maps : List GridMap) (tables : List MapTable) → board_of g.field ≡ Some grid → ((m : GridMap) → Contains maps m ↔ Fits g m) → AreTablesOf grid maps tables → AreTables g tables
+pub tables-fit : (g : Game) (grid : Grid) (maps : List GridMap) (tables : List MapTable)
+    → board_of g.field ≡ Some grid
+    → ((m : GridMap) → Contains maps m ↔ Fits g m)
+    → AreTablesOf grid maps tables
+    → AreTables g tables
 tables-fit g grid maps tables has fit are = record {
   off = λ none. absurd (none-some grid (sym none ∙ has));
   on = λ other at. subst (λ (r : Grid). AreTablesOn g r tables) (same_some (sym has ∙ at)) (record {
-    fit = subst (λ (ms : List GridMap). (m : GridMap) → Contains ms m ↔ Fits g m) (sym are.maps_are) fit;
+    fit = subst (λ (ms : List GridMap). (m : GridMap) → Contains ms m ↔ Fits g m)
+        (sym are.maps_are) fit;
     each = are.each;
   });
 }
 
-pub tables-off : (g : Game) (tables : List MapTable) → board_of g.field ≡ None → tables ≡ [] → AreTables g tables
-tables-off g tables none empty = record { off = λ e. empty; on = λ grid at. absurd (none-some grid (sym none ∙ at)) }
+pub tables-off : (g : Game) (tables : List MapTable)
+    → board_of g.field ≡ None
+    → tables ≡ []
+    → AreTables g tables
+tables-off g tables none empty =
+    record { off = λ e. empty; on = λ grid at. absurd (none-some grid (sym none ∙ at)) }
 
-pub tables-ordered : (grid : Grid) (maps : List GridMap) (tables : List MapTable) → AllPairs (λ a b. number_of a < number_of b) maps → AreTablesOf grid maps tables → AreOrdered tables
+pub tables-ordered : (grid : Grid) (maps : List GridMap) (tables : List MapTable)
+    → AllPairs (λ a b. number_of a < number_of b) maps
+    → AreTablesOf grid maps tables
+    → AreOrdered tables
 tables-ordered grid maps tables up are = record {
-  ascending = subst (λ (ms : List GridMap). AllPairs (λ a b. number_of a < number_of b) ms) (sym are.maps_are) up;
+  ascending = subst (λ (ms : List GridMap). AllPairs (λ a b. number_of a < number_of b) ms)
+      (sym are.maps_are) up;
   small = λ k d lt. (are.each k d lt).small;
 }
 
 pub empty-ordered : (tables : List MapTable) → tables ≡ [] → AreOrdered tables
-empty-ordered tables empty = subst AreOrdered (sym empty) (record { ascending = λ i j d before inside. absurd (omega (arith, inside)); small = All-nil (λ (t : MapTable). All (λ u. u < 1024) t.sources.items) })
+empty-ordered tables empty = subst AreOrdered (sym empty) (record {
+  ascending = λ i j d before inside. absurd (omega (arith, inside));
+  small = All-nil (λ (t : MapTable). All (λ u. u < 1024) t.sources.items);
+})

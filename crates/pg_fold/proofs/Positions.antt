@@ -52,43 +52,75 @@ module _ (g : Game) (m : GridMap) (fits : Fits g m) where
   onto = IsAutomorphism-fits g m fits
 
   pub image-of : (p : Position) → IsPosition g p → IsImage g (points_by g m) p (image_by g m p)
-  image-of p is = IsImage-position g (points_by g m) (points_by g (reverse_of m)) (IsAutomorphism-fits g m fits) p is
+  image-of p is = IsImage-position g (points_by g m) (points_by g (reverse_of m))
+      (IsAutomorphism-fits g m fits) p is
 
   pub image-is : (p : Position) → IsPosition g p → IsPosition g (image_by g m p)
-  image-is p is = IsPosition-image g (points_by g m) (points_by g (reverse_of m)) (IsAutomorphism-fits g m fits) p is
+  image-is p is = IsPosition-image g (points_by g m) (points_by g (reverse_of m))
+      (IsAutomorphism-fits g m fits) p is
 
   -- the only image
-  pub image-only : (p q : Position) → IsPosition g p → IsPosition g q → IsImage g (points_by g m) p q → q ≡ image_by g m p
-  image-only p q is at h = IsImage-unique g (points_by g m) (points_by g (reverse_of m)) (IsAutomorphism-fits g m fits) p q (image_by g m p) h (image-of p is) at (image-is p is)
+  pub image-only : (p q : Position)
+      → IsPosition g p
+      → IsPosition g q
+      → IsImage g (points_by g m) p q
+      → q ≡ image_by g m p
+  image-only p q is at h = IsImage-unique g (points_by g m) (points_by g (reverse_of m))
+      (IsAutomorphism-fits g m fits) p q (image_by g m p) h (image-of p is) at (image-is p is)
 
   -- the image of the position after a move is that after the image of the move
-  pub image-after : (p : Position) (v : ℕ) → IsPosition g p → v < point_count g → is_free p v ≡ true → image_by g m (after g p v) ≡ after g (image_by g m p) (points_by g m v)
+  pub image-after : (p : Position) (v : ℕ)
+      → IsPosition g p
+      → v < point_count g
+      → is_free p v ≡ true
+      → image_by g m (after g p v) ≡ after g (image_by g m p) (points_by g m v)
   image-after p v is range free =
       let whole = IsAutomorphism-fits g m fits in
       let taken = IsPosition-after g p v is range free in
-      let still = free-image g (points_by g m) (points_by g (reverse_of m)) whole p (image_by g m p) (image-of p is) v range ∙ free in
-      let next = IsPosition-after g (image_by g m p) (points_by g m v) (image-is p is) (whole.points.range v range) still in
-      sym (image-only (after g p v) (after g (image_by g m p) (points_by g m v)) taken next
-      (IsImage-after g (points_by g m) (points_by g (reverse_of m)) whole p (image_by g m p) (image-of p is) v range))
+      let still = free-image g (points_by g m) (points_by g (reverse_of m)) whole p (image_by g m p)
+      (image-of p is) v range
+      ∙ free in
+      let next = IsPosition-after g (image_by g m p) (points_by g m v) (image-is p is)
+      (whole.points.range v range) still in
+      sym
+      (image-only (after g p v) (after g (image_by g m p) (points_by g m v)) taken next
+      (IsImage-after g (points_by g m) (points_by g (reverse_of m)) whole p (image_by g m p)
+      (image-of p is) v range))
 
-  pub image-free : (p : Position) (v : ℕ) → IsPosition g p → v < point_count g → is_free p v ≡ true → is_free (image_by g m p) (points_by g m v) ≡ true
-  image-free p v is range free = free-image g (points_by g m) (points_by g (reverse_of m)) (IsAutomorphism-fits g m fits) p (image_by g m p) (image-of p is) v range ∙ free
+  pub image-free : (p : Position) (v : ℕ)
+      → IsPosition g p
+      → v < point_count g
+      → is_free p v ≡ true
+      → is_free (image_by g m p) (points_by g m v) ≡ true
+  image-free p v is range free = free-image g (points_by g m) (points_by g (reverse_of m))
+      (IsAutomorphism-fits g m fits) p (image_by g m p) (image-of p is) v range
+      ∙ free
 
 -- ---- one map and then another
 
-on-followed : (board : Option Grid) (a b : GridMap) (v : ℕ) → IsMapOn board a → IsMapOn board b → image_on board b (image_on board a v) ≡ image_on board (followed_by a b) v
+on-followed : (board : Option Grid) (a b : GridMap) (v : ℕ)
+    → IsMapOn board a
+    → IsMapOn board b
+    → image_on board b (image_on board a v) ≡ image_on board (followed_by a b) v
 on-followed None a b v first second = refl
 on-followed (Some grid) a b v first second = image-followed grid a b v first second
 
-pub image-followed_by : (g : Game) (a b : GridMap) (p : Position) → Fits g a → Fits g b → IsPosition g p → image_by g b (image_by g a p) ≡ image_by g (followed_by a b) p
+pub image-followed_by : (g : Game) (a b : GridMap) (p : Position)
+    → Fits g a
+    → Fits g b
+    → IsPosition g p
+    → image_by g b (image_by g a p) ≡ image_by g (followed_by a b) p
 image-followed_by g a b p first second is =
     let q = image_by g a p in
     let r = image_by g b q in
     let qi = image-is g a first p is in
-    let both = IsImage-further g (points_by g a) (points_by g (reverse_of a)) (IsAutomorphism-fits g a first) (points_by g b) p q r (image-of g a first p is) (image-of g b second q qi) in
-    let same : (v : ℕ) → points_by g b (points_by g a v) ≡ points_by g (followed_by a b) v = λ v. on-followed (board_of g.field) a b v first.is_map second.is_map in
-    image-only g (followed_by a b) (Fits-followed g a b first second) p r is (image-is g b second q qi)
-    (record {
+    let both =
+    IsImage-further g (points_by g a) (points_by g (reverse_of a)) (IsAutomorphism-fits g a first)
+    (points_by g b) p q r (image-of g a first p is) (image-of g b second q qi) in
+    let same : (v : ℕ) → points_by g b (points_by g a v) ≡ points_by g (followed_by a b) v =
+    λ v. on-followed (board_of g.field) a b v first.is_map second.is_map in
+    image-only g (followed_by a b) (Fits-followed g a b first second) p r is
+    (image-is g b second q qi) (record {
       x = λ v lt. ap (contains r.x) (sym (same v)) ∙ both.x v lt;
       y = λ v lt. ap (contains r.y) (sym (same v)) ∙ both.y v lt;
       turn = both.turn;
@@ -97,10 +129,21 @@ image-followed_by g a b p first second is =
 
 -- the map that leaves every point leaves a position
 pub image-identity : (g : Game) (p : Position) → IsPosition g p → image_by g identity p ≡ p
-image-identity g p is = image_position-stays g (points_by g identity) (points_by g (reverse_of identity)) (IsAutomorphism-fits g identity (Fits-identity g)) p (image_on-identity (board_of g.field)) is
+image-identity g p is =
+    image_position-stays g (points_by g identity) (points_by g (reverse_of identity))
+    (IsAutomorphism-fits g identity (Fits-identity g)) p (image_on-identity (board_of g.field)) is
 
--- where the one position is the image of the other, the other is that of the one under the map that undoes it
-pub image-undone : (g : Game) (m : GridMap) (p q : Position) → Fits g m → IsPosition g p → IsPosition g q → q ≡ image_by g m p → p ≡ image_by g (reverse_of m) q
+-- where the one position is the image of the other, the other is that of the one under the map that
+-- undoes it
+pub image-undone : (g : Game) (m : GridMap) (p q : Position)
+    → Fits g m
+    → IsPosition g p
+    → IsPosition g q
+    → q ≡ image_by g m p
+    → p ≡ image_by g (reverse_of m) q
 image-undone g m p q fits is at same =
-    let h : IsImage g (points_by g m) p q = subst (λ r. IsImage g (points_by g m) p r) (sym same) (image-of g m fits p is) in
-    image-only g (reverse_of m) (Fits-reverse g m fits) q p at is (IsImage-undone g (points_by g m) (points_by g (reverse_of m)) (IsAutomorphism-fits g m fits) p q h)
+    let h : IsImage g (points_by g m) p q =
+    subst (λ r. IsImage g (points_by g m) p r) (sym same) (image-of g m fits p is) in
+    image-only g (reverse_of m) (Fits-reverse g m fits) q p at is
+    (IsImage-undone g (points_by g m) (points_by g (reverse_of m))
+    (IsAutomorphism-fits g m fits) p q h)

@@ -14,28 +14,42 @@ use Rattle.pg_image.specs.declared.cert.ImageClaim.{ImageClaim}
 use Rattle.pg_image.specs.declared.node.ImageNode.{ImageNode}
 use Rattle.pg_image.specs.declared.node.ImageNode.TheVariants.{Plain}
 
-pub one-alone : {A : Type 0} (xs : List A) (x : A) → length xs ≡ 1 → slice_get xs 0 ≡ Some x → xs ≡ x ∷ []
+pub one-alone : {A : Type 0} (xs : List A) (x : A)
+    → length xs ≡ 1
+    → slice_get xs 0 ≡ Some x
+    → xs ≡ x ∷ []
 one-alone [] x one at = absurd (omega (arith, one))
 one-alone (y ∷ []) x one at = ap (λ z. z ∷ []) (same_some at)
 one-alone (y ∷ (z ∷ zs)) x one at = absurd (omega (arith, one))
 
 module _ (g : Game) (node : Node) where
   -- a node alone is no other's image
-  stays-alone : (k : ℕ) (n : Node) → slice_get (node ∷ []) k ≡ Some n → IsFoldedAt g (Plain node ∷ []) k n
-  stays-alone zero n at = record { folded = Plain node; at = refl; becomes = (same_some at, λ j m lt is. absurd (omega (arith, lt))) }
+  stays-alone : (k : ℕ) (n : Node)
+      → slice_get (node ∷ []) k ≡ Some n
+      → IsFoldedAt g (Plain node ∷ []) k n
+  stays-alone zero n at = record {
+    folded = Plain node;
+    at = refl;
+    becomes = (same_some at, λ j m lt is. absurd (omega (arith, lt)));
+  }
   stays-alone (suc k) n at = absurd (none-some n at)
 
 -- so the claim folded is the claim
-pub stays-folded : (g : Game) (claim : Claim) (same : ImageClaim) → Stays claim same → IsFoldedClaim g claim same
+pub stays-folded : (g : Game) (claim : Claim) (same : ImageClaim)
+    → Stays claim same
+    → IsFoldedClaim g claim same
 stays-folded g claim same is = record {
   turn = is.turn;
   side = is.side;
   goal = is.goal;
   count = ap length is.nodes ∙ ap length (sym is.of);
-  nodes = λ k n at. subst (λ (ns : List ImageNode). IsFoldedAt g ns k n) (sym is.nodes) (stays-alone g is.node k n (subst (λ (ns : List Node). slice_get ns k ≡ Some n) is.of at));
+  nodes = λ k n at. subst (λ (ns : List ImageNode). IsFoldedAt g ns k n) (sym is.nodes)
+      (stays-alone g is.node k n (subst (λ (ns : List Node). slice_get ns k ≡ Some n) is.of at));
 }
 
-pub all-folded : (g : Game) (claims : List Claim) (same : List ImageClaim) → AllZip Stays claims same → AllZip (IsFoldedClaim g) claims same
+pub all-folded : (g : Game) (claims : List Claim) (same : List ImageClaim)
+    → AllZip Stays claims same
+    → AllZip (IsFoldedClaim g) claims same
 all-folded g [] [] are = tt
 all-folded g [] (d ∷ ds) are = absurd are
 all-folded g (c ∷ cs) [] are = absurd are

@@ -14,7 +14,8 @@ mixed code word = (code * MIXER % 2 ^ 64 + word) % 2 ^ 64
 -- the code by the first words of each side's points
 abbrev pub code_by : ℕ → Position → ℕ
 code_by zero p = 0
-code_by (suc k) p = mixed (mixed (code_by k p) (get_or (words_of p.x) k 0)) (get_or (words_of p.y) k 0)
+code_by (suc k) p =
+    mixed (mixed (code_by k p) (get_or (words_of p.x) k 0)) (get_or (words_of p.y) k 0)
 
 abbrev pub code_of : Position → ℕ
 code_of p = code_by ROWS p
@@ -26,4 +27,6 @@ place_of p count = code_of p % count
 -- there is a mark for each known position
 pub record IsKnown (known : Known) : Type 0 where
   pub some : 0 < length known.marks.items
-  pub marked : (p : Position) (j : ℕ) → get equal_positions known.places p ≡ Some j → slice_get known.marks.items (place_of p (length known.marks.items)) ≡ Some true
+  pub marked : (p : Position) (j : ℕ)
+      → get equal_positions known.places p ≡ Some j
+      → slice_get known.marks.items (place_of p (length known.marks.items)) ≡ Some true

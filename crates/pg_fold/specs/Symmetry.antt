@@ -1,4 +1,5 @@
--- When a certificate is worth folding: the game has a symmetry, and the folded certificate may be unfolded again.
+-- When a certificate is worth folding: the game has a symmetry, and the folded certificate may be
+-- unfolded again.
 use Rattle.std.specs.Prelude.{◌⊎◌, Option, Some, None}
 use Rattle.pg_cert.specs.declared.cert.Cert.{Cert}
 use Rattle.pg_fold.specs.Folded.{IsFolded}
@@ -7,7 +8,8 @@ use Rattle.pg_image.specs.declared.cert.ImageCert.{ImageCert}
 use Rattle.pg_maps.specs.Images.{HasSymmetry}
 use Rattle.pg_unfold.specs.Flaws.{HaveRoom}
 
--- the game is symmetric, and the certificate folded is this one, whose claims have few enough nodes unfolded
+-- the game is symmetric, and the certificate folded is this one, whose claims have few enough nodes
+-- unfolded
 pub record FoldsWell (g : Game) (c : Cert) (d : ImageCert) : Type 0 where
   pub symmetric : HasSymmetry g
   pub folded : IsFolded g c d

@@ -28,7 +28,8 @@ image_before t marks p = record {
 -- the table holds for each cell the one that the map takes there
 pub record IsTable (grid : Grid) (t : MapTable) : Type 0 where
   pub is_map : IsMapOf grid t.map
-  pub sources : t.sources.items ≡ map (image_of (reverse_of t.map) grid) (range_with_len 0 (grid.width * grid.height))
+  pub sources : t.sources.items
+      ≡ map (image_of (reverse_of t.map) grid) (range_with_len 0 (grid.width * grid.height))
   pub small : All (λ u. u < MAX_MEMBERS) t.sources.items
 
 -- the maps of tables

@@ -26,8 +26,9 @@ use pg_game::{Game, Position};
 use pg_image::{ImageCert, ImageClaim, ImageClaims, ImageNode, ImageNodes};
 use std::alloc::Global;
 
-/// The certificate in which each node whose position is the image of an earlier node's, under a map of the board that fits,
-/// is said as the image of the first such node that is left plain, under the map of the lowest number that does.
+/// The certificate in which each node whose position is the image of an earlier node's, under a map
+/// of the board that fits, is said as the image of the first such node that is left plain, under
+/// the map of the lowest number that does.
 ///
 /// # Errors
 ///
@@ -59,7 +60,9 @@ fn fold_claims(
 ) -> Result<Vec<ImageClaim>, Memory>
     requires ordered { AreOrdered tables.now }
     requires limits { All IsClaim claims.now }
-    ensures { IfOk result (λ folded. (g : Game) → AreTables g tables.now → AreFoldable g claims.now → AllZip (IsFoldedClaim g) claims.now folded.items) }
+    ensures { IfOk result (λ folded. (g : Game) → AreTables g tables.now
+        → AreFoldable g claims.now
+        → AllZip (IsFoldedClaim g) claims.now folded.items) }
 {
     let mut folded = Vec::with_capacity(alloc, claims.len())?;
     for claim in claims {
@@ -73,7 +76,8 @@ fn fold_claims(
 fn fold_claim(alloc: Global, tables: &[MapTable], claim: &Claim) -> Result<ImageClaim, Memory>
     requires ordered { AreOrdered tables.now }
     requires limits { IsClaim claim.now }
-    ensures { IfOk result (λ d. (g : Game) → AreTables g tables.now → IsFoldable g claim.now → IsFoldedClaim g claim.now d) }
+    ensures { IfOk result (λ d. (g : Game) → AreTables g tables.now → IsFoldable g claim.now
+        → IsFoldedClaim g claim.now d) }
 {
     let nodes = fold_nodes(alloc, tables, claim.nodes.as_slice())?;
     Ok(ImageClaim {
@@ -88,7 +92,9 @@ fn fold_claim(alloc: Global, tables: &[MapTable], claim: &Claim) -> Result<Image
 fn fold_nodes(alloc: Global, tables: &[MapTable], nodes: &[Node]) -> Result<Vec<ImageNode>, Memory>
     requires ordered { AreOrdered tables.now }
     requires few { length nodes.now < 2 ^ 32 }
-    ensures { IfOk result (λ folded. (g : Game) → AreTables g tables.now → HaveDifferent g nodes.now → AreAllFolded g nodes.now folded.items) }
+    ensures { IfOk result (λ folded. (g : Game) → AreTables g tables.now
+        → HaveDifferent g nodes.now
+        → AreAllFolded g nodes.now folded.items) }
 {
     let mut known = Known::new(alloc, nodes.len())?;
     let mut folded = Vec::with_capacity(alloc, nodes.len())?;
@@ -111,7 +117,12 @@ fn fold_node(
     requires known { IsKnown known.old }
     ensures known { OnOk result (IsKnown known.new) }
     ensures count { OnOk result (length folded.new.items ≡ length folded.old.items + 1) }
-    ensures folded { OnOk result ((g : Game) → AreTables g tables.now → (before : List Node) → AreFolded g before (get equal_positions known.old.places) folded.old.items → HaveDifferent g (before ++ node.now ∷ []) → AreFolded g (before ++ node.now ∷ []) (get equal_positions known.new.places) folded.new.items) }
+    ensures folded { OnOk result ((g : Game) → AreTables g tables.now
+        → (before : List Node)
+        → AreFolded g before (get equal_positions known.old.places) folded.old.items
+        → HaveDifferent g (before ++ node.now ∷ [])
+        → AreFolded g (before ++ node.now ∷ [])
+        (get equal_positions known.new.places) folded.new.items) }
 {
     let p = node.position();
     match original_of(alloc, tables, known, &p)? {
@@ -122,7 +133,9 @@ fn fold_node(
 
 /// Adds the node as the image of the other one.
 fn add_image(node: &Node, original: Original, folded: &mut Vec<ImageNode>) -> Result<(), Memory>
-    ensures { OnOk result (folded.new.items ≡ folded.old.items ++ Image node.now.x node.now.y node.now.turn node.now.left original.map original.node ∷ []) }
+    ensures { OnOk result
+        (folded.new.items ≡ folded.old.items ++ Image node.now.x node.now.y node.now.turn
+        node.now.left original.map original.node ∷ []) }
 {
     folded.push(ImageNode::Image {
         x: node.x,
@@ -147,7 +160,10 @@ fn add_plain(
     requires known { IsKnown known.old }
     ensures known { OnOk result (IsKnown known.new) }
     ensures pushed { OnOk result (folded.new.items ≡ folded.old.items ++ Plain node.now ∷ []) }
-    ensures kept { OnOk result ((p : Position) → get equal_positions known.new.places p ≡ (if equal_positions position p then Some (length folded.old.items) else get equal_positions known.old.places p)) }
+    ensures kept { OnOk result
+        ((p : Position) → get equal_positions known.new.places p ≡ (if equal_positions position p
+        then Some (length folded.old.items)
+        else get equal_positions known.old.places p)) }
 {
     known.add(position, folded.len() as u32)?;
     let same = copy_node(alloc, node)?;

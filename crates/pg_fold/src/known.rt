@@ -10,13 +10,16 @@ use pg_game::Position;
 use std::alloc::Global;
 use std::collections::HashMap;
 
-/// A position's code is made of so many words of each side's points: those in which the cells of a board lie.
+/// A position's code is made of so many words of each side's points: those in which the cells of a
+/// board lie.
 const ROWS: usize = 4;
 
-/// By which a code is multiplied before the next word is added: 2 to the 64th, divided by the golden ratio.
+/// By which a code is multiplied before the next word is added: 2 to the 64th, divided by the
+/// golden ratio.
 const MIXER: u64 = 0x9e37_79b9_7f4a_7c15;
 
-/// So many marks are kept for each node of a claim. A position that isn't known has a marked code once in so many times at most.
+/// So many marks are kept for each node of a claim. A position that isn't known has a marked code
+/// once in so many times at most.
 const MARKS: usize = 32;
 
 /// The plain nodes so far.
@@ -60,7 +63,8 @@ impl Known {
     /// No nodes yet, for a claim of so many.
     pub(crate) fn new(alloc: Global, count: usize) -> Result<Known, Memory>
         requires few { count < 2 ^ 32 }
-        ensures empty { IfOk result (λ known. (p : Position) → get equal_positions known.places p ≡ None) }
+        ensures empty { IfOk result
+            (λ known. (p : Position) → get equal_positions known.places p ≡ None) }
         ensures known { IfOk result IsKnown }
     {
         Ok(Known {
@@ -69,7 +73,8 @@ impl Known {
         })
     }
 
-    /// The number of the node with the position. Most positions that aren't known are told by their code alone.
+    /// The number of the node with the position. Most positions that aren't known are told by their
+    /// code alone.
     pub(crate) fn find(&self, p: &Position) -> Option<u32>
         requires { IsKnown self.now }
         ensures { result ≡ get equal_positions self.now.places p.now }
@@ -86,7 +91,9 @@ impl Known {
     /// Adds the node of that number, which has the position.
     pub(crate) fn add(&mut self, p: Position, number: u32) -> Result<(), Memory>
         requires { IsKnown self.old }
-        ensures kept { OnOk result ((q : Position) → get equal_positions self.new.places q ≡ (if equal_positions p q then Some number else get equal_positions self.old.places q)) }
+        ensures kept { OnOk result
+            ((q : Position) → get equal_positions self.new.places q ≡ (if equal_positions p q
+            then Some number else get equal_positions self.old.places q)) }
         ensures known { OnOk result (IsKnown self.new) }
     {
         let place = place_of(&p, self.marks.len());

@@ -25,8 +25,8 @@ pub(crate) struct Original {
     pub(crate) map: GridMap,
 }
 
-/// The first of the known nodes of whose position one of the maps makes this one, with the map of the lowest number
-/// that does.
+/// The first of the known nodes of whose position one of the maps makes this one, with the map of
+/// the lowest number that does.
 pub(crate) fn original_of(
     alloc: Global,
     tables: &[MapTable],
@@ -35,7 +35,9 @@ pub(crate) fn original_of(
 ) -> Result<Option<Original>, Memory>
     requires ordered { AreOrdered tables.now }
     requires known { IsKnown known.now }
-    ensures { IfOk result (λ first. (grid : Grid) → All (IsTable grid) tables.now → IsEarliest (get equal_positions known.now.places) (λ m. image_position (image_of (reverse_of m) grid) position.now) (maps_of tables.now) first) }
+    ensures { IfOk result (λ first. (grid : Grid) → All (IsTable grid) tables.now
+        → IsEarliest (get equal_positions known.now.places) (λ m.
+        image_position (image_of (reverse_of m) grid) position.now) (maps_of tables.now) first) }
 {
     let marks = marks_of(alloc, position)?;
     let mut first = None;

@@ -15,9 +15,10 @@ use pg_maps::is_symmetric;
 use pg_unfold::has_room;
 use std::alloc::Global;
 
-/// The certificate folded, where that is worth it: where a turn or reflection of the board whose number isn't 0 fits the
-/// game, and each claim of the folded certificate, and all together, have few enough nodes unfolded. None exactly otherwise,
-/// as for each game without a board. On a board of one row or one column a reflection leaves every point, and counts.
+/// The certificate folded, where that is worth it: where a turn or reflection of the board whose
+/// number isn't 0 fits the game, and each claim of the folded certificate, and all together, have
+/// few enough nodes unfolded. None exactly otherwise, as for each game without a board. On a board
+/// of one row or one column a reflection leaves every point, and counts.
 ///
 /// # Errors
 ///

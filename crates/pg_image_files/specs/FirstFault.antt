@@ -14,12 +14,15 @@ use Rattle.pg_image.specs.Print.{image_header}
 use Rattle.pg_image_files.specs.ImageFile.{Draft, nothing, after}
 use Rattle.pg_image_files.specs.ImageLine.{ImageLine, image_line, move_shape, image_said}
 
--- the faults of a node's line: an image may lack the form of one, or have a wrong number; any other line is one of version 2
+-- the faults of a node's line: an image may lack the form of one, or have a wrong number; any other
+-- line is one of version 2
 abbrev pub node_faults : ℕ → Progress → Bytes → Option ImageLine → List (Fault × Bool)
 node_faults others p line None = version_2_faults (due.Node others) p line
-node_faults others p line (Some l) = (faults.Form, is_none (move_shape l)) ∷ (faults.Number, is_err (image_said l)) ∷ []
+node_faults others p line (Some l) =
+    (faults.Form, is_none (move_shape l)) ∷ (faults.Number, is_err (image_said l)) ∷ []
 
--- the faults that a line can have where this one is due, each with whether it applies; what stands higher counts first
+-- the faults that a line can have where this one is due, each with whether it applies; what stands
+-- higher counts first
 abbrev pub line_faults : Due → Progress → Bytes → List (Fault × Bool)
 line_faults due.Header p line = (faults.Header, not (bytes_eq line image_header)) ∷ []
 line_faults due.Claim p line = version_2_faults due.Claim p line
@@ -46,4 +49,5 @@ pub record IsFaultOfEnd (text : Bytes) (fault : Fault) (number : ℕ) : Type 0 w
 
 -- the three ways
 abbrev pub IsFirstFault : Bytes → Fault → ℕ → Type 0
-IsFirstFault text fault number = IsTooLarge text fault number ⊎ (IsFaultOfLine text fault number ⊎ IsFaultOfEnd text fault number)
+IsFirstFault text fault number = IsTooLarge text fault number
+    ⊎ (IsFaultOfLine text fault number ⊎ IsFaultOfEnd text fault number)

@@ -1,4 +1,5 @@
--- Certificate files of version 3: which line is due, what each line adds, and the first fault. All lines but the first and those of images are read as in version 2.
+-- Certificate files of version 3: which line is due, what each line adds, and the first fault. All
+-- lines but the first and those of images are read as in version 2.
 use Rattle.std.specs.Prelude.{ℕ, ◌+◌, nat_lt, if◌then◌else◌, List, [], ◌∷◌, ◌++◌, length, Option, Some, None, Result, Ok, Err}
 use Rattle.std.specs.Str.{bytes_eq}
 use Rattle.pg_text.specs.Faults.{and_then, reading}
@@ -39,7 +40,12 @@ nothing = record { progress = start; whole = []; head = None; nodes = [] }
 -- the claim whose nodes are gathered, where there is one
 abbrev pub last_claim : Option Head → List ImageNode → List ImageClaim
 last_claim None nodes = []
-last_claim (Some head) nodes = record { turn = head.turn; side = head.side; goal = head.goal; nodes = nodes } ∷ []
+last_claim (Some head) nodes = record {
+  turn = head.turn;
+  side = head.side;
+  goal = head.goal;
+  nodes = nodes;
+} ∷ []
 
 -- the claims with the last one
 abbrev pub closed : Draft → List ImageClaim
@@ -47,7 +53,9 @@ closed d = d.whole ++ last_claim d.head d.nodes
 
 -- the first line names version 3; the lines behind it are due as in version 2
 abbrev pub header_line : Draft → Bytes → Result Draft Fault
-header_line d line = if bytes_eq line image_header then Ok (record d { progress = record d.progress { due = due.Claim; version = Two } }) else Err faults.Header
+header_line d line = if bytes_eq line image_header
+    then Ok (record d { progress = record d.progress { due = due.Claim; version = Two } })
+    else Err faults.Header
 
 -- one node more
 abbrev pub with_node : Draft → Progress → ImageNode → Draft
@@ -56,7 +64,12 @@ with_node d p node = record d { progress = p; nodes = d.nodes ++ node ∷ [] }
 -- what a line of version 2 adds: a claim ends the one before it
 abbrev pub with_part : Draft → Progress → Option Part → Draft
 with_part d p None = record d { progress = p }
-with_part d p (Some (parts.Claim turn side goal nodes)) = record { progress = p; whole = closed d; head = Some (record { turn = turn; side = side; goal = goal }); nodes = [] }
+with_part d p (Some (parts.Claim turn side goal nodes)) = record {
+  progress = p;
+  whole = closed d;
+  head = Some (record { turn = turn; side = side; goal = goal });
+  nodes = [];
+}
 with_part d p (Some (parts.Node node)) = with_node d p (Plain node)
 
 -- a line as in version 2
@@ -65,7 +78,8 @@ plain_line d line = and_then (step d.progress line) (λ next. Ok (with_part d ne
 
 -- the line of an image where a node is due, behind which so many others stand
 abbrev pub image_added : ℕ → Draft → ImageLine → Result Draft Fault
-image_added others d l = and_then (image_said l) (λ node. Ok (with_node d (record d.progress { due = behind others }) node))
+image_added others d l = and_then (image_said l)
+    (λ node. Ok (with_node d (record d.progress { due = behind others }) node))
 
 -- the line of a node, which may be that of an image
 abbrev pub node_added : ℕ → Draft → Bytes → Option ImageLine → Result Draft Fault
@@ -88,10 +102,13 @@ abbrev pub ended : ℕ → Draft → Option Fault → Result ImageCert (Fault ×
 ended number d None = Ok (record { claims = closed d })
 ended number d (Some fault) = Err (fault, number)
 
--- what the lines say: the first faulty line decides, and else the end, which stands behind the last line
+-- what the lines say: the first faulty line decides, and else the end, which stands behind the last
+-- line
 abbrev pub said : List Bytes → Result ImageCert (Fault × ℕ)
-said ls = and_then (reading after 1 nothing ls) (λ d. ended (length ls + 1) d (end_fault d.progress d.progress.due))
+said ls = and_then (reading after 1 nothing ls)
+    (λ d. ended (length ls + 1) d (end_fault d.progress d.progress.due))
 
 -- the certificate of a file, or its first fault with the number of the line
 unfoldable pub image_certificate : Bytes → Result ImageCert (Fault × ℕ)
-image_certificate text = if nat_lt MAX_CERT_BYTES (length text) then Err (faults.Size, 0) else said (lines text)
+image_certificate text =
+    if nat_lt MAX_CERT_BYTES (length text) then Err (faults.Size, 0) else said (lines text)

@@ -1,4 +1,5 @@
--- The line of an image: the line of a move, with the word `image` for `move` and the number of a map for the point.
+-- The line of an image: the line of a move, with the word `image` for `move` and the number of a
+-- map for the point.
 use Rattle.std.specs.Prelude.{nat_lt, if◌then◌else◌, List, [], ◌∷◌, Option, Some, None, Result, Ok, Err, codes}
 use Rattle.std.specs.Str.{bytes_eq}
 use Rattle.pg_base.specs.declared.signs.TheConstants.{BAR, SPACE}
@@ -32,7 +33,9 @@ pub record ImageLine : Type 0 where
 -- the line with these fields, by the words of the last
 abbrev pub begun_with : Four → List Bytes → Option ImageLine
 begun_with f [] = None
-begun_with f (name ∷ ws) = if bytes_eq name (codes "image") then Some (record { x = f.first; y = f.second; turn = f.third; words = ws }) else None
+begun_with f (name ∷ ws) = if bytes_eq name (codes "image")
+    then Some (record { x = f.first; y = f.second; turn = f.third; words = ws })
+    else None
 
 abbrev pub with_fields : Option Four → Option ImageLine
 with_fields None = None
@@ -52,7 +55,9 @@ move_shape l = with_turn l (turn_of l.turn)
 
 -- the image of a node that was read as a move: the number of the point names the map
 abbrev pub image_by : Node → Body → Result ImageNode Fault
-image_by n (Move m j) = if nat_lt m MAP_COUNT then Ok (Image n.x n.y n.turn n.left (numbered m) j) else Err faults.Number
+image_by n (Move m j) = if nat_lt m MAP_COUNT
+    then Ok (Image n.x n.y n.turn n.left (numbered m) j)
+    else Err faults.Number
 image_by n _ = Err faults.Number
 
 -- what the line of an image says: its form comes before its numbers

@@ -8,8 +8,18 @@ use Rattle.pg_image_files.specs.declared.image_line.ImageWords.{ImageWords}
 
 -- what a draft in memory says
 abbrev pub view : ImageDraft → Draft
-view d = record { progress = d.progress; whole = d.claims.items; head = d.head; nodes = d.nodes.items }
+view d = record {
+  progress = d.progress;
+  whole = d.claims.items;
+  head = d.head;
+  nodes = d.nodes.items;
+}
 
 -- what the line of an image says
 abbrev pub line_view : ImageWords → ImageLine
-line_view l = record { x = l.x.now; y = l.y.now; turn = l.turn.now; words = words_of (option_map (λ w. w.now) l.words) }
+line_view l = record {
+  x = l.x.now;
+  y = l.y.now;
+  turn = l.turn.now;
+  words = words_of (option_map (λ w. w.now) l.words);
+}

@@ -145,9 +145,11 @@ impl ImageDraft {
         }
     }
 
-    /// The certificate that the lines have said, or what lacks at the end, which has this number as a line.
+    /// The certificate that the lines have said, or what lacks at the end, which has this number as
+    /// a line.
     pub(crate) fn finish(self, number: u32) -> Result<ImageCert, FileError>
-        ensures { IsReadAs result (ended number (view self) (end_fault self.progress self.progress.due)) }
+        ensures { IsReadAs result
+            (ended number (view self) (end_fault self.progress self.progress.due)) }
     {
         if let Some(fault) = self.progress.end_fault() {
             return Err(FileError::at_line(fault, number));

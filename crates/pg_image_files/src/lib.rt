@@ -1,4 +1,5 @@
-//! Certificate files in which a node may be the turned or reflected image of another: version 3 of the format.
+//! Certificate files in which a node may be the turned or reflected image of another: version 3 of
+//! the format.
 #![tactic(auto)]
 
 mod draft;

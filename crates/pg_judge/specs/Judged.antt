@@ -29,12 +29,16 @@ of_form outcomes.Memory = faults.Memory
 
 -- the text says a certificate that is valid for the game, with these claims
 abbrev pub SaysValid : Game → Bytes → List ClaimHead → Type 0
-SaysValid g text heads = (cert : Cert) × (certificate text ≡ Ok cert) × IsValid g cert × (heads ≡ heads_of cert)
+SaysValid g text heads =
+    (cert : Cert) × (certificate text ≡ Ok cert) × IsValid g cert × (heads ≡ heads_of cert)
 
--- what stands against a text: its fault of form, or the first fault of the certificate that it says; nothing is said where memory is wanting
+-- what stands against a text: its fault of form, or the first fault of the certificate that it
+-- says; nothing is said where memory is wanting
 abbrev pub StandsAgainst : Game → Bytes → JudgeFault → Type 0
-StandsAgainst g text (faults.Form number line) = IsErrAnd (certificate text) (λ bad. (number ≡ number_of bad.0) × (line ≡ bad.1))
-StandsAgainst g text (faults.Reject claim node why) = (cert : Cert) × (certificate text ≡ Ok cert) × IsFirstFault g cert claim node why
+StandsAgainst g text (faults.Form number line) =
+    IsErrAnd (certificate text) (λ bad. (number ≡ number_of bad.0) × (line ≡ bad.1))
+StandsAgainst g text (faults.Reject claim node why) =
+    (cert : Cert) × (certificate text ≡ Ok cert) × IsFirstFault g cert claim node why
 StandsAgainst g text faults.Memory = ⊤
 
 -- ---- while the text comes

@@ -67,7 +67,8 @@ impl From<Rejected> for JudgeFault {
     ghost use Rattle.std.specs.Prelude.{◌≡◌};
     ghost use Rattle.pg_judge.specs.declared.fault.JudgeFault.TheVariants as faults;
 
-    ghost from_gives = { λ rejected fault. fault ≡ faults.Reject rejected.claim rejected.node rejected.why };
+    ghost from_gives = { λ rejected fault. fault
+        ≡ faults.Reject rejected.claim rejected.node rejected.why };
 
     fn from(rejected: Rejected) -> JudgeFault {
         JudgeFault::Reject {

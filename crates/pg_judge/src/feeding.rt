@@ -16,7 +16,8 @@ pub(crate) fn feed_piece(
 ) -> Result<(), Memory>
     requires { HaveBeenFed reader.old told.old }
     ensures game { told.new.checking.game ≡ told.old.checking.game }
-    ensures fed { IfOk result (λ _. (text : List ℕ) → AreFed reader.old told.old text → AreFed reader.new told.new (text ++ piece.now)) }
+    ensures fed { IfOk result (λ _. (text : List ℕ) → AreFed reader.old told.old text
+        → AreFed reader.new told.new (text ++ piece.now)) }
 {
     let mut rest = piece;
     while !rest.is_empty() {

@@ -16,8 +16,9 @@ use std::alloc::Global;
 
 /// A certificate for a game that comes piece by piece: a sink of its bytes.
 ///
-/// Of what came it keeps the line in hand, what the claims say before their nodes, and the marks and turns of the nodes of
-/// the claim in hand. A long line of pairs is cut short while it comes, as far as that changes no verdict.
+/// Of what came it keeps the line in hand, what the claims say before their nodes, and the marks
+/// and turns of the nodes of the claim in hand. A long line of pairs is cut short while it comes,
+/// as far as that changes no verdict.
 #[derive(Drop)]
 pub struct Judging<'a> {
     /// What the bytes have said.
@@ -30,7 +31,9 @@ pub struct Judging<'a> {
 
 /// How many bytes have come with so many more, and one more than the limit for all that are more.
 fn size_with(size: usize, more: usize) -> usize
-    ensures { (text bytes : List ℕ) → size ≡ size_of text → more ≡ length bytes → result ≡ size_of (text ++ bytes) }
+    ensures { (text bytes : List ℕ) → size ≡ size_of text
+        → more ≡ length bytes
+        → result ≡ size_of (text ++ bytes) }
 {
     if size > MAX_CERT_BYTES {
         return size;
@@ -41,8 +44,8 @@ fn size_with(size: usize, more: usize) -> usize
     size + more
 }
 
-/// What the claims say where all parts of a valid certificate were told, and else its first fault, or the text's fault of
-/// form.
+/// What the claims say where all parts of a valid certificate were told, and else its first fault,
+/// or the text's fault of form.
 fn conclude(alloc: Global, reader: CertReader, told: Told<'_>) -> Result<Vec<ClaimHead>, JudgeFault>
     requires { HaveBeenFed reader told }
     ensures { (text : List ℕ) → AreFed reader told.entry text → MatchResult result
@@ -70,8 +73,8 @@ impl<'a> Judging<'a> {
         })
     }
 
-    /// Ends the text: what its claims say where it says a certificate that is valid for the game, and else its first fault
-    /// of form, or the certificate's first fault.
+    /// Ends the text: what its claims say where it says a certificate that is valid for the game,
+    /// and else its first fault of form, or the certificate's first fault.
     pub fn end(self, alloc: Global) -> Result<Vec<ClaimHead>, JudgeFault>
         requires { IsReady self }
         ensures { (text : List ℕ) → StandsFor self.entry text → MatchResult result

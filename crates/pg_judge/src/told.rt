@@ -40,7 +40,8 @@ impl<'a> Told<'a> {
     /// Keeps what a claim says.
     fn keep(&mut self, part: &Part) -> Result<(), Memory>
         ensures checking { self.new.checking ≡ self.old.checking }
-        ensures heads { IfOk result (λ _. self.new.heads.items ≡ self.old.heads.items ++ heads_in (part.now ∷ [])) }
+        ensures heads { IfOk result
+            (λ _. self.new.heads.items ≡ self.old.heads.items ++ heads_in (part.now ∷ [])) }
     {
         if let Part::Claim {
             turn,
@@ -63,7 +64,8 @@ impl<'a> Told<'a> {
     fn part(&mut self, alloc: Global, part: &Part) -> Result<(), Memory>
         requires { IsDue self.old part.now }
         ensures game { self.new.checking.game ≡ self.old.checking.game }
-        ensures told { IfOk result (λ _. (fed : List Part) → HasTold self.old fed → HasTold self.new (fed ++ part.now ∷ [])) }
+        ensures told { IfOk result (λ _. (fed : List Part) → HasTold self.old fed
+            → HasTold self.new (fed ++ part.now ∷ [])) }
     {
         self.keep(part)?;
         self.checking.part(alloc, part)
@@ -73,7 +75,8 @@ impl<'a> Told<'a> {
     pub(crate) fn take(&mut self, alloc: Global, part: Option<Part>) -> Result<(), Memory>
         requires { IfSome part (IsDue self.old) }
         ensures game { self.new.checking.game ≡ self.old.checking.game }
-        ensures told { IfOk result (λ _. (fed : List Part) → HasTold self.old fed → HasTold self.new (fed ++ listed part)) }
+        ensures told { IfOk result (λ _. (fed : List Part) → HasTold self.old fed
+            → HasTold self.new (fed ++ listed part)) }
     {
         match part {
             Some(part) => self.part(alloc, &part),
@@ -81,12 +84,16 @@ impl<'a> Told<'a> {
         }
     }
 
-    /// What the claims say where all parts of a valid certificate were told, and else its first fault.
+    /// What the claims say where all parts of a valid certificate were told, and else its first
+    /// fault.
     pub(crate) fn finish(self) -> Result<Vec<ClaimHead>, Rejected>
         requires { IsComplete self }
-        ensures { (cert : Cert) → IsWithinLimits cert → HasTold self.entry (parts_of cert) → MatchResult result
+        ensures { (cert : Cert) → IsWithinLimits cert
+            → HasTold self.entry (parts_of cert)
+            → MatchResult result
             (λ heads. IsValid self.entry.checking.game.now cert × (heads.items ≡ heads_of cert))
-            (λ rejected. IsFirstFault self.entry.checking.game.now cert rejected.claim rejected.node rejected.why) }
+            (λ rejected. IsFirstFault self.entry.checking.game.now cert rejected.claim rejected.node
+            rejected.why) }
     {
         self.checking.finish()?;
         Ok(self.heads)

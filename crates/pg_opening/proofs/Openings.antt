@@ -17,5 +17,10 @@ game_cut : (all : Bytes) → game (take (MAX_GAME_BYTES + 1) all) ≡ game all
 unfolding game
 game_cut all = cut_same MAX_GAME_BYTES game (Err (Size, 0)) (λ text long. rw long refl) all
 
-pub opens_game : (h : Option Holding) (name text : Bytes) (r : Result Game Halt) → IsFile h name MAX_GAME_BYTES text → IsReadAs entry (game_held (Some text)) r → OpensGame h name r
-opens_game h name text r whole is = opens_whole MAX_GAME_BYTES (λ (text : Bytes). game_held (Some text)) (λ all. rw (game_cut all) refl) entry h name text r whole is
+pub opens_game : (h : Option Holding) (name text : Bytes) (r : Result Game Halt)
+    → IsFile h name MAX_GAME_BYTES text
+    → IsReadAs entry (game_held (Some text)) r
+    → OpensGame h name r
+opens_game h name text r whole is =
+    opens_whole MAX_GAME_BYTES (λ (text : Bytes). game_held (Some text))
+    (λ all. rw (game_cut all) refl) entry h name text r whole is

@@ -9,7 +9,8 @@ use Rattle.pg_talk.specs.declared.halt.Halt.{Halt}
 
 -- the game that a name holds, or what stands against it
 abbrev pub game_held : Option Bytes → Result GameEntry Halt
-game_held o = held_as (λ text. or_halt (λ fault. game_fault (game_fault_number fault.0) fault.1) (game text)) o
+game_held o = held_as
+    (λ text. or_halt (λ fault. game_fault (game_fault_number fault.0) fault.1) (game text)) o
 
 -- the game is the one that a file says
 abbrev pub IsSaidBy : GameEntry → Game → Type 0

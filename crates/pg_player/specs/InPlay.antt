@@ -1,4 +1,5 @@
--- What keeps a player going: facts on its claim, its position and where it stands, which every move and every reply keep.
+-- What keeps a player going: facts on its claim, its position and where it stands, which every move
+-- and every reply keep.
 use Rattle.std.specs.Prelude.{◌≡◌, ◌⊎◌, ℕ, ◌<◌, true, false, List, [], ◌∷◌, map, Option, Some, None, if◌then◌else◌}
 use Rattle.std.specs.List.{All as Each}
 use Rattle.pg_base.specs.Side.{other}
@@ -33,10 +34,14 @@ use Rattle.pg_switch.specs.Replies.{HeldUntil}
 
 -- ---- what keeps a player going at its body while the game goes on
 
--- the rest of the pairs held before the last reply, or holds where no reply came, or holds in Maker-Breaker
-pub record PairsReady (g : Game) (side : Side) (p : Position) (pairs : List Pair) (last : Option ℕ) : Type 0 where
+-- the rest of the pairs held before the last reply, or holds where no reply came, or holds in
+-- Maker-Breaker
+pub record PairsReady (g : Game) (side : Side) (p : Position) (pairs : List Pair)
+    (last : Option ℕ) : Type 0 where
   pub are : ArePairsOf g pairs
-  pub state : HeldBefore g p side pairs last ⊎ (((last ≡ None) × RestHolds g p side pairs) ⊎ ((g.kind ≡ MakerBreaker) × RestHolds g p side pairs))
+  pub state : HeldBefore g p side pairs last
+      ⊎ (((last ≡ None) × RestHolds g p side pairs)
+      ⊎ ((g.kind ≡ MakerBreaker) × RestHolds g p side pairs))
 
 pub record PairsWaiting (g : Game) (side : Side) (p : Position) (pairs : List Pair) : Type 0 where
   pub are : ArePairsOf g pairs
@@ -44,7 +49,8 @@ pub record PairsWaiting (g : Game) (side : Side) (p : Position) (pairs : List Pa
 
 -- Avoider's potential holds, or it holds after every point that Enforcer may take
 abbrev pub AvoiderWaiting : Game → Position → Type 0
-AvoiderWaiting g p = AvoiderHolds g p ⊎ ((u : ℕ) → u < point_count g → is_free p u ≡ true → AvoiderHolds g (after g p u))
+AvoiderWaiting g p = AvoiderHolds g p
+    ⊎ ((u : ℕ) → u < point_count g → is_free p u ≡ true → AvoiderHolds g (after g p u))
 
 -- the potential of the kind with the other side to move
 abbrev pub PotentialWaiting : Kind → Game → Position → Side → Type 0
@@ -58,14 +64,17 @@ pub record MayMove (g : Game) (nodes : List Node) (p : Position) (point child : 
   pub next : IsNodeOf nodes child (after g p point)
 
 -- all free points are named, each with a node that has the position after it
-pub record NamesAll (g : Game) (nodes : List Node) (p : Position) (replies : List Reply) : Type 0 where
+pub record NamesAll (g : Game) (nodes : List Node) (p : Position)
+    (replies : List Reply) : Type 0 where
   pub exact : map (λ r. r.point) replies ≡ free_points g p
   pub next : Each (λ r. FollowsMove g nodes p r.point r.child) replies
 
 -- after an attack the other side must take the point, and what follows leads to a line
 abbrev pub MustReply : Game → Position → Side → List ℕ → Type 0
 MustReply g p side [] = ⊥
-MustReply g p side (u ∷ others) = (threatens g p side u ≡ true) × (g.kind ≡ MakerMaker → has_threat g p (other side) ≡ false) × LeadsToLine g (after g p u) side others
+MustReply g p side (u ∷ others) = (threatens g p side u ≡ true)
+    × (g.kind ≡ MakerMaker → has_threat g p (other side) ≡ false)
+    × LeadsToLine g (after g p u) side others
 
 -- the player is to move at the body
 abbrev pub Ready : Game → Claim → Position → Body → Option ℕ → Type 0
@@ -74,8 +83,10 @@ Ready g c p (Move point child) last = MayMove g c.nodes p point child
 Ready g c p (All replies) last = ⊥
 Ready g c p (Pairs pairs) last = PairsReady g c.side p pairs last
 Ready g c p Potential last = PotentialFits g.kind g p c.side
-Ready g c p (Trees with_e first second) last = HeldUntil g p (λ q. TreesHold g q (with_e_named g with_e first) second) last
-Ready g c p (Cuts with_e first second) last = HeldUntil g p (λ q. CutsHold g q (with_e_named g with_e first) second) last
+Ready g c p (Trees with_e first second) last =
+    HeldUntil g p (λ q. TreesHold g q (with_e_named g with_e first) second) last
+Ready g c p (Cuts with_e first second) last =
+    HeldUntil g p (λ q. CutsHold g q (with_e_named g with_e first) second) last
 Ready g c p (Threat points) last = LeadsToLine g p c.side points
 Ready g c p (Weaker child) last = ⊥
 
@@ -91,11 +102,16 @@ Waiting g c p (Cuts with_e first second) = CutsHold g p (with_e_named g with_e f
 Waiting g c p (Threat points) = MustReply g p c.side points
 Waiting g c p (Weaker child) = ⊥
 
--- the body is allowed, and while the imagined game goes on it keeps what it needs, whoever is to move
+-- the body is allowed, and while the imagined game goes on it keeps what it needs, whoever is to
+-- move
 pub record Stands (g : Game) (c : Claim) (s : Standing) : Type 0 where
   pub allowed : is_allowed g.kind g.bias c.side c.goal s.body ≡ true
-  pub ready : is_over g s.imagined ≡ false → s.imagined.turn ≡ c.side → Ready g c s.imagined s.body s.last
-  pub waiting : is_over g s.imagined ≡ false → s.imagined.turn ≡ other c.side → Waiting g c s.imagined s.body
+  pub ready : is_over g s.imagined ≡ false
+      → s.imagined.turn ≡ c.side
+      → Ready g c s.imagined s.body s.last
+  pub waiting : is_over g s.imagined ≡ false
+      → s.imagined.turn ≡ other c.side
+      → Waiting g c s.imagined s.body
 
 -- ---- the whole
 
@@ -110,7 +126,8 @@ pub record IsSoundClaim (g : Game) (c : Claim) : Type 0 where
   pub limits : ∥ IsClaim c ∥₁
   pub valid : IsValidClaim g c
 
--- the claim is sound, the imagined position is one of the game, the claimer forces its goal from it, and the standing fits it
+-- the claim is sound, the imagined position is one of the game, the claimer forces its goal from
+-- it, and the standing fits it
 pub record InPlay (g : Game) (c : Claim) (s : Standing) : Type 0 where
   pub sound : IsSoundClaim g c
   pub position : IsPosition g s.imagined
@@ -122,15 +139,18 @@ pub record GoesOn (g : Game) (c : Claim) (p : Position) (s : Standing) : Type 0 
   pub playing : InPlay g c s
   pub beside : IsBeside g c.side s.imagined p
 
--- what a player keeps: it goes on at the true position, which is reached by a legal play; it knows the outcome, and its judge and its joiner are made for the game
-pub record IsPlaying (g : Game) (c : Claim) (p : Position) (s : Standing) (ending : Option Score) (judge : Room) (joiner : Option Room) : Type 0 where
+-- what a player keeps: it goes on at the true position, which is reached by a legal play; it knows
+-- the outcome, and its judge and its joiner are made for the game
+pub record IsPlaying (g : Game) (c : Claim) (p : Position) (s : Standing) (ending : Option Score)
+    (judge : Room) (joiner : Option Room) : Type 0 where
   pub on : GoesOn g c p s
   pub reached : IsReached g p
   pub known : ending ≡ (if is_over g p then Some (outcome g p) else None)
   pub judged : IsMadeForGame judge g
   pub joined : HasJoiner joiner g
 
--- an imagined move that keeps the player going: it is the own move, legal in the imagined position, and the player goes on after it
+-- an imagined move that keeps the player going: it is the own move, legal in the imagined position,
+-- and the player goes on after it
 pub record KeepsUp (g : Game) (c : Claim) (s : Standing) (v : ℕ) (next : Standing) : Type 0 where
   pub own : own_move g c.nodes c.side s ≡ Some (record { point = v; next = Some next })
   pub within : v < point_count g

@@ -1,4 +1,5 @@
--- What is seen of a player: the game, the claim that it plays, the position, and where it stands, with the position that it imagines.
+-- What is seen of a player: the game, the claim that it plays, the position, and where it stands,
+-- with the position that it imagines.
 use Rattle.std.specs.Prelude.{◌≡◌, ◌⊎◌, ℕ, ◌<◌, Bool, true, false, ◌&&◌, Option, Some, None, Ok, find}
 use Rattle.std.specs.Option.{option_or}
 use Rattle.pg_base.specs.Side.{other, is_same_side}
@@ -36,20 +37,24 @@ is_claim_of side turn claim = is_same_side claim.side side && is_same_side claim
 abbrev pub is_win_of : Side → Side → Claim → Bool
 is_win_of side turn claim = is_claim_of side turn claim && is_win claim.goal
 
--- the claim that a side plays: the first of that side and the game's turn with goal win, else the first of that side and turn
+-- the claim that a side plays: the first of that side and the game's turn with goal win, else the
+-- first of that side and turn
 unfoldable pub chosen_claim : Game → Cert → Side → Option Claim
-chosen_claim g cert side = option_or (find (is_win_of side g.turn) cert.claims) (find (is_claim_of side g.turn) cert.claims)
+chosen_claim g cert side = option_or (find (is_win_of side g.turn) cert.claims)
+    (find (is_claim_of side g.turn) cert.claims)
 
 -- ---- moves and replies
 
--- the player imagines its own move by the rule of its standing, and plays in the true position the point v that stands for it, which is legal
+-- the player imagines its own move by the rule of its standing, and plays in the true position the
+-- point v that stands for it, which is legal
 pub record MakesMove (before now : Play) (v : ℕ) : Type 0 where
   pub going : is_over before.game before.position ≡ false
   pub turn : before.position.turn ≡ before.claim.side
   pub within : v < point_count before.game
   pub free : is_free before.position v ≡ true
   pub imagined : OwnMove
-  pub own : own_move before.game before.claim.nodes before.claim.side before.standing ≡ Some imagined
+  pub own : own_move before.game before.claim.nodes before.claim.side before.standing
+      ≡ Some imagined
   pub next : imagined.next ≡ Some now.standing
   pub chosen : v ≡ played_point before.game before.position imagined
   pub position : now.position ≡ after before.game before.position v
@@ -72,7 +77,9 @@ abbrev pub Moves : Play → Play → Option ℕ → Type 0
 Moves before now None = Waits before × (now ≡ before)
 Moves before now (Some v) = MakesMove before now v
 
--- what the player does after a legal reply: it takes the reply, and then makes its move where it owes one
+-- what the player does after a legal reply: it takes the reply, and then makes its move where it
+-- owes one
 abbrev pub Answers : Play → Play → ℕ → Option ℕ → Type 0
 Answers before now v None = TakesReply before now v × Waits now
-Answers before now v (Some w) = (between : Play) × TakesReply before between v × MakesMove between now w
+Answers before now v (Some w) =
+    (between : Play) × TakesReply before between v × MakesMove between now w

@@ -24,7 +24,8 @@ abbrev pub body_of : List Node → Rest → Body
 body_of nodes (rest.Whole number) = body_at (slice_get nodes number)
 body_of nodes (rest.Short plan) = Trees false plan.first plan.second
 body_of nodes (rest.Cut plan) = Cuts false plan.first plan.second
-body_of nodes (rest.Line number from) = Threat (drop from (threat_of (body_at (slice_get nodes number))))
+body_of nodes (rest.Line number from) =
+    Threat (drop from (threat_of (body_at (slice_get nodes number))))
 body_of nodes (rest.Last u) = Threat (u ∷ [])
 body_of nodes rest.Won = Threat []
 
@@ -36,11 +37,13 @@ standing_of nodes s = record { body = body_of nodes s.rest; last = s.last; imagi
 abbrev pub Settles : List Node → ℕ → Type 0
 Settles nodes number = (n : Node) × (settled nodes number ≡ Some n)
 
--- the player can go on after the reply: where all replies are named it is one of them, with a node to stand at; and neither is the game over nor the player to move nor does it stand at `weaker`
+-- the player can go on after the reply: where all replies are named it is one of them, with a node
+-- to stand at; and neither is the game over nor the player to move nor does it stand at `weaker`
 abbrev pub LeadsOn : List Node → Body → ℕ → Type 0
 LeadsOn nodes Over v = ⊥
 LeadsOn nodes (Move point child) v = ⊥
-LeadsOn nodes (All replies) v = (r : Reply) × (find (λ q. q.point == v) replies ≡ Some r) × Settles nodes r.child
+LeadsOn nodes (All replies) v =
+    (r : Reply) × (find (λ q. q.point == v) replies ≡ Some r) × Settles nodes r.child
 LeadsOn nodes (Weaker child) v = ⊥
 LeadsOn nodes (Threat []) v = ⊥
 LeadsOn nodes (Threat (u ∷ points)) v = Unit {0}

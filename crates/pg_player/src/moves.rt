@@ -31,7 +31,10 @@ pub(crate) struct Made {
 /// A move by which the player stays at its node, with what is left of the body.
 fn stay(g: &Game, p: &Position, point: u16, rest: Rest, last: Option<u16>) -> Made
     requires { point < MAX_MEMBERS }
-    ensures { result ≡ record { point = point; stand = record { rest = rest; last = last; imagined = after g.now p.now point } } }
+    ensures { result ≡ record {
+      point = point;
+      stand = record { rest = rest; last = last; imagined = after g.now p.now point };
+    } }
 {
     Made {
         point,
@@ -49,7 +52,16 @@ fn potential_point(g: &Game, claim: &Claim, p: &Position) -> u16
     requires position { IsPosition g.now p.now }
     requires going { is_over g.now p.now ≡ false }
     requires turn { p.now.turn ≡ claim.now.side }
-    ensures { (last : Option ℕ) → InPlay g.now claim.now (record { body = Potential; last = last; imagined = p.now }) → KeepsUp g.now claim.now (record { body = Potential; last = last; imagined = p.now }) result (record { body = Potential; last = last; imagined = after g.now p.now result }) }
+    ensures { (last : Option ℕ) → InPlay g.now claim.now (record {
+      body = Potential;
+      last = last;
+      imagined = p.now;
+    })
+        → KeepsUp g.now claim.now (record {
+          body = Potential;
+          last = last;
+          imagined = p.now;
+        }) result (record { body = Potential; last = last; imagined = after g.now p.now result }) }
 {
     match g.kind {
         Kind::AvoiderEnforcer => pg_avoider::answer(g, p),
@@ -72,7 +84,16 @@ fn trees_move(
     requires going { is_over g.now p.now ≡ false }
     requires turn { p.now.turn ≡ X }
     requires held { HeldUntil g.now p.now (λ q. TreesHold g.now q plan.first plan.second) last }
-    ensures keeps { (c : Claim) → InPlay g.now c (record { body = Trees false plan.first plan.second; last = last; imagined = p.now }) → KeepsUp g.now c (record { body = Trees false plan.first plan.second; last = last; imagined = p.now }) result.point (standing_of c.nodes result.stand) }
+    ensures keeps { (c : Claim) → InPlay g.now c (record {
+      body = Trees false plan.first plan.second;
+      last = last;
+      imagined = p.now;
+    })
+        → KeepsUp g.now c (record {
+          body = Trees false plan.first plan.second;
+          last = last;
+          imagined = p.now;
+        }) result.point (standing_of c.nodes result.stand) }
     ensures joined { joiner.new ≡ joiner.old }
 {
     let Some(joiner) = joiner else { unreachable!() };
@@ -95,7 +116,16 @@ fn cuts_move(
     requires going { is_over g.now p.now ≡ false }
     requires turn { p.now.turn ≡ Y }
     requires held { HeldUntil g.now p.now (λ q. CutsHold g.now q plan.first plan.second) last }
-    ensures keeps { (c : Claim) → InPlay g.now c (record { body = Cuts false plan.first plan.second; last = last; imagined = p.now }) → KeepsUp g.now c (record { body = Cuts false plan.first plan.second; last = last; imagined = p.now }) result.point (standing_of c.nodes result.stand) }
+    ensures keeps { (c : Claim) → InPlay g.now c (record {
+      body = Cuts false plan.first plan.second;
+      last = last;
+      imagined = p.now;
+    })
+        → KeepsUp g.now c (record {
+          body = Cuts false plan.first plan.second;
+          last = last;
+          imagined = p.now;
+        }) result.point (standing_of c.nodes result.stand) }
     ensures joined { joiner.new ≡ joiner.old }
 {
     let Some(joiner) = joiner else { unreachable!() };
@@ -113,10 +143,18 @@ fn line_move(
     from: usize,
     last: Option<u16>,
 ) -> Made
-    requires playing { InPlay g.now claim.now (record { body = Threat (drop from (threat_of (body_at (slice_get claim.now.nodes number)))); last = last; imagined = p.now }) }
+    requires playing { InPlay g.now claim.now (record {
+      body = Threat (drop from (threat_of (body_at (slice_get claim.now.nodes number))));
+      last = last;
+      imagined = p.now;
+    }) }
     requires going { is_over g.now p.now ≡ false }
     requires turn { p.now.turn ≡ claim.now.side }
-    ensures { KeepsUp g.now claim.now (record { body = Threat (drop from (threat_of (body_at (slice_get claim.now.nodes number)))); last = last; imagined = p.now }) result.point (standing_of claim.now.nodes result.stand) }
+    ensures { KeepsUp g.now claim.now (record {
+      body = Threat (drop from (threat_of (body_at (slice_get claim.now.nodes number))));
+      last = last;
+      imagined = p.now;
+    }) result.point (standing_of claim.now.nodes result.stand) }
 {
     let point = threat_at(claim, number)[from];
     stay(g, p, point, Rest::Line(number, from + 1), last)
@@ -133,11 +171,19 @@ fn body_move(
     last: Option<u16>,
 ) -> Made
     requires body { body.now ≡ body_at (slice_get claim.now.nodes number) }
-    requires playing { InPlay g.now claim.now (record { body = body.now; last = last; imagined = p.now }) }
+    requires playing { InPlay g.now claim.now (record {
+      body = body.now;
+      last = last;
+      imagined = p.now;
+    }) }
     requires joined { HasJoiner joiner.old g.now }
     requires going { is_over g.now p.now ≡ false }
     requires turn { p.now.turn ≡ claim.now.side }
-    ensures keeps { KeepsUp g.now claim.now (record { body = body.now; last = last; imagined = p.now }) result.point (standing_of claim.now.nodes result.stand) }
+    ensures keeps { KeepsUp g.now claim.now (record {
+      body = body.now;
+      last = last;
+      imagined = p.now;
+    }) result.point (standing_of claim.now.nodes result.stand) }
     ensures joined { joiner.new ≡ joiner.old }
 {
     let whole = Rest::Whole(number);
@@ -172,14 +218,15 @@ fn body_move(
     }
 }
 
-/// The player's own move where it stands, in an imagined game that goes on, and where it stands after it. It takes no memory,
-/// and leaves the joiner as it was.
+/// The player's own move where it stands, in an imagined game that goes on, and where it stands
+/// after it. It takes no memory, and leaves the joiner as it was.
 pub(crate) fn own_move(g: &Game, claim: &Claim, joiner: &mut Option<Joiner>, stand: Stand) -> Made
     requires playing { InPlay g.now claim.now (standing_of claim.now.nodes stand) }
     requires joined { HasJoiner joiner.old g.now }
     requires going { is_over g.now stand.imagined ≡ false }
     requires turn { stand.imagined.turn ≡ claim.now.side }
-    ensures keeps { KeepsUp g.now claim.now (standing_of claim.now.nodes stand) result.point (standing_of claim.now.nodes result.stand) }
+    ensures keeps { KeepsUp g.now claim.now (standing_of claim.now.nodes stand) result.point
+        (standing_of claim.now.nodes result.stand) }
     ensures joined { joiner.new ≡ joiner.old }
 {
     let Stand {

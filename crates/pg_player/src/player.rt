@@ -19,12 +19,14 @@ use pg_weaker::free_or_lowest;
 use std::alloc::Global;
 use std::marker::Model;
 
-/// A player: it makes one side's own moves by a claim of a checked certificate, and takes the other side's replies.
+/// A player: it makes one side's own moves by a claim of a checked certificate, and takes the other
+/// side's replies.
 ///
-/// A contract sees the game, the claim, the position, and where the player stands, with the position that it imagines. The
-/// true position is always one after a legal play from the game's marks, and the side forces the claim's goal from it. No
-/// call after `open` takes memory, and each takes a time linear, or near-linear, in the size of the game, but for nodes that
-/// rest on weaker positions one after the other, which it passes one by one.
+/// A contract sees the game, the claim, the position, and where the player stands, with the
+/// position that it imagines. The true position is always one after a legal play from the game's
+/// marks, and the side forces the claim's goal from it. No call after `open` takes memory, and each
+/// takes a time linear, or near-linear, in the size of the game, but for nodes that rest on weaker
+/// positions one after the other, which it passes one by one.
 #[derive(Debug, Drop)]
 pub struct Player<'a> {
     game: &'a Game,
@@ -54,11 +56,29 @@ impl<'a> Model for Player<'a> {
 
     ghost Value = { Play };
 
-    ghost coded = { code_by (Game × (Claim × (Position × (Body × (Option ℕ × Position))))) (coded× game_code.the_row.coded (coded× claim_code.the_row.coded (coded× position_code.the_row.coded (coded× body_code.the_row.coded (coded× (coded_option coded_ℕ) position_code.the_row.coded))))) (λ s. (s.game, (s.claim, (s.position, (s.standing.body, (s.standing.last, s.standing.imagined)))))) (λ t. record { game = t.0; claim = t.1.0; position = t.1.1.0; standing = record { body = t.1.1.1.0; last = t.1.1.1.1.0; imagined = t.1.1.1.1.1 } }) (λ _. refl) };
+    ghost coded = { code_by (Game × (Claim × (Position × (Body × (Option ℕ × Position)))))
+        (coded× game_code.the_row.coded
+        (coded× claim_code.the_row.coded
+        (coded× position_code.the_row.coded (coded× body_code.the_row.coded
+        (coded× (coded_option coded_ℕ) position_code.the_row.coded))))) (λ s. (
+          s.game,
+          (s.claim, (s.position, (s.standing.body, (s.standing.last, s.standing.imagined)))),
+        )) (λ t. record {
+          game = t.0;
+          claim = t.1.0;
+          position = t.1.1.0;
+          standing = record { body = t.1.1.1.0; last = t.1.1.1.1.0; imagined = t.1.1.1.1.1 };
+        }) (λ _. refl) };
 
-    ghost view = { λ a. record { game = a.game.now; claim = a.claim.now; position = a.position; standing = standing_of a.claim.now.nodes a.stand } };
+    ghost view = { λ a. record {
+      game = a.game.now;
+      claim = a.claim.now;
+      position = a.position;
+      standing = standing_of a.claim.now.nodes a.stand;
+    } };
 
-    ghost invariant = { λ a. IsPlaying a.game.now a.claim.now a.position (standing_of a.claim.now.nodes a.stand) a.ending a.judge a.joiner };
+    ghost invariant = { λ a. IsPlaying a.game.now a.claim.now a.position
+        (standing_of a.claim.now.nodes a.stand) a.ending a.judge a.joiner };
 }
 
 /// Why no player can be opened.
@@ -71,20 +91,26 @@ pub enum OpenFault {
 }
 
 impl<'a> Player<'a> {
-    /// A player of the side at the game's marks. It plays the certificate's first claim of that side and the game's turn
-    /// whose goal is to win, else the first of that side and turn, and comes to the claim's root.
+    /// A player of the side at the game's marks. It plays the certificate's first claim of that
+    /// side and the game's turn whose goal is to win, else the first of that side and turn, and
+    /// comes to the claim's root.
     ///
     /// # Errors
     ///
-    /// `NoClaim` exactly where no claim has that side and the game's turn, else `Memory` where no memory is found.
+    /// `NoClaim` exactly where no claim has that side and the game's turn, else `Memory` where no
+    /// memory is found.
     pub fn open(alloc: Global, c: Checked<'a>, side: Side) -> Result<Player<'a>, OpenFault>
-        ensures chosen { IfOk result (λ player. chosen_claim c.entry.game.now c.entry.cert.now side ≡ Some player.claim) }
+        ensures chosen { IfOk result
+            (λ player. chosen_claim c.entry.game.now c.entry.cert.now side ≡ Some player.claim) }
         ensures side { IfOk result (λ player. player.claim.side ≡ side) }
         ensures game { IfOk result (λ player. player.game ≡ c.entry.game.now) }
         ensures position { IfOk result (λ player. player.position ≡ start c.entry.game.now) }
-        ensures standing { IfOk result (λ player. arrives player.claim.nodes (length player.claim.nodes - 1) ≡ Some player.standing) }
-        ensures none { result ≡ Err OpenFault.NoClaim → chosen_claim c.entry.game.now c.entry.cert.now side ≡ None }
-        ensures missing { chosen_claim c.entry.game.now c.entry.cert.now side ≡ None → result ≡ Err OpenFault.NoClaim }
+        ensures standing { IfOk result (λ player.
+            arrives player.claim.nodes (length player.claim.nodes - 1) ≡ Some player.standing) }
+        ensures none { result ≡ Err OpenFault.NoClaim
+            → chosen_claim c.entry.game.now c.entry.cert.now side ≡ None }
+        ensures missing { chosen_claim c.entry.game.now c.entry.cert.now side ≡ None
+            → result ≡ Err OpenFault.NoClaim }
     {
         let game = c.game;
         let Some(claim) = chosen_claim(game, c.cert, side) else {
@@ -130,19 +156,25 @@ impl<'a> Player<'a> {
         self.game.kind
     }
 
-    /// The position, which is one after a legal play from the game's marks, and from which the side forces the claim's goal.
+    /// The position, which is one after a legal play from the game's marks, and from which the side
+    /// forces the claim's goal.
     pub fn position(&self) -> Position
         ensures exact { result ≡ self.now.position }
-        ensures reached { (moves : List ℕ) × IsLegalPlay self.now.game (start self.now.game) moves × (played self.now.game (start self.now.game) moves ≡ result) }
+        ensures reached { (moves : List ℕ) × IsLegalPlay self.now.game (start self.now.game) moves
+            × (played self.now.game (start self.now.game) moves ≡ result) }
         ensures forced { Forces self.now.game result self.now.claim.side self.now.claim.goal }
     {
         self.position
     }
 
-    /// The outcome of the position, and None exactly where the game isn't over. It reaches the claim's goal for the side.
+    /// The outcome of the position, and None exactly where the game isn't over. It reaches the
+    /// claim's goal for the side.
     pub fn outcome(&self) -> Option<Score>
-        ensures exact { result ≡ (if is_over self.now.game self.now.position then Some (outcome self.now.game self.now.position) else None) }
-        ensures reached { IfSome result (λ score. reaches self.now.claim.side self.now.claim.goal score ≡ true) }
+        ensures exact { result ≡ (if is_over self.now.game self.now.position
+            then Some (outcome self.now.game self.now.position)
+            else None) }
+        ensures reached { IfSome result
+            (λ score. reaches self.now.claim.side self.now.claim.goal score ≡ true) }
     {
         self.ending
     }
@@ -162,8 +194,9 @@ impl<'a> Player<'a> {
         point
     }
 
-    /// Makes one move of the player where it is to move, and tells it. None comes exactly where the game is over or the
-    /// other side is to move; then nothing changes. Where the player has several points in its turn it may be to move again.
+    /// Makes one move of the player where it is to move, and tells it. None comes exactly where the
+    /// game is over or the other side is to move; then nothing changes. Where the player has
+    /// several points in its turn it may be to move again.
     pub fn first(&mut self) -> Option<u16>
         ensures { Moves self.old self.new result }
     {
@@ -177,7 +210,8 @@ impl<'a> Player<'a> {
     fn take_reply(&mut self, v: u16) -> Result<(), Illegal>
         requires { Waits self.old }
         ensures taken { OnOk result (TakesReply self.old self.new v) }
-        ensures refused { IfErr result (λ fault. judged_move self.old.game self.old.position v ≡ Err fault) }
+        ensures refused { IfErr result
+            (λ fault. judged_move self.old.game self.old.position v ≡ Err fault) }
         ensures same { IfErr result (λ _. self.new ≡ self.old) }
     {
         let position = self.judge.play(self.game, &self.position, v)?;
@@ -188,17 +222,18 @@ impl<'a> Player<'a> {
         Ok(())
     }
 
-    /// Plays v for the other side, and then makes one move of the player where it is to move, and tells it. None comes exactly
-    /// where after v the game is over or the other side is to move.
+    /// Plays v for the other side, and then makes one move of the player where it is to move, and
+    /// tells it. None comes exactly where after v the game is over or the other side is to move.
     ///
     /// # Errors
     ///
-    /// `Range` where the game has no such point, else `Over` where it is over, else `Taken` where the point isn't free.
-    /// Then nothing changes.
+    /// `Range` where the game has no such point, else `Over` where it is over, else `Taken` where
+    /// the point isn't free. Then nothing changes.
     pub fn answer(&mut self, v: u16) -> Result<Option<u16>, Illegal>
         requires { Waits self.old }
         ensures answered { IfOk result (λ own. Answers self.old self.new v own) }
-        ensures refused { IfErr result (λ fault. judged_move self.old.game self.old.position v ≡ Err fault) }
+        ensures refused { IfErr result
+            (λ fault. judged_move self.old.game self.old.position v ≡ Err fault) }
         ensures same { IfErr result (λ _. self.new ≡ self.old) }
     {
         self.take_reply(v)?;

@@ -40,8 +40,8 @@ pub(crate) struct Stand {
     pub(crate) imagined: Position,
 }
 
-/// The number of the first node from that one on, from `weaker` to its child, that has another body. Children are earlier, so
-/// no node is met twice.
+/// The number of the first node from that one on, from `weaker` to its child, that has another
+/// body. Children are earlier, so no node is met twice.
 fn settle(claim: &Claim, number: usize) -> usize
     requires { Settles claim.now.nodes number }
     ensures { slice_get claim.now.nodes result ≡ settled claim.now.nodes number }
@@ -57,8 +57,8 @@ fn settle(claim: &Claim, number: usize) -> usize
     unreachable!()
 }
 
-/// Where a player stands that comes to the node of that number: it goes on to the first node with another body than `weaker`,
-/// and imagines its position.
+/// Where a player stands that comes to the node of that number: it goes on to the first node with
+/// another body than `weaker`, and imagines its position.
 pub(crate) fn arrive(claim: &Claim, number: usize) -> Stand
     requires { Settles claim.now.nodes number }
     ensures { arrives claim.now.nodes number ≡ Some (standing_of claim.now.nodes result) }
@@ -75,7 +75,8 @@ pub(crate) fn arrive(claim: &Claim, number: usize) -> Stand
 pub(crate) fn root(claim: &Claim) -> Stand
     requires some { 0 < length claim.now.nodes }
     requires settles { Settles claim.now.nodes (length claim.now.nodes - 1) }
-    ensures { arrives claim.now.nodes (length claim.now.nodes - 1) ≡ Some (standing_of claim.now.nodes result) }
+    ensures { arrives claim.now.nodes (length claim.now.nodes - 1)
+        ≡ Some (standing_of claim.now.nodes result) }
 {
     arrive(claim, claim.nodes.as_slice().len() - 1)
 }
@@ -120,11 +121,18 @@ pub(crate) fn threat_at(claim: &Claim, number: usize) -> &[u16]
     }
 }
 
-/// What is left of the threat line from a place on after a reply: the rest where the point there was taken, and else that
-/// point.
+/// What is left of the threat line from a place on after a reply: the rest where the point there
+/// was taken, and else that point.
 fn line_replied(claim: &Claim, number: usize, from: usize, w: u16) -> Rest
-    requires { LeadsOn claim.now.nodes (Threat (drop from (threat_of (body_at (slice_get claim.now.nodes number))))) w }
-    ensures { (g : Game) → (q : Position) → replied_by (Threat (drop from (threat_of (body_at (slice_get claim.now.nodes number))))) g claim.now.nodes q w ≡ Some (record { body = body_of claim.now.nodes result; last = Some w; imagined = after g q w }) }
+    requires { LeadsOn claim.now.nodes
+        (Threat (drop from (threat_of (body_at (slice_get claim.now.nodes number))))) w }
+    ensures { (g : Game) → (q : Position)
+        → replied_by (Threat (drop from (threat_of (body_at (slice_get claim.now.nodes number))))) g
+        claim.now.nodes q w ≡ Some (record {
+          body = body_of claim.now.nodes result;
+          last = Some w;
+          imagined = after g q w;
+        }) }
 {
     let u = threat_at(claim, number)[from];
     if u == w {
@@ -134,13 +142,14 @@ fn line_replied(claim: &Claim, number: usize, from: usize, w: u16) -> Rest
     }
 }
 
-/// Where the player stands at a node's body after the reply w, which it imagines in the position q: on at the child where all
-/// replies are named, else it stays.
+/// Where the player stands at a node's body after the reply w, which it imagines in the position q:
+/// on at the child where all replies are named, else it stays.
 fn body_replied(g: &Game, claim: &Claim, number: usize, body: &Body, q: &Position, w: u16) -> Stand
     requires body { body.now ≡ body_at (slice_get claim.now.nodes number) }
     requires leads { LeadsOn claim.now.nodes body.now w }
     requires small { w < MAX_MEMBERS }
-    ensures { replied_by body.now g.now claim.now.nodes q.now w ≡ Some (standing_of claim.now.nodes result) }
+    ensures { replied_by body.now g.now claim.now.nodes q.now w
+        ≡ Some (standing_of claim.now.nodes result) }
 {
     match body {
         Body::All(replies) => match find_reply(replies.as_slice(), w) {
@@ -152,11 +161,13 @@ fn body_replied(g: &Game, claim: &Claim, number: usize, body: &Body, q: &Positio
     }
 }
 
-/// Where the player stands after a reply w that is legal in the position that it imagines, and that it imagines there.
+/// Where the player stands after a reply w that is legal in the position that it imagines, and that
+/// it imagines there.
 pub(crate) fn replied(g: &Game, claim: &Claim, stand: Stand, w: u16) -> Stand
     requires leads { LeadsOn claim.now.nodes (body_of claim.now.nodes stand.rest) w }
     requires small { w < MAX_MEMBERS }
-    ensures { replied_by (body_of claim.now.nodes stand.rest) g.now claim.now.nodes stand.imagined w ≡ Some (standing_of claim.now.nodes result) }
+    ensures { replied_by (body_of claim.now.nodes stand.rest) g.now claim.now.nodes stand.imagined w
+        ≡ Some (standing_of claim.now.nodes result) }
 {
     let Stand { rest, imagined, .. } = stand;
     let q = &imagined;

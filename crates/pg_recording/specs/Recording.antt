@@ -21,11 +21,18 @@ record_file name events = (name, printed_record events)
 abbrev pub stored_at : Bytes → List Event → ℕ → List Making
 stored_at name events status = if status == DONE then record_file name events ∷ [] else []
 
--- a session of the game is recorded under the name: its log is whole. Where a call fails, the log is open and nothing was stored, or the record was stored and only the last text is wanting; for want of memory it ends before the record is stored
+-- a session of the game is recorded under the name: its log is whole. Where a call fails, the log
+-- is open and nothing was stored, or the record was stored and only the last text is wanting; for
+-- want of memory it ends before the record is stored
 abbrev pub RecordsGame : Game → Bytes → Done → End → Type 0
-RecordsGame g name done (Finished status) = (events : List Event) × IsWholeLog g done.entries events status × (done.stored ≡ stored_at name events status)
-RecordsGame g name done Failed = (IsOpenLog g done.entries × (done.stored ≡ [])) ⊎ ((events : List Event) × IsClosingLog g done.entries events × (done.stored ≡ record_file name events ∷ []))
-RecordsGame g name done Starved = (events : List Event) × IsClosingLog g done.entries events × (done.stored ≡ [])
+RecordsGame g name done (Finished status) =
+    (events : List Event) × IsWholeLog g done.entries events status
+    × (done.stored ≡ stored_at name events status)
+RecordsGame g name done Failed = (IsOpenLog g done.entries × (done.stored ≡ []))
+    ⊎ ((events : List Event) × IsClosingLog g done.entries events
+    × (done.stored ≡ record_file name events ∷ []))
+RecordsGame g name done Starved =
+    (events : List Event) × IsClosingLog g done.entries events × (done.stored ≡ [])
 
 -- the same of a game that was read
 abbrev pub Records : Result GameEntry Halt → Bytes → Done → End → Type 0

@@ -14,7 +14,9 @@ move_asked (Some v) = Move v
 
 -- what a text asks for: `end`, `back`, or a number
 abbrev pub asked_by : Bytes → Request
-asked_by text = if bytes_eq text (codes "end") then End else (if bytes_eq text (codes "back") then Back else move_asked (number text))
+asked_by text = if bytes_eq text (codes "end")
+    then End
+    else (if bytes_eq text (codes "back") then Back else move_asked (number text))
 
 -- what a line asks for, by its text without the blank bytes at both ends
 abbrev pub request_of : Bytes → Request

@@ -1,4 +1,5 @@
--- THE LOG OF A RECORDED SESSION: each entry heard is followed by the one text due to it, and the session is then the one after it. It is asked neither how the session is kept nor what keeps it.
+-- THE LOG OF A RECORDED SESSION: each entry heard is followed by the one text due to it, and the
+-- session is then the one after it. It is asked neither how the session is kept nor what keeps it.
 use Rattle.std.specs.Prelude.{◌≡◌, ◌⊎◌, ℕ, ◌+◌, ◌<◌, ◌==◌, nat_lt, Bool, false, List, [], ◌∷◌, ◌++◌, length, take, Result, Ok, Err, codes, if◌then◌else◌, ⊤}
 use Rattle.std.specs.Str.{bytes_eq}
 use Rattle.pg_io.specs.declared.entry.Entry.{Entry}
@@ -22,7 +23,9 @@ use Rattle.pg_recording.specs.Request.{request_of}
 use Rattle.pg_recording.specs.declared.request.Request.{Request}
 use Rattle.pg_recording.specs.declared.request.Request.TheVariants as request
 
--- where the log of a session stands, after these events, and after so many refusals: a line is to be heard; an event was heard, and the number of standing moves is to be said; a refusal is to be said; the session has ended, and that is to be said; or it is over, with a status
+-- where the log of a session stands, after these events, and after so many refusals: a line is to
+-- be heard; an event was heard, and the number of standing moves is to be said; a refusal is to be
+-- said; the session has ended, and that is to be said; or it is over, with a status
 pub data Stage : Type 0 where
   Listens : (events : List Event) (refusals : ℕ) → Stage
   Stands : (events : List Event) (refusals : ℕ) → Stage
@@ -75,31 +78,43 @@ after_answer events refusals (Err why) = Refuses events refusals why
 -- after a request
 abbrev pub after_request : Game → List Event → ℕ → Request → Stage
 after_request g events refusals request.End = Closes events
-after_request g events refusals request.Back = after_answer events refusals (back_or_refusal (standing_count g events))
-after_request g events refusals (request.Move v) = after_answer events refusals (move_or_refusal v (judged_move g (replay g events).position v))
+after_request g events refusals request.Back =
+    after_answer events refusals (back_or_refusal (standing_count g events))
+after_request g events refusals (request.Move v) =
+    after_answer events refusals (move_or_refusal v (judged_move g (replay g events).position v))
 after_request g events refusals request.Unclear = Refuses events refusals fault.NoNumber
 
 -- after an event was told: where there is no room for a further one, the session has ended
 abbrev pub after_event : List Event → ℕ → Stage
-after_event events refusals = if nat_lt (length events) MAX_EVENTS then Listens events refusals else Closes events
+after_event events refusals =
+    if nat_lt (length events) MAX_EVENTS then Listens events refusals else Closes events
 
 -- after a refusal was told: the last one that is allowed ends the log
 abbrev pub after_refusal : List Event → ℕ → Stage
-after_refusal events refusals = if refusals + 1 == MAX_REFUSALS then Over events OUT_OF_REPLIES else Listens events (refusals + 1)
+after_refusal events refusals = if refusals + 1 == MAX_REFUSALS
+    then Over events OUT_OF_REPLIES
+    else Listens events (refusals + 1)
 
 -- ---- the log
 
--- THE RULES: the entry that may come next, and where it leads. `end` and the end of the input end the session
+-- THE RULES: the entry that may come next, and where it leads. `end` and the end of the input end
+-- the session
 abbrev pub Steps : Game → Stage → Entry → Stage → Type 0
-Steps g (Listens events refusals) (Heard line) next = next ≡ after_request g events refusals (request_of line)
-Steps g (Listens events refusals) (Skipped line) next = next ≡ Refuses events refusals fault.NoNumber
+Steps g (Listens events refusals) (Heard line) next =
+    next ≡ after_request g events refusals (request_of line)
+Steps g (Listens events refusals) (Skipped line) next =
+    next ≡ Refuses events refusals fault.NoNumber
 Steps g (Listens events refusals) Ended next = next ≡ Closes events
-Steps g (Stands events refusals) (Said text) next = (text ≡ standing_text (standing_count g events)) × (next ≡ after_event events refusals)
-Steps g (Refuses events refusals why) (Said text) next = (text ≡ reply_text why) × (next ≡ after_refusal events refusals)
-Steps g (Closes events) (Said text) next = (text ≡ recorded_text (standing_count g events)) × (next ≡ Over events DONE)
+Steps g (Stands events refusals) (Said text) next =
+    (text ≡ standing_text (standing_count g events)) × (next ≡ after_event events refusals)
+Steps g (Refuses events refusals why) (Said text) next =
+    (text ≡ reply_text why) × (next ≡ after_refusal events refusals)
+Steps g (Closes events) (Said text) next =
+    (text ≡ recorded_text (standing_count g events)) × (next ≡ Over events DONE)
 Steps g stage entry next = ⊥
 
--- the entries are the log of a session of the game, from the one without events, as far as this stage
+-- the entries are the log of a session of the game, from the one without events, as far as this
+-- stage
 abbrev pub IsLogTo : Game → List Entry → Stage → Type 0
 IsLogTo g entries stage = LeadsBy (Steps g) (Listens [] 0) entries stage
 
@@ -124,6 +139,8 @@ is_refusal (Heard line) = false
 is_refusal (Skipped line) = false
 is_refusal Ended = false
 
--- a log with so many refusals ends with this status: by as many as are allowed, or otherwise, with fewer
+-- a log with so many refusals ends with this status: by as many as are allowed, or otherwise, with
+-- fewer
 abbrev pub EndsWith : ℕ → ℕ → Type 0
-EndsWith refused status = ((status ≡ DONE) × (refused < MAX_REFUSALS)) ⊎ ((status ≡ OUT_OF_REPLIES) × (refused ≡ MAX_REFUSALS))
+EndsWith refused status = ((status ≡ DONE) × (refused < MAX_REFUSALS))
+    ⊎ ((status ≡ OUT_OF_REPLIES) × (refused ≡ MAX_REFUSALS))

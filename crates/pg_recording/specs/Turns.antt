@@ -23,7 +23,8 @@ closed events close.OutOfReplies = Over events OUT_OF_REPLIES
 
 -- a line that changes the session adds one event; any other changes nothing
 abbrev pub Turns : Recorded → Recorded → Result Turn Stop → Type 0
-Turns old new (Ok turns.Changed) = (length new.events ≡ length old.events + 1) × (new.game ≡ old.game)
+Turns old new (Ok turns.Changed) =
+    (length new.events ≡ length old.events + 1) × (new.game ≡ old.game)
 Turns old new (Ok turns.Refused) = new ≡ old
 Turns old new (Ok turns.Ended) = new ≡ old
 Turns old new (Err stop) = ⊤

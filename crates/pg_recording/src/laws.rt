@@ -1,4 +1,5 @@
-//! What the log of a session tells. Each function is empty: what it promises is a law of the rules of logs alone.
+//! What the log of a session tells. Each function is empty: what it promises is a law of the rules
+//! of logs alone.
 ghost use Rattle.std.specs.Prelude.{◌≡◌, ℕ, Ok, List, count_by};
 ghost use Rattle.pg_game.specs.declared.game.Game.{Game};
 ghost use Rattle.pg_io.specs.declared.entry.Entry.{Entry};
@@ -14,7 +15,8 @@ pub fn logs_tell_their_session()
         → IsLogTo g entries s → IsLogTo g entries t → s ≡ t }
 {}
 
-/// The session that a log gives is a record of the game: each event may follow those before it, and there aren't too many.
+/// The session that a log gives is a record of the game: each event may follow those before it, and
+/// there aren't too many.
 pub fn logged_sessions_are_records()
     ensures { (g : Game) (entries : List Entry) (stage : Stage)
         → IsLogTo g entries stage → IsRecord g (events_at stage) }
@@ -26,7 +28,8 @@ pub fn logged_sessions_are_read_back()
         → record_of g (printed_record (events_at stage)) ≡ Ok (events_at stage) }
 {}
 
-/// A log ends with 9 where as many lines were refused as may be; otherwise it ends with 0, and fewer were.
+/// A log ends with 9 where as many lines were refused as may be; otherwise it ends with 0, and
+/// fewer were.
 pub fn refusals_end_sessions()
     ensures { (g : Game) (entries : List Entry) (events : List Event) (status : ℕ)
         → IsWholeLog g entries events status

@@ -1,4 +1,5 @@
-//! Recording a session: moves of both sides are played and taken back over a console, and at the end the record is stored.
+//! Recording a session: moves of both sides are played and taken back over a console, and at the
+//! end the record is stored.
 #![tactic(auto)]
 
 mod dialogue;

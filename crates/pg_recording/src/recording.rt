@@ -70,16 +70,17 @@ fn record_game<F: Files, C: Console>(
     }
 }
 
-/// Records a session of the game under one name: moves of both sides are heard, played and taken back, and at the end the
-/// record is stored under another name.
+/// Records a session of the game under one name: moves of both sides are heard, played and taken
+/// back, and at the end the record is stored under another name.
 ///
-/// Ends with 0 where the record was stored, and with 9 where so many lines were refused that no more are heard; then nothing
-/// is stored.
+/// Ends with 0 where the record was stored, and with 9 where so many lines were refused that no
+/// more are heard; then nothing is stored.
 ///
 /// # Errors
 ///
-/// `Halt::Refused` where the game file has a fault; then nothing is said or stored. `Halt::Stopped` where a call on files or the console has
-/// failed, the game's name isn't held, or memory is wanting.
+/// `Halt::Refused` where the game file has a fault; then nothing is said or stored. `Halt::Stopped`
+/// where a call on files or the console has failed, the game's name isn't held, or memory is
+/// wanting.
 pub fn record<F: Files, C: Console>(
     alloc: Global,
     game: &str,

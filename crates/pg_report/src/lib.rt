@@ -56,10 +56,13 @@ fn report_value(alloc: Global, game: &Game, claims: &[ClaimHead]) -> Result<Valu
     }
 }
 
-/// What a report says of a valid certificate for a game, with these claims: one line of compact JSON (RFC 8259) with its line feed.
+/// What a report says of a valid certificate for a game, with these claims: one line of compact
+/// JSON (RFC 8259) with its line feed.
 ///
-/// It is an object whose keys ascend: `bias`, where Y claims more than one point in a turn, `claims`, `kind`, and `lines` and `points` of a line game, or
-/// `points` (its edges) and `vertices` of a switching game. Each claim is an object with the keys `goal`, `nodes` (their number), `side` and `turn`.
+/// It is an object whose keys ascend: `bias`, where Y claims more than one point in a turn,
+/// `claims`, `kind`, and `lines` and `points` of a line game, or `points` (its edges) and
+/// `vertices` of a switching game. Each claim is an object with the keys `goal`, `nodes` (their
+/// number), `side` and `turn`.
 ///
 /// # Errors
 ///
@@ -92,8 +95,9 @@ fn rejection_value(alloc: Global, claim: u32, node: u32, code: Code) -> Result<V
     json!(in alloc; {"claim": claim, "node": node, "reject": word})
 }
 
-/// What a report says of a certificate that isn't valid, by the numbers of the first faulty claim and node, and the code of the fault: an object with the
-/// keys `claim`, `node` and `reject`, such as `J6` or `I3`, as one line of compact JSON with its line feed.
+/// What a report says of a certificate that isn't valid, by the numbers of the first faulty claim
+/// and node, and the code of the fault: an object with the keys `claim`, `node` and `reject`, such
+/// as `J6` or `I3`, as one line of compact JSON with its line feed.
 ///
 /// # Errors
 ///

@@ -10,11 +10,17 @@ use Rattle.pg_game.specs.declared.position.Position.{Position}
 use Rattle.pg_solve.specs.Due.{Heading, heading}
 
 -- a member that is read with itself as the default
-pub read-at : {A : Type 0} (xs : List A) (k : ℕ) (x : A) → k < length xs → x ≡ get_or xs k x → slice_get xs k ≡ Some x
+pub read-at : {A : Type 0} (xs : List A) (k : ℕ) (x : A)
+    → k < length xs
+    → x ≡ get_or xs k x
+    → slice_get xs k ≡ Some x
 read-at {A} xs k x within is = slice_get-get_or xs k x within ∙ ap (λ (y : A). Some y) (sym is)
 
 -- what holds of all members holds of one
-pub member : {A : Type 0} (P : A → Type 0) (xs : List A) (k : ℕ) (x : A) → All P xs → slice_get xs k ≡ Some x → P x
+pub member : {A : Type 0} (P : A → Type 0) (xs : List A) (k : ℕ) (x : A)
+    → All P xs
+    → slice_get xs k ≡ Some x
+    → P x
 member P xs k x all at =
     let within = slice_get_within xs k x at in
     let is : Some (get_or xs k x) ≡ Some x = sym (slice_get-get_or xs k x within) ∙ at in
@@ -23,10 +29,15 @@ member P xs k x all at =
 
 -- the first nodes don't have the position
 abbrev pub HasNoneBefore : List Node → Position → ℕ → Type 0
-HasNoneBefore nodes p k = (j : ℕ) (n : Node) → j < k → slice_get nodes j ≡ Some n → position_of n ≡ p → ⊥
+HasNoneBefore nodes p k =
+    (j : ℕ) (n : Node) → j < k → slice_get nodes j ≡ Some n → position_of n ≡ p → ⊥
 
 -- nor has the next
-pub none-more : (nodes : List Node) (p : Position) (k : ℕ) (node : Node) → HasNoneBefore nodes p k → slice_get nodes k ≡ Some node → (position_of node ≡ p → ⊥) → HasNoneBefore nodes p (k + 1)
+pub none-more : (nodes : List Node) (p : Position) (k : ℕ) (node : Node)
+    → HasNoneBefore nodes p k
+    → slice_get nodes k ≡ Some node
+    → (position_of node ≡ p → ⊥)
+    → HasNoneBefore nodes p (k + 1)
 none-more nodes p k node before at other j n low here is = elim (cases_order j k) [
   | inl same ↦
       let there : Some n ≡ Some node = sym here ∙ (ap (slice_get nodes) same ∙ at) in
@@ -39,7 +50,9 @@ none-more nodes p k node before at other j n low here is = elim (cases_order j k
 ]
 
 -- the claim with this heading
-pub headed : (claims : List Claim) (i : ℕ) (h : Heading) → slice_get (map heading claims) i ≡ Some h → (c : Claim) × (slice_get claims i ≡ Some c) × (heading c ≡ h)
+pub headed : (claims : List Claim) (i : ℕ) (h : Heading)
+    → slice_get (map heading claims) i ≡ Some h
+    → (c : Claim) × (slice_get claims i ≡ Some c) × (heading c ≡ h)
 headed [] i h at = absurd (none-some h at)
 headed (c ∷ claims) zero h at = let same : heading c ≡ h = cc in (c, refl, same)
 headed (c ∷ claims) (suc i) h at = headed claims i h at

@@ -62,5 +62,6 @@ won_by Y = YWins
 -- what is known of a game that was solved, by the side to move
 abbrev pub known_by : Side → Solution → Option Known
 known_by turn (Value score certificate) = Some (record { score = score; certificate = certificate })
-known_by turn (ForClass class certificate) = Some (record { score = won_by (winner class turn); certificate = certificate })
+known_by turn (ForClass class certificate) =
+    Some (record { score = won_by (winner class turn); certificate = certificate })
 known_by turn Unknown = None

@@ -1,4 +1,5 @@
--- Which moves of a play lost value: the game's value after them is worse for the side that moved than before.
+-- Which moves of a play lost value: the game's value after them is worse for the side that moved
+-- than before.
 use Rattle.std.specs.Prelude.{◌≡◌, ℕ, ◌+◌, Bool, true, not, if◌then◌else◌, List, [], ◌∷◌, ◌++◌, take, Some, slice_get}
 use Rattle.pg_base.specs.declared.score.Score.{Score}
 use Rattle.pg_base.specs.declared.side.Side.{Side}
@@ -28,12 +29,20 @@ pub record Loss : Type 0 where
 
 -- what the move of this number loses at the position: one loss, or none
 abbrev pub loss_at : Game → Position → ℕ → ℕ → List Loss
-loss_at g p number v = if loses_value g p v then record { number = number; point = v; before = value g p; after = value g (after g p v) } ∷ [] else []
+loss_at g p number v = if loses_value g p v
+    then record {
+      number = number;
+      point = v;
+      before = value g p;
+      after = value g (after g p v);
+    } ∷ []
+    else []
 
 -- the losses of moves from a position in order, where so many moves were made before
 abbrev pub losses_from : Game → Position → ℕ → List ℕ → List Loss
 losses_from g p number [] = []
-losses_from g p number (v ∷ others) = loss_at g p number v ++ losses_from g (after g p v) (number + 1) others
+losses_from g p number (v ∷ others) =
+    loss_at g p number v ++ losses_from g (after g p v) (number + 1) others
 
 -- the losses of moves from a position in order
 unfoldable pub losses : Game → Position → List ℕ → List Loss

@@ -13,9 +13,14 @@ use Rattle.pg_review.specs.Losses.{is_worse}
 
 -- what is said of the move of this number, by the values before and after it: its loss, or nothing
 abbrev pub move_texts : Kind → Side → ℕ → ℕ → Score → Score → List Bytes
-move_texts kind mover number point before after = if is_worse mover before after then lost_text number point kind before after ∷ [] else []
+move_texts kind mover number point before after =
+    if is_worse mover before after then lost_text number point kind before after ∷ [] else []
 
 -- all these texts were said, or a call has failed and none was
-abbrev pub SaysAtOnce : List Bytes → Option (List Entry) → Option (List Entry) → Result (Unit {0}) Stop → Type 0
+abbrev pub SaysAtOnce : List Bytes
+    → Option (List Entry)
+    → Option (List Entry)
+    → Result (Unit {0}) Stop
+    → Type 0
 SaysAtOnce texts log after (Ok _) = Grows log after (map Said texts)
 SaysAtOnce texts log after (Err _) = after ≡ log

@@ -34,12 +34,15 @@ fn review_record<F: Files, C: Console>(
 ) -> Result<u8, Halt>
     requires some { MIN_POSITIONS ≤ positions }
     requires most { positions ≤ MAX_POSITIONS }
-    ensures ran { Runs (λ held refusal. moves_held game.old (held record.now) ≡ Err (Refused refusal))
-        (λ held done end. ReviewsRecord game.old (held record.now) positions work.new done.entries end
-        × (done.stored ≡ []))
-        (F.told files.old) (F.told files.new) (C.told console.old) (C.told console.new) result }
-    ensures causes { BothCauses (IsLackingOne (moves_held game.old) (F.told files.old).held record.now)
-        (F.told files.old) (F.told files.new) (C.told console.old) (C.told console.new) result }
+    ensures ran { Runs
+        (λ held refusal. moves_held game.old (held record.now) ≡ Err (Refused refusal))
+        (λ held done end.
+        ReviewsRecord game.old (held record.now) positions work.new done.entries end
+        × (done.stored ≡ [])) (F.told files.old) (F.told files.new) (C.told console.old)
+        (C.told console.new) result }
+    ensures causes { BothCauses
+        (IsLackingOne (moves_held game.old) (F.told files.old).held record.now) (F.told files.old)
+        (F.told files.new) (C.told console.old) (C.told console.new) result }
     ensures quiet { QuietsBy (Grows (C.told console.old).log (C.told console.new).log []) ⊤
         (C.told console.old) (C.told console.new) result }
     ensures files { ReadsOnly (F.told files.old) (F.told files.new) }
@@ -55,19 +58,21 @@ fn review_record<F: Files, C: Console>(
     review_moves(alloc, game, moves.as_slice(), positions, console, work)
 }
 
-/// Says which standing moves of the record under one name lost value, in the game under another: each move after which the value
-/// of the game is worse for the side that moved than before it, with its number, its point and both values. At the end it says
-/// how many moves stand.
+/// Says which standing moves of the record under one name lost value, in the game under another:
+/// each move after which the value of the game is worse for the side that moved than before it,
+/// with its number, its point and both values. At the end it says how many moves stand.
 ///
-/// The positions before, between and after the moves are decided in order as `pg_solve::solve` does, each with `positions` of its
-/// own, where the certificates found before don't tell the value; each loss is said as soon as both values are known. The first
-/// position that stays open ends the review with status 1, and `work` then holds what was asked last there.
+/// The positions before, between and after the moves are decided in order as `pg_solve::solve`
+/// does, each with `positions` of its own, where the certificates found before don't tell the
+/// value; each loss is said as soon as both values are known. The first position that stays open
+/// ends the review with status 1, and `work` then holds what was asked last there.
 ///
 /// # Errors
 ///
-/// `Refused` with the first fault of the game's file, with fault `SEVERAL_A_TURN` of the game where Y claims several points a
-/// turn, which is found before the record is opened, or with the first fault of the record's file. `Stopped` where a call on
-/// files or the console has failed, a name isn't held, or memory is wanting.
+/// `Refused` with the first fault of the game's file, with fault `SEVERAL_A_TURN` of the game where
+/// Y claims several points a turn, which is found before the record is opened, or with the first
+/// fault of the record's file. `Stopped` where a call on files or the console has failed, a name
+/// isn't held, or memory is wanting.
 pub fn review<F: Files, C: Console>(
     alloc: Global,
     game: &str,

@@ -31,8 +31,9 @@ fn confirm(alloc: Global, game: &Game, certificate: &Cert) -> Result<(), Memory>
     }
 }
 
-/// The value of the game's position, as `solve` finds it, with the claims that show it, which are checked. None only
-/// where the question that was asked last of a game on lines stays open after as many positions as are allowed.
+/// The value of the game's position, as `solve` finds it, with the claims that show it, which are
+/// checked. None only where the question that was asked last of a game on lines stays open after as
+/// many positions as are allowed.
 ///
 /// # Errors
 ///
@@ -50,7 +51,8 @@ pub fn decide(
         IsSolvedBy game.now positions known.certificate)) }
     ensures lines { result ≡ Ok None → is_switching game.now.kind ≡ false }
     ensures unknown { result ≡ Ok None → IsLeftOpen game.now (budget game.now positions) work.new }
-    ensures work { game.now.kind ≢ Switching → IsLeft game.now (budget game.now positions) work.new }
+    ensures work { game.now.kind ≢ Switching
+        → IsLeft game.now (budget game.now positions) work.new }
     ensures untouched { game.now.kind ≡ Switching → work.new ≡ work.old }
 {
     let solution = solve(alloc, game, positions, work)?;

@@ -9,7 +9,8 @@ use pg_cert::{Cert, Claim};
 use pg_game::Position;
 use pg_solve::{Class, Solution};
 
-/// A value of a game, with the claims that show it: wherever each of them has a node, the value is the same.
+/// A value of a game, with the claims that show it: wherever each of them has a node, the value is
+/// the same.
 #[derive(Debug, Drop)]
 pub struct Known {
     /// The value.
@@ -54,7 +55,8 @@ fn class_score(class: Class, turn: Side) -> Score
     }
 }
 
-/// What is known of a game that was solved, by the side to move; None where its value stays unknown.
+/// What is known of a game that was solved, by the side to move; None where its value stays
+/// unknown.
 pub(crate) fn known_by(solution: Solution, turn: Side) -> Option<Known>
     ensures { result ≡ known_by turn solution }
 {

@@ -35,7 +35,8 @@ fn standing_moves(alloc: Global, session: &Session) -> Result<Vec<u16>, Memory>
 
 /// The moves that stand in the record of a game that a text tells.
 fn read_moves(alloc: Global, game: &Game, text: &[u8]) -> Result<Vec<u16>, Halt>
-    ensures read { IsReadAs (λ moves. moves.items) (moves_told (record_of game.now text.now)) result }
+    ensures read { IsReadAs (λ moves. moves.items)
+        (moves_told (record_of game.now text.now)) result }
     ensures legal { IfOk result (λ moves. IsLegalPlay game.now (start game.now) moves.items) }
     ensures few { IfOk result (λ moves. length moves.items ≤ MAX_EVENTS) }
     ensures halts { IfErr result IsTextHalt }
@@ -49,8 +50,8 @@ fn read_moves(alloc: Global, game: &Game, text: &[u8]) -> Result<Vec<u16>, Halt>
     }
 }
 
-/// The moves that stand in the record of a game under this name. The record of a game in which Y claims several points a turn
-/// isn't opened.
+/// The moves that stand in the record of a game under this name. The record of a game in which Y
+/// claims several points a turn isn't opened.
 pub(crate) fn open_moves<F: Files>(
     alloc: Global,
     files: &mut F,
@@ -63,7 +64,8 @@ pub(crate) fn open_moves<F: Files>(
     ensures legal { IfOk result (λ moves. IsLegalPlay game.now (start game.now) moves.items) }
     ensures few { IfOk result (λ moves. length moves.items ≤ MAX_EVENTS) }
     ensures halts { IfErr result IsReviewHalt }
-    ensures causes { HaltCauses (IsLackingOne (moves_held game.now) (F.told files.old).held name.now)
+    ensures causes { HaltCauses
+        (IsLackingOne (moves_held game.now) (F.told files.old).held name.now)
         (F.told files.old).faults (F.told files.new).faults result }
     ensures kept { ReadsOnly (F.told files.old) (F.told files.new) }
 {

@@ -26,8 +26,8 @@ fn stand_at(game: &mut Game, position: &Position)
     game.turn = position.turn;
 }
 
-/// Plays a point in a game in which each side claims one a turn, and decides the position after it, where what is known doesn't
-/// tell its value. False where that position stays open.
+/// Plays a point in a game in which each side claims one a turn, and decides the position after it,
+/// where what is known doesn't tell its value. False where that position stays open.
 ///
 /// # Errors
 ///

@@ -53,8 +53,9 @@ fn say_loss<C: Console>(
     say(console, lost)
 }
 
-/// Decides the game's position and those after each of the moves, and says which moves lost value, each as soon as the position
-/// after it is decided; then how many moves there are. The first position that stays open ends that.
+/// Decides the game's position and those after each of the moves, and says which moves lost value,
+/// each as soon as the position after it is decided; then how many moves there are. The first
+/// position that stays open ends that.
 pub(crate) fn review_moves<C: Console>(
     alloc: Global,
     game: &mut Game,

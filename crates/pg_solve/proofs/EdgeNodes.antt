@@ -47,12 +47,14 @@ use Rattle.pg_solve.specs.EdgeClaims.{AreClassClaims, EdgeSetsHold, IsEdgeBody, 
 -- without e, which it doesn't hold, a set is as it was
 remove-absent : (s : FinSet nat_cmp) (e : ℕ) → contains s e ≡ false → remove s e ≡ s
 remove-absent s e lacks = same_points _ _ (λ q. elim (cases_eq q e) [
-  | inl same ↦ subst (λ (v : ℕ). contains (remove s e) v ≡ contains s v) (sym same) (remove-self s e ∙ sym lacks)
+  | inl same ↦ subst (λ (v : ℕ). contains (remove s e) v ≡ contains s v) (sym same)
+      (remove-self s e ∙ sym lacks)
   | inr apart ↦ remove-other s e q apart
 ])
 
 -- with e taken out and named, the set is as it was
-named-again : (s : FinSet nat_cmp) (e : ℕ) → (if contains s e then insert (remove s e) e else remove s e) ≡ s
+named-again : (s : FinSet nat_cmp) (e : ℕ)
+    → (if contains s e then insert (remove s e) e else remove s e) ≡ s
 named-again s e = elim (cases_Bool (contains s e)) [
   | inl has ↦ rw has (insert-remove s e has)
   | inr lacks ↦ rw lacks (remove-absent s e lacks)
@@ -64,53 +66,82 @@ record AreEdges (side turn : Side) (n : ℕ) (one second : FinSet nat_cmp) : Typ
   second_below : AreBelow second n
   e_turn : contains one n ≡ true → turn ≡ side
 
-are-edges : (h : Graph) (p : Position) (side : Side) (one second : FinSet nat_cmp) → AreFreeWithE h p side one → AreFreeEdges h p second → AreEdges side p.turn (edge_count h) one second
+are-edges : (h : Graph) (p : Position) (side : Side) (one second : FinSet nat_cmp)
+    → AreFreeWithE h p side one
+    → AreFreeEdges h p second
+    → AreEdges side p.turn (edge_count h) one second
 are-edges h p side one second first_free second_free = record {
   one_below = λ f here. elim (first_free f (remove-old one (edge_count h) f here)) [
     | inl edge ↦ edge.0
-    | inr e ↦ absurd (both_ways _ (subst (λ (v : ℕ). contains (remove one (edge_count h)) v ≡ false) (sym e.0) (remove-self one (edge_count h))) here)
+    | inr e ↦ absurd (both_ways _ (subst (λ (v : ℕ). contains (remove one (edge_count h)) v ≡ false)
+        (sym e.0) (remove-self one (edge_count h))) here)
   ];
   second_below = λ f here. (second_free f here).0;
-  e_turn = λ here. elim (first_free (edge_count h) here) [ inl edge ↦ let lt = edge.0 in absurd (omega (arith, lt)) | inr e ↦ e.1 ];
+  e_turn = λ here. elim (first_free (edge_count h) here) [
+    | inl edge ↦ let lt = edge.0 in absurd (omega (arith, lt))
+    | inr e ↦ e.1
+  ];
 }
 
-trees-edges : (field : Field) (p : Position) (one second : FinSet nat_cmp) → TreesHoldOn field p one second → AreEdges X p.turn (field_points field) one second
+trees-edges : (field : Field) (p : Position) (one second : FinSet nat_cmp)
+    → TreesHoldOn field p one second
+    → AreEdges X p.turn (field_points field) one second
 trees-edges (Lines f) p one second h = absurd h
 trees-edges (OnGraph h) p one second is = are-edges h p X one second is.first_free is.second_free
 
-cuts-edges : (field : Field) (p : Position) (one second : FinSet nat_cmp) → CutsHoldOn field p one second → AreEdges Y p.turn (field_points field) one second
+cuts-edges : (field : Field) (p : Position) (one second : FinSet nat_cmp)
+    → CutsHoldOn field p one second
+    → AreEdges Y p.turn (field_points field) one second
 cuts-edges (Lines f) p one second h = absurd h
 cuts-edges (OnGraph h) p one second is = are-edges h p Y one second is.first_free is.second_free
 
-edges-of : (side : Side) (g : Game) (turn : Side) (one second : FinSet nat_cmp) → EdgeSetsHold side g (with_turn g turn) one second → AreEdges side turn (point_count g) one second
+edges-of : (side : Side) (g : Game) (turn : Side) (one second : FinSet nat_cmp)
+    → EdgeSetsHold side g (with_turn g turn) one second
+    → AreEdges side turn (point_count g) one second
 edges-of X g turn one second holds = trees-edges g.field (with_turn g turn) one second holds
 edges-of Y g turn one second holds = cuts-edges g.field (with_turn g turn) one second holds
 
 -- where the other side is to move, the sets don't hold e
-pub no-e : (side : Side) (g : Game) (one second : FinSet nat_cmp) → EdgeSetsHold side g (with_turn g (other side)) one second → contains one (point_count g) ≡ false
-no-e side g one second holds = false_from_ne_true _ (λ here. side≢other side (sym ((edges-of side g (other side) one second holds).e_turn here)))
+pub no-e : (side : Side) (g : Game) (one second : FinSet nat_cmp)
+    → EdgeSetsHold side g (with_turn g (other side)) one second
+    → contains one (point_count g) ≡ false
+no-e side g one second holds = false_from_ne_true _
+    (λ here. side≢other side (sym ((edges-of side g (other side) one second holds).e_turn here)))
 
 -- ---- the one node
 
 -- what both bodies have, the side's has
-for-body : (P : Body → Type 0) (side : Side) (e : Bool) (first second : FinSet nat_cmp) → P (Trees e first second) → P (Cuts e first second) → P (sets_body side e first second)
+for-body : (P : Body → Type 0) (side : Side) (e : Bool) (first second : FinSet nat_cmp)
+    → P (Trees e first second)
+    → P (Cuts e first second)
+    → P (sets_body side e first second)
 for-body P X e first second trees cuts = trees
 for-body P Y e first second trees cuts = cuts
 
-has-trees : (side : Side) (g : Game) (p : Position) (e : Bool) (first second : FinSet nat_cmp) → AreEdgeSets g first second → EdgeSetsHold side g p (with_e_named g e first) second → HasTrees g p (sets_body side e first second)
+has-trees : (side : Side) (g : Game) (p : Position) (e : Bool) (first second : FinSet nat_cmp)
+    → AreEdgeSets g first second
+    → EdgeSetsHold side g p (with_e_named g e first) second
+    → HasTrees g p (sets_body side e first second)
 has-trees X g p e first second edges holds = (edges, holds)
 has-trees Y g p e first second edges holds = tt
 
-has-cuts : (side : Side) (g : Game) (p : Position) (e : Bool) (first second : FinSet nat_cmp) → AreEdgeSets g first second → EdgeSetsHold side g p (with_e_named g e first) second → HasCuts g p (sets_body side e first second)
+has-cuts : (side : Side) (g : Game) (p : Position) (e : Bool) (first second : FinSet nat_cmp)
+    → AreEdgeSets g first second
+    → EdgeSetsHold side g p (with_e_named g e first) second
+    → HasCuts g p (sets_body side e first second)
 has-cuts X g p e first second edges holds = tt
 has-cuts Y g p e first second edges holds = (edges, holds)
 
-body-allowed : (side : Side) (bias : ℕ) (e : Bool) (first second : FinSet nat_cmp) → is_allowed Switching bias side Win (sets_body side e first second) ≡ true
+body-allowed : (side : Side) (bias : ℕ) (e : Bool) (first second : FinSet nat_cmp)
+    → is_allowed Switching bias side Win (sets_body side e first second) ≡ true
 body-allowed X bias e first second = refl
 body-allowed Y bias e first second = refl
 
-body-holds : (side : Side) (g : Game) (turn : Side) (one second : FinSet nat_cmp) → g.kind ≡ Switching → EdgeSetsHold side g (with_turn g turn) one second
-    → (nodes : List Node) (k : ℕ) → BodyHolds g side Win nodes k (with_turn g turn) (sets_body side (contains one (point_count g)) (remove one (point_count g)) second)
+body-holds : (side : Side) (g : Game) (turn : Side) (one second : FinSet nat_cmp)
+    → g.kind ≡ Switching
+    → EdgeSetsHold side g (with_turn g turn) one second
+    → (nodes : List Node) (k : ℕ) → BodyHolds g side Win nodes k (with_turn g turn)
+    (sets_body side (contains one (point_count g)) (remove one (point_count g)) second)
 body-holds side g turn one second kind holds nodes k =
     let e = contains one (point_count g) in
     let first = remove one (point_count g) in
@@ -118,12 +149,18 @@ body-holds side g turn one second kind holds nodes k =
     let edges = edges-of side g turn one second holds in
     let sets : AreEdgeSets g first second = (edges.one_below, edges.second_below) in
     let named : EdgeSetsHold side g (with_turn g turn) (with_e_named g e first) second =
-    subst (λ (s : FinSet nat_cmp). EdgeSetsHold side g (with_turn g turn) s second) (sym (named-again one (point_count g))) holds in
-    let small : ArePoints first × ArePoints second = ((λ f here. let lt = edges.one_below f here in omega (arith, lt, few)), (λ f here. let lt = edges.second_below f here in omega (arith, lt, few))) in
+    subst (λ (s : FinSet nat_cmp). EdgeSetsHold side g (with_turn g turn) s second)
+    (sym (named-again one (point_count g))) holds in
+    let small : ArePoints first × ArePoints second = (
+      (λ f here. let lt = edges.one_below f here in omega (arith, lt, few)),
+      (λ f here. let lt = edges.second_below f here in omega (arith, lt, few)),
+    ) in
     record {
       owes = record {
         position = IsPosition-with_turn g turn;
-        allowed = subst (λ (k : Kind). is_allowed k g.bias side Win (sets_body side e first second) ≡ true) (sym kind) (body-allowed side g.bias e first second);
+        allowed = subst
+            (λ (k : Kind). is_allowed k g.bias side Win (sets_body side e first second) ≡ true)
+            (sym kind) (body-allowed side g.bias e first second);
         turn = for-body (HasTurn side (with_turn g turn)) side e first second tt tt;
         free = for-body (TakesFree g (with_turn g turn)) side e first second tt tt;
         end = for-body (EndsRight g side Win (with_turn g turn)) side e first second tt tt;
@@ -141,13 +178,17 @@ body-holds side g turn one second kind holds nodes k =
 
 -- ---- the claim
 
-module _ (g : Game) (turn side : Side) (body : Body) (holds : (nodes : List Node) (k : ℕ) → BodyHolds g side Win nodes k (with_turn g turn) body) where
+module _ (g : Game) (turn side : Side) (body : Body)
+    (holds : (nodes : List Node) (k : ℕ)
+    → BodyHolds g side Win nodes k (with_turn g turn) body) where
   -- the claim of that one node
   abbrev claim : Claim
   claim = one_node (with_turn g turn) side body
 
   nodes-hold : NodesHold g side Win claim.nodes
-  nodes-hold zero n at = subst (λ (m : Node). BodyHolds g side Win claim.nodes 0 (position_of m) m.body) (one_at claim.nodes 0 (node_at (with_turn g turn) body) n refl at) (holds claim.nodes 0)
+  nodes-hold zero n at =
+      subst (λ (m : Node). BodyHolds g side Win claim.nodes 0 (position_of m) m.body)
+      (one_at claim.nodes 0 (node_at (with_turn g turn) body) n refl at) (holds claim.nodes 0)
   nodes-hold (suc k) n at = absurd (none-some n at)
 
   claim-valid : IsValidClaim g claim
@@ -157,21 +198,27 @@ module _ (g : Game) (turn side : Side) (body : Body) (holds : (nodes : List Node
   claim-version = of-version g claim nodes-hold 0 (node_at (with_turn g turn) body) refl refl refl
 
   claim-limits : IsClaim claim
-  claim-limits = within-limits g claim nodes-hold 0 (node_at (with_turn g turn) body) refl refl refl (omega arith)
+  claim-limits = within-limits g claim nodes-hold 0 (node_at (with_turn g turn) body) refl refl refl
+      (omega arith)
 
 -- the body says whether e is in the first set
-says-e : (side : Side) (e : Bool) (first second : FinSet nat_cmp) → IsEdgeBody side e (sets_body side e first second)
+says-e : (side : Side) (e : Bool) (first second : FinSet nat_cmp)
+    → IsEdgeBody side e (sets_body side e first second)
 says-e X e first second = refl
 says-e Y e first second = refl
 
 -- the side's claim by its sets
-edge-claim : (side : Side) (g : Game) (turn : Side) (one second : FinSet nat_cmp) → g.kind ≡ Switching → EdgeSetsHold side g (with_turn g turn) one second
-    → (e : Bool) → contains one (point_count g) ≡ e → IsEdgeClaim g turn side e (set_claim (with_turn g turn) side (point_count g) one second)
+edge-claim : (side : Side) (g : Game) (turn : Side) (one second : FinSet nat_cmp)
+    → g.kind ≡ Switching
+    → EdgeSetsHold side g (with_turn g turn) one second
+    → (e : Bool) → contains one (point_count g) ≡ e
+    → IsEdgeClaim g turn side e (set_claim (with_turn g turn) side (point_count g) one second)
 edge-claim side g turn one second kind holds e is =
     let n = point_count g in
     let whole : Body = sets_body side (contains one n) (remove one n) second in
     let hold = body-holds side g turn one second kind holds in
-    subst (λ (b : Bool). IsEdgeClaim g turn side b (set_claim (with_turn g turn) side n one second)) is (record {
+    subst (λ (b : Bool). IsEdgeClaim g turn side b (set_claim (with_turn g turn) side n one second))
+    is (record {
       same_turn = refl;
       same_side = refl;
       goal = refl;
@@ -185,17 +232,46 @@ edge-claim side g turn one second kind holds e is =
     })
 
 -- the two claims of a class whose sets hold
-class-claims : (g : Game) (s : Sets) → g.kind ≡ Switching → SetsHold g s → AreClassClaims g (without_sets s) (class_claims (with_turn g X) (with_turn g Y) (point_count g) s)
+class-claims : (g : Game) (s : Sets)
+    → g.kind ≡ Switching
+    → SetsHold g s
+    → AreClassClaims g (without_sets s)
+    (class_claims (with_turn g X) (with_turn g Y) (point_count g) s)
 class-claims g (sets.Short a1 a2) kind hold =
     let no_e = no-e X g a1 a2 hold.y_to_move in
-    record { first = _; second = _; two = refl; with_x = edge-claim X g X a1 a2 kind hold.x_to_move false no_e; with_y = edge-claim X g Y a1 a2 kind hold.y_to_move false no_e }
+    record {
+      first = _;
+      second = _;
+      two = refl;
+      with_x = edge-claim X g X a1 a2 kind hold.x_to_move false no_e;
+      with_y = edge-claim X g Y a1 a2 kind hold.y_to_move false no_e;
+    }
 class-claims g (sets.Cut d1 d2) kind hold =
     let no_e = no-e Y g d1 d2 hold.x_to_move in
-    record { first = _; second = _; two = refl; with_x = edge-claim Y g X d1 d2 kind hold.x_to_move false no_e; with_y = edge-claim Y g Y d1 d2 kind hold.y_to_move false no_e }
-class-claims g (sets.First a1 a2 d1 d2) kind hold =
-    record { first = _; second = _; two = refl; with_x = edge-claim X g X a1 a2 kind hold.trees true hold.e_in_trees; with_y = edge-claim Y g Y d1 d2 kind hold.cuts true hold.e_in_cuts }
+    record {
+      first = _;
+      second = _;
+      two = refl;
+      with_x = edge-claim Y g X d1 d2 kind hold.x_to_move false no_e;
+      with_y = edge-claim Y g Y d1 d2 kind hold.y_to_move false no_e;
+    }
+class-claims g (sets.First a1 a2 d1 d2) kind hold = record {
+  first = _;
+  second = _;
+  two = refl;
+  with_x = edge-claim X g X a1 a2 kind hold.trees true hold.e_in_trees;
+  with_y = edge-claim Y g Y d1 d2 kind hold.cuts true hold.e_in_cuts;
+}
 
 -- the same where the positions and e are told by equations
-pub class-claims-told : (g : Game) (s : Sets) (with_x with_y : Position) (e : ℕ) (claims : List Claim) → g.kind ≡ Switching → SetsHold g s
-    → with_x ≡ with_turn g X → with_y ≡ with_turn g Y → e ≡ point_count g → claims ≡ class_claims with_x with_y e s → AreClassClaims g (without_sets s) claims
-class-claims-told g s with_x with_y e claims kind hold is_x is_y is_e is = rw (is, is_x, is_y, is_e) (class-claims g s kind hold)
+pub class-claims-told : (g : Game) (s : Sets) (with_x with_y : Position) (e : ℕ)
+    (claims : List Claim)
+    → g.kind ≡ Switching
+    → SetsHold g s
+    → with_x ≡ with_turn g X
+    → with_y ≡ with_turn g Y
+    → e ≡ point_count g
+    → claims ≡ class_claims with_x with_y e s
+    → AreClassClaims g (without_sets s) claims
+class-claims-told g s with_x with_y e claims kind hold is_x is_y is_e is =
+    rw (is, is_x, is_y, is_e) (class-claims g s kind hold)

@@ -24,7 +24,10 @@ x-denied Draw h e = cc
 x-denied YWins h e = cc
 
 -- both sides get at least a draw
-pub both-draw : (s : Score) → IsTrue (reaches X AtLeastDraw s) → IsTrue (reaches Y AtLeastDraw s) → s ≡ Draw
+pub both-draw : (s : Score)
+    → IsTrue (reaches X AtLeastDraw s)
+    → IsTrue (reaches Y AtLeastDraw s)
+    → s ≡ Draw
 both-draw XWins h k = absurd (false≢true k)
 both-draw Draw h k = refl
 both-draw YWins h k = absurd (false≢true h)

@@ -18,13 +18,15 @@ use Rattle.pg_solve.specs.declared.solution.Solution.TheVariants.{Value, Class a
 abbrev pub budget : Game → ℕ → ℕ
 budget g positions = budget_for (length (free_points g (start g))) positions
 
--- what may have been asked last: whether X wins; or in Maker-Maker whether X at least draws, and then X doesn't win
+-- what may have been asked last: whether X wins; or in Maker-Maker whether X at least draws, and
+-- then X doesn't win
 abbrev pub IsAsked : Game → Score → Type 0
 IsAsked g XWins = Unit {0}
 IsAsked g Draw = (g.kind ≡ MakerMaker) × (value g (start g) ≢ XWins)
 IsAsked g YWins = ⊥
 
--- the work holds the question asked last, with positions expanded for it by the rules, no more than the budget
+-- the work holds the question asked last, with positions expanded for it by the rules, no more than
+-- the budget
 pub record IsLeft (g : Game) (budget : ℕ) (work : Expanded) : Type 0 where
   pub question : Score
   pub held : work.question ≡ Some question
@@ -32,7 +34,8 @@ pub record IsLeft (g : Game) (budget : ℕ) (work : Expanded) : Type 0 where
   pub rules : IsTable g question work.positions
   pub count : length work.positions ≤ budget
 
--- the work holds the question asked last, with exactly as many positions as the budget, which leave it open
+-- the work holds the question asked last, with exactly as many positions as the budget, which leave
+-- it open
 pub record IsLeftOpen (g : Game) (budget : ℕ) (work : Expanded) : Type 0 where
   pub question : Score
   pub held : work.question ≡ Some question

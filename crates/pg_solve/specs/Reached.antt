@@ -8,9 +8,13 @@ use Rattle.pg_game.specs.declared.position.Position.{Position}
 use Rattle.pg_pns.specs.Reachable.{IsReachable}
 
 -- so many different positions that can be reached from the game's, none of them decided
-pub record AreReachable (g : Game) (t : Score) (count : ℕ) (positions : List Position) : Type 0 where
+pub record AreReachable (g : Game) (t : Score) (count : ℕ)
+    (positions : List Position) : Type 0 where
   pub many : length positions ≡ count
-  pub different : (i k : ℕ) (p : Position) → slice_get positions i ≡ Some p → slice_get positions k ≡ Some p → i ≡ k
+  pub different : (i k : ℕ) (p : Position)
+      → slice_get positions i ≡ Some p
+      → slice_get positions k ≡ Some p
+      → i ≡ k
   pub reachable : (k : ℕ) (p : Position) → slice_get positions k ≡ Some p → IsReachable g p
   pub undecided : (k : ℕ) (p : Position) → slice_get positions k ≡ Some p → decided g t p ≡ None
 

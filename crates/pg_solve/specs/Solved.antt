@@ -40,20 +40,28 @@ IsTrueOf g (Value score certificate) = value g (start g) ≡ score
 IsTrueOf g (ForClass class certificate) = class_of g ≡ Some (named class)
 IsTrueOf g Unknown = Unit {0}
 
--- the claims show it: a value by searches with that budget, the last of which expanded these positions, and a class by sets of edges
+-- the claims show it: a value by searches with that budget, the last of which expanded these
+-- positions, and a class by sets of edges
 abbrev pub IsShown : Game → ℕ → List Position → Solution → Type 0
-IsShown g budget table (Value score certificate) = AreValueClaims g budget table score certificate.claims
+IsShown g budget table (Value score certificate) =
+    AreValueClaims g budget table score certificate.claims
 IsShown g budget table (ForClass class certificate) = AreClassClaims g class certificate.claims
 IsShown g budget table Unknown = Unit {0}
 
 -- the class of a switching game was found, with the claims that show it in version 1
 abbrev pub IsClassified : Game → Solution → Type 0
 IsClassified g (Value score certificate) = ⊥
-IsClassified g (ForClass class certificate) = (class_of g ≡ Some (named class)) × AreClassClaims g class certificate.claims × (certificate.version ≡ One)
+IsClassified g (ForClass class certificate) = (class_of g ≡ Some (named class))
+    × AreClassClaims g class certificate.claims
+    × (certificate.version ≡ One)
 IsClassified g Unknown = ⊥
 
--- the value of a game on lines was found by the question that the work holds, with a certificate of version 1, or that question is open
+-- the value of a game on lines was found by the question that the work holds, with a certificate of
+-- version 1, or that question is open
 abbrev pub IsFoundBy : Game → ℕ → Expanded → Solution → Type 0
-IsFoundBy g budget work (Value score certificate) = (work.question ≡ Some (last_question g.kind score)) × AreValueClaims g budget work.positions score certificate.claims × (certificate.version ≡ One)
+IsFoundBy g budget work (Value score certificate) =
+    (work.question ≡ Some (last_question g.kind score))
+    × AreValueClaims g budget work.positions score certificate.claims
+    × (certificate.version ≡ One)
 IsFoundBy g budget work (ForClass class certificate) = ⊥
 IsFoundBy g budget work Unknown = IsLeftOpen g budget work

@@ -30,7 +30,8 @@ fn certificate_of(alloc: Global, game: &Game, sets: &Sets) -> Result<Cert, Memor
     requires switching { game.now.kind ≡ Switching }
     requires sets { SetsHold game.now sets.now }
     ensures version { IfOk result (λ certificate. certificate.version ≡ One) }
-    ensures claims { IfOk result (λ certificate. AreClassClaims game.now (without_sets sets.now) certificate.claims) }
+    ensures claims { IfOk result
+        (λ certificate. AreClassClaims game.now (without_sets sets.now) certificate.claims) }
 {
     let (with_x, with_y) = (game.with_turn(Side::X), game.with_turn(Side::Y));
     class_certificate(alloc, &with_x, &with_y, game.points(), sets)

@@ -1,5 +1,6 @@
-//! Solving: any game is decided, with the certificate that shows it. A switching game gets its class by two forests (Lehman
-//! 1964), a game on lines its value by a best-first search that asks at most two questions.
+//! Solving: any game is decided, with the certificate that shows it. A switching game gets its
+//! class by two forests (Lehman 1964), a game on lines its value by a best-first search that asks
+//! at most two questions.
 #![tactic(auto)]
 
 mod classes;

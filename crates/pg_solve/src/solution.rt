@@ -31,7 +31,7 @@ pub enum Solution {
         /// What shows it: the winners' claims with X and then with Y to move first.
         certificate: Cert,
     },
-    /// As many positions of a game on lines were expanded as the budget allows, and they leave the question open that was
-    /// asked last.
+    /// As many positions of a game on lines were expanded as the budget allows, and they leave the
+    /// question open that was asked last.
     Unknown,
 }

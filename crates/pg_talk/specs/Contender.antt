@@ -44,16 +44,23 @@ abbrev pub Moves : Contender → Contender → Option ℕ → Type 0
 Moves before now None = Waits before × (now ≡ before)
 Moves before now (Some v) = MakesMove before now v
 
--- what the player does after a legal reply: it takes the reply, and then makes its move where it owes one
+-- what the player does after a legal reply: it takes the reply, and then makes its move where it
+-- owes one
 abbrev pub Answers : Contender → Contender → ℕ → Option ℕ → Type 0
 Answers before now v None = TakesReply before now v × Waits now
-Answers before now v (Some w) = (between : Contender) × TakesReply before between v × MakesMove between now w
+Answers before now v (Some w) =
+    (between : Contender) × TakesReply before between v × MakesMove between now w
 
 -- ---- players of a game by a claim of a certificate
 
 -- a side of a game from a position
 abbrev pub contender_of : Game → Side → Goal → Position → Contender
-contender_of g side goal p = record { contest = contest_of g; side = side; goal = goal; position = p }
+contender_of g side goal p = record {
+  contest = contest_of g;
+  side = side;
+  goal = goal;
+  position = p;
+}
 
 -- what is seen of a player by a claim
 abbrev pub player_of : Play → Contender

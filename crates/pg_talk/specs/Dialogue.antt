@@ -1,4 +1,5 @@
--- Dialogues: a contest of which one side is played over a console, read from the log alone. It is asked neither how the side finds its moves nor why.
+-- Dialogues: a contest of which one side is played over a console, read from the log alone. It is
+-- asked neither how the side finds its moves nor why.
 use Rattle.std.specs.Prelude.{◌≡◌, ◌⊎◌, ◌<◌, ℕ, ◌+◌, ◌==◌, Bool, true, false, List, [], ◌∷◌, Result, Ok, Err, if◌then◌else◌, ⊤}
 use Rattle.pg_base.specs.Side.{other}
 use Rattle.pg_base.specs.declared.side.Side.{Side}
@@ -16,7 +17,8 @@ use Rattle.pg_texts.specs.declared.message.ReplyFault.{ReplyFault}
 use Rattle.pg_texts.specs.declared.message.ReplyFault.TheVariants.{NoNumber}
 use Rattle.pg_texts.specs.declared.statuses.TheConstants.{DONE, INPUT_ENDED, OUT_OF_REPLIES}
 
--- where a dialogue stands: at a position, after so many refusals; there, before a refusal is said; or at its end, with the last position and a status
+-- where a dialogue stands: at a position, after so many refusals; there, before a refusal is said;
+-- or at its end, with the last position and a status
 pub data Stage : Type 0 where
   At : (position : Position) (refusals : ℕ) → Stage
   Owes : (position : Position) (refusals : ℕ) (fault : ReplyFault) → Stage
@@ -37,7 +39,8 @@ is_heard Ended = true
 
 -- after a refusal is said: the last one that is allowed ends the dialogue
 abbrev pub after_refusal : Position → ℕ → Stage
-after_refusal p refusals = if refusals + 1 == MAX_REFUSALS then Over p OUT_OF_REPLIES else At p (refusals + 1)
+after_refusal p refusals =
+    if refusals + 1 == MAX_REFUSALS then Over p OUT_OF_REPLIES else At p (refusals + 1)
 
 -- after a line that says a free point, and after one that is refused
 abbrev pub after_reply : Contest → Position → ℕ → Result ℕ ReplyFault → Stage
@@ -50,19 +53,30 @@ IsTheirs c side p = (c.rules.over p ≡ false) × (p.turn ≡ other side)
 
 -- the game is over, and the text says its outcome
 abbrev pub SaysResult : Contest → Position → Bytes → Stage → Type 0
-SaysResult c p text next = (c.rules.over p ≡ true) × (text ≡ result_text c.kind (c.rules.outcome p)) × (next ≡ Over p DONE)
+SaysResult c p text next =
+    (c.rules.over p ≡ true) × (text ≡ result_text c.kind (c.rules.outcome p)) × (next ≡ Over p DONE)
 
 -- the side is to move, and the text says a legal move of its own
 abbrev pub SaysMove : Contest → Side → Position → ℕ → Bytes → Stage → Type 0
-SaysMove c side p refusals text next = (v : ℕ) × (c.rules.over p ≡ false) × (p.turn ≡ side) × (v < c.rules.points) × (is_free p v ≡ true) × (text ≡ move_text v) × (next ≡ At (moved c.rules p v) refusals)
+SaysMove c side p refusals text next = (v : ℕ) × (c.rules.over p ≡ false)
+    × (p.turn ≡ side)
+    × (v < c.rules.points)
+    × (is_free p v ≡ true)
+    × (text ≡ move_text v)
+    × (next ≡ At (moved c.rules p v) refusals)
 
--- THE RULES: the entry that may come next, and where it leads; in a turn of several points each is an entry of its own. The end of the input ends the dialogue
+-- THE RULES: the entry that may come next, and where it leads; in a turn of several points each is
+-- an entry of its own. The end of the input ends the dialogue
 abbrev pub Steps : Contest → Side → Stage → Entry → Stage → Type 0
-Steps c side (At p refusals) (Said text) next = SaysResult c p text next ⊎ SaysMove c side p refusals text next
-Steps c side (At p refusals) (Heard line) next = IsTheirs c side p × (next ≡ after_reply c p refusals (replied_point c.rules p line))
-Steps c side (At p refusals) (Skipped line) next = IsTheirs c side p × (next ≡ Owes p refusals NoNumber)
+Steps c side (At p refusals) (Said text) next =
+    SaysResult c p text next ⊎ SaysMove c side p refusals text next
+Steps c side (At p refusals) (Heard line) next =
+    IsTheirs c side p × (next ≡ after_reply c p refusals (replied_point c.rules p line))
+Steps c side (At p refusals) (Skipped line) next =
+    IsTheirs c side p × (next ≡ Owes p refusals NoNumber)
 Steps c side (At p refusals) Ended next = IsTheirs c side p × (next ≡ Over p INPUT_ENDED)
-Steps c side (Owes p refusals fault) (Said text) next = (text ≡ reply_text fault) × (next ≡ after_refusal p refusals)
+Steps c side (Owes p refusals fault) (Said text) next =
+    (text ≡ reply_text fault) × (next ≡ after_refusal p refusals)
 Steps c side (Owes p refusals fault) (Heard line) next = ⊥
 Steps c side (Owes p refusals fault) (Skipped line) next = ⊥
 Steps c side (Owes p refusals fault) Ended next = ⊥
@@ -79,18 +93,24 @@ IsOpen (At p refusals) = ⊤
 IsOpen (Owes p refusals fault) = ⊤
 IsOpen (Over p status) = ⊥
 
--- the entries are a whole dialogue of the side from the position, with no refusals before; it ends at the last position with the status
+-- the entries are a whole dialogue of the side from the position, with no refusals before; it ends
+-- at the last position with the status
 abbrev pub IsDialogue : Contest → Side → Position → List Entry → Position → ℕ → Type 0
 IsDialogue c side p entries last status = Leads c side (At p 0) entries (Over last status)
 
--- the entries are the beginning of a dialogue of the side from the position, with no refusals before, that hasn't ended
+-- the entries are the beginning of a dialogue of the side from the position, with no refusals
+-- before, that hasn't ended
 abbrev pub IsOpenDialogue : Contest → Side → Position → List Entry → Type 0
-IsOpenDialogue c side p entries = (stage : Stage) × IsOpen stage × Leads c side (At p 0) entries stage
+IsOpenDialogue c side p entries =
+    (stage : Stage) × IsOpen stage × Leads c side (At p 0) entries stage
 
 -- the entry says a legal move at the position
 abbrev pub IsOwnMove : Contest → Position → Entry → Type 0
-IsOwnMove c p entry = (v : ℕ) × (v < c.rules.points) × (is_free p v ≡ true) × (entry ≡ Said (move_text v))
+IsOwnMove c p entry =
+    (v : ℕ) × (v < c.rules.points) × (is_free p v ≡ true) × (entry ≡ Said (move_text v))
 
--- where it is done the game is over; it goes on where the input has ended, and where too many replies were refused
+-- where it is done the game is over; it goes on where the input has ended, and where too many
+-- replies were refused
 abbrev pub EndsWith : Contest → Position → ℕ → Type 0
-EndsWith c last status = ((c.rules.over last ≡ true) × (status ≡ DONE)) ⊎ ((c.rules.over last ≡ false) × ((status ≡ INPUT_ENDED) ⊎ (status ≡ OUT_OF_REPLIES)))
+EndsWith c last status = ((c.rules.over last ≡ true) × (status ≡ DONE))
+    ⊎ ((c.rules.over last ≡ false) × ((status ≡ INPUT_ENDED) ⊎ (status ≡ OUT_OF_REPLIES)))

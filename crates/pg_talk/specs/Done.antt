@@ -28,7 +28,8 @@ IsNothing done = (done.entries ≡ []) × (done.stored ≡ [])
 
 -- one part was done, and then another
 abbrev pub behind : Done → Done → Done
-behind first part = record { entries = first.entries ++ part.entries; stored = part.stored ++ first.stored }
+behind first part =
+    record { entries = first.entries ++ part.entries; stored = part.stored ++ first.stored }
 
 -- this was said and heard, and nothing was stored
 abbrev pub talk : List Entry → Done
@@ -42,7 +43,11 @@ pub data End : Type 0 where
 
 -- what a status says of the end
 abbrev pub ending : ℕ → End
-ending status = if status == NO_MEMORY then Starved else if status == READ_FAILED || status == WRITE_FAILED then Failed else Finished status
+ending status = if status == NO_MEMORY
+    then Starved
+    else if status == READ_FAILED || status == WRITE_FAILED
+    then Failed
+    else Finished status
 
 abbrev pub stop_end : Stop → End
 stop_end Read = Failed
@@ -51,9 +56,11 @@ stop_end Memory = Starved
 
 -- the first of these texts were said
 abbrev pub SaysFirst : List Bytes → List Entry → Type 0
-SaysFirst texts entries = (front : List Bytes) × (rest : List Bytes) × (texts ≡ front ++ rest) × (entries ≡ map Said front)
+SaysFirst texts entries = (front : List Bytes) × (rest : List Bytes) × (texts ≡ front ++ rest)
+    × (entries ≡ map Said front)
 
--- what was heard is the input, in order, and the console's unread input is left of it; where a call failed, it may be another
+-- what was heard is the input, in order, and the console's unread input is left of it; where a call
+-- failed, it may be another
 abbrev pub Hears : End → Option Bytes → List Entry → Option Bytes → Type 0
 Hears (Finished status) before entries after = Hearing before entries after
 Hears Failed before entries after = (unread : Option Bytes) × Hearing before entries unread
@@ -67,7 +74,8 @@ pub record Talked (before after : ConsoleTold) (entries : List Entry) (end : End
 -- the bytes under a name after these files were stored, the last one first
 abbrev pub held_after : Holding → List Making → Holding
 held_after held [] name = held name
-held_after held (file ∷ files) name = if bytes_eq file.0 name then Some file.1 else held_after held files name
+held_after held (file ∷ files) name =
+    if bytes_eq file.0 name then Some file.1 else held_after held files name
 
 -- each name holds what it held, but for the files that were stored
 abbrev pub Keeps : Holding → List Making → Option Holding → Type 0
@@ -75,7 +83,8 @@ Keeps held stored None = ⊥
 Keeps held stored (Some after) = (name : Bytes) → after name ≡ held_after held stored name
 
 -- the log, the input and the names have changed by just what was done
-pub record Changes (held : Holding) (files : FilesTold) (before after : ConsoleTold) (done : Done) (end : End) : Type 0 where
+pub record Changes (held : Holding) (files : FilesTold) (before after : ConsoleTold) (done : Done)
+    (end : End) : Type 0 where
   pub talked : Talked before after done.entries end
   pub names : Keeps held done.stored files.held
 
@@ -85,19 +94,47 @@ pub record Changes (held : Holding) (files : FilesTold) (before after : ConsoleT
 abbrev pub Stops : (Done → End → Type 0) → Done → End → Type 0
 Stops Act done end = IsNothing done ⊎ Act done end
 
--- on names that hold these bytes: where it is done it has acted so; where it refuses, this stands against it and nothing was said yet; where it was stopped, it had acted so far, or not begun
-abbrev pub Follows : (Refusal → Type 0) → (Done → End → Type 0) → Holding → FilesTold → ConsoleTold → ConsoleTold → Result ℕ Halt → Type 0
-Follows Against Act held files before after (Ok status) = (done : Done) × Act done (Finished status) × Changes held files before after done (Finished status)
-Follows Against Act held files before after (Err (Refused refusal)) = Against refusal × Changes held files before after nothing Starved
+-- on names that hold these bytes: where it is done it has acted so; where it refuses, this stands
+-- against it and nothing was said yet; where it was stopped, it had acted so far, or not begun
+abbrev pub Follows : (Refusal → Type 0)
+    → (Done → End → Type 0)
+    → Holding
+    → FilesTold
+    → ConsoleTold
+    → ConsoleTold
+    → Result ℕ Halt
+    → Type 0
+Follows Against Act held files before after (Ok status) = (done : Done) × Act done (Finished status)
+    × Changes held files before after done (Finished status)
+Follows Against Act held files before after (Err (Refused refusal)) =
+    Against refusal × Changes held files before after nothing Starved
 Follows Against Act held files before after (Err (Stopped stop)) =
-    (done : Done) × Stops Act done (stop_end stop) × Changes held files before after done (stop_end stop)
+    (done : Done) × Stops Act done (stop_end stop)
+    × Changes held files before after done (stop_end stop)
 
 -- work that refuses nothing, where it is told what the names hold
-abbrev pub Does : (Done → End → Type 0) → FilesTold → FilesTold → ConsoleTold → ConsoleTold → Result ℕ Halt → Type 0
-Does Act files files' before after result = IfSome files.held (λ held. Follows (λ _. ⊥) Act held files' before after result)
+abbrev pub Does : (Done → End → Type 0)
+    → FilesTold
+    → FilesTold
+    → ConsoleTold
+    → ConsoleTold
+    → Result ℕ Halt
+    → Type 0
+Does Act files files' before after result =
+    IfSome files.held (λ held. Follows (λ _. ⊥) Act held files' before after result)
 
 -- the same on a console alone
-abbrev pub Performs : (Refusal → Type 0) → (List Entry → End → Type 0) → ConsoleTold → ConsoleTold → Result ℕ Halt → Type 0
-Performs Against Act before after (Ok status) = (entries : List Entry) × Act entries (Finished status) × Talked before after entries (Finished status)
-Performs Against Act before after (Err (Refused refusal)) = Against refusal × Talked before after [] Starved
-Performs Against Act before after (Err (Stopped stop)) = (entries : List Entry) × ((entries ≡ []) ⊎ Act entries (stop_end stop)) × Talked before after entries (stop_end stop)
+abbrev pub Performs : (Refusal → Type 0)
+    → (List Entry → End → Type 0)
+    → ConsoleTold
+    → ConsoleTold
+    → Result ℕ Halt
+    → Type 0
+Performs Against Act before after (Ok status) =
+    (entries : List Entry) × Act entries (Finished status)
+    × Talked before after entries (Finished status)
+Performs Against Act before after (Err (Refused refusal)) =
+    Against refusal × Talked before after [] Starved
+Performs Against Act before after (Err (Stopped stop)) =
+    (entries : List Entry) × ((entries ≡ []) ⊎ Act entries (stop_end stop))
+    × Talked before after entries (stop_end stop)

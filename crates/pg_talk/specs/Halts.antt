@@ -22,7 +22,8 @@ abbrev pub halt_status : Halt → ℕ
 halt_status (Refused refusal) = refusal_status refusal
 halt_status (Stopped stop) = stop_status stop
 
--- what can end early a command, or a part of one, that reads nothing: a failed write, or want of memory
+-- what can end early a command, or a part of one, that reads nothing: a failed write, or want of
+-- memory
 abbrev pub IsWriteHalt : Halt → Type 0
 IsWriteHalt (Refused refusal) = ⊥
 IsWriteHalt (Stopped Read) = ⊥
@@ -69,7 +70,8 @@ IsPlayEnd status = (status ≡ DONE) ⊎ ((status ≡ INPUT_ENDED) ⊎ (status �
 
 -- ---- causes
 
--- work on one object: where it is done or refuses, both numbers are left, and what stops it has its cause
+-- work on one object: where it is done or refuses, both numbers are left, and what stops it has its
+-- cause
 abbrev pub HaltCauses : {T : Type 0} → Type 0 → Faults → Faults → Result T Halt → Type 0
 HaltCauses absent before now (Ok _) = now ≡ before
 HaltCauses absent before now (Err (Refused refusal)) = now ≡ before
@@ -82,22 +84,38 @@ pub record Calm (files files' : FilesTold) (console console' : ConsoleTold) : Ty
 
 -- a number of failed reads rose, or there is the other cause given
 abbrev pub ReadCause : Type 0 → FilesTold → FilesTold → ConsoleTold → ConsoleTold → Type 0
-ReadCause absent files files' console console' = (Rose files.faults.reads files'.faults.reads ⊎ Rose console.faults.reads console'.faults.reads) ⊎ absent
+ReadCause absent files files' console console' =
+    (Rose files.faults.reads files'.faults.reads ⊎ Rose console.faults.reads console'.faults.reads)
+    ⊎ absent
 
 -- a number of failed writes rose
 abbrev pub WriteCause : FilesTold → FilesTold → ConsoleTold → ConsoleTold → Type 0
-WriteCause files files' console console' = Rose files.faults.writes files'.faults.writes ⊎ Rose console.faults.writes console'.faults.writes
+WriteCause files files' console console' = Rose files.faults.writes files'.faults.writes
+    ⊎ Rose console.faults.writes console'.faults.writes
 
--- work on files and a console: where it is done or refuses, all numbers are left, and what stops it has its cause
-abbrev pub BothCauses : Type 0 → FilesTold → FilesTold → ConsoleTold → ConsoleTold → Result ℕ Halt → Type 0
+-- work on files and a console: where it is done or refuses, all numbers are left, and what stops it
+-- has its cause
+abbrev pub BothCauses : Type 0
+    → FilesTold
+    → FilesTold
+    → ConsoleTold
+    → ConsoleTold
+    → Result ℕ Halt
+    → Type 0
 BothCauses absent files files' console console' (Ok _) = Calm files files' console console'
-BothCauses absent files files' console console' (Err (Refused refusal)) = Calm files files' console console'
-BothCauses absent files files' console console' (Err (Stopped Read)) = ReadCause absent files files' console console'
-BothCauses absent files files' console console' (Err (Stopped Write)) = WriteCause files files' console console'
-BothCauses absent files files' console console' (Err (Stopped Memory)) = Calm files files' console console'
+BothCauses absent files files' console console' (Err (Refused refusal)) =
+    Calm files files' console console'
+BothCauses absent files files' console console' (Err (Stopped Read)) =
+    ReadCause absent files files' console console'
+BothCauses absent files files' console console' (Err (Stopped Write)) =
+    WriteCause files files' console console'
+BothCauses absent files files' console console' (Err (Stopped Memory)) =
+    Calm files files' console console'
 
--- the causes of a status: a failed read or an absent name, a failed write; at any other no number of faults rose
-pub record HasCause (absent : Type 0) (files files' : FilesTold) (console console' : ConsoleTold) (status : ℕ) : Type 0 where
+-- the causes of a status: a failed read or an absent name, a failed write; at any other no number
+-- of faults rose
+pub record HasCause (absent : Type 0) (files files' : FilesTold) (console console' : ConsoleTold)
+    (status : ℕ) : Type 0 where
   pub read : status ≡ READ_FAILED → ReadCause absent files files' console console'
   pub write : status ≡ WRITE_FAILED → WriteCause files files' console console'
   pub other : status ≢ READ_FAILED → status ≢ WRITE_FAILED → Calm files files' console console'

@@ -26,14 +26,16 @@ trimmed_end text = reverse (trimmed_start (reverse text))
 abbrev pub trimmed : Bytes → Bytes
 trimmed line = trimmed_end (trimmed_start line)
 
--- the number that a line says, none where it says none: its text is one to nine decimal digits, the first of several not 0
+-- the number that a line says, none where it says none: its text is one to nine decimal digits, the
+-- first of several not 0
 abbrev pub said_number : Bytes → Option ℕ
 said_number line = number (trimmed line)
 
 -- the free point that the number is, or why it is refused
 abbrev pub point_or_refusal : Rules → Position → Option ℕ → Result ℕ ReplyFault
 point_or_refusal r p None = Err NoNumber
-point_or_refusal r p (Some v) = if nat_lt v r.points then (if is_free p v then Ok v else Err Taken) else Err NoPoint
+point_or_refusal r p (Some v) =
+    if nat_lt v r.points then (if is_free p v then Ok v else Err Taken) else Err NoPoint
 
 -- the same of a line
 abbrev pub replied_point : Rules → Position → Bytes → Result ℕ ReplyFault

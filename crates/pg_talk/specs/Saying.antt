@@ -8,7 +8,8 @@ use Rattle.pg_io.specs.declared.stop.Stop.{Stop}
 use Rattle.pg_texts.specs.declared.statuses.TheConstants.{DONE}
 use Rattle.pg_talk.specs.Done.{End, Finished, Failed, Starved, SaysFirst}
 
--- all these texts were said; where the run is cut short, the first of them. It never ends so for want of memory
+-- all these texts were said; where the run is cut short, the first of them. It never ends so for
+-- want of memory
 abbrev pub SaysAll : List Bytes → List Entry → End → Type 0
 SaysAll texts entries (Finished status) = (entries ≡ map Said texts) × (status ≡ DONE)
 SaysAll texts entries Failed = SaysFirst texts entries
@@ -18,9 +19,15 @@ SaysAll texts entries Starved = ⊥
 
 -- the first of these texts were said
 abbrev pub IsCut : List Bytes → Option (List Entry) → Option (List Entry) → Type 0
-IsCut texts log after = (front : List Bytes) × (rest : List Bytes) × (texts ≡ front ++ rest) × Grows log after (map Said front)
+IsCut texts log after = (front : List Bytes) × (rest : List Bytes) × (texts ≡ front ++ rest)
+    × Grows log after (map Said front)
 
 -- all these texts were said where the work is done, and the first of them where it ended before
-abbrev pub Speaks : {T : Type 0} → List Bytes → Option (List Entry) → Option (List Entry) → Result T Stop → Type 0
+abbrev pub Speaks : {T : Type 0}
+    → List Bytes
+    → Option (List Entry)
+    → Option (List Entry)
+    → Result T Stop
+    → Type 0
 Speaks texts log after (Ok _) = Grows log after (map Said texts)
 Speaks texts log after (Err _) = IsCut texts log after

@@ -20,27 +20,45 @@ use Rattle.pg_talk.specs.declared.dialogue.Turn.TheVariants as turns
 abbrev pub with_left : ConsoleTold → Option Bytes → ConsoleTold
 with_left console left = record console { left = left }
 
--- from one moment to another the log grew by entries that lead from one stage to another, and what was heard among them is the input
+-- from one moment to another the log grew by entries that lead from one stage to another, and what
+-- was heard among them is the input
 pub record Talk (c : Contest) (side : Side) (before now : ConsoleTold) (s t : Stage) : Type 0 where
   pub entries : List Entry
   pub log : Grows before.log now.log entries
   pub input : Hearing before.left entries now.left
   pub leads : Leads c side s entries t
 
--- after entries that lead to a stage before the end, a call has failed; what is left of the input isn't said
-pub record BreaksOff (c : Contest) (side : Side) (before now : ConsoleTold) (s : Stage) : Type 0 where
+-- after entries that lead to a stage before the end, a call has failed; what is left of the input
+-- isn't said
+pub record BreaksOff (c : Contest) (side : Side) (before now : ConsoleTold)
+    (s : Stage) : Type 0 where
   pub stage : Stage
   pub unended : IsOpen stage
   pub unread : Option Bytes
   pub talk : Talk c side before (with_left now unread) s stage
 
 -- work that leads from a stage to the one that belongs to what it gives, or breaks off
-abbrev pub Talks : {T : Type 0} → Contest → Side → ConsoleTold → ConsoleTold → Stage → Result T Stop → (T → Stage) → Type 0
+abbrev pub Talks : {T : Type 0}
+    → Contest
+    → Side
+    → ConsoleTold
+    → ConsoleTold
+    → Stage
+    → Result T Stop
+    → (T → Stage)
+    → Type 0
 Talks c side before now s (Ok x) to = Talk c side before now s (to x)
 Talks c side before now s (Err stop) to = BreaksOff c side before now s
 
 -- the same in a player's contest
-abbrev pub TalksFrom : {T : Type 0} → Contender → ConsoleTold → ConsoleTold → Stage → Result T Stop → (T → Stage) → Type 0
+abbrev pub TalksFrom : {T : Type 0}
+    → Contender
+    → ConsoleTold
+    → ConsoleTold
+    → Stage
+    → Result T Stop
+    → (T → Stage)
+    → Type 0
 TalksFrom player before now s result to = Talks player.contest player.side before now s result to
 
 -- the game goes on and the other side is to move
@@ -49,7 +67,8 @@ IsTheirTurn player = IsTheirs player.contest player.side player.position
 
 -- the stage after a number is heard, or a line that says none
 abbrev pub answered : Contender → ℕ → Option ℕ → Stage
-answered player refused o = after_reply player.contest player.position refused (point_or_refusal player.contest.rules player.position o)
+answered player refused o = after_reply player.contest player.position refused
+    (point_or_refusal player.contest.rules player.position o)
 
 -- where a turn leads that ends at the position
 abbrev pub turned : Position → ℕ → Turn → Stage

@@ -9,8 +9,8 @@ use pg_base::{Goal, Kind, Score, Side};
 use pg_game::Illegal;
 use pg_player::Player;
 
-/// A player that makes one side's moves by the rules of a contest, so that the outcome reaches its goal, and takes the
-/// other side's replies.
+/// A player that makes one side's moves by the rules of a contest, so that the outcome reaches its
+/// goal, and takes the other side's replies.
 ///
 /// What is seen of it is the contest, the side, the goal and the position.
 pub trait Contestant {
@@ -28,27 +28,31 @@ pub trait Contestant {
     fn kind(&self) -> Kind
         ensures { result ≡ (contender self.now).contest.kind };
 
-    /// The outcome of the position, and None exactly where the game isn't over. It reaches the goal for the side.
+    /// The outcome of the position, and None exactly where the game isn't over. It reaches the goal
+    /// for the side.
     fn outcome(&self) -> Option<Score>
-        ensures exact { result ≡ ending_by (contender self.now).contest.rules (contender self.now).position }
+        ensures exact { result
+            ≡ ending_by (contender self.now).contest.rules (contender self.now).position }
         ensures reached { IfSome result
             (λ score. reaches (contender self.now).side (contender self.now).goal score ≡ true) };
 
-    /// Makes one move of the player where it is to move, and tells it. None comes exactly where the game is over or the
-    /// other side is to move; then nothing changes. In a turn of several points it may be to move again.
+    /// Makes one move of the player where it is to move, and tells it. None comes exactly where the
+    /// game is over or the other side is to move; then nothing changes. In a turn of several points
+    /// it may be to move again.
     fn first(&mut self) -> Option<u16>
         ensures { Moves (contender self.old) (contender self.new) result };
 
-    /// Plays v for the other side, and then makes one move of the player where it is to move, and tells it. None comes
-    /// exactly where after v the game is over or the other side is to move.
+    /// Plays v for the other side, and then makes one move of the player where it is to move, and
+    /// tells it. None comes exactly where after v the game is over or the other side is to move.
     ///
     /// # Errors
     ///
-    /// `Range` where the game has no such point, else `Over` where it is over, else `Taken` where the point isn't free.
-    /// Then nothing changes.
+    /// `Range` where the game has no such point, else `Over` where it is over, else `Taken` where
+    /// the point isn't free. Then nothing changes.
     fn answer(&mut self, v: u16) -> Result<Option<u16>, Illegal>
         requires { Waits (contender self.old) }
-        ensures answered { IfOk result (λ own. Answers (contender self.old) (contender self.new) v own) }
+        ensures answered { IfOk result
+            (λ own. Answers (contender self.old) (contender self.new) v own) }
         ensures refused { IfErr result
             (λ fault. judged_by (contender self.old).contest.rules (contender self.old).position v
             ≡ Err fault) }

@@ -51,7 +51,8 @@ fn refuse<C: Console>(console: &mut C, fault: ReplyFault) -> Result<Turn, Stop>
     Ok(Turn::Refused)
 }
 
-/// Plays a point for the other side, and a move of the player where it is then to move; or refuses the point.
+/// Plays a point for the other side, and a move of the player where it is then to move; or refuses
+/// the point.
 fn take_point<P: Contestant, C: Console>(
     player: &mut P,
     console: &mut C,
@@ -77,7 +78,8 @@ fn take_point<P: Contestant, C: Console>(
     }
 }
 
-/// Plays the point that a line says, and a move of the player where it is then to move; or refuses the line.
+/// Plays the point that a line says, and a move of the player where it is then to move; or refuses
+/// the line.
 fn answer_line<P: Contestant, C: Console>(
     player: &mut P,
     console: &mut C,
@@ -121,10 +123,11 @@ fn hear_reply<P: Contestant, C: Console>(player: &mut P, console: &mut C) -> Res
     }
 }
 
-/// Makes the player's move where it is to move, and else hears a reply and answers it: one point, also in a turn
-/// of several.
+/// Makes the player's move where it is to move, and else hears a reply and answers it: one point,
+/// also in a turn of several.
 fn take_turn<P: Contestant, C: Console>(player: &mut P, console: &mut C) -> Result<Turn, Stop>
-    requires { (P.contender player.old).contest.rules.over (P.contender player.old).position ≡ false }
+    requires { (P.contender player.old).contest.rules.over (P.contender player.old).position
+        ≡ false }
     ensures talk { (refused : ℕ)
         → TalksFrom (P.contender player.old) (C.told console.old) (C.told console.new)
         (At (P.contender player.old).position refused) result
@@ -142,8 +145,9 @@ fn take_turn<P: Contestant, C: Console>(player: &mut P, console: &mut C) -> Resu
     }
 }
 
-/// Plays the player's side over a console until the game is over, the input ends, or as many replies are
-/// refused as may be. In a turn of several points each is a move, or a reply, of its own.
+/// Plays the player's side over a console until the game is over, the input ends, or as many
+/// replies are refused as may be. In a turn of several points each is a move, or a reply, of its
+/// own.
 pub fn play_to_the_end<P: Contestant, C: Console>(
     player: &mut P,
     console: &mut C,

@@ -1,4 +1,5 @@
-//! What commands are made of: what ends them early, what they read under names, store and say, and dialogues over a console.
+//! What commands are made of: what ends them early, what they read under names, store and say, and
+//! dialogues over a console.
 #![tactic(auto)]
 
 mod contestant;

@@ -23,7 +23,8 @@ pub fn say_text<C: Console>(console: &mut C, text: &str) -> Result<(), Stop>
 
 /// Says a message.
 pub fn say<C: Console>(console: &mut C, message: Message) -> Result<(), Stop>
-    ensures said { Says (C.told console.old).log (C.told console.new).log (message_text message) result }
+    ensures said { Says (C.told console.old).log (C.told console.new).log
+        (message_text message) result }
     ensures causes { Causes ⊥ (C.told console.old).faults (C.told console.new).faults result }
     ensures left { (C.told console.new).left ≡ (C.told console.old).left }
     ensures write { IfErr result (λ stop. stop ≡ Stop.Write) }

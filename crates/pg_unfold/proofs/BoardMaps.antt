@@ -8,7 +8,8 @@ use Rattle.pg_maps.specs.declared.grid_map.GridMap.{GridMap}
 use Rattle.pg_maps.proofs.Turning.{AreInverse-map, image-beyond}
 use Rattle.pg_unfold.specs.Marks.{IsBoardMap}
 
-module _ (grid : Grid) (m : GridMap) (is : IsMapOf grid m) (few : grid.width * grid.height ≤ 1024) where
+module _ (grid : Grid) (m : GridMap) (is : IsMapOf grid m)
+    (few : grid.width * grid.height ≤ 1024) where
   inverse : AreInverse (grid.width * grid.height) (image_of m grid) (image_of (reverse_of m) grid)
   inverse = AreInverse-map grid m is
 
@@ -24,14 +25,23 @@ module _ (grid : Grid) (m : GridMap) (is : IsMapOf grid m) (few : grid.width * g
     ];
     undone = λ v lt. elim (cases_lt v (grid.width * grid.height)) [
       | inl cell ↦ inverse.undone v cell
-      | inr ge ↦ ap (image_of (reverse_of m) grid) (image-beyond grid m v ge) ∙ image-beyond grid (reverse_of m) v ge
+      | inr ge ↦ ap (image_of (reverse_of m) grid) (image-beyond grid m v ge)
+          ∙ image-beyond grid (reverse_of m) v ge
     ];
     redone = λ v lt. elim (cases_lt v (grid.width * grid.height)) [
       | inl cell ↦ inverse.redone v cell
-      | inr ge ↦ ap (image_of m grid) (image-beyond grid (reverse_of m) v ge) ∙ image-beyond grid m v ge
+      | inr ge ↦
+          ap (image_of m grid) (image-beyond grid (reverse_of m) v ge) ∙ image-beyond grid m v ge
     ];
   }
 
-pub AreInverse-board : (board : Option Grid) (m : GridMap) → IsBoardMap board m → AreInverse 1024 (image_on board m) (image_on board (reverse_of m))
-AreInverse-board None m h = record { range = λ v lt. lt; back_range = λ v lt. lt; undone = λ v lt. refl; redone = λ v lt. refl }
+pub AreInverse-board : (board : Option Grid) (m : GridMap)
+    → IsBoardMap board m
+    → AreInverse 1024 (image_on board m) (image_on board (reverse_of m))
+AreInverse-board None m h = record {
+  range = λ v lt. lt;
+  back_range = λ v lt. lt;
+  undone = λ v lt. refl;
+  redone = λ v lt. refl;
+}
 AreInverse-board (Some grid) m h = AreInverse-grid grid m h.is_map (h.few grid refl)

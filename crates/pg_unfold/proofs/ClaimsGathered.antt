@@ -24,7 +24,10 @@ use Rattle.pg_unfold.proofs.ClaimSteps.{zip-length}
 use Rattle.pg_unfold.proofs.CopySteps.{push-zip}
 use Rattle.pg_unfold.proofs.Rooms.{counted-room}
 
-unfolded-push : (g : Game) (cs : List ImageClaim) (claims : List Claim) (sources : List (List ℕ)) (c : ImageClaim) (claim : Claim) (origins : List ℕ) → AreUnfolded g cs claims sources → IsUnfolded g c claim origins
+unfolded-push : (g : Game) (cs : List ImageClaim) (claims : List Claim) (sources : List (List ℕ))
+    (c : ImageClaim) (claim : Claim) (origins : List ℕ)
+    → AreUnfolded g cs claims sources
+    → IsUnfolded g c claim origins
     → AreUnfolded g (cs ++ c ∷ []) (claims ++ claim ∷ []) (sources ++ origins ∷ [])
 unfolded-push g [] [] [] c claim origins h now = (now, tt)
 unfolded-push g [] [] (o ∷ os) c claim origins h now = absurd h
@@ -33,9 +36,12 @@ unfolded-push g [] (d ∷ ds) (o ∷ os) c claim origins h now = absurd h
 unfolded-push g (b ∷ bs) [] [] c claim origins h now = absurd h
 unfolded-push g (b ∷ bs) [] (o ∷ os) c claim origins h now = absurd h
 unfolded-push g (b ∷ bs) (d ∷ ds) [] c claim origins h now = absurd h
-unfolded-push g (b ∷ bs) (d ∷ ds) (o ∷ os) c claim origins h now = (h.0, unfolded-push g bs ds os c claim origins h.1 now)
+unfolded-push g (b ∷ bs) (d ∷ ds) (o ∷ os) c claim origins h now =
+    (h.0, unfolded-push g bs ds os c claim origins h.1 now)
 
-unfolded-length : (g : Game) (cs : List ImageClaim) (claims : List Claim) (sources : List (List ℕ)) → AreUnfolded g cs claims sources → length claims ≡ length cs
+unfolded-length : (g : Game) (cs : List ImageClaim) (claims : List Claim) (sources : List (List ℕ))
+    → AreUnfolded g cs claims sources
+    → length claims ≡ length cs
 unfolded-length g [] [] [] h = refl
 unfolded-length g [] [] (o ∷ os) h = absurd h
 unfolded-length g [] (d ∷ ds) [] h = absurd h
@@ -45,19 +51,38 @@ unfolded-length g (b ∷ bs) [] (o ∷ os) h = absurd h
 unfolded-length g (b ∷ bs) (d ∷ ds) [] h = absurd h
 unfolded-length g (b ∷ bs) (d ∷ ds) (o ∷ os) h = ap suc (unfolded-length g bs ds os h.1)
 
-HasSize-unfolded : (g : Game) (c : ImageClaim) (claim : Claim) (origins : List ℕ) → IsUnfolded g c claim origins → HasSize c (length claim.nodes)
-HasSize-unfolded g c claim origins h = record { copies = h.copies; are = h.are; counted = zip-length (IsCopied (board_of g.field) c.nodes h.copies) h.copies claim.nodes h.nodes }
+HasSize-unfolded : (g : Game) (c : ImageClaim) (claim : Claim) (origins : List ℕ)
+    → IsUnfolded g c claim origins
+    → HasSize c (length claim.nodes)
+HasSize-unfolded g c claim origins h = record {
+  copies = h.copies;
+  are = h.are;
+  counted = zip-length (IsCopied (board_of g.field) c.nodes h.copies) h.copies claim.nodes h.nodes;
+}
 
 module _ (g : Game) where
-  pub gathered-none : (gathered : Gathered) → gathered.claims.items ≡ [] → gathered.sources.items ≡ [] → gathered.room ≡ 200000 → AreGathered g [] gathered
+  pub gathered-none : (gathered : Gathered)
+      → gathered.claims.items ≡ []
+      → gathered.sources.items ≡ []
+      → gathered.room ≡ 200000
+      → AreGathered g [] gathered
   gathered-none gathered claims sources room = record {
-    unfolded = subst (λ ds. AreUnfolded g [] ds gathered.sources.items) (sym claims) (subst (AreUnfolded g [] []) (sym sources) tt);
+    unfolded = subst (λ ds. AreUnfolded g [] ds gathered.sources.items) (sym claims)
+        (subst (AreUnfolded g [] []) (sym sources) tt);
     limits = subst (Each IsClaim) (sym claims) (All-nil IsClaim);
-    counted = record { sizes = []; are = tt; each = All-nil (λ size. size ≤ 100000); together = omega (arith, room) };
+    counted = record {
+      sizes = [];
+      are = tt;
+      each = All-nil (λ size. size ≤ 100000);
+      together = omega (arith, room);
+    };
     lengths = ap (map (λ (claim : Claim). length claim.nodes)) (sym claims);
   }
 
-  pub gathered-more : (cs : List ImageClaim) (c : ImageClaim) (old new : Gathered) → AreGathered g cs old → IsGatheredNext g c old new → AreGathered g (cs ++ c ∷ []) new
+  pub gathered-more : (cs : List ImageClaim) (c : ImageClaim) (old new : Gathered)
+      → AreGathered g cs old
+      → IsGatheredNext g c old new
+      → AreGathered g (cs ++ c ∷ []) new
   gathered-more cs c old new h now =
       let size = length now.claim.nodes in
       let more = sum_by_push (λ (n : ℕ). n) h.counted.sizes size in
@@ -65,47 +90,78 @@ module _ (g : Game) where
       let room = now.room in
       record {
         unfolded = subst (λ ds. AreUnfolded g (cs ++ c ∷ []) ds new.sources.items) (sym now.claims)
-            (subst (AreUnfolded g (cs ++ c ∷ []) (old.claims.items ++ now.claim ∷ [])) (sym now.sources)
-            (unfolded-push g cs old.claims.items old.sources.items c now.claim now.origins h.unfolded now.taken.unfolded));
-        limits = subst (Each IsClaim) (sym now.claims) (All-push IsClaim old.claims.items now.claim h.limits now.taken.limits);
+            (subst (AreUnfolded g (cs ++ c ∷ []) (old.claims.items ++ now.claim ∷ []))
+            (sym now.sources) (unfolded-push g cs old.claims.items old.sources.items c now.claim
+            now.origins h.unfolded now.taken.unfolded));
+        limits = subst (Each IsClaim) (sym now.claims)
+            (All-push IsClaim old.claims.items now.claim h.limits now.taken.limits);
         counted = record {
           sizes = h.counted.sizes ++ size ∷ [];
-          are = push-zip HasSize cs h.counted.sizes c size h.counted.are (HasSize-unfolded g c now.claim now.origins now.taken.unfolded);
+          are = push-zip HasSize cs h.counted.sizes c size h.counted.are
+              (HasSize-unfolded g c now.claim now.origins now.taken.unfolded);
           each = All-push (λ n. n ≤ 100000) h.counted.sizes size h.counted.each now.taken.few;
           together = omega (arith, more, before, room);
         };
-        lengths = ap (λ ns. ns ++ size ∷ []) h.lengths ∙ sym (map_push (λ (claim : Claim). length claim.nodes) old.claims.items now.claim) ∙ ap (map (λ (claim : Claim). length claim.nodes)) (sym now.claims);
+        lengths = ap (λ ns. ns ++ size ∷ []) h.lengths
+            ∙ sym (map_push (λ (claim : Claim). length claim.nodes) old.claims.items now.claim)
+            ∙ ap (map (λ (claim : Claim). length claim.nodes)) (sym now.claims);
       }
 
-  pub room-of : (cs : List ImageClaim) (gathered : Gathered) → AreGathered g cs gathered → HaveRoom cs
+  pub room-of : (cs : List ImageClaim) (gathered : Gathered)
+      → AreGathered g cs gathered
+      → HaveRoom cs
   room-of cs gathered h = counted-room cs gathered.room h.counted
 
-  pub too_large : (claims : List ImageClaim) (i node : ℕ) (c : ImageClaim) (gathered : Gathered) → AreGathered g (take i claims) gathered → slice_get claims i ≡ Some c → node + 1 ≡ length c.nodes → IsTooMuch c gathered.room → IsFirstTooLarge claims i node
+  pub too_large : (claims : List ImageClaim) (i node : ℕ) (c : ImageClaim) (gathered : Gathered)
+      → AreGathered g (take i claims) gathered
+      → slice_get claims i ≡ Some c
+      → node + 1 ≡ length c.nodes
+      → IsTooMuch c gathered.room
+      → IsFirstTooLarge claims i node
   too_large claims i node c gathered h at last much = record {
-    before = record { sizes = h.counted.sizes; are = h.counted.are; few = record { each = h.counted.each; together = let all = h.counted.together in omega (arith, all) } };
+    before = record {
+      sizes = h.counted.sizes;
+      are = h.counted.are;
+      few = record {
+        each = h.counted.each;
+        together = let all = h.counted.together in omega (arith, all);
+      };
+    };
     large = c;
     claim_at = at;
     last = last;
     size = much.size;
     is = much.is;
-    much = elim much.much [ inl many ↦ inl many | inr full ↦ inr (let all = h.counted.together in omega (arith, all, full)) ];
+    much = elim much.much [
+      | inl many ↦ inl many
+      | inr full ↦ inr (let all = h.counted.together in omega (arith, all, full))
+    ];
   }
 
   of_second : (body : Body) → has_body Two body ≡ true
   of_second body = refl
 
-  pub within-gathered : (c : ImageCert) → IsImageWithinLimits c → (gathered : Gathered) → AreGathered g c.claims gathered → (cert : Cert) → cert.version ≡ Two → cert.claims ≡ gathered.claims.items → IsWithinLimits cert
+  pub within-gathered : (c : ImageCert)
+      → IsImageWithinLimits c
+      → (gathered : Gathered) → AreGathered g c.claims gathered
+      → (cert : Cert) → cert.version ≡ Two
+      → cert.claims ≡ gathered.claims.items
+      → IsWithinLimits cert
   within-gathered c limits gathered h cert version claims =
-      let count = ap length claims ∙ unfolded-length g c.claims gathered.claims.items gathered.sources.items h.unfolded in
+      let count = ap length claims
+      ∙ unfolded-length g c.claims gathered.claims.items gathered.sources.items h.unfolded in
       let some = limits.some in
       let few = limits.few in
       let all = h.counted.together in
-      let total : node_count cert.claims ≡ sum h.counted.sizes =
-      ap node_count claims ∙ sym (sum-through (λ (claim : Claim). length claim.nodes) (λ (n : ℕ). n) gathered.claims.items) ∙ ap sum (sym h.lengths) in
+      let total : node_count cert.claims ≡ sum h.counted.sizes = ap node_count claims
+      ∙ sym
+      (sum-through (λ (claim : Claim). length claim.nodes) (λ (n : ℕ). n) gathered.claims.items)
+      ∙ ap sum (sym h.lengths) in
       record {
         some = omega (arith, count, some);
         few = omega (arith, count, few);
         claims = subst (Each IsClaim) (sym claims) h.limits;
         nodes = omega (arith, total, all);
-        bodies = subst (λ (v : Version). Each (IsOfVersion v) cert.claims) (sym version) (λ k d lt. λ j e inside. refl);
+        bodies = subst (λ (v : Version). Each (IsOfVersion v) cert.claims) (sym version)
+            (λ k d lt. λ j e inside. refl);
       }

@@ -18,15 +18,27 @@ unmarked (suc n) zero h = absurd cc
 unmarked (suc n) (suc k) h = unmarked n k h
 
 module _ (nodes : List ImageNode) where
-  pub passed-none : 0 < length nodes → (marks : List Bool) → marks ≡ set (replicate (8 * length nodes) false) (8 * (length nodes - 1)) true → HasPassed nodes (8 * length nodes) marks
+  pub passed-none : 0 < length nodes
+      → (marks : List Bool)
+      → marks ≡ set (replicate (8 * length nodes) false) (8 * (length nodes - 1)) true
+      → HasPassed nodes (8 * length nodes) marks
   passed-none some marks is = record {
     size = size;
     sound = λ k h. elim (from_set none at k (subst (λ ms. IsMarked ms k) is h)) [
       | inl old ↦ absurd (unmarked (8 * length nodes) k old)
-      | inr e ↦ (0, (omega (arith, e, some), ap numbered (let zero_map : k % 8 ≡ 0 = omega (arith, e) in zero_map)))
+      | inr e ↦ (
+        0,
+        (
+          omega (arith, e, some),
+          ap numbered (let zero_map : k % 8 ≡ 0 = omega (arith, e) in zero_map),
+        ),
+      )
     ];
-    root = subst (λ ms. IsMarked ms at) (sym is) (marked_set none at (let count = length-replicate {A = Bool} (8 * length nodes) false in omega (arith, count, some)));
-    closed = λ k next high h hands. absurd (let within = slice_get_within marks k true h in omega (arith, within, size));
+    root = subst (λ ms. IsMarked ms at) (sym is)
+        (marked_set none at (let count = length-replicate {A = Bool} (8 * length nodes) false in
+        omega (arith, count, some)));
+    closed = λ k next high h hands.
+        absurd (let within = slice_get_within marks k true h in omega (arith, within, size));
   }
     where
       none : List Bool
@@ -38,18 +50,29 @@ module _ (nodes : List ImageNode) where
       size : length marks ≡ 8 * length nodes
       size = ap length is ∙ length-set none at true ∙ length-replicate (8 * length nodes) false
 
-  pub passed-skip : (before key : ℕ) (marks : List Bool) → before ≡ key + 1 → (IsMarked marks key → ⊥) → HasPassed nodes before marks → HasPassed nodes key marks
+  pub passed-skip : (before key : ℕ) (marks : List Bool)
+      → before ≡ key + 1
+      → (IsMarked marks key → ⊥)
+      → HasPassed nodes before marks
+      → HasPassed nodes key marks
   passed-skip before key marks next off h = record {
     size = h.size;
     sound = h.sound;
     root = h.root;
     closed = λ k to high on hands. elim (cases_lt key k) [
       | inl above ↦ h.closed k to (omega (arith, above, next)) on hands
-      | inr le ↦ absurd (off (subst (λ j. IsMarked marks j) (let e : k ≡ key = omega (arith, le, high) in e) on))
+      | inr le ↦ absurd
+          (off (subst (λ j. IsMarked marks j) (let e : k ≡ key = omega (arith, le, high) in e) on))
     ];
   }
 
-  pub passed-hand : AreEarlier nodes → (before key : ℕ) (old new : List Bool) → before ≡ key + 1 → IsMarked old key → AreAdded (Hands nodes key) old new → length new ≡ length old → HasPassed nodes before old → HasPassed nodes key new
+  pub passed-hand : AreEarlier nodes
+      → (before key : ℕ) (old new : List Bool) → before ≡ key + 1
+      → IsMarked old key
+      → AreAdded (Hands nodes key) old new
+      → length new ≡ length old
+      → HasPassed nodes before old
+      → HasPassed nodes key new
   passed-hand earlier before key old new next on added same h = record {
     size = same ∙ h.size;
     sound = λ k now. elim (added.only k now) [
@@ -58,7 +81,8 @@ module _ (nodes : List ImageNode) where
     ];
     root = added.kept (8 * (length nodes - 1)) h.root;
     closed = λ k to high now hands. elim (cases_lt key k) [
-      | inl above ↦ added.kept to (h.closed k to (omega (arith, above, next)) (was k above now) hands)
+      | inl above ↦
+          added.kept to (h.closed k to (omega (arith, above, next)) (was k above now) hands)
       | inr le ↦
           let e : k ≡ key = omega (arith, le, high) in
           added.put to (subst (λ j. Hands nodes j to) e hands)
@@ -68,7 +92,8 @@ module _ (nodes : List ImageNode) where
       was : (k : ℕ) → key < k → IsMarked new k → IsMarked old k
       was k above now = elim (added.only k now) [
         | inl old ↦ old
-        | inr hands ↦ absurd (let down = hands-down nodes earlier key k hands in omega (arith, down, above))
+        | inr hands ↦
+            absurd (let down = hands-down nodes earlier key k hands in omega (arith, down, above))
       ]
 
   module _ (marks : List Bool) (h : HasPassed nodes 0 marks) where
@@ -81,8 +106,13 @@ module _ (nodes : List ImageNode) where
         let b : Copy = met.0 in
         let from = reached n b met.1 in
         h.closed (key_of b) (key_of c) (omega arith) from
-        (subst (λ (d : Copy). IsAt nodes d (λ node. LeadsTo node d (copy_at (key_of c)))) (sym (copy_at-key b))
+        (subst (λ (d : Copy). IsAt nodes d (λ node. LeadsTo node d (copy_at (key_of c))))
+        (sym (copy_at-key b))
         (subst (λ (d : Copy). IsAt nodes b (λ node. LeadsTo node b d)) (sym (copy_at-key c)) met.2))
 
     pub AreMet-passed : AreMet nodes marks
-    AreMet-passed = record { whole = h.size; sound = h.sound; complete = λ c met. reached met.0 c met.1 }
+    AreMet-passed = record {
+      whole = h.size;
+      sound = h.sound;
+      complete = λ c met. reached met.0 c met.1;
+    }

@@ -10,9 +10,19 @@ use Rattle.pg_unfold.proofs.CopySteps.{push-zip}
 use Rattle.pg_unfold.proofs.Sizes.{too_large}
 
 pub counted-none : AreCounted [] 200000
-counted-none = record { sizes = []; are = tt; each = All-nil (λ size. size ≤ 100000); together = omega arith }
+counted-none = record {
+  sizes = [];
+  are = tt;
+  each = All-nil (λ size. size ≤ 100000);
+  together = omega arith;
+}
 
-pub counted-more : (cs : List ImageClaim) (c : ImageClaim) (size room left : ℕ) → AreCounted cs room → HasSize c size → size ≤ 100000 → left + size ≡ room → AreCounted (cs ++ c ∷ []) left
+pub counted-more : (cs : List ImageClaim) (c : ImageClaim) (size room left : ℕ)
+    → AreCounted cs room
+    → HasSize c size
+    → size ≤ 100000
+    → left + size ≡ room
+    → AreCounted (cs ++ c ∷ []) left
 counted-more cs c size room left h is few rest =
     let more = sum_by_push (λ (n : ℕ). n) h.sizes size in
     let before = h.together in
@@ -24,13 +34,25 @@ counted-more cs c size room left h is few rest =
     }
 
 pub counted-room : (cs : List ImageClaim) (room : ℕ) → AreCounted cs room → HaveRoom cs
-counted-room cs room h = record { sizes = h.sizes; are = h.are; few = record { each = h.each; together = let all = h.together in omega (arith, all) } }
+counted-room cs room h = record {
+  sizes = h.sizes;
+  are = h.are;
+  few = record { each = h.each; together = let all = h.together in omega (arith, all) };
+}
 
-pub counted-full : (claims : List ImageClaim) (i : ℕ) (c : ImageClaim) (size room : ℕ) → AreCounted (take i claims) room → slice_get claims i ≡ Some c → HasSize c size
-    → ((size ≤ 100000) × (size ≤ room) → ⊥) → HaveRoom claims → ⊥
+pub counted-full : (claims : List ImageClaim) (i : ℕ) (c : ImageClaim) (size room : ℕ)
+    → AreCounted (take i claims) room
+    → slice_get claims i ≡ Some c
+    → HasSize c size
+    → ((size ≤ 100000) × (size ≤ room) → ⊥)
+    → HaveRoom claims
+    → ⊥
 counted-full claims i c size room h at is full =
     too_large claims i c h.sizes size h.are at is
     (elim (cases_lt 100000 size) [
       | inl many ↦ inl many
-      | inr le ↦ elim (cases_lt room size) [ inl over ↦ inr (let all = h.together in omega (arith, all, over)) | inr low ↦ absurd (full (le, low)) ]
+      | inr le ↦ elim (cases_lt room size) [
+        | inl over ↦ inr (let all = h.together in omega (arith, all, over))
+        | inr low ↦ absurd (full (le, low))
+      ]
     ])

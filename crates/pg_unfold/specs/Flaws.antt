@@ -1,4 +1,5 @@
--- When a node of a certificate with turned and reflected nodes is faulty, and when a claim of it is too large unfolded.
+-- When a node of a certificate with turned and reflected nodes is faulty, and when a claim of it is
+-- too large unfolded.
 use Rattle.std.specs.Prelude.{◌≡◌, ℕ, ◌+◌, ◌<◌, ◌≤◌, ◌↔◌, ◌⊎◌, List, length, slice_get, Some, sum, take}
 use Rattle.std.specs.List.{All, AllZip, Contains}
 use Rattle.pg_base.specs.Points.{AreBelow}
@@ -45,7 +46,8 @@ HasUsable g (Plain node) = Unit {0}
 HasUsable g (Image x y turn left m child) = IsUsable g m
 
 -- the position is the image of the child's
-pub record IsImageOfChild (g : Game) (nodes : List ImageNode) (m : GridMap) (child : ℕ) (p : Position) : Type 0 where
+pub record IsImageOfChild (g : Game) (nodes : List ImageNode) (m : GridMap) (child : ℕ)
+    (p : Position) : Type 0 where
   pub node : ImageNode
   pub at : slice_get nodes child ≡ Some node
   pub image : p ≡ image_position (image_on (board_of g.field) m) (image_node_position node)
@@ -57,7 +59,8 @@ pub record HasPoints (g : Game) (p : Position) : Type 0 where
 
 abbrev pub HasMarks : Game → List ImageNode → ImageNode → Type 0
 HasMarks g nodes (Plain node) = HasPoints g (position_of node)
-HasMarks g nodes (Image x y turn left m child) = IsImageOfChild g nodes m child (image_node_position (Image x y turn left m child))
+HasMarks g nodes (Image x y turn left m child) =
+    IsImageOfChild g nodes m child (image_node_position (Image x y turn left m child))
 
 -- THE TABLE: what node number k owes under each flaw's name
 abbrev pub Passes : Game → List ImageNode → ℕ → ImageNode → Flaw → Type 0
@@ -71,19 +74,24 @@ IsSound g nodes k node = (flaw : Flaw) → Passes g nodes k node flaw
 
 -- every node of the claim before number k is sound
 abbrev pub AreSoundBefore : Game → ImageClaim → ℕ → Type 0
-AreSoundBefore g c k = (j : ℕ) (node : ImageNode) → j < k → slice_get c.nodes j ≡ Some node → IsSound g c.nodes j node
+AreSoundBefore g c k =
+    (j : ℕ) (node : ImageNode) → j < k → slice_get c.nodes j ≡ Some node → IsSound g c.nodes j node
 
 -- every node of the claim is sound, met or not
 abbrev pub IsSoundClaim : Game → ImageClaim → Type 0
-IsSoundClaim g c = (k : ℕ) (node : ImageNode) → slice_get c.nodes k ≡ Some node → IsSound g c.nodes k node
+IsSoundClaim g c =
+    (k : ℕ) (node : ImageNode) → slice_get c.nodes k ≡ Some node → IsSound g c.nodes k node
 
 abbrev pub AreSound : Game → List ImageClaim → Type 0
 AreSound g claims = All (IsSoundClaim g) claims
 
 -- the flaw of least number that the node has
-pub record IsLeastFlaw (g : Game) (nodes : List ImageNode) (k : ℕ) (node : ImageNode) (flaw : Flaw) : Type 0 where
+pub record IsLeastFlaw (g : Game) (nodes : List ImageNode) (k : ℕ) (node : ImageNode)
+    (flaw : Flaw) : Type 0 where
   pub fails : Passes g nodes k node flaw → ⊥
-  pub lesser : (before : Flaw) → flaw_number before < flaw_number flaw → Passes g nodes k node before
+  pub lesser : (before : Flaw)
+      → flaw_number before < flaw_number flaw
+      → Passes g nodes k node before
 
 -- the claim's first faulty node, and its flaw
 pub record IsFirstIn (g : Game) (c : ImageClaim) (k : ℕ) (flaw : Flaw) : Type 0 where
@@ -139,7 +147,8 @@ pub record IsFirstTooLarge (claims : List ImageClaim) (claim node : ℕ) : Type 
 
 -- the first fault: that of a node, or where there is none that of a claim which is too large
 abbrev pub IsFirstFault : Game → ImageCert → ℕ → ℕ → ℕ → Type 0
-IsFirstFault g c claim node why = IsFirstFlaw g c.claims claim node why ⊎ ((why ≡ 4) × AreSound g c.claims × IsFirstTooLarge c.claims claim node)
+IsFirstFault g c claim node why = IsFirstFlaw g c.claims claim node why
+    ⊎ ((why ≡ 4) × AreSound g c.claims × IsFirstTooLarge c.claims claim node)
 
 -- no node is faulty and no claim too large
 pub record IsFaultless (g : Game) (c : ImageCert) : Type 0 where

@@ -20,7 +20,8 @@ pub record IsTooMuch (c : ImageClaim) (room : ℕ) : Type 0 where
   pub much : (MAX_CLAIM_NODES < size) ⊎ (room < size)
 
 -- the claim unfolded, for which there is room
-pub record IsTaken (g : Game) (c : ImageClaim) (claim : Claim) (origins : List ℕ) (room : ℕ) : Type 0 where
+pub record IsTaken (g : Game) (c : ImageClaim) (claim : Claim) (origins : List ℕ)
+    (room : ℕ) : Type 0 where
   pub unfolded : IsUnfolded g c claim origins
   pub limits : IsClaim claim
   pub few : length claim.nodes ≤ MAX_CLAIM_NODES

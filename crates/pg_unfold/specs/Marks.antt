@@ -1,4 +1,5 @@
--- The table of marks in which an unfolding notes what is met: eight places for each node, one for each map.
+-- The table of marks in which an unfolding notes what is met: eight places for each node, one for
+-- each map.
 use Rattle.std.specs.Prelude.{◌≡◌, ℕ, zero, suc, ◌+◌, ◌*◌, ◌-◌, ◌/◌, ◌%◌, ◌≤◌, ◌⊎◌, Bool, true, false, ◌&&◌, List, [], ◌∷◌, ◌++◌, length, slice_get, Option, Some, None, if◌then◌else◌}
 use Rattle.std.specs.List.{All}
 use Rattle.pg_base.specs.Sets.{IsMarked}
@@ -73,7 +74,8 @@ is_kept nodes marks key = is_true (slice_get marks key) && is_plain (slice_get n
 -- those with places below the number
 abbrev pub copies_below : List ImageNode → List Bool → ℕ → List Copy
 copies_below nodes marks zero = []
-copies_below nodes marks (suc key) = copies_below nodes marks key ++ (if is_kept nodes marks key then copy_at key ∷ [] else [])
+copies_below nodes marks (suc key) =
+    copies_below nodes marks key ++ (if is_kept nodes marks key then copy_at key ∷ [] else [])
 
 abbrev pub copies_of : List ImageNode → List Bool → List Copy
 copies_of nodes marks = copies_below nodes marks (length marks)
@@ -81,7 +83,10 @@ copies_of nodes marks = copies_below nodes marks (length marks)
 -- for each marked copy the place in the list at which it settles
 pub record ArePlaces (nodes : List ImageNode) (marks : List Bool) (places : List ℕ) : Type 0 where
   pub whole : length places ≡ length marks
-  pub each : (key place : ℕ) → IsMarked marks key → slice_get places key ≡ Some place → IsPlaced nodes (copies_of nodes marks) (copy_at key) place
+  pub each : (key place : ℕ)
+      → IsMarked marks key
+      → slice_get places key ≡ Some place
+      → IsPlaced nodes (copies_of nodes marks) (copy_at key) place
 
 -- the map is one of the board, which has few enough cells
 pub record IsBoardMap (board : Option Grid) (m : GridMap) : Type 0 where
@@ -92,11 +97,16 @@ pub record IsBoardMap (board : Option Grid) (m : GridMap) : Type 0 where
 abbrev pub IsPlaceOf : List ℕ → ℕ → ℕ → ℕ → Type 0
 IsPlaceOf places m child place = slice_get places (8 * child + m) ≡ Some place
 
--- the places of the copies with places in the table below the key, and how many of them are copies of plain nodes that are met
-pub record ArePlacedBelow (nodes : List ImageNode) (marks : List Bool) (places : List ℕ) (key count : ℕ) : Type 0 where
+-- the places of the copies with places in the table below the key, and how many of them are copies
+-- of plain nodes that are met
+pub record ArePlacedBelow (nodes : List ImageNode) (marks : List Bool) (places : List ℕ)
+    (key count : ℕ) : Type 0 where
   pub size : length places ≡ key
   pub count_is : count ≡ length (copies_below nodes marks key)
-  pub each : (k place : ℕ) → IsMarked marks k → slice_get places k ≡ Some place → IsPlaced nodes (copies_of nodes marks) (copy_at k) place
+  pub each : (k place : ℕ)
+      → IsMarked marks k
+      → slice_get places k ≡ Some place
+      → IsPlaced nodes (copies_of nodes marks) (copy_at k) place
 
 -- the maps of all copies that are marked are maps of the board
 abbrev pub AreBoardMaps : Option Grid → List Bool → Type 0

@@ -35,7 +35,8 @@ fn image_replies(
     requires map { IsBoardMap board m }
     requires room { All (λ r. 8 * r.child + 8 ≤ length places.now) replies.now }
     requires replies { IsBody (Body.All replies.now) }
-    ensures { IfOk result (λ images. AreReplyImages (image_on board m) (IsPlaceOf places.now (number_of m)) replies.now images.items) }
+    ensures { IfOk result (λ images. AreReplyImages (image_on board m)
+        (IsPlaceOf places.now (number_of m)) replies.now images.items) }
 {
     let mut images = Vec::with_capacity(alloc, replies.len())?;
     for reply in replies {
@@ -60,7 +61,8 @@ fn image_body(
     requires room { 8 * k ≤ length places.now }
     requires earlier { NamesEarlier k body.now }
     requires body { IsBody body.now }
-    ensures { IfOk result (λ image. IsBodyImage (image_on board m) (IsPlaceOf places.now (number_of m)) body.now image) }
+    ensures { IfOk result (λ image. IsBodyImage (image_on board m)
+        (IsPlaceOf places.now (number_of m)) body.now image) }
 {
     match body {
         Body::Over => Ok(Body::Over),
@@ -118,8 +120,10 @@ pub(crate) fn image_node(
     requires room { 8 * k ≤ length places.now }
     requires earlier { NamesEarlier k node.now.body }
     requires node { IsNode node.now }
-    ensures position { IfOk result (λ image. position_of image ≡ image_position (image_on board m) (position_of node.now)) }
-    ensures body { IfOk result (λ image. IsBodyImage (image_on board m) (IsPlaceOf places.now (number_of m)) node.now.body image.body) }
+    ensures position { IfOk result
+        (λ image. position_of image ≡ image_position (image_on board m) (position_of node.now)) }
+    ensures body { IfOk result (λ image. IsBodyImage (image_on board m)
+        (IsPlaceOf places.now (number_of m)) node.now.body image.body) }
 {
     Ok(Node {
         x: image_set(board, m, &node.x),

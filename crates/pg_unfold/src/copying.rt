@@ -19,7 +19,8 @@ use std::alloc::Global;
 pub(crate) fn kept_node<'a>(nodes: &'a [ImageNode], marks: &[bool], key: usize) -> Option<&'a Node>
     requires whole { length marks.now ≡ 8 * length nodes.now }
     requires place { key < length marks.now }
-    ensures some { IfSome result (λ node. IsMarked marks.now key × (slice_get nodes.now (key / 8) ≡ Some (Plain node.now))) }
+    ensures some { IfSome result
+        (λ node. IsMarked marks.now key × (slice_get nodes.now (key / 8) ≡ Some (Plain node.now))) }
     ensures none { IfNone result (is_kept nodes.now marks.now key ≡ false) }
 {
     if !marks[key] {
@@ -45,7 +46,9 @@ pub(crate) fn copied_nodes(
     requires met { AreMet nodes.now marks.now }
     requires places { ArePlaces nodes.now marks.now places.now }
     requires maps { AreBoardMaps board marks.now }
-    ensures { IfOk result (λ copied. AllZip (IsCopied board nodes.now (copies_of nodes.now marks.now)) (copies_of nodes.now marks.now) copied.items) }
+    ensures { IfOk result
+        (λ copied. AllZip (IsCopied board nodes.now (copies_of nodes.now marks.now))
+        (copies_of nodes.now marks.now) copied.items) }
 {
     let mut copied = Vec::new(alloc);
     for key in 0..marks.len() {
@@ -65,7 +68,8 @@ pub(crate) fn origins_of(
 ) -> Result<Vec<u32>, Memory>
     requires few { length nodes.now ≤ MAX_CLAIM_NODES }
     requires whole { length marks.now ≡ 8 * length nodes.now }
-    ensures { IfOk result (λ origins. origins.items ≡ map (λ c. c.node) (copies_of nodes.now marks.now)) }
+    ensures { IfOk result
+        (λ origins. origins.items ≡ map (λ c. c.node) (copies_of nodes.now marks.now)) }
 {
     let mut origins = Vec::new(alloc);
     for key in 0..marks.len() {

@@ -9,8 +9,8 @@ pub enum Flaw {
     Child,
     /// I2: the node is an image under a map that doesn't fit the game, or in a game without a grid.
     Map,
-    /// I3: the node is an image whose marks, turn or number of points left aren't the image of the child's; or it is plain
-    /// and a mark isn't a point of the game.
+    /// I3: the node is an image whose marks, turn or number of points left aren't the image of the
+    /// child's; or it is plain and a mark isn't a point of the game.
     Marks,
 }
 

@@ -1,4 +1,5 @@
-//! Laws of unfolded claims. Each function is empty: what it promises is a law of the definitions alone.
+//! Laws of unfolded claims. Each function is empty: what it promises is a law of the definitions
+//! alone.
 ghost use Rattle.std.specs.Prelude.{◌≡◌, ◌-◌, ℕ, List, length, slice_get, Some};
 ghost use Rattle.pg_cert.specs.Node.{position_of};
 ghost use Rattle.pg_cert.specs.declared.cert.Claim.{Claim};
@@ -13,15 +14,24 @@ ghost use Rattle.pg_unfold.specs.Flaws.{IsFaultless, IsFirstFault, IsSoundClaim}
 ghost use Rattle.pg_unfold.specs.Unfolded.{HasImage, HasRootAt, IsUnfolded, IsUnfoldedCert};
 ghost use Rattle.pg_unfold.specs.declared.unfolded.Unfolded.{Unfolded};
 
-/// Where a plain node is met under a map, the unfolded claim has a node that came from it, and whose position is the
-/// image of its position.
+/// Where a plain node is met under a map, the unfolded claim has a node that came from it, and
+/// whose position is the image of its position.
 pub fn copies_have_images()
-    ensures { (g : Game) → (c : ImageClaim) → (claim : Claim) → (origins : List ℕ) → IsUnfolded g c claim origins → (copy : Copy) → (node : Node) → IsMet c.nodes copy → slice_get c.nodes copy.node ≡ Some (Plain node) → HasImage g claim origins copy node }
+    ensures { (g : Game) → (c : ImageClaim) → (claim : Claim) → (origins : List ℕ)
+        → IsUnfolded g c claim origins
+        → (copy : Copy) → (node : Node) → IsMet c.nodes copy
+        → slice_get c.nodes copy.node ≡ Some (Plain node)
+        → HasImage g claim origins copy node }
 {}
 
-/// Where the last node of a sound claim is plain, the last node of the unfolded claim has its position.
+/// Where the last node of a sound claim is plain, the last node of the unfolded claim has its
+/// position.
 pub fn roots_stay()
-    ensures { (g : Game) → (c : ImageClaim) → (claim : Claim) → (origins : List ℕ) → IsImageClaim c → IsSoundClaim g c → IsUnfolded g c claim origins → (root : Node) → slice_get c.nodes (length c.nodes - 1) ≡ Some (Plain root) → HasRootAt claim (position_of root) }
+    ensures { (g : Game) → (c : ImageClaim) → (claim : Claim) → (origins : List ℕ) → IsImageClaim c
+        → IsSoundClaim g c
+        → IsUnfolded g c claim origins
+        → (root : Node) → slice_get c.nodes (length c.nodes - 1) ≡ Some (Plain root)
+        → HasRootAt claim (position_of root) }
 {}
 
 /// A certificate with images has one unfolding at most: two ways to unfold it give the same plain

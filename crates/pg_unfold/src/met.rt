@@ -36,7 +36,8 @@ fn mark_replies(marks: &mut [bool], replies: &[Reply], m: usize)
     }
 }
 
-/// Marks the copies of the children that the body of node number `k` names, under the map of that number.
+/// Marks the copies of the children that the body of node number `k` names, under the map of that
+/// number.
 fn mark_children(marks: &mut [bool], k: usize, body: &Body, m: usize)
     requires map { m < 8 }
     requires earlier { NamesEarlier k body.now }
@@ -70,7 +71,8 @@ fn hand_on(marks: &mut [bool], nodes: &[ImageNode], key: usize)
     }
 }
 
-/// Marks exactly the copies that are met from the root, which is marked, by one pass from the root down.
+/// Marks exactly the copies that are met from the root, which is marked, by one pass from the root
+/// down.
 fn pass_down(marks: &mut [bool], nodes: &[ImageNode])
     requires earlier { AreEarlier nodes.now }
     requires root { HasPassed nodes.now (8 * length nodes.now) marks.old }

@@ -45,8 +45,8 @@ fn size_of(alloc: Global, claim: &ImageClaim) -> Result<u32, Memory>
     Ok(count_kept(nodes, marks.as_slice()))
 }
 
-/// Whether the claims have few enough nodes unfolded, each for a claim and all together for a certificate. They are counted, and
-/// none is made.
+/// Whether the claims have few enough nodes unfolded, each for a claim and all together for a
+/// certificate. They are counted, and none is made.
 ///
 /// # Errors
 ///

@@ -82,8 +82,8 @@ fn has_points(g: &Game, p: &Position) -> bool
     p.x.is_below(g.points()) && p.y.is_below(g.points())
 }
 
-/// Whether the position of node number `k` is the image of its child's, if it is an image, and else all its marks are
-/// points of the game.
+/// Whether the position of node number `k` is the image of its child's, if it is an image, and else
+/// all its marks are points of the game.
 fn has_marks(g: &Game, nodes: &[ImageNode], k: usize, node: &ImageNode) -> bool
     requires place { k ≤ length nodes.now }
     requires earlier { HasEarlier k node.now }

@@ -84,7 +84,8 @@ fn last_of(claim: &ImageClaim) -> u32
     claim.nodes.as_slice().len() as u32 - 1
 }
 
-/// Unfolds the next claim; gives the number of its last node exactly where there is no room for its nodes.
+/// Unfolds the next claim; gives the number of its last node exactly where there is no room for its
+/// nodes.
 fn unfold_next(
     alloc: Global,
     g: &Game,
@@ -133,21 +134,24 @@ fn unfold_claims(alloc: Global, g: &Game, claims: &[ImageClaim]) -> Result<Gathe
     Ok(gathered)
 }
 
-/// The certificate of plain nodes for which a certificate with images stands: of each claim one node for each copy of a
-/// plain node that is met from the root, by the nodes' numbers and then by those of the maps.
+/// The certificate of plain nodes for which a certificate with images stands: of each claim one
+/// node for each copy of a plain node that is met from the root, by the nodes' numbers and then by
+/// those of the maps.
 ///
 /// # Errors
 ///
-/// `Bad` exactly where a node is faulty or a claim too large (I1 to I4), with the first fault: the first faulty claim, in it
-/// the first faulty node, and the least number of its faults. Every node is tried by I1 to I3, met or not. Only where none of
-/// them is faulty comes I4, at the last node of the first claim with which there are too many nodes. `Memory` where no memory
-/// is found.
+/// `Bad` exactly where a node is faulty or a claim too large (I1 to I4), with the first fault: the
+/// first faulty claim, in it the first faulty node, and the least number of its faults. Every node
+/// is tried by I1 to I3, met or not. Only where none of them is faulty comes I4, at the last node
+/// of the first claim with which there are too many nodes. `Memory` where no memory is found.
 pub fn unfold(alloc: Global, g: &Game, c: &ImageCert) -> Result<Unfolded, ImageFault>
     requires { IsImageWithinLimits c.now }
     ensures unfolded { IfOk result (λ u. IsUnfoldedCert g.now c.now u) }
     ensures limits { IfOk result (λ u. IsWithinLimits u.cert) }
     ensures faultless { IfOk result (λ _. IsFaultless g.now c.now) }
-    ensures fault { (claim : ℕ) → (node : ℕ) → (why : ℕ) → result ≡ Err (ImageFault.Bad claim node why) → IsFirstFault g.now c.now claim node why }
+    ensures fault { (claim : ℕ) → (node : ℕ) → (why : ℕ)
+        → result ≡ Err (ImageFault.Bad claim node why)
+        → IsFirstFault g.now c.now claim node why }
 {
     let claims = c.claims.as_slice();
     if let Err(fault) = try_nodes(alloc, g, claims) {

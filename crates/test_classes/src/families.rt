@@ -2,7 +2,8 @@
 use pg_base::Memory;
 use std::alloc::Global;
 
-/// The lesser ends of the pairs of vertices below four, those of fewer vertices first. A vertex is also paired with itself.
+/// The lesser ends of the pairs of vertices below four, those of fewer vertices first. A vertex is
+/// also paired with itself.
 const FIRST_ENDS: [u16; 10] = [0, 0, 1, 0, 1, 2, 0, 1, 2, 3];
 
 /// Their greater ends.
@@ -36,8 +37,8 @@ pub(crate) fn choices(family: Family) -> u32 {
     }
 }
 
-/// So many edges or vectors, which are the digits of a number to the base of the choices. None where they don't ascend, so that each
-/// list is named once.
+/// So many edges or vectors, which are the digits of a number to the base of the choices. None
+/// where they don't ascend, so that each list is named once.
 pub(crate) fn chosen(
     alloc: Global,
     choices: u32,
@@ -60,7 +61,8 @@ pub(crate) fn chosen(
     Ok(Some(list))
 }
 
-/// X's and Y's points as binary digits, by a number: its digit to the base 3 for each point says whose it is, if any.
+/// X's and Y's points as binary digits, by a number: its digit to the base 3 for each point says
+/// whose it is, if any.
 pub(crate) fn marks_of(points: u16, number: u32) -> (u32, u32) {
     let (mut x, mut y) = (0u32, 0u32);
     let mut rest = number;

@@ -1,4 +1,5 @@
-//! Each call on forests, on the graph of two ways from 0 to 1 with an edge between their inner vertices.
+//! Each call on forests, on the graph of two ways from 0 to 1 with an edge between their inner
+//! vertices.
 ghost use Rattle.std.specs.Prelude.{◌≡◌, IfOk};
 ghost use Rattle.pg_graph.specs.Graph.{IsGraph, edge_count};
 
@@ -74,7 +75,8 @@ fn push_forest(text: &mut String, alloc: Global, g: &Graph) -> Result<(), Memory
     Ok(())
 }
 
-/// The elements of the first forest on the cycle that f closes with it; none where f is in it or is no element.
+/// The elements of the first forest on the cycle that f closes with it; none where f is in it or is
+/// no element.
 fn closed_by(trees: &mut Trees, f: u16) -> PointSet {
     if f >= 1024 || !trees.elements().has(f) || trees.member(1, f) {
         return PointSet::empty();
@@ -102,7 +104,8 @@ fn push_pair(text: &mut String, trees: &Trees) -> Result<(), AllocError> {
     push_members(text, &trees.common())
 }
 
-/// Adds what two forests have, the cycles that two elements close, and what the forests have after an exchange and settled again.
+/// Adds what two forests have, the cycles that two elements close, and what the forests have after
+/// an exchange and settled again.
 fn push_exchanges(text: &mut String, trees: &mut Trees) -> Result<(), AllocError> {
     push_pair(text, trees)?;
     push_members(text, &closed_by(trees, 2))?;

@@ -1,5 +1,5 @@
-//! The classes of all small switching games, connectivity games and games on vectors beside plain search, and each call on two
-//! forests once. Nothing of the product calls it.
+//! The classes of all small switching games, connectivity games and games on vectors beside plain
+//! search, and each call on two forests once. Nothing of the product calls it.
 #![tactic(auto)]
 
 #[cfg(test)]

@@ -17,7 +17,8 @@ fn joins(vertices: u16, list: &[u32], points: u32) -> bool {
     reached == (1u32 << (vertices & 15)).wrapping_sub(1)
 }
 
-/// Whether the target is the sum without carry of some vectors of the list that a set tells, by gathering all sums.
+/// Whether the target is the sum without carry of some vectors of the list that a set tells, by
+/// gathering all sums.
 fn sums(target: u32, list: &[u32], points: u32) -> bool {
     let mut known = 1u32;
     for (k, vector) in list.iter().enumerate() {
@@ -31,7 +32,8 @@ fn sums(target: u32, list: &[u32], points: u32) -> bool {
     known >> (target & 15) & 1 == 1
 }
 
-/// Which sets of at most five points pass: the binary digits of each are the number of a digit here. Points past the game's don't count.
+/// Which sets of at most five points pass: the binary digits of each are the number of a digit
+/// here. Points past the game's don't count.
 pub(crate) fn passing(family: Family, list: &[u32]) -> u32 {
     let mut passing = 0u32;
     for points in 0..32u32 {
@@ -45,8 +47,8 @@ pub(crate) fn passing(family: Family, list: &[u32]) -> u32 {
     passing
 }
 
-/// Whether X wins where at most so many points are free. The game is over where X's points pass, or where those that
-/// aren't Y's don't.
+/// Whether X wins where at most so many points are free. The game is over where X's points pass, or
+/// where those that aren't Y's don't.
 fn x_wins(passing: u32, points: u16, x: u32, y: u32, x_moves: bool, free: u8) -> bool {
     if passing >> (x % 32) & 1 == 1 {
         return true;

@@ -1,13 +1,15 @@
-//! The table of all small games. `bench/small_families.py` finds the numbers of the two further families again.
+//! The table of all small games. `bench/small_families.py` finds the numbers of the two further
+//! families again.
 use crate::families::Family;
 use crate::tally::{Tally, add_games};
 use std::alloc::Global;
 use std::test::Fail;
 use test_kit::word;
 
-/// Rows with `;` between them, as `FAMILY SIZE COUNT MARKS:X Y FIRST`: how many games X wins whoever moves, Y does, and the side to move
-/// does. SIZE is the number of vertices, or of signs of a vector, COUNT that of edges or vectors; the games are taken at all marks, or
-/// at none, and those on vectors with each target.
+/// Rows with `;` between them, as `FAMILY SIZE COUNT MARKS:X Y FIRST`: how many games X wins
+/// whoever moves, Y does, and the side to move does. SIZE is the number of vertices, or of signs of
+/// a vector, COUNT that of edges or vectors; the games are taken at all marks, or at none, and
+/// those on vectors with each target.
 const ROWS: &str = "\
 switching 2 0 all:0 1 0;\
 switching 2 1 all:1 7 1;\

@@ -7,8 +7,8 @@ use pg_base::Memory;
 use pg_plain::Class;
 use std::alloc::Global;
 
-/// How many games there are of each class by plain search, and how many are told otherwise, or have a certificate that isn't
-/// accepted, or aren't read.
+/// How many games there are of each class by plain search, and how many are told otherwise, or have
+/// a certificate that isn't accepted, or aren't read.
 #[derive(Drop)]
 pub(crate) struct Tally {
     /// X's, whoever moves.
@@ -71,7 +71,8 @@ fn power(base: u32, exponent: u16) -> u32 {
     power
 }
 
-/// Adds the games of a family with so many edges or vectors, loops, parallel edges and repeated vectors among them: at all marks, or at none.
+/// Adds the games of a family with so many edges or vectors, loops, parallel edges and repeated
+/// vectors among them: at all marks, or at none.
 pub(crate) fn add_games(
     alloc: Global,
     family: Family,

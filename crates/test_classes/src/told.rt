@@ -1,5 +1,5 @@
-//! What the crates tell of a small game of the further families: it is written as a file, read and solved, and what shows the class of a
-//! connectivity game is checked.
+//! What the crates tell of a small game of the further families: it is written as a file, read and
+//! solved, and what shows the class of a connectivity game is checked.
 use crate::families::{Family, ends_of};
 use pg_base::Memory;
 use pg_family_files::{read_span, read_vectors};
@@ -61,7 +61,8 @@ pub(crate) fn text_of(
     Ok(text)
 }
 
-/// The class of the connectivity game, and None where it isn't read, or its certificate isn't accepted.
+/// The class of the connectivity game, and None where it isn't read, or its certificate isn't
+/// accepted.
 pub(crate) fn span_told(alloc: Global, text: &str) -> Result<Option<Class>, Memory> {
     let Ok(g) = read_span(alloc, text.as_bytes()) else {
         return Ok(None);

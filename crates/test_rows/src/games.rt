@@ -112,13 +112,15 @@ fn grid_fits(alloc: Global, row: &str) -> Option<bool> {
     Some(is_said(made.is_ok(), word(head, 2)))
 }
 
-/// Whether a turn of several points begins as the game does, and with as many points left as the bias says.
+/// Whether a turn of several points begins as the game does, and with as many points left as the
+/// bias says.
 fn turns_begin(alloc: Global, row: &str) -> Option<bool> {
     let g = game(alloc, row)?;
     Some(g.with_turn(Side::Y).left == g.bias && g.start().is_same(&g.with_turn(g.turn)))
 }
 
-/// Whether the points of two rows make lines, of which the first is the one that the row tells, or a point stands twice.
+/// Whether the points of two rows make lines, of which the first is the one that the row tells, or
+/// a point stands twice.
 fn are_ordered(alloc: Global, row: &str) -> Option<bool> {
     let first = numbers(alloc, part(row, 0))?;
     let second = numbers(alloc, part(row, 1))?;
@@ -133,8 +135,8 @@ fn are_ordered(alloc: Global, row: &str) -> Option<bool> {
     }
 }
 
-/// Whether the row is as it tells, of the question that the word names; None where it names none, the row can't be read, or no
-/// memory is found.
+/// Whether the row is as it tells, of the question that the word names; None where it names none,
+/// the row can't be read, or no memory is found.
 pub(crate) fn is_so(alloc: Global, question: &str, row: &str) -> Option<bool> {
     match question {
         // the outcome at a position.

@@ -134,8 +134,8 @@ fn have_ends(alloc: Global, row: &str) -> Option<bool> {
     Some(true)
 }
 
-/// Whether the row is as it tells, of the question that the word names; None where it names none, the row can't be read, or no
-/// memory is found.
+/// Whether the row is as it tells, of the question that the word names; None where it names none,
+/// the row can't be read, or no memory is found.
 pub(crate) fn is_so(alloc: Global, question: &str, row: &str) -> Option<bool> {
     match question {
         // what joins, crosses, parts and bridges.

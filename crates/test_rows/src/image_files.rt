@@ -1,4 +1,5 @@
-//! Certificate files with images. A row tells a file with `;` for each line feed and `_` for a space at the end of a line.
+//! Certificate files with images. A row tells a file with `;` for each line feed and `_` for a
+//! space at the end of a line.
 use pg_base::{Memory, PointSet};
 use pg_image::{ImageNode, print_image};
 use pg_image_files::{CertFault, read_image};
@@ -43,7 +44,8 @@ fn answer(alloc: Global, text: &[u8]) -> Result<String, Memory> {
     }
 }
 
-/// Whether the text of the row, behind this head, has the row's fault. A row is the fault, then `=`, then the text.
+/// Whether the text of the row, behind this head, has the row's fault. A row is the fault, then
+/// `=`, then the text.
 fn has_fault(alloc: Global, head: &str, row: &str) -> Option<bool> {
     let (fault, text) = row.split_once('=')?;
     let whole = bytes_of(alloc, head, text).ok()?;
@@ -112,8 +114,8 @@ fn has_numbers(alloc: Global, row: &str) -> Option<bool> {
     is_image(alloc, row, node)
 }
 
-/// Whether the row is as it tells, of the question that the word names; None where it names none, the row can't be read, or no
-/// memory is found.
+/// Whether the row is as it tells, of the question that the word names; None where it names none,
+/// the row can't be read, or no memory is found.
 pub(crate) fn is_so(alloc: Global, question: &str, row: &str) -> Option<bool> {
     match question {
         // the faults of whole files.

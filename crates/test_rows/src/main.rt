@@ -1,4 +1,5 @@
-//! Reads tables of rows from the input, and says of each table whether the crates answer all its rows as they tell.
+//! Reads tables of rows from the input, and says of each table whether the crates answer all its
+//! rows as they tell.
 #![tactic(auto)]
 
 mod games;
@@ -15,8 +16,8 @@ use std::alloc::Global;
 use std::io;
 use test_kit::word;
 
-/// Whether the row is as it tells, of a question of this group; None where there is no such group or question, the row can't be read, or
-/// no memory is found.
+/// Whether the row is as it tells, of a question of this group; None where there is no such group
+/// or question, the row can't be read, or no memory is found.
 fn is_so(alloc: Global, group: &str, question: &str, row: &str) -> Option<bool> {
     match group {
         "games" => games::is_so(alloc, question, row),
@@ -30,8 +31,9 @@ fn is_so(alloc: Global, group: &str, question: &str, row: &str) -> Option<bool> 
     }
 }
 
-/// Says which rows of the table aren't so, or how many there are where all are. The table's first line is the word of a group of questions
-/// and the word of a question; empty lines and those that begin with `#` are no rows.
+/// Says which rows of the table aren't so, or how many there are where all are. The table's first
+/// line is the word of a group of questions and the word of a question; empty lines and those that
+/// begin with `#` are no rows.
 fn answer(rt: &HostRuntime, table: &str) -> io::Result<()> {
     let name = table.lines().next().unwrap_or("");
     let (group, question) = (word(name, 0), word(name, 1));

@@ -131,8 +131,8 @@ fn has_maps(alloc: Global, row: &str) -> Option<bool> {
     Some(numbers_of_maps(alloc, &g)?.as_str() == part(row, 3))
 }
 
-/// Whether the row is as it tells, of the question that the word names; None where it names none, the row can't be read, or no
-/// memory is found.
+/// Whether the row is as it tells, of the question that the word names; None where it names none,
+/// the row can't be read, or no memory is found.
 pub(crate) fn is_so(alloc: Global, question: &str, row: &str) -> Option<bool> {
     match question {
         // the images of points.

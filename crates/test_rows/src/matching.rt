@@ -41,7 +41,8 @@ fn told(alloc: Global, found: &Matching) -> Result<String, Memory> {
     Ok(text)
 }
 
-/// Whether a new cache gives this answer at the first ask, and again at the second, which alone is a hit.
+/// Whether a new cache gives this answer at the first ask, and again at the second, which alone is
+/// a hit.
 fn answers_twice(alloc: Global, g: &Game, answer: &str) -> Result<bool, Memory> {
     let Some(lines) = lines_of(g) else {
         return Ok(false);
@@ -110,8 +111,8 @@ fn is_family_so(alloc: Global, row: &str) -> Option<bool> {
     Some(matches(alloc, &g, exist).ok()? && leaf_matches(alloc, &g, exist).ok()?)
 }
 
-/// Whether the row is as it tells, of the question that the word names; None where it names none, the row can't be read, or no
-/// memory is found.
+/// Whether the row is as it tells, of the question that the word names; None where it names none,
+/// the row can't be read, or no memory is found.
 pub(crate) fn is_so(alloc: Global, question: &str, row: &str) -> Option<bool> {
     match question {
         // what matching answers.

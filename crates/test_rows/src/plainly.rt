@@ -1,7 +1,8 @@
 //! Whether pairs are private, and whether lines are short of free points, by plain counting.
 use pg_base::{Line, MAX_MEMBERS, Pair, PointSet};
 
-/// Takes a point of the line out of the set; false where the line doesn't hold it or the set hasn't got it.
+/// Takes a point of the line out of the set; false where the line doesn't hold it or the set hasn't
+/// got it.
 fn takes(left: &mut PointSet, line: &Line, v: u16) -> bool {
     if v >= MAX_MEMBERS || !left.has(v) || !line.has(v) {
         return false;
@@ -10,7 +11,8 @@ fn takes(left: &mut PointSet, line: &Line, v: u16) -> bool {
     true
 }
 
-/// Whether each wanted line has the pair at its place, lower point first, of two free points that no earlier pair has.
+/// Whether each wanted line has the pair at its place, lower point first, of two free points that
+/// no earlier pair has.
 pub(crate) fn are_private(lines: &[Line], wanted: &[u32], free: &PointSet, pairs: &[Pair]) -> bool {
     let mut left = *free;
     for (j, s) in wanted.iter().zip(pairs) {
@@ -48,7 +50,8 @@ fn covers(lines: &[Line], family: &[u32], v: u16) -> bool {
     false
 }
 
-/// Whether the family is of different wanted lines, which hold fewer than two free points for each of them together.
+/// Whether the family is of different wanted lines, which hold fewer than two free points for each
+/// of them together.
 pub(crate) fn is_short(lines: &[Line], wanted: &[u32], free: &PointSet, family: &[u32]) -> bool {
     let mut covered = 0u32;
     for v in 0..MAX_MEMBERS {

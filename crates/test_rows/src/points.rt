@@ -161,7 +161,8 @@ fn is_given_set_so(row: &str) -> bool {
     }
 }
 
-/// Whether the row tells the first point of the set from a point on, or whether its points are below a limit.
+/// Whether the row tells the first point of the set from a point on, or whether its points are
+/// below a limit.
 fn is_first_so(alloc: Global, row: &str) -> Option<bool> {
     let points = set(alloc, part(row, 0))?;
     let told = part(row, 1);
@@ -201,8 +202,8 @@ fn are_all_below(row: &str) -> Option<bool> {
     Some(all.len() == u32::from(limit) && all.is_empty() == (limit == 0))
 }
 
-/// Whether the row is as it tells, of the question that the word names; None where it names none, the row can't be read, or no
-/// memory is found.
+/// Whether the row is as it tells, of the question that the word names; None where it names none,
+/// the row can't be read, or no memory is found.
 pub(crate) fn is_so(alloc: Global, question: &str, row: &str) -> Option<bool> {
     match question {
         // what words of sides, goals and kinds name.

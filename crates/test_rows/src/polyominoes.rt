@@ -77,8 +77,8 @@ fn has_placements(alloc: Global, row: &str) -> Option<bool> {
     }
 }
 
-/// Whether the row is as it tells, of the question that the word names; None where it names none, the row can't be read, or no
-/// memory is found.
+/// Whether the row is as it tells, of the question that the word names; None where it names none,
+/// the row can't be read, or no memory is found.
 pub(crate) fn is_so(alloc: Global, question: &str, row: &str) -> Option<bool> {
     match question {
         // how many placements a polyomino has on small boards.

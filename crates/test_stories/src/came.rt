@@ -74,8 +74,9 @@ fn came_on(
     Ok(text)
 }
 
-/// What comes of the runs of a row where these calls fail: of each its status and its log, and then what is left of the files of which something is due.
-/// It says `called` for files or console of which calls were to fail and a further call doesn't.
+/// What comes of the runs of a row where these calls fail: of each its status and its log, and then
+/// what is left of the files of which something is due. It says `called` for files or console of
+/// which calls were to fail and a further call doesn't.
 pub(crate) fn came(
     alloc: Global,
     texts: &[Named],

@@ -4,7 +4,8 @@ use crate::texts::{Named, value};
 use std::alloc::{AllocError, Global};
 use std::fmt::Write;
 
-/// How far a run comes: its status where a call fails, how many entries its log has at most, and how many of the files of which the row tells are stored.
+/// How far a run comes: its status where a call fails, how many entries its log has at most, and
+/// how many of the files of which the row tells are stored.
 #[derive(Clone, Copy)]
 pub(crate) struct Reach {
     pub(crate) status: Option<u8>,
@@ -19,7 +20,8 @@ pub(crate) const WHOLE: Reach = Reach {
     stored: u64::MAX,
 };
 
-/// Adds a line: a word, and a text that is told, with a line feed of its own where it is said whole.
+/// Adds a line: a word, and a text that is told, with a line feed of its own where it is said
+/// whole.
 fn push_told(
     alloc: Global,
     texts: &[Named],
@@ -87,7 +89,8 @@ fn is_kept(row: &str, word: &str, name: &str) -> bool {
         && of_file(row, "lacks", name).is_none()
 }
 
-/// Adds what is to be left of each file of which the row tells: what is stored where the run comes so far, or else what the row gives.
+/// Adds what is to be left of each file of which the row tells: what is stored where the run comes
+/// so far, or else what the row gives.
 fn push_files(
     alloc: Global,
     texts: &[Named],
@@ -131,7 +134,8 @@ pub(crate) fn due(
     Ok(text)
 }
 
-/// Whether what came is as due, line by line. Of a line that is due as `begins` or `starts` the beginning is told alone.
+/// Whether what came is as due, line by line. Of a line that is due as `begins` or `starts` the
+/// beginning is told alone.
 pub(crate) fn is_so(due: &str, came: &str) -> bool {
     let mut lines = came.lines();
     for line in due.lines() {

@@ -1,4 +1,5 @@
-//! The entries of a row, a line each: a word, and what stands behind it. The first line of a row is its name.
+//! The entries of a row, a line each: a word, and what stands behind it. The first line of a row is
+//! its name.
 use std::alloc::AllocError;
 
 /// The first word of a line, and what stands behind the space after it.

@@ -1,4 +1,5 @@
-//! Faults of form: of whole files, and of a line at the places where it may stand, alone and before another fault.
+//! Faults of form: of whole files, and of a line at the places where it may stand, alone and before
+//! another fault.
 use crate::entries::cut;
 use crate::runs::ran;
 use crate::texts::{Named, lines_of, value};
@@ -19,7 +20,8 @@ enum Kind {
     SpanCertificate,
 }
 
-/// Whether a check of a text tells this fault at the line with this number; `none`: it has no fault of form. A game has a faulty certificate behind it.
+/// Whether a check of a text tells this fault at the line with this number; `none`: it has no fault
+/// of form. A game has a faulty certificate behind it.
 fn is_told(
     alloc: Global,
     kind: Kind,
@@ -50,7 +52,8 @@ fn is_told(
     Ok(said == due.as_str())
 }
 
-/// Whether a file, or a certificate of a connectivity game, is as is told: `FAULT LINE=TEXT`, or `none=TEXT` where it has no fault of form.
+/// Whether a file, or a certificate of a connectivity game, is as is told: `FAULT LINE=TEXT`, or
+/// `none=TEXT` where it has no fault of form.
 pub(crate) fn is_form_so(
     alloc: Global,
     texts: &[Named],
@@ -108,7 +111,8 @@ fn is_told_before(
     is_told(alloc, faulty.kind, faulty.fault, place, text.as_str())
 }
 
-/// Whether the fault is told at each of these places before the other lines of the file, and where the file ends with the line.
+/// Whether the fault is told at each of these places before the other lines of the file, and where
+/// the file ends with the line.
 fn is_told_at_all(alloc: Global, faulty: Faulty, places: &str) -> Result<bool, AllocError> {
     for place in places.split(' ') {
         let from = place.parse::<u32>().unwrap_or(0);
@@ -138,8 +142,8 @@ fn is_told_first(
     Ok(true)
 }
 
-/// Whether a line with a fault is as is told, `FAULT FILE PLACES=LINE`: at each of the places, and at the first of them before each line that
-/// stands behind in the text of other lines.
+/// Whether a line with a fault is as is told, `FAULT FILE PLACES=LINE`: at each of the places, and
+/// at the first of them before each line that stands behind in the text of other lines.
 pub(crate) fn is_fault_so(alloc: Global, texts: &[Named], told: &str) -> Result<bool, AllocError> {
     let (head, line) = told.split_once('=').unwrap_or((told, ""));
     let (fault, rest) = cut(head);

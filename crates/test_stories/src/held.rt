@@ -44,7 +44,8 @@ impl Files for Held {
     }
 }
 
-/// These files, of whose calls those with these numbers fail. A read gives as many bytes as there is room for.
+/// These files, of whose calls those with these numbers fail. A read gives as many bytes as there
+/// is room for.
 pub(crate) fn held_files(
     alloc: Global,
     files: Vec<(Text, Text)>,

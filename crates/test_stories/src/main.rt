@@ -1,7 +1,9 @@
-//! Plays a game over the console of the system; then carries out the runs that the rest of the input tells, on the files of the system
-//! or in memory, and says of each row in memory whether its runs leave what is due.
+//! Plays a game over the console of the system; then carries out the runs that the rest of the
+//! input tells, on the files of the system or in memory, and says of each row in memory whether its
+//! runs leave what is due.
 //!
-//! With a number as its word it makes so many allocations first, and carries out the rows in memory alone.
+//! With a number as its word it makes so many allocations first, and carries out the rows in memory
+//! alone.
 #![tactic(auto)]
 
 mod came;
@@ -34,7 +36,8 @@ fn number(rt: &HostRuntime) -> io::Result<Option<u64>> {
     }
 }
 
-/// The script, of which each line is an entry. Unless the rows in memory are wanted alone, the runs on the system are carried out.
+/// The script, of which each line is an entry. Unless the rows in memory are wanted alone, the runs
+/// on the system are carried out.
 fn script(rt: &HostRuntime, rows_alone: bool) -> io::Result<String> {
     if !rows_alone {
         system::carry_out(rt, PLAY)?;
@@ -47,7 +50,8 @@ fn script(rt: &HostRuntime, rows_alone: bool) -> io::Result<String> {
     Ok(script)
 }
 
-/// Says whether the lines of tables are as they tell, and of each row whether its runs leave what is due.
+/// Says whether the lines of tables are as they tell, and of each row whether its runs leave what
+/// is due.
 fn answer(rt: &HostRuntime, script: &str) -> io::Result<()> {
     let texts = texts::texts_of(rt.alloc(), script)?;
     tables::answer(rt, &texts, script)?;

@@ -1,4 +1,5 @@
-//! Faults of a node at the first, a middle and the last node of the first, a middle and the last claim, alone and before another.
+//! Faults of a node at the first, a middle and the last node of the first, a middle and the last
+//! claim, alone and before another.
 use crate::entries::cut;
 use crate::runs::ran;
 use crate::texts::{Named, lines_of};
@@ -13,7 +14,8 @@ const NODES: u32 = 6;
 /// How many nodes a certificate has.
 const ALL: u32 = 48;
 
-/// A node with a fault; a game, what a claim says, and a node without one that may stand at each place of it.
+/// A node with a fault; a game, what a claim says, and a node without one that may stand at each
+/// place of it.
 #[derive(Clone, Copy)]
 struct Faulty<'a> {
     fault: &'a str,
@@ -23,7 +25,8 @@ struct Faulty<'a> {
     sound: &'a str,
 }
 
-/// A certificate of eight claims that has the node at this place of this claim, and another one as the last of all.
+/// A certificate of eight claims that has the node at this place of this claim, and another one as
+/// the last of all.
 fn certificate(
     alloc: Global,
     faulty: Faulty,
@@ -50,7 +53,8 @@ fn certificate(
     Ok(text)
 }
 
-/// Whether a check tells the fault of the node at this place of this claim, where the other one is the last of all.
+/// Whether a check tells the fault of the node at this place of this claim, where the other one is
+/// the last of all.
 fn is_told(
     alloc: Global,
     faulty: Faulty,
@@ -65,7 +69,8 @@ fn is_told(
     Ok(said.as_str() == due.as_str())
 }
 
-/// Whether the fault of the node is told at each of these places in the first, a middle and the last claim, with nothing wrong behind it.
+/// Whether the fault of the node is told at each of these places in the first, a middle and the
+/// last claim, with nothing wrong behind it.
 fn is_told_at_all(alloc: Global, faulty: Faulty, places: &str) -> Result<bool, AllocError> {
     let sound = faulty.sound;
     for place in places.split(' ') {
@@ -80,7 +85,8 @@ fn is_told_at_all(alloc: Global, faulty: Faulty, places: &str) -> Result<bool, A
     Ok(true)
 }
 
-/// Whether the fault of the node is told at this place of the last claim but one, where the last node of all is any of the table's with the same base.
+/// Whether the fault of the node is told at this place of the last claim but one, where the last
+/// node of all is any of the table's with the same base.
 fn is_told_first(
     alloc: Global,
     faulty: Faulty,
@@ -98,8 +104,9 @@ fn is_told_first(
     Ok(true)
 }
 
-/// Whether a node is as is told, `FAULT BASE PLACES=NODE`: it has the fault at each of the places, and at the first of them before any other node.
-/// The base is a game, a claim and a sound node, with `#` between them.
+/// Whether a node is as is told, `FAULT BASE PLACES=NODE`: it has the fault at each of the places,
+/// and at the first of them before any other node. The base is a game, a claim and a sound node,
+/// with `#` between them.
 pub(crate) fn is_node_so(
     alloc: Global,
     texts: &[Named],

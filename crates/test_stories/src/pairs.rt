@@ -6,7 +6,8 @@ use crate::values::is_won;
 use pg_base::Side;
 use std::alloc::{AllocError, Global};
 
-/// A certificate with this claim, whose root stands behind the nodes of a certificate of one claim and rests on the last of them, and the root's number.
+/// A certificate with this claim, whose root stands behind the nodes of a certificate of one claim
+/// and rests on the last of them, and the root's number.
 fn resting(alloc: Global, solved: &[u8], claim: &str, root: &str) -> Option<(String, u32)> {
     let solved = str::from_utf8(solved).ok()?;
     let (_first, lines) = solved.split_once('\n')?;
@@ -20,7 +21,8 @@ fn resting(alloc: Global, solved: &[u8], claim: &str, root: &str) -> Option<(Str
     Some((text, count))
 }
 
-/// The certificate whose root rests on the last node of what is stored where the other game is solved, and the root's number.
+/// The certificate whose root rests on the last node of what is stored where the other game is
+/// solved, and the root's number.
 fn rested(
     alloc: Global,
     other: &str,
@@ -33,7 +35,8 @@ fn rested(
     Ok(resting(alloc, solved, claim, root))
 }
 
-/// Whether the certificate is accepted and the side plays to this result, where there is a word for it; or its node is rejected.
+/// Whether the certificate is accepted and the side plays to this result, where there is a word for
+/// it; or its node is rejected.
 fn is_so(
     alloc: Global,
     word: &str,
@@ -57,8 +60,9 @@ fn is_so(
     }
 }
 
-/// Whether two positions are as is told, `WORD CLAIM=FIELD=GAME=OTHER=ROOT`: the root of the claim, which rests on the other position, is rejected, or is
-/// accepted and leads to the result. Both games have the lines of the field.
+/// Whether two positions are as is told, `WORD CLAIM=FIELD=GAME=OTHER=ROOT`: the root of the claim,
+/// which rests on the other position, is rejected, or is accepted and leads to the result. Both
+/// games have the lines of the field.
 pub(crate) fn is_pair_so(alloc: Global, told: &str) -> Result<bool, AllocError> {
     let mut parts = told.split('=');
     let (word, claim) = cut(parts.next().unwrap_or(""));

@@ -12,7 +12,8 @@ struct Row<'a> {
     due: &'a str,
 }
 
-/// Whether the run leaves what is due where the first read of a file gives at most `first` bytes and each other at most `others`.
+/// Whether the run leaves what is due where the first read of a file gives at most `first` bytes
+/// and each other at most `others`.
 fn leaves(alloc: Global, row: Row, first: usize, others: usize) -> Result<bool, AllocError> {
     let mut files = holding(alloc, row.game, row.certificate)?;
     files.first = first;
@@ -21,7 +22,8 @@ fn leaves(alloc: Global, row: Row, first: usize, others: usize) -> Result<bool, 
     Ok(log.as_str() == row.due)
 }
 
-/// Whether the row holds where both files are cut into two pieces, at any byte, and where they come in pieces of 1 to 64 bytes.
+/// Whether the row holds where both files are cut into two pieces, at any byte, and where they come
+/// in pieces of 1 to 64 bytes.
 fn holds(alloc: Global, row: Row) -> Result<bool, AllocError> {
     let longest = row.game.len().max(row.certificate.len());
     for size in 1..longest.max(65) {
@@ -34,7 +36,8 @@ fn holds(alloc: Global, row: Row) -> Result<bool, AllocError> {
     Ok(true)
 }
 
-/// Whether a run is as is told, `WORDS=GAME=CERTIFICATE=STATUS;LINE;`, in whichever pieces its files come.
+/// Whether a run is as is told, `WORDS=GAME=CERTIFICATE=STATUS;LINE;`, in whichever pieces its
+/// files come.
 pub(crate) fn are_pieces_so(alloc: Global, told: &str) -> Result<bool, AllocError> {
     let mut parts = told.split('=');
     let words = parts.next().unwrap_or("");

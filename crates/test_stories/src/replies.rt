@@ -62,8 +62,9 @@ fn raise(replies: &mut Vec<u16>, points: u16) -> Result<bool, AllocError> {
     Ok(false)
 }
 
-/// What comes of the first play of the row's run that isn't as due, of the plays against every list of replies, or that no play ends at all. The entry says how
-/// many points there are and who is to win.
+/// What comes of the first play of the row's run that isn't as due, of the plays against every list
+/// of replies, or that no play ends at all. The entry says how many points there are and who is to
+/// win.
 pub(crate) fn first_wrong_play(
     alloc: Global,
     texts: &[Named],

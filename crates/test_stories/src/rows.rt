@@ -23,10 +23,11 @@ fn wrong(
     })
 }
 
-/// What comes of the row, the first time that it isn't as due, where each of its calls fails in turn, and where the next call fails that no run makes.
+/// What comes of the row, the first time that it isn't as due, where each of its calls fails in
+/// turn, and where the next call fails that no run makes.
 ///
-/// With each call fails the one that the run would make next of the same kind. So whoever calls a second time where one call has failed, or makes more calls
-/// or fewer, is told by `called`.
+/// With each call fails the one that the run would make next of the same kind. So whoever calls a
+/// second time where one call has failed, or makes more calls or fewer, is told by `called`.
 fn first_wrong_call(
     alloc: Global,
     texts: &[Named],
@@ -65,7 +66,8 @@ fn first_wrong_call(
     wrong(alloc, texts, row, fails, WHOLE)
 }
 
-/// What comes of the row, the first time that it isn't as due. A row with replies is played against every list of them.
+/// What comes of the row, the first time that it isn't as due. A row with replies is played against
+/// every list of them.
 fn first_wrong(alloc: Global, texts: &[Named], row: &str) -> Result<Option<String>, AllocError> {
     if let Some(told) = entry(row, "replies") {
         return first_wrong_play(alloc, texts, row, told);

@@ -29,7 +29,8 @@ pub(crate) fn status_of<F: Files, C: Console>(
     Ok(run(alloc, &words, files, console, &mut work))
 }
 
-/// Adds the status of a run, and what it says and hears; and `called` where calls of the console were to fail and a further call doesn't.
+/// Adds the status of a run, and what it says and hears; and `called` where calls of the console
+/// were to fail and a further call doesn't.
 fn push_run_on<F: Files>(
     alloc: Global,
     words: &str,
@@ -57,7 +58,8 @@ fn push_run_on<F: Files>(
     Ok(())
 }
 
-/// Adds the status and the log of a run on these words, where the console has this input, and its calls with these numbers fail.
+/// Adds the status and the log of a run on these words, where the console has this input, and its
+/// calls with these numbers fail.
 pub(crate) fn push_run<F: Files>(
     alloc: Global,
     words: &str,

@@ -1,4 +1,5 @@
-//! Texts as a script tells them: lines that end at `;`. A line `@NAME` stands for those of a named text, and `*N LINE` for N lines.
+//! Texts as a script tells them: lines that end at `;`. A line `@NAME` stands for those of a named
+//! text, and `*N LINE` for N lines.
 use crate::entries::cut;
 use std::alloc::{AllocError, Global};
 
@@ -9,8 +10,9 @@ pub(crate) struct Named {
     text: String,
 }
 
-/// The script with a line for each entry, behind a line feed. A line that begins with two spaces goes on the entry above it, with `;` at its end.
-/// Empty lines and those that begin with `#` are left out.
+/// The script with a line for each entry, behind a line feed. A line that begins with two spaces
+/// goes on the entry above it, with `;` at its end. Empty lines and those that begin with `#` are
+/// left out.
 pub(crate) fn folded(alloc: Global, script: &str) -> Result<String, AllocError> {
     let mut text = String::new(alloc);
     for line in script.lines() {
@@ -26,7 +28,8 @@ pub(crate) fn folded(alloc: Global, script: &str) -> Result<String, AllocError> 
     Ok(text)
 }
 
-/// The texts that the script names, each by a line `text NAME TEXT`. Its lines may stand for those of the texts before it.
+/// The texts that the script names, each by a line `text NAME TEXT`. Its lines may stand for those
+/// of the texts before it.
 pub(crate) fn texts_of(alloc: Global, script: &str) -> Result<Vec<Named>, AllocError> {
     let mut texts = Vec::new(alloc);
     for line in script.lines() {
@@ -40,7 +43,8 @@ pub(crate) fn texts_of(alloc: Global, script: &str) -> Result<Vec<Named>, AllocE
     Ok(texts)
 }
 
-/// The lines of the text with this name, without the last line feed: a word that says so where none has it.
+/// The lines of the text with this name, without the last line feed: a word that says so where none
+/// has it.
 pub(crate) fn lines_of<'a>(texts: &'a [Named], name: &str) -> &'a str {
     for text in texts {
         if text.name.as_str() == name {
@@ -51,7 +55,8 @@ pub(crate) fn lines_of<'a>(texts: &'a [Named], name: &str) -> &'a str {
     "no text of this name"
 }
 
-/// The text that is told. Spaces at both ends of a line don't count; `\s`, `\t`, `\r` and `\d` are a space, a tab, a carriage return and the sign of number 127.
+/// The text that is told. Spaces at both ends of a line don't count; `\s`, `\t`, `\r` and `\d` are
+/// a space, a tab, a carriage return and the sign of number 127.
 pub(crate) fn value(alloc: Global, texts: &[Named], told: &str) -> Result<String, AllocError> {
     let mut text = String::new(alloc);
     let mut is_later = false;

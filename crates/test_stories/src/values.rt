@@ -1,4 +1,5 @@
-//! Small games with their values: each is solved, what is stored is checked, and played to its end against replies drawn at random.
+//! Small games with their values: each is solved, what is stored is checked, and played to its end
+//! against replies drawn at random.
 use crate::entries::cut;
 use crate::held::{Held, holding};
 use crate::runs::logged;
@@ -8,8 +9,9 @@ use pg_game::Game;
 use std::alloc::{AllocError, Global};
 use std::fmt::Write;
 
-/// Ninety replies below nine, of which some are no point of a game with few points, and some are taken when they come. They are drawn by the linear
-/// congruential generator that the standard of C prints as an example.
+/// Ninety replies below nine, of which some are no point of a game with few points, and some are
+/// taken when they come. They are drawn by the linear congruential generator that the standard of C
+/// prints as an example.
 fn replies(alloc: Global, seed: u64) -> Result<String, AllocError> {
     let mut state = seed;
     let mut text = String::new(alloc);
@@ -21,7 +23,8 @@ fn replies(alloc: Global, seed: u64) -> Result<String, AllocError> {
     Ok(text)
 }
 
-/// Whether the own moves of a logged play are legal, and its replies, each where the side is to move; but those that are refused.
+/// Whether the own moves of a logged play are legal, and its replies, each where the side is to
+/// move; but those that are refused.
 fn is_legal(g: &Game, side: Side, log: &str) -> bool {
     let mut p = g.start();
     let mut is_refusal_due = false;
@@ -86,7 +89,8 @@ pub(crate) fn is_won(
     Ok(true)
 }
 
-/// Whether the game is solved with this result, what is stored is accepted, and the side, if one is named, plays to it.
+/// Whether the game is solved with this result, what is stored is accepted, and the side, if one is
+/// named, plays to it.
 fn is_solved(alloc: Global, word: &str, side: &str, files: &mut Held) -> Result<bool, AllocError> {
     let due = format!(in alloc; "status 0\nsays result {word};\n")?;
     let solved = logged(alloc, "solve G C", files, "")?;
@@ -104,7 +108,8 @@ fn is_solved(alloc: Global, word: &str, side: &str, files: &mut Held) -> Result<
     }
 }
 
-/// Whether a game is as is told, `WORD SIDE=GAME`: it is solved with this result, and the side, if one is named, plays to it.
+/// Whether a game is as is told, `WORD SIDE=GAME`: it is solved with this result, and the side, if
+/// one is named, plays to it.
 pub(crate) fn is_value_so(alloc: Global, told: &str) -> Result<bool, AllocError> {
     let (head, game) = told.split_once('=').unwrap_or((told, ""));
     let (word, side) = cut(head);

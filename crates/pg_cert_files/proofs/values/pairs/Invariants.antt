@@ -7,7 +7,8 @@ use Rattle.pg_cert_files.proofs.Outlines.{AreReadTo}
 use Rattle.pg_cert_files.proofs.values.pairs.Given as goal
 
 abbrev pub invariant-loop-rest : goal.invariant-loop-rest
-invariant-loop-rest l = AreReadTo HYPHEN word_pair (words_of (option_map (λ w. w.now) l.text)) l.found.items (words_of (option_map (λ w. w.now) l.rest))
+invariant-loop-rest l = AreReadTo HYPHEN word_pair (words_of (option_map (λ w. w.now) l.text))
+    l.found.items (words_of (option_map (λ w. w.now) l.rest))
 
 abbrev pub decreases-loop-rest : goal.decreases-loop-rest
 decreases-loop-rest l = length (words_of (option_map (λ w. w.now) l.rest))

@@ -4,4 +4,5 @@ use Rattle.pg_cert_files.proofs.NodeLimits.{small_points}
 use Rattle.pg_cert_files.proofs.values.points.Goals as goal
 
 pub returns-clause-small : goal.returns-clause-small
-returns-clause-small c = small_points c.each.result c.args.words (c.each.ensures point_of (λ word r k. search rules))
+returns-clause-small c =
+    small_points c.each.result c.args.words (c.each.ensures point_of (λ word r k. search rules))

@@ -6,7 +6,8 @@ use Rattle.pg_cert_files.proofs.values.points_before_slash.Given as goal
 
 abbrev pub invariant-loop-word : goal.invariant-loop-word
 invariant-loop-word l = record {
-  read : following l.found.items (each_of point_of (before_slash l.rest)) ≡ each_of point_of (before_slash l.fn.words);
+  read : following l.found.items (each_of point_of (before_slash l.rest))
+      ≡ each_of point_of (before_slash l.fn.words);
   small : All (λ p. p < 1024) l.found.items;
   behind : after_slash l.rest ≡ after_slash l.fn.words;
 }

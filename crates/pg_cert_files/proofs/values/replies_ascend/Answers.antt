@@ -9,4 +9,6 @@ abbrev point_of : Reply → ℕ
 point_of r = r.point
 
 pub returns : goal.returns
-returns c = ascends point_of c.args.replies.now _ (c.is_sorted_by.ensures.cases (is_below point_of) (always_returns_same _ (λ a r. r ≡ is_below point_of a.0.now a.1.0.now) _ (λ a r f' k. search (rules, tests))))
+returns c = ascends point_of c.args.replies.now _
+    (c.is_sorted_by.ensures.cases (is_below point_of) (always_returns_same _
+    (λ a r. r ≡ is_below point_of a.0.now a.1.0.now) _ (λ a r f' k. search (rules, tests))))

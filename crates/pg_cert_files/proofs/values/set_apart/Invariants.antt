@@ -8,7 +8,8 @@ use Rattle.pg_cert_files.proofs.values.set_apart.Given as goal
 
 abbrev pub invariant-loop-rest : goal.invariant-loop-rest
 invariant-loop-rest l = record {
-  read : gathered_from l.other l.found l.least (words_of (option_map (λ w. w.now) l.rest)) ≡ gathered_from l.other empty 0 (field_words l.field);
+  read : gathered_from l.other l.found l.least (words_of (option_map (λ w. w.now) l.rest))
+      ≡ gathered_from l.other empty 0 (field_words l.field);
   few : l.least ≤ 1024;
 }
 

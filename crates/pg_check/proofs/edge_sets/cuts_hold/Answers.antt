@@ -4,4 +4,5 @@ use Rattle.pg_check.proofs.edge_sets.cuts_hold.Goals as goal
 pub cuts_hold-requires-clause-first : goal.cuts_hold-requires-clause-first
 cuts_hold-requires-clause-first c =
     let edges = c.are_edge_sets.ensures.0 c.if-not-are_edge_sets.false in
-    with_e-below c.args.g.now c.args.with_e c.args.first.now c.with_e_named.result c.with_e_named.ensures edges.0
+    with_e-below c.args.g.now c.args.with_e c.args.first.now c.with_e_named.result
+    c.with_e_named.ensures edges.0

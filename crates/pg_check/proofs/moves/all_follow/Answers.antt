@@ -13,5 +13,7 @@ loop-reply-preserved c =
     let i = c.loop-reply.reply-index in
     let none : Reply = record { point = 0; child = 0 } in
     let r : Reply = get_or replies i none in
-    each-more (λ (q : Reply). FollowsMove c.args.g.now (map bare (kept c.args.marks.now)) c.args.p.now q.point q.child) replies i r
-    c.loop-reply-test.true (get_or_default replies i none r c.loop-reply-test.true) (c.follows_move.ensures.0 c.if-not-follows_move.false) c.loop-reply.invariant
+    each-more (λ (q : Reply).
+    FollowsMove c.args.g.now (map bare (kept c.args.marks.now)) c.args.p.now q.point q.child)
+    replies i r c.loop-reply-test.true (get_or_default replies i none r c.loop-reply-test.true)
+    (c.follows_move.ensures.0 c.if-not-follows_move.false) c.loop-reply.invariant

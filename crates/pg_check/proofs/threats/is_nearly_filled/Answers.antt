@@ -13,11 +13,13 @@ pub returns-in-Some : goal.returns-in-Some
 returns-in-Some c =
     let line = c.args.line.now in
     let u = c.in-Some.u in
-    let one = subst (λ (s : FinSet nat_cmp). (is_on u line ≡ true) × (contains s u ≡ false) × (filled_but s u line ≡ true)) c.points_of.ensures c.in-Some.ensures.one in
+    let one = subst (λ (s : FinSet nat_cmp). (is_on u line ≡ true) × (contains s u ≡ false)
+    × (filled_but s u line ≡ true)) c.points_of.ensures c.in-Some.ensures.one in
     c.is_free.ensures ∙ nearly-one c.args.p.now c.args.side line u one.0 one.1 one.2
 
 pub returns-in-None : goal.returns-in-None
 returns-in-None c =
     let line = c.args.line.now in
-    let none = subst (λ (s : FinSet nat_cmp). (u : ℕ) → is_on u line ≡ true → contains s u ≡ false → filled_but s u line ≡ true → ⊥) c.points_of.ensures c.in-None.ensures.none in
+    let none = subst (λ (s : FinSet nat_cmp). (u : ℕ) → is_on u line ≡ true → contains s u ≡ false
+    → filled_but s u line ≡ true → ⊥) c.points_of.ensures c.in-None.ensures.none in
     nearly-none c.args.p.now c.args.side line none

@@ -6,9 +6,15 @@ use Rattle.pg_cli.proofs.checking.check.Goals as goal
 pub returns-in_err-judged-clause-ran : goal.returns-in_err-judged-clause-ran
 returns-in_err-judged-clause-ran g c =
     let p = err_from_is_err_and c.from_residual.result c.from_residual.ensures.1 in
-    λ work. rw (p.1, p.2) (halted_check (g.F.Files.told c.args.files.now) (g.F.Files.told c.judge_both.new.files) (g.C.Console.told c.args.console.now) c.judge_both.ensures.kept.held c.args.game.now c.args.certificate.now work _
+    λ work. rw (p.1, p.2)
+    (halted_check (g.F.Files.told c.args.files.now) (g.F.Files.told c.judge_both.new.files)
+    (g.C.Console.told c.args.console.now) c.judge_both.ensures.kept.held c.args.game.now
+    c.args.certificate.now work _
     (opens_err (g.F.Files.told c.args.files.now).held _ _ _ c.in_err-judged.ensures.judged))
 
 pub returns-clause-ran : goal.returns-clause-ran
-returns-clause-ran g c =
-    λ work. check_carries (g.F.Files.told c.args.files.now) (g.F.Files.told c.judge_both.new.files) c.args.game.now c.args.certificate.now c.in_ok-judged.judged (g.C.Console.told c.args.console.now) (g.C.Console.told c.accept.new.console) c.judge_both.ensures.kept.held c.in_ok-judged.ensures.judged work c.accept.result c.accept.ensures.judged
+returns-clause-ran g c = λ work. check_carries (g.F.Files.told c.args.files.now)
+    (g.F.Files.told c.judge_both.new.files) c.args.game.now c.args.certificate.now
+    c.in_ok-judged.judged (g.C.Console.told c.args.console.now)
+    (g.C.Console.told c.accept.new.console) c.judge_both.ensures.kept.held
+    c.in_ok-judged.ensures.judged work c.accept.result c.accept.ensures.judged

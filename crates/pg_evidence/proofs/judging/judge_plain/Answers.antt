@@ -12,5 +12,6 @@ returns-in-Ok-clause-judged c text stands none =
 
 pub returns-in-Err-Reject-clause-judged : goal.returns-in-Err-Reject-clause-judged
 returns-in-Err-Reject-clause-judged c text stands none =
-    let v = subst (λ (f : JudgeFault). StandsAgainst c.args.judging.told.checking.game.now text f) c.in-Err-Reject.field-0-is (c.in-Err-Reject.ensures text stands) in
+    let v = subst (λ (f : JudgeFault). StandsAgainst c.args.judging.told.checking.game.now text f)
+    c.in-Err-Reject.field-0-is (c.in-Err-Reject.ensures text stands) in
     (Plain v.0, held_ok text (Plain v.0) (said_plain text v.0 none v.1), v.2)

@@ -4,13 +4,16 @@ use Rattle.pg_families.specs.Connectivity.{span_acceptance}
 use Rattle.pg_families.proofs.span_check.accept_spans.Goals as goal
 
 pub returns-in_err-say-clause-said : goal.returns-in_err-say-clause-said
-returns-in_err-say-clause-said g c =
-    Speaks-from_err (map span_acceptance c.args.claims.now) _ _ c.from_residual.result c.from_residual.ensures.0
-    (cut_here span_acceptance c.args.claims.now c.loop-claim.claim-index _ _ _ c.loop-claim.invariant.0 c.in_err-say.ensures.said)
+returns-in_err-say-clause-said g c = Speaks-from_err (map span_acceptance c.args.claims.now) _ _
+    c.from_residual.result c.from_residual.ensures.0
+    (cut_here span_acceptance c.args.claims.now c.loop-claim.claim-index _ _ _
+    c.loop-claim.invariant.0 c.in_err-say.ensures.said)
 
 pub loop-claim-preserved : goal.loop-claim-preserved
 loop-claim-preserved g c = (
-  grows_more span_acceptance c.args.claims.now c.loop-claim.claim-index c.claim-item.result c.loop-claim-test.true c.claim-item.is _ _ _ c.loop-claim.invariant.0 c.in_ok-say.ensures.said,
+  grows_more span_acceptance c.args.claims.now c.loop-claim.claim-index c.claim-item.result
+      c.loop-claim-test.true c.claim-item.is _ _ _ c.loop-claim.invariant.0
+      c.in_ok-say.ensures.said,
   search rules,
   search rules,
 )

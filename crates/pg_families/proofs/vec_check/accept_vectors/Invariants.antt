@@ -5,6 +5,7 @@ use Rattle.pg_families.specs.Vectors.{vec_acceptance}
 use Rattle.pg_families.proofs.vec_check.accept_vectors.Given as goal
 
 abbrev pub invariant-loop-claim : goal.invariant-loop-claim
-invariant-loop-claim g l = Grows (g.C.Console.told l.initial.console).log (g.C.Console.told l.console).log (map Said (map vec_acceptance (take l.claim-index l.claims)))
+invariant-loop-claim g l = Grows (g.C.Console.told l.initial.console).log
+    (g.C.Console.told l.console).log (map Said (map vec_acceptance (take l.claim-index l.claims)))
     × ((g.C.Console.told l.console).faults ≡ (g.C.Console.told l.initial.console).faults)
     × ((g.C.Console.told l.console).left ≡ (g.C.Console.told l.initial.console).left)

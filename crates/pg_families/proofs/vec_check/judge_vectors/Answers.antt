@@ -13,22 +13,36 @@ use Rattle.pg_families.proofs.Judging.{accepted_all, accepted_cut}
 use Rattle.pg_families.proofs.OnVectors.{judged_rejects}
 use Rattle.pg_families.proofs.vec_check.judge_vectors.Goals as goal
 
-pub returns-in_err-accept_vectors-in-Ok-clause-judged : goal.returns-in_err-accept_vectors-in-Ok-clause-judged
+pub returns-in_err-accept_vectors-in-Ok-clause-judged :
+    goal.returns-in_err-accept_vectors-in-Ok-clause-judged
 returns-in_err-accept_vectors-in-Ok-clause-judged g c =
     let p = err_from_is_err_and c.from_residual.result c.from_residual.ensures.1 in
     let before = g.C.Console.told c.args.console.now in
     let after = g.C.Console.told c.accept_vectors.new.console in
-    rw (p.1, p.2) (accepted_cut vector_entry IsVecValid RejectsVectors c.args.game.now c.args.certificate.now c.in-Ok.ensures.valid vec_acceptances before after c.in_err-accept_vectors-in-Ok.field-0.0
-    c.in_err-accept_vectors-in-Ok.ensures.write (subst (λ (claims : List Claim). IsCut (map vec_acceptance claims) before.log after.log) c.as_slice.ensures c.in_err-accept_vectors-in-Ok.ensures.said) c.in_err-accept_vectors-in-Ok.ensures.left)
+    rw (p.1, p.2)
+    (accepted_cut vector_entry IsVecValid RejectsVectors c.args.game.now c.args.certificate.now
+    c.in-Ok.ensures.valid vec_acceptances before after c.in_err-accept_vectors-in-Ok.field-0.0
+    c.in_err-accept_vectors-in-Ok.ensures.write
+    (subst (λ (claims : List Claim). IsCut (map vec_acceptance claims) before.log after.log)
+    c.as_slice.ensures c.in_err-accept_vectors-in-Ok.ensures.said)
+    c.in_err-accept_vectors-in-Ok.ensures.left)
 
-pub returns-in_ok-accept_vectors-in-Ok-clause-judged : goal.returns-in_ok-accept_vectors-in-Ok-clause-judged
+pub returns-in_ok-accept_vectors-in-Ok-clause-judged :
+    goal.returns-in_ok-accept_vectors-in-Ok-clause-judged
 returns-in_ok-accept_vectors-in-Ok-clause-judged g c =
     let before = g.C.Console.told c.args.console.now in
     let after = g.C.Console.told c.accept_vectors.new.console in
-    accepted_all vector_entry IsVecValid RejectsVectors c.args.game.now c.args.certificate.now c.in-Ok.ensures.valid vec_acceptances before after
-    (subst (λ (claims : List Claim). Grows before.log after.log (map Said (map vec_acceptance claims))) c.as_slice.ensures c.in_ok-accept_vectors-in-Ok.ensures.said) c.in_ok-accept_vectors-in-Ok.ensures.left
+    accepted_all vector_entry IsVecValid RejectsVectors c.args.game.now c.args.certificate.now
+    c.in-Ok.ensures.valid vec_acceptances before after
+    (subst
+    (λ (claims : List Claim). Grows before.log after.log (map Said (map vec_acceptance claims)))
+    c.as_slice.ensures c.in_ok-accept_vectors-in-Ok.ensures.said)
+    c.in_ok-accept_vectors-in-Ok.ensures.left
 
 pub returns-in-Err-Reject-clause-judged : goal.returns-in-Err-Reject-clause-judged
-returns-in-Err-Reject-clause-judged g c =
-    rw (c.in-Err-Reject.claim-is, c.in-Err-Reject.node-is) (judged_rejects c.args.game.now c.args.certificate.now c.in-Err-Reject.claim c.in-Err-Reject.node c.in-Err-Reject.why c.number.result (c.number.ensures ∙ ap flaw_number c.in-Err-Reject.why-is) (g.C.Console.told c.args.console.now)
-    (c.in-Err-Reject.ensures.reject c.in-Err-Reject.claim c.in-Err-Reject.node c.in-Err-Reject.why (ap (λ (f : VecFault). Err f) c.in-Err-Reject.field-0-is)))
+returns-in-Err-Reject-clause-judged g c = rw (c.in-Err-Reject.claim-is, c.in-Err-Reject.node-is)
+    (judged_rejects c.args.game.now c.args.certificate.now c.in-Err-Reject.claim
+    c.in-Err-Reject.node c.in-Err-Reject.why c.number.result
+    (c.number.ensures ∙ ap flaw_number c.in-Err-Reject.why-is) (g.C.Console.told c.args.console.now)
+    (c.in-Err-Reject.ensures.reject c.in-Err-Reject.claim c.in-Err-Reject.node c.in-Err-Reject.why
+    (ap (λ (f : VecFault). Err f) c.in-Err-Reject.field-0-is)))

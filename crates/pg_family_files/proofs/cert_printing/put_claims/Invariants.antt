@@ -6,4 +6,5 @@ use Rattle.pg_family_files.specs.SpanCertPrint.{claim_lines}
 use Rattle.pg_family_files.proofs.cert_printing.put_claims.Given as goal
 
 abbrev pub invariant-loop-claim : goal.invariant-loop-claim
-invariant-loop-claim l = string_bytes l.out ≡ string_bytes l.fn.out ++ flat_map (λ c. flat_map spelled (claim_lines c)) (take l.claim-index l.claims)
+invariant-loop-claim l = string_bytes l.out ≡ string_bytes l.fn.out
+    ++ flat_map (λ c. flat_map spelled (claim_lines c)) (take l.claim-index l.claims)

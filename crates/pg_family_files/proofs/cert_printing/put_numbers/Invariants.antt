@@ -5,4 +5,5 @@ use Rattle.pg_text.specs.Text.{behind_spaces}
 use Rattle.pg_family_files.proofs.cert_printing.put_numbers.Given as goal
 
 abbrev pub invariant-loop-n : goal.invariant-loop-n
-invariant-loop-n l = string_bytes l.out ≡ string_bytes l.fn.out ++ behind_spaces (map decimal (take l.n-index l.numbers))
+invariant-loop-n l = string_bytes l.out
+    ≡ string_bytes l.fn.out ++ behind_spaces (map decimal (take l.n-index l.numbers))

@@ -11,5 +11,19 @@ pub returns : goal.returns
 unfolding printed_vectors
 returns c =
     let g = c.args.g.now in
-    rw (c.into_bytes.ensures.value, c.in_ok-put_last.ensures, c.in_ok-put_vectors.ensures, c.in_ok-put_vector.ensures, c.in_ok-put_numbers.ensures, c.in_ok-put_header.ensures, c.new-out.ensures.bytes, c.as_slice.ensures, c.from.ensures, c.name.ensures, ← each_text (vector_words g.rows) g.vectors)
-    (joined_vectors (header families.Vectors) (numbered keys.Rows (g.rows ∷ [])) (worded keys.Target (signs_of g.rows g.target)) (map (vector_words g.rows) g.vectors) (last_lines g.x g.y g.turn))
+    rw (
+      c.into_bytes.ensures.value,
+      c.in_ok-put_last.ensures,
+      c.in_ok-put_vectors.ensures,
+      c.in_ok-put_vector.ensures,
+      c.in_ok-put_numbers.ensures,
+      c.in_ok-put_header.ensures,
+      c.new-out.ensures.bytes,
+      c.as_slice.ensures,
+      c.from.ensures,
+      c.name.ensures,
+      ← each_text (vector_words g.rows) g.vectors,
+    )
+    (joined_vectors (header families.Vectors) (numbered keys.Rows (g.rows ∷ []))
+    (worded keys.Target (signs_of g.rows g.target)) (map (vector_words g.rows) g.vectors)
+    (last_lines g.x g.y g.turn))

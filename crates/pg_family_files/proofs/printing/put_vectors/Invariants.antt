@@ -6,4 +6,5 @@ use Rattle.pg_family_files.specs.Print.{vector_words}
 use Rattle.pg_family_files.proofs.printing.put_vectors.Given as goal
 
 abbrev pub invariant-loop-vector : goal.invariant-loop-vector
-invariant-loop-vector l = string_bytes l.out ≡ string_bytes l.fn.out ++ flat_map (λ v. spelled (vector_words l.rows v)) (take l.vector-index l.vectors)
+invariant-loop-vector l = string_bytes l.out ≡ string_bytes l.fn.out
+    ++ flat_map (λ v. spelled (vector_words l.rows v)) (take l.vector-index l.vectors)

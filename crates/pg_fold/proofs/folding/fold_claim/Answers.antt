@@ -11,5 +11,7 @@ fold_nodes-requires-clause-few c =
 
 pub returns : goal.returns
 returns c = λ g tables can.
-    let have = subst (λ (ns : List Node). HaveDifferent g ns) (sym c.as_slice.ensures) (claim-different g c.args.claim.now can.valid c.requires.limits can.differ) in
-    claim-made g c.args.claim.now c.as_slice.result.now c.in_ok-nodes.nodes.items c.from_vec.result c.as_slice.ensures c.from_vec.ensures (c.in_ok-nodes.ensures g tables have)
+    let have = subst (λ (ns : List Node). HaveDifferent g ns) (sym c.as_slice.ensures)
+    (claim-different g c.args.claim.now can.valid c.requires.limits can.differ) in
+    claim-made g c.args.claim.now c.as_slice.result.now c.in_ok-nodes.nodes.items c.from_vec.result
+    c.as_slice.ensures c.from_vec.ensures (c.in_ok-nodes.ensures g tables have)

@@ -7,4 +7,6 @@ use Rattle.pg_game.specs.declared.game.Game.{Game}
 use Rattle.pg_fold.proofs.folding.fold_claims.Given as goal
 
 abbrev pub invariant-loop-claim : goal.invariant-loop-claim
-invariant-loop-claim l = (g : Game) → AreTables g l.tables → AreFoldable g l.claims → AllZip (IsFoldedClaim g) (take l.claim-index l.claims) l.folded.items
+invariant-loop-claim l = (g : Game) → AreTables g l.tables
+    → AreFoldable g l.claims
+    → AllZip (IsFoldedClaim g) (take l.claim-index l.claims) l.folded.items

@@ -11,5 +11,8 @@ abbrev pub invariant-loop-node : goal.invariant-loop-node
 invariant-loop-node l = record {
   known : IsKnown l.known;
   count : length l.folded.items ≡ l.node-index;
-  folded : (g : Game) → AreTables g l.tables → HaveDifferent g l.nodes → AreFolded g (take l.node-index l.nodes) (get equal_positions l.known.places) l.folded.items;
+  folded : (g : Game)
+      → AreTables g l.tables
+      → HaveDifferent g l.nodes
+      → AreFolded g (take l.node-index l.nodes) (get equal_positions l.known.places) l.folded.items;
 }

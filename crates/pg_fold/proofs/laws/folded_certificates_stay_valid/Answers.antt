@@ -6,5 +6,6 @@ pub returns : goal.returns
 returns c = record {
   sound = certificate-flawless;
   valid = certificate-valid;
-  claims = λ g c d u folded unfolded. certificate-same g c.claims d.claims u.cert.claims u.sources folded.claims unfolded.claims;
+  claims = λ g c d u folded unfolded. certificate-same g c.claims d.claims u.cert.claims u.sources
+      folded.claims unfolded.claims;
 }

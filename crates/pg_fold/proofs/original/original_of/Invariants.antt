@@ -9,4 +9,6 @@ use Rattle.pg_game.specs.PositionLemmas.{equal_positions}
 use Rattle.pg_fold.proofs.original.original_of.Given as goal
 
 abbrev pub invariant-loop-table : goal.invariant-loop-table
-invariant-loop-table l = (grid : Grid) → All (IsTable grid) l.tables → IsEarliest (get equal_positions l.known.places) (back_by grid l.position) (take l.table-index (maps_of l.tables)) l.first
+invariant-loop-table l = (grid : Grid) → All (IsTable grid) l.tables
+    → IsEarliest (get equal_positions l.known.places) (back_by grid l.position)
+    (take l.table-index (maps_of l.tables)) l.first

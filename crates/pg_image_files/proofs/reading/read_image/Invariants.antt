@@ -7,6 +7,7 @@ use Rattle.pg_image_files.proofs.reading.read_image.Given as goal
 
 abbrev pub invariant-loop-line : goal.invariant-loop-line
 invariant-loop-line l = record {
-  so_far : reading after l.number (view l.draft) l.line-iterator ≡ reading after 1 nothing (lines l.bytes);
+  so_far : reading after l.number (view l.draft) l.line-iterator
+      ≡ reading after 1 nothing (lines l.bytes);
   count : l.number + length l.line-iterator ≡ length (lines l.bytes) + 1;
 }

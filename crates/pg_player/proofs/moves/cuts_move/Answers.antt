@@ -14,5 +14,11 @@ pub returns-clause-keeps : goal.returns-clause-keeps
 returns-clause-keeps c = λ claim h.
     let e = c.answer-point.ensures in
     let mine = c.requires.turn ∙ sym (cuts_kind c.args.g.now.kind claim.side h.stands.allowed).1 in
-    subst (λ (m : Made). KeepsUp c.args.g.now claim (record { body = Cuts false c.args.plan.first c.args.plan.second; last = c.args.last; imagined = c.args.p.now }) m.point (standing_of claim.nodes m.stand)) (sym c.stay.ensures)
-    (keeps-cuts c.args.g.now claim c.args.p.now c.args.plan.first c.args.plan.second c.args.last c.answer-point.result c.answer-point.new.self.first c.answer-point.new.self.second h c.requires.going mine e.rule e.within e.free e.holds)
+    subst (λ (m : Made). KeepsUp c.args.g.now claim (record {
+      body = Cuts false c.args.plan.first c.args.plan.second;
+      last = c.args.last;
+      imagined = c.args.p.now;
+    }) m.point (standing_of claim.nodes m.stand)) (sym c.stay.ensures)
+    (keeps-cuts c.args.g.now claim c.args.p.now c.args.plan.first c.args.plan.second c.args.last
+    c.answer-point.result c.answer-point.new.self.first c.answer-point.new.self.second h
+    c.requires.going mine e.rule e.within e.free e.holds)

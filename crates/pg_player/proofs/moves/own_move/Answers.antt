@@ -18,8 +18,14 @@ cuts_move-requires-clause-position c = c.requires.playing.position
 pub stay-requires : goal.stay-requires
 stay-requires c =
     let s = c.args.stand in
-    let h = subst (λ (r : Rest). InPlay c.args.g.now c.args.claim.now (record { body = body_of c.args.claim.now.nodes r; last = s.last; imagined = s.imagined })) c.in-Last.is c.requires.playing in
-    small c.args.g.now c.in-Last.point (keeps-threat c.args.g.now c.args.claim.now s.imagined c.in-Last.point [] s.last h c.requires.going c.requires.turn).within
+    let h = subst (λ (r : Rest). InPlay c.args.g.now c.args.claim.now (record {
+      body = body_of c.args.claim.now.nodes r;
+      last = s.last;
+      imagined = s.imagined;
+    })) c.in-Last.is c.requires.playing in
+    small c.args.g.now c.in-Last.point
+    (keeps-threat c.args.g.now c.args.claim.now s.imagined c.in-Last.point [] s.last h
+    c.requires.going c.requires.turn).within
 
 pub returns-in-Last-clause-keeps : goal.returns-in-Last-clause-keeps
 returns-in-Last-clause-keeps c =
@@ -27,7 +33,20 @@ returns-in-Last-clause-keeps c =
     let claim = c.args.claim.now in
     let s = c.args.stand in
     let u = c.in-Last.point in
-    let h = subst (λ (r : Rest). InPlay g claim (record { body = body_of claim.nodes r; last = s.last; imagined = s.imagined })) c.in-Last.is c.requires.playing in
+    let h = subst (λ (r : Rest). InPlay g claim (record {
+      body = body_of claim.nodes r;
+      last = s.last;
+      imagined = s.imagined;
+    })) c.in-Last.is c.requires.playing in
     let kept = keeps-threat g claim s.imagined u [] s.last h c.requires.going c.requires.turn in
-    subst (λ (m : Made). KeepsUp g claim (standing_of claim.nodes s) m.point (standing_of claim.nodes m.stand)) (sym c.stay.ensures)
-    (subst (λ (r : Rest). KeepsUp g claim (record { body = body_of claim.nodes r; last = s.last; imagined = s.imagined }) u (record { body = Threat []; last = s.last; imagined = after g s.imagined u })) (sym c.in-Last.is) kept)
+    subst (λ (m : Made).
+    KeepsUp g claim (standing_of claim.nodes s) m.point (standing_of claim.nodes m.stand))
+    (sym c.stay.ensures) (subst (λ (r : Rest). KeepsUp g claim (record {
+      body = body_of claim.nodes r;
+      last = s.last;
+      imagined = s.imagined;
+    }) u (record {
+      body = Threat [];
+      last = s.last;
+      imagined = after g s.imagined u;
+    })) (sym c.in-Last.is) kept)

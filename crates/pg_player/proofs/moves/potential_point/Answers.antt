@@ -6,19 +6,24 @@ use Rattle.pg_player.proofs.moves.potential_point.Goals as goal
 pub answer-requires-clause-some_free : goal.answer-requires-clause-some_free
 answer-requires-clause-some_free c = not-full c.args.g.now c.args.p.now c.requires.going
 
-pub answer-requires-in-MakerBreaker-clause-some_free : goal.answer-requires-in-MakerBreaker-clause-some_free
-answer-requires-in-MakerBreaker-clause-some_free c = not-full c.args.g.now c.args.p.now c.requires.going
+pub answer-requires-in-MakerBreaker-clause-some_free :
+    goal.answer-requires-in-MakerBreaker-clause-some_free
+answer-requires-in-MakerBreaker-clause-some_free c =
+    not-full c.args.g.now c.args.p.now c.requires.going
 
 pub returns-in-AvoiderEnforcer : goal.returns-in-AvoiderEnforcer
 returns-in-AvoiderEnforcer c = λ last h.
     let e = c.answer.ensures in
-    keeps-avoider c.args.g.now c.args.claim.now c.args.p.now last c.answer.result c.in-AvoiderEnforcer.is h c.requires.going c.requires.turn e.rule e.within e.free e.wins e.keeps
+    keeps-avoider c.args.g.now c.args.claim.now c.args.p.now last c.answer.result
+    c.in-AvoiderEnforcer.is h c.requires.going c.requires.turn e.rule e.within e.free e.wins e.keeps
 
 pub returns-in-MakerBreaker : goal.returns-in-MakerBreaker
 returns-in-MakerBreaker c = λ last h.
     let e = c.answer-in-MakerBreaker.ensures in
     let v = c.answer-in-MakerBreaker.result in
     elim c.in-MakerBreaker.is [
-      | inl breaker ↦ keeps-breaker c.args.g.now c.args.claim.now c.args.p.now last v breaker h c.requires.going c.requires.turn e.rule e.within e.free e.keeps_breaker
-      | inr maker ↦ keeps-draw c.args.g.now c.args.claim.now c.args.p.now last v maker h c.requires.going c.requires.turn e.rule e.within e.free e.keeps_draw
+      | inl breaker ↦ keeps-breaker c.args.g.now c.args.claim.now c.args.p.now last v breaker h
+          c.requires.going c.requires.turn e.rule e.within e.free e.keeps_breaker
+      | inr maker ↦ keeps-draw c.args.g.now c.args.claim.now c.args.p.now last v maker h
+          c.requires.going c.requires.turn e.rule e.within e.free e.keeps_draw
     ]

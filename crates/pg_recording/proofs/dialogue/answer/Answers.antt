@@ -17,25 +17,39 @@ returns-in-End-clause-course g c =
 pub returns-in-Back-clause-course : goal.returns-in-Back-clause-course
 returns-in-Back-clause-course g c =
     let old = c.args.session.now in
-    λ refusals. goes_from _ _ c.take_back.result _ old.game old.game (after_request old.game old.events refusals Back) (after_request old.game old.events refusals c.args.request) refl
-    (ap (λ (asked : Request). after_request old.game old.events refusals asked) c.in-Back.is) (c.take_back.ensures.course refusals)
+    λ refusals. goes_from _ _ c.take_back.result _ old.game old.game
+    (after_request old.game old.events refusals Back)
+    (after_request old.game old.events refusals c.args.request) refl
+    (ap (λ (asked : Request). after_request old.game old.events refusals asked) c.in-Back.is)
+    (c.take_back.ensures.course refusals)
 
 pub returns-in-Ok-clause-course : goal.returns-in-Ok-clause-course
 returns-in-Ok-clause-course g c =
     let old = c.args.session.now in
     let number : c.in-Move.number ≡ c.in-Ok.v = omega (arith, c.in-Ok.ensures) in
-    λ refusals. goes_from _ _ c.make_move.result _ old.game old.game (after_request old.game old.events refusals (Move c.in-Ok.v)) (after_request old.game old.events refusals c.args.request) refl
-    (ap (λ (asked : Request). after_request old.game old.events refusals asked) (c.in-Move.is ∙ ap Move number)) (c.make_move.ensures.course refusals)
+    λ refusals. goes_from _ _ c.make_move.result _ old.game old.game
+    (after_request old.game old.events refusals (Move c.in-Ok.v))
+    (after_request old.game old.events refusals c.args.request) refl
+    (ap (λ (asked : Request). after_request old.game old.events refusals asked)
+    (c.in-Move.is ∙ ap Move number)) (c.make_move.ensures.course refusals)
 
 pub returns-in-Err-clause-course : goal.returns-in-Err-clause-course
 returns-in-Err-clause-course g c =
     let old = c.args.session.now in
-    let great : point_count old.game ≤ c.in-Move.number = omega (arith, point_count-le old.game, c.in-Err.ensures) in
-    λ refusals. goes_from _ _ c.refuse.result _ old.game old.game (Refuses old.events refusals NoPoint) (after_request old.game old.events refusals c.args.request) refl
-    (ap (λ (asked : Request). after_request old.game old.events refusals asked) c.in-Move.is ∙ beyond_stage old.game old.events refusals c.in-Move.number great) (c.refuse.ensures.course old.game old.events refusals)
+    let great : point_count old.game ≤ c.in-Move.number =
+    omega (arith, point_count-le old.game, c.in-Err.ensures) in
+    λ refusals. goes_from _ _ c.refuse.result _ old.game old.game
+    (Refuses old.events refusals NoPoint)
+    (after_request old.game old.events refusals c.args.request) refl
+    (ap (λ (asked : Request). after_request old.game old.events refusals asked) c.in-Move.is
+    ∙ beyond_stage old.game old.events refusals c.in-Move.number great)
+    (c.refuse.ensures.course old.game old.events refusals)
 
 pub returns-in-Unclear-clause-course : goal.returns-in-Unclear-clause-course
 returns-in-Unclear-clause-course g c =
     let old = c.args.session.now in
-    λ refusals. goes_from _ _ c.refuse-in-Unclear.result _ old.game old.game (Refuses old.events refusals NoNumber) (after_request old.game old.events refusals c.args.request) refl
-    (ap (λ (asked : Request). after_request old.game old.events refusals asked) c.in-Unclear.is) (c.refuse-in-Unclear.ensures.course old.game old.events refusals)
+    λ refusals. goes_from _ _ c.refuse-in-Unclear.result _ old.game old.game
+    (Refuses old.events refusals NoNumber)
+    (after_request old.game old.events refusals c.args.request) refl
+    (ap (λ (asked : Request). after_request old.game old.events refusals asked) c.in-Unclear.is)
+    (c.refuse-in-Unclear.ensures.course old.game old.events refusals)

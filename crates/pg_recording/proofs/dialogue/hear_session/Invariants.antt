@@ -7,8 +7,8 @@ use Rattle.pg_recording.proofs.dialogue.hear_session.Given as goal
 
 -- so far: a log without a failed call, of the same game, with fewer refusals than end it
 abbrev pub invariant-loop-session : goal.invariant-loop-session
-invariant-loop-session g l =
-    Course (Steps l.fn.session.game) (g.C.Console.told l.fn.console) (g.C.Console.told l.console) (Listens [] 0) (after_event l.session.events l.refused)
+invariant-loop-session g l = Course (Steps l.fn.session.game) (g.C.Console.told l.fn.console)
+    (g.C.Console.told l.console) (Listens [] 0) (after_event l.session.events l.refused)
     × (l.session.game ≡ l.fn.session.game)
     × (l.refused < MAX_REFUSALS)
     × ((g.C.Console.told l.console).faults ≡ (g.C.Console.told l.fn.console).faults)

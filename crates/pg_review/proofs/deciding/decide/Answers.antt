@@ -9,13 +9,16 @@ use Rattle.pg_review.proofs.deciding.decide.Goals as goal
 pub returns-clause-known : goal.returns-clause-known
 returns-clause-known c =
     let told = c.in_ok-solution.ensures in
-    known-from c.args.game.now (budget c.args.game.now c.args.positions) c.solve.new.work.positions c.in_ok-solution.solution c.in-Some.known told.answer told.claims told.valid told.limits told.shown (sym c.known_by.ensures ∙ c.in-Some.is)
+    known-from c.args.game.now (budget c.args.game.now c.args.positions) c.solve.new.work.positions
+    c.in_ok-solution.solution c.in-Some.known told.answer told.claims told.valid told.limits
+    told.shown (sym c.known_by.ensures ∙ c.in-Some.is)
 
 pub returns-clause-solved : goal.returns-clause-solved
 returns-clause-solved c =
     let g = c.args.game.now in
     let told = c.in_ok-solution.ensures in
-    let own = certificate-known g.turn c.in_ok-solution.solution c.in-Some.known (sym c.known_by.ensures ∙ c.in-Some.is) in
+    let own = certificate-known g.turn c.in_ok-solution.solution c.in-Some.known
+    (sym c.known_by.ensures ∙ c.in-Some.is) in
     record {
       solution = c.in_ok-solution.solution;
       work = c.solve.new.work;

@@ -16,7 +16,8 @@ invariant-loop-point g l = record {
   told : IsKnown l.game (start l.game) l.known;
   shown : IsKnownBy l.fn.game l.moves l.fn.positions l.point-index l.known.certificate;
   decided : (n : ℕ) → n < l.point-index → IsDecided l.fn.game l.moves l.fn.positions n;
-  said : Grows (g.C.Console.told l.fn.console).log (g.C.Console.told l.console).log (map Said (loss_texts l.fn.game (take l.point-index l.moves)));
+  said : Grows (g.C.Console.told l.fn.console).log (g.C.Console.told l.console).log
+      (map Said (loss_texts l.fn.game (take l.point-index l.moves)));
   left : (g.C.Console.told l.console).left ≡ (g.C.Console.told l.fn.console).left;
   faults : (g.C.Console.told l.console).faults ≡ (g.C.Console.told l.fn.console).faults;
   asked : LeavesSearch (IsAmong l.fn.game l.moves l.point-index) l.fn.positions l.fn.work l.work;

@@ -7,28 +7,49 @@ pub returns-in_err-store-clause-delivered : goal.returns-in_err-store-clause-del
 returns-in_err-store-clause-delivered g c =
     let p = err_from_is_err_and c.from_residual.result c.from_residual.ensures.1 in
     let stop = c.in_err-store.field-0.0 in
-    rw (p.1, p.2) (store_failed (g.F.Files.told c.args.files.now) (g.F.Files.told c.store.new.files) (c.args.name.now, c.args.text.now) c.args.message c.args.further (g.C.Console.told c.args.console.now) stop
-    (is_write _ stop refl c.in_err-store.ensures.fed c.in_err-store.ensures.written) c.in_err-store.ensures.stored)
+    rw (p.1, p.2)
+    (store_failed (g.F.Files.told c.args.files.now) (g.F.Files.told c.store.new.files) (
+      c.args.name.now,
+      c.args.text.now,
+    ) c.args.message c.args.further (g.C.Console.told c.args.console.now) stop
+    (is_write _ stop refl c.in_err-store.ensures.fed c.in_err-store.ensures.written)
+    c.in_err-store.ensures.stored)
 
 pub returns-in_err-store-clause-files : goal.returns-in_err-store-clause-files
-returns-in_err-store-clause-files g c =
-    inr (c.in_err-store.ensures.idle, keep_others (g.F.Files.told c.args.files.now) (g.F.Files.told c.store.new.files) (c.args.name.now, c.args.text.now) _ c.in_err-store.ensures.stored)
+returns-in_err-store-clause-files g c = inr (
+  c.in_err-store.ensures.idle,
+  keep_others (g.F.Files.told c.args.files.now) (g.F.Files.told c.store.new.files)
+      (c.args.name.now, c.args.text.now) _ c.in_err-store.ensures.stored,
+)
 
 pub returns-in_err-say_both-clause-delivered : goal.returns-in_err-say_both-clause-delivered
 returns-in_err-say_both-clause-delivered g c =
-    let p = err_from_is_err_and c.from_residual-in_err-say_both.result c.from_residual-in_err-say_both.ensures.1 in
-    rw (p.1, p.2) (store_cut (g.F.Files.told c.args.files.now) (g.F.Files.told c.store.new.files) (c.args.name.now, c.args.text.now) c.args.message c.args.further (g.C.Console.told c.args.console.now) (g.C.Console.told c.say_both.new.console) c.in_err-say_both.field-0.0
-    c.in_err-say_both.ensures.write c.in_ok-store.ensures.stored c.in_err-say_both.ensures.said c.in_err-say_both.ensures.left)
+    let p = err_from_is_err_and c.from_residual-in_err-say_both.result
+    c.from_residual-in_err-say_both.ensures.1 in
+    rw (p.1, p.2) (store_cut (g.F.Files.told c.args.files.now) (g.F.Files.told c.store.new.files) (
+      c.args.name.now,
+      c.args.text.now,
+    ) c.args.message c.args.further (g.C.Console.told c.args.console.now)
+    (g.C.Console.told c.say_both.new.console) c.in_err-say_both.field-0.0
+    c.in_err-say_both.ensures.write c.in_ok-store.ensures.stored c.in_err-say_both.ensures.said
+    c.in_err-say_both.ensures.left)
 
 pub returns-in_err-say_both-clause-files : goal.returns-in_err-say_both-clause-files
-returns-in_err-say_both-clause-files g c =
-    inr (c.in_ok-store.ensures.idle, keep_others (g.F.Files.told c.args.files.now) (g.F.Files.told c.store.new.files) (c.args.name.now, c.args.text.now) _ c.in_ok-store.ensures.stored)
+returns-in_err-say_both-clause-files g c = inr (
+  c.in_ok-store.ensures.idle,
+  keep_others (g.F.Files.told c.args.files.now) (g.F.Files.told c.store.new.files)
+      (c.args.name.now, c.args.text.now) _ c.in_ok-store.ensures.stored,
+)
 
 pub returns-clause-delivered : goal.returns-clause-delivered
-returns-clause-delivered g c =
-    store_said (g.F.Files.told c.args.files.now) (g.F.Files.told c.store.new.files) (c.args.name.now, c.args.text.now) c.args.message c.args.further (g.C.Console.told c.args.console.now) (g.C.Console.told c.say_both.new.console)
+returns-clause-delivered g c = store_said (g.F.Files.told c.args.files.now)
+    (g.F.Files.told c.store.new.files) (c.args.name.now, c.args.text.now) c.args.message
+    c.args.further (g.C.Console.told c.args.console.now) (g.C.Console.told c.say_both.new.console)
     c.in_ok-store.ensures.stored c.in_ok-say_both.ensures.said c.in_ok-say_both.ensures.left
 
 pub returns-clause-files : goal.returns-clause-files
-returns-clause-files g c =
-    inr (c.in_ok-store.ensures.idle, keep_others (g.F.Files.told c.args.files.now) (g.F.Files.told c.store.new.files) (c.args.name.now, c.args.text.now) _ c.in_ok-store.ensures.stored)
+returns-clause-files g c = inr (
+  c.in_ok-store.ensures.idle,
+  keep_others (g.F.Files.told c.args.files.now) (g.F.Files.told c.store.new.files)
+      (c.args.name.now, c.args.text.now) _ c.in_ok-store.ensures.stored,
+)

@@ -19,4 +19,5 @@ invariant-loop-score g l =
 
 -- a turn leaves fewer points free, or is one refusal more
 abbrev pub decreases-loop-score : goal.decreases-loop-score
-decreases-loop-score g l = free_count (g.P.Contestant.contender l.player) + (MAX_REFUSALS - l.refused)
+decreases-loop-score g l =
+    free_count (g.P.Contestant.contender l.player) + (MAX_REFUSALS - l.refused)

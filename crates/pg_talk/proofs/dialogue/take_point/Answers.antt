@@ -10,12 +10,15 @@ returns-in_err-say-in-Ok-Some-clause-talk g c =
     let e = err_from_is_err_and c.from_residual.result c.from_residual.ensures.1 in
     let old = g.P.Contestant.contender c.args.player.now in
     let stage = λ (refused : ℕ). answered old refused (Some c.args.v) in
-    λ refused. rw e.1 (Breaks-here old.contest old.side _ _ (stage refused) (reply_is_open old.contest old.position refused _) c.in_err-say-in-Ok-Some.ensures.said)
+    λ refused. rw e.1
+    (Breaks-here old.contest old.side _ _ (stage refused)
+    (reply_is_open old.contest old.position refused _) c.in_err-say-in-Ok-Some.ensures.said)
 
 pub returns-in_ok-say-in-Ok-Some-clause-talk : goal.returns-in_ok-say-in-Ok-Some-clause-talk
 returns-in_ok-say-in-Ok-Some-clause-talk g c =
     let made = rw c.in-Ok-Some.field-0-is at c.in-Ok-Some.ensures.answered in
-    λ refused. Talk-answered _ made.0 _ c.args.v c.in-Ok-Some.own refused _ _ made.1 made.2 c.in_ok-say-in-Ok-Some.ensures.said c.in_ok-say-in-Ok-Some.ensures.left
+    λ refused. Talk-answered _ made.0 _ c.args.v c.in-Ok-Some.own refused _ _ made.1 made.2
+    c.in_ok-say-in-Ok-Some.ensures.said c.in_ok-say-in-Ok-Some.ensures.left
 
 pub returns-in_ok-say-in-Ok-Some-clause-goes : goal.returns-in_ok-say-in-Ok-Some-clause-goes
 returns-in_ok-say-in-Ok-Some-clause-goes g c =

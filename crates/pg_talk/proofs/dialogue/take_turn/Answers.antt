@@ -8,10 +8,13 @@ pub returns-in_err-say-in-Some-clause-talk : goal.returns-in_err-say-in-Some-cla
 returns-in_err-say-in-Some-clause-talk g c =
     let e = err_from_is_err_and c.from_residual.result c.from_residual.ensures.1 in
     let old = g.P.Contestant.contender c.args.player.now in
-    λ refused. rw e.1 (Breaks-here old.contest old.side _ _ (At old.position refused) tt c.in_err-say-in-Some.ensures.said)
+    λ refused. rw e.1
+    (Breaks-here old.contest old.side _ _
+    (At old.position refused) tt c.in_err-say-in-Some.ensures.said)
 
 pub returns-in_ok-say-in-Some-clause-talk : goal.returns-in_ok-say-in-Some-clause-talk
-returns-in_ok-say-in-Some-clause-talk g c = λ refused. Talk-moved _ _ _ refused _ _ c.in-Some.ensures c.in_ok-say-in-Some.ensures.said c.in_ok-say-in-Some.ensures.left
+returns-in_ok-say-in-Some-clause-talk g c = λ refused. Talk-moved _ _ _ refused _ _
+    c.in-Some.ensures c.in_ok-say-in-Some.ensures.said c.in_ok-say-in-Some.ensures.left
 
 pub returns-in_ok-say-in-Some-clause-goes : goal.returns-in_ok-say-in-Some-clause-goes
 returns-in_ok-say-in-Some-clause-goes g c = moved_goes _ _ _ c.in-Some.ensures

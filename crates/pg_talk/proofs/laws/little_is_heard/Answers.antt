@@ -4,4 +4,5 @@ use Rattle.pg_talk.proofs.Dialogues.{hears_few}
 use Rattle.pg_talk.proofs.laws.little_is_heard.Goals as goal
 
 pub returns : goal.returns
-returns c = λ g side p entries stage leads. hears_few g side (At p 0) stage entries (omega arith) leads
+returns c =
+    λ g side p entries stage leads. hears_few g side (At p 0) stage entries (omega arith) leads

@@ -14,13 +14,25 @@ loop-reply-preserved c =
     let rs = c.args.replies.now in
     let lt : i < length rs = omega arith in
     let reply : Reply = get_or rs i (record { point = 0; child = 0 }) in
-    let room : 8 * reply.child + 8 ≤ length c.args.marks.now = All-get_or (λ (r : Reply). 8 * r.child + 8 ≤ length c.args.marks.now) rs i (record { point = 0; child = 0 }) lt c.requires.room in
-    let within : 8 * reply.child + c.args.m < length c.loop-reply.marks = omega (arith, room, c.requires.map, c.loop-reply.invariant.size) in
-    let children : map (λ (r : Reply). r.child) (take (i + 1) rs) ≡ map (λ (r : Reply). r.child) (take i rs) ++ reply.child ∷ [] =
-    ap (map (λ (r : Reply). r.child)) (take_more rs i (record { point = 0; child = 0 }) lt) ∙ map_push (λ (r : Reply). r.child) (take i rs) reply in
+    let room : 8 * reply.child + 8 ≤ length c.args.marks.now =
+    All-get_or (λ (r : Reply). 8 * r.child + 8 ≤ length c.args.marks.now) rs i (record {
+      point = 0;
+      child = 0;
+    }) lt c.requires.room in
+    let within : 8 * reply.child + c.args.m < length c.loop-reply.marks =
+    omega (arith, room, c.requires.map, c.loop-reply.invariant.size) in
+    let children : map (λ (r : Reply). r.child) (take (i + 1) rs)
+    ≡ map (λ (r : Reply). r.child) (take i rs) ++ reply.child ∷ [] =
+    ap (map (λ (r : Reply). r.child)) (take_more rs i (record { point = 0; child = 0 }) lt)
+    ∙ map_push (λ (r : Reply). r.child) (take i rs) reply in
     let new : List Bool = set c.loop-reply.marks (8 * reply.child + c.args.m) true in
     record {
-      size = length-set c.loop-reply.marks (8 * reply.child + c.args.m) true ∙ c.loop-reply.invariant.size;
-      added = subst (λ (cs : List ℕ). AreAdded (λ (key : ℕ). Contains cs (key / 8) × (key % 8 ≡ c.args.m)) c.args.marks.now new) (sym children)
-          (added-more (map (λ (r : Reply). r.child) (take i rs)) reply.child c.args.m c.args.marks.now c.loop-reply.marks new c.requires.map within (λ j. new) c.loop-reply.invariant.added);
+      size = length-set c.loop-reply.marks (8 * reply.child + c.args.m) true
+          ∙ c.loop-reply.invariant.size;
+      added = subst
+          (λ (cs : List ℕ). AreAdded (λ (key : ℕ). Contains cs (key / 8) × (key % 8 ≡ c.args.m))
+          c.args.marks.now new) (sym children)
+          (added-more (map (λ (r : Reply). r.child) (take i rs)) reply.child c.args.m
+          c.args.marks.now c.loop-reply.marks new c.requires.map within
+          (λ j. new) c.loop-reply.invariant.added);
     }

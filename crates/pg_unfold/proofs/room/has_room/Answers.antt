@@ -17,22 +17,35 @@ loop-claim-preserved c =
     let i = c.loop-claim.claim-index in
     let claim : ImageClaim = c.claim-item.result in
     let fits = c.is_few.ensures.0 (search rules) in
-    let more = counted-more (take i cs) claim c.in_ok-size.size c.loop-claim.room (c.loop-claim.room - c.in_ok-size.size) c.loop-claim.invariant c.in_ok-size.ensures (omega (arith, fits)) (omega (arith, fits)) in
-    let same : take i cs ++ claim ∷ [] ≡ take (i + 1) cs = ap (λ (x : ImageClaim). take i cs ++ x ∷ []) c.claim-item.is ∙ sym (take_more cs i claim c.loop-claim-test.true) in
-    subst (λ (xs : List ImageClaim). AreCounted xs (c.loop-claim.room - c.in_ok-size.size)) same more
+    let more = counted-more (take i cs) claim c.in_ok-size.size c.loop-claim.room
+    (c.loop-claim.room - c.in_ok-size.size) c.loop-claim.invariant c.in_ok-size.ensures
+    (omega (arith, fits)) (omega (arith, fits)) in
+    let same : take i cs ++ claim ∷ [] ≡ take (i + 1) cs =
+    ap (λ (x : ImageClaim). take i cs ++ x ∷ []) c.claim-item.is
+    ∙ sym (take_more cs i claim c.loop-claim-test.true) in
+    subst (λ (xs : List ImageClaim). AreCounted xs (c.loop-claim.room - c.in_ok-size.size)) same
+    more
 
 pub returns-then-not-is_few : goal.returns-then-not-is_few
 returns-then-not-is_few c =
     let cs = c.as_slice-claims.result.now in
     let claim : ImageClaim = c.claim-item.result in
-    let at = slice_get_read cs (length cs) c.loop-claim.claim-index claim refl c.loop-claim-test.true c.claim-item.is in (
+    let at = slice_get_read cs
+    (length cs) c.loop-claim.claim-index claim refl c.loop-claim-test.true c.claim-item.is in (
       (λ on. absurd (false≢true on)),
-      λ room. absurd (counted-full cs c.loop-claim.claim-index claim c.in_ok-size.size c.loop-claim.room c.loop-claim.invariant at c.in_ok-size.ensures
-          (λ both. let on = c.is_few.ensures.1 both in both_ways _ c.if-not-is_few.true on) (subst HaveRoom (sym c.as_slice-claims.ensures) room)),
+      λ room. absurd
+          (counted-full cs c.loop-claim.claim-index claim c.in_ok-size.size c.loop-claim.room
+          c.loop-claim.invariant at c.in_ok-size.ensures
+          (λ both. let on = c.is_few.ensures.1 both in both_ways _ c.if-not-is_few.true on)
+          (subst HaveRoom (sym c.as_slice-claims.ensures) room)),
     )
 
 pub returns : goal.returns
 returns c =
     let cs = c.as_slice-claims.result.now in
-    let whole : AreCounted cs c.loop-claim.room = subst (λ (xs : List ImageClaim). AreCounted xs c.loop-claim.room) (take_all c.loop-claim.claim-index cs c.loop-claim-test.false) c.loop-claim.invariant in
-    ((λ on. subst HaveRoom c.as_slice-claims.ensures (counted-room cs c.loop-claim.room whole)), λ room. refl)
+    let whole : AreCounted cs c.loop-claim.room =
+    subst (λ (xs : List ImageClaim). AreCounted xs c.loop-claim.room)
+    (take_all c.loop-claim.claim-index cs c.loop-claim-test.false) c.loop-claim.invariant in (
+      (λ on. subst HaveRoom c.as_slice-claims.ensures (counted-room cs c.loop-claim.room whole)),
+      λ room. refl,
+    )

@@ -17,4 +17,7 @@ there (Some grid) on = (grid, λ i. Some grid)
 pub returns : goal.returns
 returns c =
     let has = there c.board_of.result c.if-is_none.ensures in
-    IfOk-weaker _ _ _ (λ (maps : Vec GridMap) (fit : (m : GridMap) → Contains maps.items m ↔ Fits c.args.g.now m). usable-fitting c.args.g.now has.0 maps.items (sym c.board_of.ensures ∙ has.1) fit) c.fitting_maps.ensures.fit
+    IfOk-weaker _ _ _
+    (λ (maps : Vec GridMap) (fit : (m : GridMap) → Contains maps.items m ↔ Fits c.args.g.now m).
+    usable-fitting c.args.g.now has.0 maps.items (sym c.board_of.ensures ∙ has.1) fit)
+    c.fitting_maps.ensures.fit

@@ -7,7 +7,8 @@ returns c =
     let g = c.args.g.now in
     let claim = c.args.claim.now in
     let room = c.args.gathered.now.room in
-    let taken : IsTaken g claim c.in-Some.unfolded.claim c.in-Some.unfolded.origins room = subst (UnfoldsWithin g claim room) c.in-Some.is c.in_ok-found.ensures in
+    let taken : IsTaken g claim c.in-Some.unfolded.claim c.in-Some.unfolded.origins room =
+    subst (UnfoldsWithin g claim room) c.in-Some.is c.in_ok-found.ensures in
     let size = ap length c.as_slice-size.ensures in
     let within = taken.within in
     record {

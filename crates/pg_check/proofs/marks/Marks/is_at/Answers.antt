@@ -6,7 +6,11 @@ use Rattle.pg_check.proofs.marks.Marks.is_at.Goals as goal
 pub returns-then-k-len : goal.returns-then-k-len
 returns-then-k-len c = (
   λ f. absurd (false≢true f),
-  λ e. absurd (kept-past c.args.self.now c.args.k c.args.p.now (omega (arith, c.if-k-len.true, c.len.ensures)) e),
+  λ e. absurd (kept-past c.args.self.now c.args.k c.args.p.now (omega (
+    arith,
+    c.if-k-len.true,
+    c.len.ensures,
+  )) e),
 )
 
 pub returns-then-not-has_turn : goal.returns-then-not-has_turn
@@ -14,7 +18,10 @@ returns-then-not-has_turn c =
     let m = c.args.self.now in
     let lt : c.args.k < length m.turns.items = omega (arith, c.if-k-len.false, c.len.ensures) in (
       λ f. absurd (false≢true f),
-      λ e. let is = at-parts m c.args.k c.args.p.now lt e in absurd (false≢true (sym c.if-not-has_turn.true ∙ c.has_turn.ensures.1 (record { side = is.side; left = is.left }))),
+      λ e.
+          let is = at-parts m c.args.k c.args.p.now lt e in
+          absurd (false≢true (sym c.if-not-has_turn.true
+          ∙ c.has_turn.ensures.1 (record { side = is.side; left = is.left }))),
     )
 
 pub returns-then-has_set : goal.returns-then-has_set

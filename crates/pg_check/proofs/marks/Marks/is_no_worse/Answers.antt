@@ -8,7 +8,11 @@ use Rattle.pg_check.proofs.marks.Marks.is_no_worse.Goals as goal
 pub returns-then-k-len : goal.returns-then-k-len
 returns-then-k-len c = (
   λ f. absurd (false≢true f),
-  λ h. absurd (kept-past c.args.self.now c.args.k h.position (omega (arith, c.if-k-len.true, c.len.ensures)) h.at),
+  λ h. absurd (kept-past c.args.self.now c.args.k h.position (omega (
+    arith,
+    c.if-k-len.true,
+    c.len.ensures,
+  )) h.at),
 )
 
 pub returns-then-not-has_turn : goal.returns-then-not-has_turn
@@ -17,7 +21,11 @@ returns-then-not-has_turn c =
     let lt : c.args.k < length m.turns.items = omega (arith, c.if-k-len.false, c.len.ensures) in (
       λ f. absurd (false≢true f),
       λ h. let is = at-parts m c.args.k h.position lt h.at in
-          absurd (false≢true (sym c.if-not-has_turn.true ∙ c.has_turn.ensures.1 (record { side = is.side ∙ sym h.no_worse.turn; left = is.left ∙ sym h.no_worse.left }))),
+          absurd (false≢true (sym c.if-not-has_turn.true
+          ∙ c.has_turn.ensures.1 (record {
+            side = is.side ∙ sym h.no_worse.turn;
+            left = is.left ∙ sym h.no_worse.left;
+          }))),
     )
 
 pub returns : goal.returns
@@ -28,7 +36,17 @@ returns c =
       λ on. let points = c.keeps_points.ensures.0 on in record {
         position = position_at m.words.items m.width m.turns.items c.args.k;
         at = kept-get m c.args.k lt;
-        no_worse = record { own = points.own; theirs = points.theirs; turn = sym turn.side; left = sym turn.left };
+        no_worse = record {
+          own = points.own;
+          theirs = points.theirs;
+          turn = sym turn.side;
+          left = sym turn.left;
+        };
       },
-      λ h. c.keeps_points.ensures.1 (subst (λ (q : Position). KeepsPoints c.args.side q c.args.p.now) (sym (kept-is m c.args.k h.position lt h.at)) (record { own = h.no_worse.own; theirs = h.no_worse.theirs })),
+      λ h. c.keeps_points.ensures.1
+          (subst (λ (q : Position). KeepsPoints c.args.side q c.args.p.now)
+          (sym (kept-is m c.args.k h.position lt h.at)) (record {
+            own = h.no_worse.own;
+            theirs = h.no_worse.theirs;
+          })),
     )

@@ -4,7 +4,10 @@ use Rattle.pg_check.proofs.marks.Marks.keeps_points.Goals as goal
 
 pub returns-then-is_within : goal.returns-then-is_within
 returns-then-is_within c = rw c.in-X.is (
-  λ on. record { own = c.is_within.ensures.0 c.if-is_within.true; theirs = c.has_within.ensures.0 on },
+  λ on. record {
+    own = c.is_within.ensures.0 c.if-is_within.true;
+    theirs = c.has_within.ensures.0 on;
+  },
   λ h. c.has_within.ensures.1 h.theirs,
 )
 
@@ -16,7 +19,10 @@ returns-else-is_within c = rw c.in-X.is (
 
 pub returns-then-is_within-2 : goal.returns-then-is_within-2
 returns-then-is_within-2 c = rw c.in-Y.is (
-  λ on. record { own = c.is_within-in-Y.ensures.0 c.if-is_within-2.true; theirs = c.has_within-then-is_within-2.ensures.0 on },
+  λ on. record {
+    own = c.is_within-in-Y.ensures.0 c.if-is_within-2.true;
+    theirs = c.has_within-then-is_within-2.ensures.0 on;
+  },
   λ h. c.has_within-then-is_within-2.ensures.1 h.theirs,
 )
 

@@ -7,13 +7,21 @@ pub returns-clause-flat : goal.returns-clause-flat
 returns-clause-flat c =
     let m = c.args.self.now in
     let p = c.args.p.now in
-    let words = rows-of m.words.items _ _ m.width p.x p.y _ _ c.words.ensures.words c.words-2.ensures.words c.in_ok-extend_from_slice.ensures.items c.in_ok-extend_from_slice-2.ensures.items in
-    flat-more m _ p (record { side = p.turn; left = p.left }) c.requires.flat refl words c.in_ok-push.ensures.items
-    (subst Fit (sym words) (fit-append m.words.items _ c.requires.flat.fit (fit-append (take m.width (words_of p.x)) (take m.width (words_of p.y)) (fit-words m.width p.x) (fit-words m.width p.y))))
+    let words =
+    rows-of m.words.items _ _ m.width p.x p.y _ _ c.words.ensures.words c.words-2.ensures.words
+    c.in_ok-extend_from_slice.ensures.items c.in_ok-extend_from_slice-2.ensures.items in
+    flat-more m _ p
+    (record { side = p.turn; left = p.left }) c.requires.flat refl words c.in_ok-push.ensures.items
+    (subst Fit (sym words)
+    (fit-append m.words.items _ c.requires.flat.fit (fit-append (take m.width (words_of p.x))
+    (take m.width (words_of p.y)) (fit-words m.width p.x) (fit-words m.width p.y))))
 
 pub returns-clause-kept : goal.returns-clause-kept
 returns-clause-kept c =
     let m = c.args.self.now in
     let p = c.args.p.now in
-    let words = rows-of m.words.items _ _ m.width p.x p.y _ _ c.words.ensures.words c.words-2.ensures.words c.in_ok-extend_from_slice.ensures.items c.in_ok-extend_from_slice-2.ensures.items in
-    kept-more m _ p (record { side = p.turn; left = p.left }) c.requires.flat refl c.requires.x c.requires.y words c.in_ok-push.ensures.items refl refl
+    let words =
+    rows-of m.words.items _ _ m.width p.x p.y _ _ c.words.ensures.words c.words-2.ensures.words
+    c.in_ok-extend_from_slice.ensures.items c.in_ok-extend_from_slice-2.ensures.items in
+    kept-more m _ p (record { side = p.turn; left = p.left }) c.requires.flat refl c.requires.x
+    c.requires.y words c.in_ok-push.ensures.items refl refl

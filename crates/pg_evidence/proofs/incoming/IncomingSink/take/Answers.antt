@@ -5,6 +5,9 @@ use Rattle.pg_evidence.proofs.Coming.{come_more}
 use Rattle.pg_evidence.proofs.incoming.IncomingSink.take.Goals as goal
 
 pub returns-clause-took : goal.returns-clause-took
-returns-clause-took c =
-    come_more c.args.self.now (record { judging = c.take.new.self; kept = c.in_ok-self.field-0 }) c.args.piece.now c.in_ok-take.ensures.took
-    (λ text kept. c.in_ok-self.ensures text (subst (λ (o : Option Bytes). IsKept o text) (sym (ap (option_map (λ bytes. bytes.items)) c.take-2.ensures.value)) kept))
+returns-clause-took c = come_more c.args.self.now (record {
+  judging = c.take.new.self;
+  kept = c.in_ok-self.field-0;
+}) c.args.piece.now c.in_ok-take.ensures.took (λ text kept. c.in_ok-self.ensures text
+    (subst (λ (o : Option Bytes). IsKept o text)
+    (sym (ap (option_map (λ bytes. bytes.items)) c.take-2.ensures.value)) kept))

@@ -10,9 +10,14 @@ use Rattle.pg_family_files.proofs.family.Key.read.Goals.{else-has-via-then-has+e
 
 pub loop-key-preserved : goal.loop-key-preserved
 loop-key-preserved c =
-    find_more (λ key. has_key c.args.family key && bytes_eq (key_name key) c.args.word.now) _ c.loop-key.key-index _ c.loop-key-test.true (elim c.else-has.branch [
+    find_more (λ key. has_key c.args.family key && bytes_eq (key_name key) c.args.word.now) _
+    c.loop-key.key-index _ c.loop-key-test.true (elim c.else-has.branch [
       | else-has-via-then-has+else-eq w ↦
-          let other = ap (λ (name : Bytes). bytes_eq name c.args.word.now) (sym w.name.ensures) ∙ ap (λ (name : Bytes). bytes_eq name c.args.word.now) (sym w.as_bytes.ensures.value) ∙ sym w.eq.ensures ∙ w.if-eq.false in
+          let other = ap (λ (name : Bytes). bytes_eq name c.args.word.now) (sym w.name.ensures)
+          ∙ ap (λ (name : Bytes). bytes_eq name c.args.word.now) (sym w.as_bytes.ensures.value)
+          ∙ sym w.eq.ensures
+          ∙ w.if-eq.false in
           and_right _ _ other
       | else-has-via-else-has w ↦ and_first _ _ (sym c.has.ensures ∙ w.if-has.false)
-    ]) ∙ c.loop-key.invariant
+    ])
+    ∙ c.loop-key.invariant

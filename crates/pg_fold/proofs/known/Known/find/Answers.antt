@@ -7,5 +7,6 @@ pub returns-then-not-index : goal.returns-then-not-index
 returns-then-not-index c =
     let known = c.args.self.now in
     let marks = known.marks.items in
-    let at = slice_get_read marks (length marks) c.place_of.result c.index.result.now refl (search rules) (search rules) in
+    let at = slice_get_read marks (length marks) c.place_of.result c.index.result.now refl
+    (search rules) (search rules) in
     sym (unmarked known c.requires c.args.p.now c.index.result.now (search rules) (search rules))

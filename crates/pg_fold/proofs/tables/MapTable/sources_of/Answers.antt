@@ -12,12 +12,15 @@ loop-v-preserved c =
     let points = c.args.points.now in
     let i = c.loop-v.v-index in
     let size = length-map points f in
-    from_list-more (map f points) i c.loop-v.set c.put.new.self (omega (arith, size, c.loop-v-test.true)) c.loop-v.invariant
-    (c.put.ensures ∙ ap (λ (v : ℕ). insert {R = nat_cmp} c.loop-v.set v) (c.source.ensures.point ∙ sym (get_or-map f points i 0 0 c.loop-v-test.true)))
+    from_list-more (map f points) i c.loop-v.set c.put.new.self
+    (omega (arith, size, c.loop-v-test.true)) c.loop-v.invariant (c.put.ensures
+    ∙ ap (λ (v : ℕ). insert {R = nat_cmp} c.loop-v.set v)
+    (c.source.ensures.point ∙ sym (get_or-map f points i 0 0 c.loop-v-test.true)))
 
 pub returns : goal.returns
 returns c =
     let f = come_from c.args.self.now in
     let points = c.args.points.now in
     let size = length-map points f in
-    from_list-all (map f points) c.loop-v.v-index c.loop-v.set (omega (arith, size, c.loop-v-test.false)) c.loop-v.invariant
+    from_list-all (map f points) c.loop-v.v-index c.loop-v.set
+    (omega (arith, size, c.loop-v-test.false)) c.loop-v.invariant
