@@ -30,15 +30,14 @@ fn end_with<C: Console>(console: &mut C, text: &str, status: u8) -> u8
 /// connectivity game has one node, number 0. The certificate is checked first: where it isn't valid
 /// its first faulty node is drawn, with the fault.
 ///
-/// | status | when |
-/// |---|---|
-/// | 0 | the picture is said: of a game, or of a node of a valid certificate |
-/// | 2 | the words have no meaning, or the certificate is valid and has no such node |
-/// | 3 | the game file has a fault |
-/// | 4 | the certificate file has a fault, or the certificate isn't valid for the game: then the picture is that of its first faulty node |
-/// | 5 | a call that reads has failed, or a name isn't held; nothing is said |
-/// | 6 | a call that writes has failed; nothing is said |
-/// | 7 | memory is wanting; nothing is said |
+/// - 0: the picture is said: of a game, or of a node of a valid certificate.
+/// - 2: the words have no meaning, or the certificate is valid and has no such node.
+/// - 3: the game file has a fault.
+/// - 4: the certificate file has a fault, or the certificate isn't valid for the game: then the
+///   picture is that of its first faulty node.
+/// - 5: a call that reads has failed, or a name isn't held; nothing is said.
+/// - 6: a call that writes has failed; nothing is said.
+/// - 7: memory is wanting; nothing is said.
 ///
 /// Where the files tell what they hold, `ran` says which text is said, alone and at once, at each
 /// status. `silent` says that nothing is said at 5 to 7, `statuses` which statuses there are,

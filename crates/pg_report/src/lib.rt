@@ -20,7 +20,10 @@ use std::alloc::{AllocError, Global};
 fn claim_value(alloc: Global, claim: &ClaimHead) -> Result<Value, AllocError>
     ensures { IfOk result (λ v. view v ≡ claim_data claim.now) }
 {
-    json!(in alloc; {"goal": claim.goal.word(), "nodes": claim.nodes, "side": claim.side.word(), "turn": claim.turn.word()})
+    json!(in alloc; {
+        "goal": claim.goal.word(), "nodes": claim.nodes, "side": claim.side.word(),
+        "turn": claim.turn.word()
+    })
 }
 
 /// The claims in order.
@@ -44,14 +47,21 @@ fn report_value(alloc: Global, game: &Game, claims: &[ClaimHead]) -> Result<Valu
         Field::Lines(field) => {
             let lines = field.lines.as_slice().len();
             if game.bias == 1 {
-                json!(in alloc; {"claims": claims, "kind": kind, "lines": lines, "points": field.points})
+                json!(in alloc; {
+                    "claims": claims, "kind": kind, "lines": lines, "points": field.points
+                })
             } else {
-                json!(in alloc; {"bias": game.bias, "claims": claims, "kind": kind, "lines": lines, "points": field.points})
+                json!(in alloc; {
+                    "bias": game.bias, "claims": claims, "kind": kind, "lines": lines,
+                    "points": field.points
+                })
             }
         }
         Field::Graph(graph) => {
             let points = graph.ends.as_slice().len();
-            json!(in alloc; {"claims": claims, "kind": kind, "points": points, "vertices": graph.vertices})
+            json!(in alloc; {
+                "claims": claims, "kind": kind, "points": points, "vertices": graph.vertices
+            })
         }
     }
 }
