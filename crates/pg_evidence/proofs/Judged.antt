@@ -81,6 +81,20 @@ read_plain text c said = go (has_images text) refl where
 abbrev pub HasFormFault : {A : Type 0} → Result A (Fault × ℕ) → ℕ → ℕ → Type 0
 HasFormFault r number line = IsErrAnd r (λ bad. (number ≡ number_of bad.0) × (line ≡ bad.1))
 
+-- a fault of the text as one of plain nodes is a fault of it
+pub bad_plain : (text : Bytes) (number line : ℕ)
+    → has_images text ≡ false
+    → HasFormFault (certificate text) number line
+    → HasFormFault (evidence text) number line
+bad_plain text number line none bad =
+    subst (λ (r : Result Evidence (Fault × ℕ)). HasFormFault r number line)
+    (sym (plain_way text none)) (go (certificate text) bad) where
+      go : (r : Result Cert (Fault × ℕ))
+          → HasFormFault r number line
+          → HasFormFault (and_then r (λ (c : Cert). Ok (Plain c))) number line
+      go (Ok c) h = absurd h
+      go (Err fault) h = h
+
 -- ---- what a name holds
 
 -- what the text says
