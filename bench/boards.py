@@ -36,9 +36,9 @@ NAMES = {
     "110/010/011": "Z", "010/111/010": "X",
 }
 SIDES = (3, 4, 5, 6)
-ANIMALS = {"maker-breaker": "Maker, who begins, wants the cells of one.",
-           "maker-maker": "both want the cells of one.",
-           "avoider-enforcer": "Avoider, who begins, loses with the cells of one."}
+ANIMALS = {"maker-breaker": "Maker, who begins, wants all cells of one.",
+           "maker-maker": "both want all cells of one.",
+           "avoider-enforcer": "Avoider, who begins, loses with all cells of one."}
 
 
 class Solved(NamedTuple):
@@ -154,7 +154,7 @@ def parts() -> Iterator[Tuple[str, str, List[str], List[str], Iterable[Row]]]:
     yield ("Noughts and crosses", "The lines are rows, columns and both diagonals. X begins.",
            ["board"], list(kit.KINDS.values()), noughts())
     for kind, goal in ANIMALS.items():
-        yield (f"Animals, {kit.KINDS[kind]}", "All animals of up to five cells on squares, in each "
+        yield (f"Animals, {kit.KINDS[kind]}", "All animals of up to five cells, in each "
                f"position, turned and reflected: {goal}", ["animal"],
                [f"{it} by {it}" for it in SIDES], animals_of(kind))
     bridges = [([str(rows), str(len(kit.bridge(rows)[1]))], [kit.switching(kit.bridge(rows))])
@@ -186,11 +186,14 @@ def head(boards: List[Solved], given: argparse.Namespace) -> str:
 {len(boards)} boards, solved by `bench/boards.py` on {day.isoformat()} with at most
 {given.positions:,} positions a question and {given.seconds} s a run: {settled} are settled.
 
-For each board: the winner by best play, the number of nodes of the certificate that was stored and
-then accepted (of claims, in connectivity games), and the seconds of a processor. The number of
+For each board: the winner under best play, the number of nodes of the certificate that was stored
+and then accepted (of claims, in connectivity games), and the seconds of a processor. The number of
 nodes depends also on the order in which the file lists the lines. After `unknown` the number is
-that of the positions expanded, which leave the question open. The limit of positions times free
-points is 99,999, and each open board here stopped at that.
+that of the positions expanded, which leave the question open. A search expands at most 99,999
+positions divided by the number of free points, and each open board here stopped at that.
+
+In Maker-Maker `first` is the side that begins. The class `who begins` is what `solve` prints as
+`first-mover`. An *animal* is a polyomino: cells of a square grid, linked by common sides.
 """
 
 

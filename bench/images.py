@@ -31,13 +31,13 @@ HEAD = """\
 For each board: the nodes of the certificate that `posgame solve` stores, and how many of them stay
 plain with `--images`; and what the flag costs, in instructions by callgrind.
 
-- A search seldom meets both a position and its image below one claim where it can decide by few
-  moves. So the share is near 1 on boards that are soon decided.
+- If few moves decide a board, the search seldom meets both a position and its image below one
+  claim. So the share is near 1 on such boards.
 - The flag may cost a tenth of what solving costs; bold is more. Folding takes some 4,400
   instructions a node.
-- If the flag costs less than nothing, printing is why. A certificate with images is printed by a
-  printer of its own, which walks the members of a set. The one for plain certificates asks for each
-  of 1,024 points, some 12,000 instructions a set, so each image saves 24,000.
+- If the flag costs less than nothing, printing is why. The printer of certificates with images
+  walks the members of a set. The printer of plain certificates asks for each of 1,024 points, some
+  12,000 instructions a set, so each image saves 24,000.
 - A board may have another number of nodes in docs/BOARDS.md: there its lines come in another order,
   and the search with them.
 """
