@@ -183,6 +183,13 @@ def replies(count: int) -> str:
     return " ".join(f"{v}:0" for v in range(1, count))
 
 
+def border() -> List[int]:
+    """Returns the cells at the border of the board, a line that every map takes onto itself."""
+    ends = (0, SIDE - 1)
+    return [SIDE * row + column for row in range(SIDE) for column in range(SIDE)
+            if row in ends or column in ends]
+
+
 def make_replies_turned(folder: pathlib.Path) -> None:
     """Makes a certificate of version 3, 75 MB of nodes that each name 1,024 points of a board of
     256; all of them are met under eight maps."""
@@ -190,7 +197,7 @@ def make_replies_turned(folder: pathlib.Path) -> None:
     count = 75_000_000 // (len(others) + 16)
     write(folder, "GAME", [
         "posgame 1", "kind maker-breaker", f"grid {SIDE} {SIDE}",
-        "line " + " ".join(map(str, range(MOST_IN_LINE))), "turn x",
+        "line " + " ".join(map(str, border())), "turn x",
     ])
     nodes = ["||x|over"]
     nodes += [f"||x|all 0:{k} {others}" for k in range(count)]
