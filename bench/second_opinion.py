@@ -1,47 +1,58 @@
 #!/usr/bin/env python3
 """Compares the second checker, python/posgame/check.py, with `posgame check` on damaged files.
 
-Usage: second_opinion.py PROGRAM [--count N] [--seed S] [--jobs J] [--folder DIR]
 Certificates of the examples, and those that PROGRAM writes for some games, are damaged by small
-changes of numbers, words, lines and bodies; one game in ten is damaged too. `--folder` adds the
-pairs NAME.game and NAME.cert of a folder. Each pair of files gets a verdict of both checkers, which
-must be the same text and status. The status is 1 if a verdict differs.
+changes of numbers, words, lines and bodies; in one pair of ten the game is damaged too. No pair of
+files comes twice. The two checkers must give each pair the same text and the same status.
+
+The pairs depend on --seed alone, and are compared in batches, by --jobs processes. A line on
+standard error says after each batch how many were compared. --minutes ends the run early; the
+counts are then those of the batches that ended. --folder adds the pairs NAME.game and NAME.cert of
+a folder, and --keep stores the pairs that differ. The status is 1 if a verdict differs. Unproved.
 """
 from __future__ import annotations
 
-import argparse
 import collections
 import concurrent.futures
+import itertools
 import os
 import pathlib
 import sys
 import time
-from typing import Counter, List, Tuple
+from typing import Counter, Iterator, List, NamedTuple
 
-PYTHON = pathlib.Path(__file__).resolve().parents[1] / "python"
-sys.path[:0] = [str(PYTHON), str(PYTHON / "tests")]
+import kit
+
+sys.path[:0] = [str(kit.TOP / "python"), str(kit.TOP / "python" / "tests")]
 
 import beside  # noqa: E402
 from posgame import Game  # noqa: E402
 
+BATCH = 100
 SIZES = [("maker-breaker", 1), ("maker-maker", 1), ("avoider-enforcer", 1), ("maker-breaker", 2),
          ("avoider-enforcer", 2)]
+ROWS = [[0, 1, 2], [3, 4, 5], [6, 7, 8], [0, 3, 6], [1, 4, 7], [2, 5, 8], [0, 4, 8], [2, 4, 6]]
+
+
+class Compared(NamedTuple):
+    """How many pairs of a batch got each verdict, and those on which the two differ."""
+
+    counts: Counter[str]
+    differing: List[beside.Comparison]
 
 
 def solved_pairs() -> List[beside.Pair]:
     """Returns pairs that the program writes: each kind on small boards, with images and without."""
     games = [Game.from_grid(3, 3, "11/10", kind=kind, bias=bias, turn=turn)
              for kind, bias in SIZES for turn in "xy"]
-    games += [Game.from_grid(3, 3, lines=[[0, 1, 2], [3, 4, 5], [6, 7, 8], [0, 3, 6], [1, 4, 7],
-                                          [2, 5, 8], [0, 4, 8], [2, 4, 6]], kind=kind, bias=bias)
-              for kind, bias in SIZES]
+    games += [Game.from_grid(3, 3, lines=ROWS, kind=kind, bias=bias) for kind, bias in SIZES]
     pairs = []
     for number, game in enumerate(games):
         for images in (False, True):
             certificate = game.solve(positions=300, images=images).certificate
             if certificate:
                 pairs.append(beside.Pair(game.text.encode(), certificate.encode("latin-1"),
-                                         f"solved {number} {'with images' if images else ''}"))
+                                         f"solved {number}{' with images' * images}"))
     return pairs
 
 
@@ -51,43 +62,66 @@ def pairs_of(folder: pathlib.Path) -> List[beside.Pair]:
             for game in sorted(folder.glob("*.game")) if game.with_suffix(".cert").is_file()]
 
 
-def batch(pairs: List[beside.Pair], count: int, seed: int) -> Tuple[Counter[str], List[str]]:
-    """Compares so many damaged pairs; returns how often each verdict came, and what differs."""
-    counts: Counter[str] = collections.Counter()
-    differing = []
-    damaged = list(beside.damaged_pairs(pairs, count, seed))
-    for pair, line in zip(damaged, beside.differences(damaged)):
-        words = beside.second_verdict(pair)[0][0].split()
-        counts[words[0] if words[0] == "accepted" else " ".join(words[:2])] += 1
-        differing += [line] if line else []
-    return counts, differing
+def compare(pairs: List[beside.Pair]) -> Compared:
+    """Compares the verdicts on a batch of pairs."""
+    compared = Compared(collections.Counter(), [])
+    for one in beside.comparisons(pairs):
+        words = one.again.lines[0].split()
+        compared.counts[words[0] if one.again.status == 0 else " ".join(words[:2])] += 1
+        compared.differing.extend([one] if one.differs else [])
+    return compared
+
+
+def all_compared(pairs: Iterator[beside.Pair], jobs: int, end: float) -> Iterator[Compared]:
+    """Yields what comes of each batch of pairs, as it ends; begins none after the time `end`."""
+    batches = iter(lambda: list(itertools.islice(pairs, BATCH)), [])
+    with concurrent.futures.ProcessPoolExecutor(jobs) as pool:
+        waiting = {pool.submit(compare, batch) for batch in itertools.islice(batches, 2 * jobs)}
+        while waiting:
+            done, waiting = concurrent.futures.wait(
+                waiting, return_when=concurrent.futures.FIRST_COMPLETED)
+            for future in done:
+                if time.monotonic() < end:
+                    waiting |= {pool.submit(compare, batch)
+                                for batch in itertools.islice(batches, 1)}
+                yield future.result()
+
+
+def keep(folder: pathlib.Path, differing: List[beside.Comparison]) -> None:
+    """Stores the files of pairs on which the two differ."""
+    folder.mkdir(parents=True, exist_ok=True)
+    for number, one in enumerate(differing):
+        (folder / f"{number}.game").write_bytes(one.pair.game)
+        (folder / f"{number}.cert").write_bytes(one.pair.certificate)
 
 
 def main() -> int:
     """Compares the pairs as they are, and then damaged ones in batches."""
-    parser = argparse.ArgumentParser(description=__doc__.split("\n")[0])
-    parser.add_argument("program", type=pathlib.Path)
-    parser.add_argument("--count", type=int, default=20_000)
-    parser.add_argument("--seed", type=int, default=1)
-    parser.add_argument("--jobs", type=int, default=1)
-    parser.add_argument("--folder", type=pathlib.Path)
-    options = parser.parse_args()
-    os.environ["POSGAME"] = str(options.program.resolve())
+    words = kit.parser(__doc__)
+    words.add_argument("--count", type=int, default=20_000, help="how many damaged pairs")
+    words.add_argument("--seed", type=int, default=1)
+    words.add_argument("--jobs", type=int, default=os.cpu_count())
+    words.add_argument("--minutes", type=float, default=float("inf"))
+    words.add_argument("--folder", type=pathlib.Path)
+    words.add_argument("--keep", type=pathlib.Path)
+    options = words.parse_args()
+    os.environ["POSGAME"] = options.program
+    start = time.monotonic()
     pairs = beside.example_pairs() + solved_pairs()
     pairs += pairs_of(options.folder) if options.folder else []
-    start, counts = time.monotonic(), collections.Counter[str]()
-    differing = [line for line in beside.differences(pairs) if line]
-    sizes = [min(500, options.count - done) for done in range(0, options.count, 500)]
-    with concurrent.futures.ProcessPoolExecutor(options.jobs) as pool:
-        tried = [pool.submit(batch, pairs, size, options.seed * 100_000 + number)
-                 for number, size in enumerate(sizes)]
-        for future in concurrent.futures.as_completed(tried):
-            counts.update(future.result()[0])
-            differing += future.result()[1]
+    counts, differing = collections.Counter[str](), compare(pairs).differing
+    damaged = itertools.islice(beside.damaged_pairs(pairs, options.seed), options.count)
+    for compared in all_compared(damaged, options.jobs, start + 60 * options.minutes):
+        counts.update(compared.counts)
+        differing += compared.differing
+        print(f"{sum(counts.values()):,} of {options.count:,} compared, {len(differing)} differ, "
+              f"{time.monotonic() - start:.0f} s", file=sys.stderr, flush=True)
     print(*differing, sep="\n", end="\n" if differing else "")
-    print(f"{len(pairs)} pairs and {options.count} damaged ones: {len(differing)} verdicts differ; "
-          f"{time.monotonic() - start:.0f} s")
+    print(f"{len(pairs)} pairs and {sum(counts.values()):,} damaged ones: {len(differing)} "
+          f"verdicts differ; {time.monotonic() - start:.0f} s")
     print(", ".join(f"{verdict} {count}" for verdict, count in sorted(counts.items())))
+    if options.keep and differing:
+        keep(options.keep, differing)
     return 1 if differing else 0
 
 

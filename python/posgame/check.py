@@ -151,10 +151,10 @@ class Game:
                 while vector.bit_length() in base:
                     vector ^= base[vector.bit_length()]
                 base.update({vector.bit_length(): vector} if vector else {})
-                return vector != 0
+                return bool(vector)
             a, b = [part[end] for end in elements[number]]
             part[:] = [b if one == a else one for one in part] if a != b else part
-            return a != b
+            return bool(a != b)
         for number in given:
             is_new(number)
         return [is_new(number) for number in asked]
@@ -352,6 +352,7 @@ def potential_holds(game: Game, p: Position, side: str, _: Node) -> bool:
     # A line without a point of the claimer, in Avoider-Enforcer without one of Y, weighs 1 + q, in
     # Avoider-Enforcer 2, to the power of K less its free points.
     base = 2 if avoiding else 1 + game.bias
+    limit: int = base ** game.longest
     lines = game.by_free(game.live(p.y if avoiding or side == "y" else p.x), free)
 
     def weight(through: int) -> int:
@@ -362,14 +363,13 @@ def potential_holds(game: Game, p: Position, side: str, _: Node) -> bool:
         # The sum, twice if X takes the last free point, is less than 2 to the power of K. From its
         # next turn on, X takes the first of each 1 + q points.
         count = size(free) - (p.left if p.turn == "y" else 0)
-        return total * (2 if count > 0 and (count - 1) % (1 + game.bias) == 0 else 1) \
-            < base ** game.longest
+        return total * (2 if count > 0 and (count - 1) % (1 + game.bias) == 0 else 1) < limit
     # Here c is q if the other side is to move, and otherwise q less the points that the claimer
     # still claims in its turn. The weights of these lines and c times the greatest weight of a
     # free point, that is of the lines through it, sum to less than 1 + q to the power of K.
     c = game.bias - p.left if p.turn == side else game.bias
     greatest = max((weight(game.through[v]) for v in members(free if c else 0)), default=0)
-    return total + c * greatest < base ** game.longest
+    return total + c * greatest < limit
 
 def sets_are_free(game: Game, p: Position, node: Node, mover: str) -> bool:
     """The sets are of free edges, none in both; `e` needs this side to move."""
@@ -497,10 +497,11 @@ def unfold(game: Game, claim: Claim) -> tuple[Claim, list[int]]:
     """Returns the claim without images (its replies in any order), and whence each node came."""
     def settled(j: int, k: int) -> tuple[int, int]:
         # The map that does m first and then k: if k has e = 1, the a and b of m change places.
-        while claim.nodes[j].body == "image":
-            (m,), (j,) = claim.nodes[j].points, claim.nodes[j].children
-            k ^= m & 4 | (m & 1) << 1 | (m & 2) >> 1 if k & 4 else m
-        return j, k
+        j, m = plain[j]
+        return j, k ^ (m & 4 | (m & 1) << 1 | (m & 2) >> 1 if k & 4 else m)
+    plain: list[tuple[int, int]] = []  # For each node the plain one under it, and by which map.
+    for j, (_, body, points, children, _) in enumerate(claim.nodes):
+        plain.append(settled(children[0], points[0]) if body == "image" else (j, 0))
     todo = [settled(len(claim.nodes) - 1, 0)]
     met = set(todo)
     while todo:
@@ -508,13 +509,12 @@ def unfold(game: Game, claim: Claim) -> tuple[Claim, list[int]]:
         further = {settled(child, k) for child in claim.nodes[j].children} - met
         met |= further
         todo += further
-    copies = sorted(met)
-    place = {copy: number for number, copy in enumerate(copies)}
+    place = {copy: number for number, copy in enumerate(sorted(met))}
     nodes = [node._replace(position=image_of(game, k, node.position),
                            points=[moved(game, k, v) for v in node.points],
                            children=[place[settled(child, k)] for child in node.children])
-             for node, k in ((claim.nodes[j], k) for j, k in copies)]
-    return claim._replace(nodes=nodes), [j for j, _ in copies]
+             for node, k in ((claim.nodes[j], k) for j, k in place)]
+    return claim._replace(nodes=nodes), [j for j, _ in place]
 
 def unfold_all(game: Game, claims: list[Claim]) -> list[tuple[Claim, list[int]]]:
     """Returns all claims without images; raises the first error I1 to I3, else I4."""

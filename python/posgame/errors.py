@@ -60,9 +60,15 @@ MEANINGS = {
     "refused: taken": "the point is not free",
     "refused: no such point": "the number is not below the number of points",
     "refused: not a number": "the reply is no number",
+    "refused: over": "the game is over",
+    "refused: nothing to take back": "all replies are taken back",
+    "words: no meaning": "the command is not valid, as if a number is out of its range",
+    "words: no claim for side x": "no claim of X in the certificate has the game's turn",
+    "words: no claim for side y": "no claim of Y in the certificate has the game's turn",
+    "words: no such node": "the certificate has no such claim or node",
 }
-STATUSES = {2: "the command is not valid", 5: "a file could not be read",
-            6: "a file could not be written", 7: "out of memory",
+# What an exit status means if nothing is printed of the failure itself.
+STATUSES = {5: "a file could not be read", 6: "a file could not be written", 7: "out of memory",
             11: "the system refused the command", 70: "the program is not built"}
 
 
@@ -70,8 +76,11 @@ class PosgameError(Exception):
     """An error with the program's own text, its meaning, and the exit status if there is one."""
 
     def __init__(self, text: str, meaning: str = "", status: Optional[int] = None) -> None:
-        super().__init__(f"{text}: {meaning}" if meaning else text)
+        super().__init__(text, meaning, status)
         self.text, self.meaning, self.status = text, meaning, status
+
+    def __str__(self) -> str:
+        return f"{self.text}: {self.meaning}" if self.meaning else self.text
 
 
 class ProgramMissing(PosgameError):
@@ -79,13 +88,13 @@ class ProgramMissing(PosgameError):
 
 
 class RunFailed(PosgameError):
-    """A run that ended without an answer, as by a failed read or write, or out of memory."""
+    """A run that ended without an answer: not a valid command, a failed read or write, memory."""
 
 
 class FileError(PosgameError):
     """An error of form in the game, the certificate or the record: its code and its line."""
 
-    def __init__(self, text: str, meaning: str, status: Optional[int]) -> None:
+    def __init__(self, text: str, meaning: str = "", status: Optional[int] = None) -> None:
         super().__init__(text, meaning, status)
         words = text.split()
         self.file, self.code, self.line = words[0], words[1], int(words[3])
@@ -94,7 +103,7 @@ class FileError(PosgameError):
 class Rejected(PosgameError):
     """A certificate that is not valid: the code of its first error, the claim and the node."""
 
-    def __init__(self, text: str, meaning: str, status: Optional[int]) -> None:
+    def __init__(self, text: str, meaning: str = "", status: Optional[int] = None) -> None:
         super().__init__(text, meaning, status)
         words = text.split()
         self.code, self.claim = words[1], int(words[3])
@@ -121,4 +130,5 @@ def error_of(text: str, status: Optional[int] = None) -> PosgameError:
         return Rejected(text, MEANINGS.get(code, ""), status)
     if text.startswith("refused: "):
         return MoveRefused(text, MEANINGS.get(text, ""), status)
-    return RunFailed(text or f"status {status}", STATUSES.get(status or 0, ""), status)
+    meaning = MEANINGS.get(text, STATUSES.get(status or 0, ""))
+    return RunFailed(text or f"status {status}", meaning, status)

@@ -5,14 +5,16 @@ import concurrent.futures
 import json
 import os
 import pathlib
+import re
 from typing import (Any, Dict, Hashable, Iterable, Iterator, List, Mapping, Optional, Sequence,
                     Tuple, Union)
 
 from .errors import PosgameError, error_of
-from .programs import Run, answer_of, is_there, run
+from .programs import Run, answer_of, bytes_of, is_there, run, text_of
 from .results import Claim, Loss, Report, ReportedClaim, Review, Solution
 
 FAMILIES = {"posgame-span": "span", "posgame-vectors": "vec"}
+MOST_POINTS = 1_000  # No game of any kind has more.
 Path = Union[str, "os.PathLike[str]"]
 Answer = Union[Solution, PosgameError]
 
@@ -38,30 +40,29 @@ class Game:
         self.text = text
         named = range(_points(text)) if labels is None else labels
         self.labels: Tuple[Hashable, ...] = tuple(named)
-        self._numbers = {label: number for number, label in enumerate(self.labels)}
+        self._numbers = _numbered(self.labels)
+        if len(self.labels) < _points(text):
+            raise ValueError("there are fewer labels than points")
 
     @classmethod
-    def from_lines(cls, lines: Iterable[Iterable[Hashable]], points: Any = None,
+    def from_lines(cls, lines: Iterable[Iterable[Hashable]],
+                   points: Union[int, Iterable[Hashable], None] = None,
                    kind: str = "maker-breaker", turn: str = "x", bias: int = 1,
                    x: Iterable[Hashable] = (), y: Iterable[Hashable] = ()) -> "Game":
         """Makes a game on lines, that is winning sets of any hashable points.
 
         `points` is how many points there are, numbered from 0, or lists them; without it they are
-        those of the lines, in order. `kind` is "maker-breaker", "maker-maker" or
+        those of the lines and marks, in order. `kind` is "maker-breaker", "maker-maker" or
         "avoider-enforcer". Y claims `bias` points a turn; x and y are the points taken so far.
 
         >>> game = Game.from_lines([["a", "b"], ["b", "c"]], turn="y")
         >>> game.labels
         ('a', 'b', 'c')
         """
-        sets = [list(line) for line in lines]
-        if isinstance(points, int):
-            labels: List[Hashable] = list(range(points))
-        else:
-            found = points if points is not None else [v for line in sets for v in line]
-            labels = list(found) if points is not None else _in_order(found)
+        sets, own, other = [list(line) for line in lines], list(x), list(y)
+        labels = _listed(points, [v for line in [*sets, own, other] for v in line])
         size = ["points", str(len(labels))]
-        return cls._of_lines(kind, [size], bias, sets, labels, turn, x, y)
+        return cls._of_lines(kind, [size], bias, sets, labels, turn, own, other)
 
     @classmethod
     def from_grid(cls, width: int, height: int, shape: Union[str, Iterable[str]] = (),
@@ -79,46 +80,47 @@ class Game:
         shapes = [shape] if isinstance(shape, str) else list(shape)
         head = [["grid", str(width), str(height)]]
         tail = [["shape", one] for one in shapes]
-        sets = [list(line) for line in lines]
-        return cls._of_lines(kind, head, bias, sets, list(range(width * height)), turn, x, y, tail)
+        sets, cells = [list(line) for line in lines], range(min(width * height, MOST_POINTS))
+        return cls._of_lines(kind, head, bias, sets, cells, turn, x, y, tail)
 
     @classmethod
     def _of_lines(cls, kind: str, head: List[List[str]], bias: int,
                   lines: Sequence[Sequence[Hashable]], labels: Sequence[Hashable], turn: str,
                   x: Iterable[Hashable], y: Iterable[Hashable],
                   tail: Sequence[List[str]] = ()) -> "Game":
-        numbers = {label: str(number) for number, label in enumerate(labels)}
+        numbers = _numbered(labels)
         said = [["posgame", "1"], ["kind", kind], *head]
         said += [["bias", str(bias)]] if bias != 1 else []
-        said += [["line", *(numbers[v] for v in line)] for line in lines]
+        said += [["line", *_words(numbers, line)] for line in lines]
         return cls(_spelled(said + list(tail) + _end(numbers, turn, x, y)), labels)
 
     @classmethod
     def from_graph(cls, graph: Any, terminals: Optional[Tuple[Hashable, Hashable]] = None,
                    turn: str = "x", x: Iterable[Hashable] = (), y: Iterable[Hashable] = (),
-                   vertices: Optional[Iterable[Hashable]] = None) -> "Game":
+                   vertices: Union[int, Iterable[Hashable], None] = None) -> "Game":
         """Makes a game on a graph of networkx, or on a list of edges.
 
         With `terminals` it is the switching game between these two vertices, and without them the
         connectivity game. The label of an edge is as the graph has it, (u, v) or (u, v, key); of
         edges that are listed, edges with the same ends are labelled (u, v), (u, v, 1) and so on.
+        `vertices` lists the vertices, or says how many there are, numbered from 0; without it they
+        are those of the graph, or the ends of the edges that are listed. Directions are ignored.
 
         >>> Game.from_graph([(0, 1), (1, 2), (0, 2)]).solve().answer
         'first-mover'
         """
+        ends = list(terminals or ())
         if hasattr(graph, "edges") and hasattr(graph, "nodes"):
             edges = list(graph.edges(keys=True) if graph.is_multigraph() else graph.edges)
-            corners = list(graph.nodes)
+            corners = _listed(list(graph.nodes) if vertices is None else vertices, [])
         else:
             edges = _told_apart([tuple(edge) for edge in graph])
-            corners = list(vertices) if vertices is not None else _in_order(
-                [end for edge in edges for end in edge[:2]] + list(terminals or ()))
-        places = {corner: str(number) for number, corner in enumerate(corners)}
-        head = [["posgame", "1"], ["kind", "switching"]] if terminals else [["posgame-span", "1"]]
+            corners = _listed(vertices, [end for edge in edges for end in edge[:2]] + ends)
+        places, numbers = _numbered(corners), _numbered(edges)
+        head = [["posgame", "1"], ["kind", "switching"]] if ends else [["posgame-span", "1"]]
         head += [["vertices", str(len(corners))]]
-        head += [["terminals", *(places[end] for end in terminals)]] if terminals else []
-        head += [["edge", places[edge[0]], places[edge[1]]] for edge in edges]
-        numbers = {edge: str(number) for number, edge in enumerate(edges)}
+        head += [["terminals", *_words(places, ends)]] if ends else []
+        head += [["edge", *_words(places, edge[:2])] for edge in edges]
         return cls(_spelled(head + _end(numbers, turn, x, y)), edges)
 
     @classmethod
@@ -135,21 +137,20 @@ class Game:
         rows = [_signs(vector) for vector in vectors]
         head = [["posgame-vectors", "1"], ["rows", str(len(_signs(target)))],
                 ["target", _signs(target)], *(["vector", row] for row in rows)]
-        numbers: Dict[Hashable, str] = {number: str(number) for number in range(len(rows))}
-        return cls(_spelled(head + _end(numbers, turn, x, y)))
+        return cls(_spelled(head + _end(_numbered(range(len(rows))), turn, x, y)))
 
     @classmethod
     def read(cls, path: Path) -> "Game":
         """Reads a game file."""
-        return cls(pathlib.Path(path).read_bytes().decode("latin-1"))
+        return cls(text_of(pathlib.Path(path).read_bytes()))
 
     def write(self, path: Path) -> None:
         """Writes the game file."""
-        pathlib.Path(path).write_bytes(self.text.encode("latin-1"))
+        pathlib.Path(path).write_bytes(bytes_of(self.text))
 
     def _run(self, words: Sequence[str], files: Mapping[str, str] = {}, typed: str = "") -> Run:
-        data = {name: text.encode("latin-1") for name, text in {"GAME": self.text, **files}.items()}
-        family = FAMILIES.get(_header(self.text))
+        data = {name: bytes_of(text) for name, text in {"GAME": self.text, **files}.items()}
+        family = FAMILIES.get(_header(self.text)) if words[0] in ("solve", "check", "play") else ""
         return run("posgame", ([family] if family else []) + list(words), data, typed)
 
     def solve(self, positions: Optional[int] = None, images: bool = False) -> Solution:
@@ -167,7 +168,7 @@ class Game:
         said = done.lines[-1].split()
         if done.status == 1:
             return Solution(self, "unknown", None, int(said[2]))
-        return Solution(self, said[1], (done.certificate or b"").decode("latin-1"))
+        return Solution(self, said[1], text_of(done.certificate or b""))
 
     def check(self, certificate: str) -> Tuple[Claim, ...]:
         """Checks a certificate by `posgame check`; returns its claims, or raises why it fails.
@@ -190,7 +191,7 @@ class Game:
         """
         from . import check as second
         try:
-            lines = second.check(self.text.encode("latin-1"), certificate.encode("latin-1"))
+            lines = second.check(bytes_of(self.text), bytes_of(certificate))
         except second.Fault as fault:
             raise error_of(str(fault)) from None
         return tuple(Claim(*line.split()[1:]) for line in lines)
@@ -244,17 +245,13 @@ class Game:
         Returns none for games on vectors and certificates with images, which are not drawn, and
         if `posgame-draw` is not found. A certificate that is not valid is drawn at its first error.
         """
-        files = {"GAME": self.text, **({"CERT": certificate} if certificate else {})}
+        files = {"GAME": self.text, **({"CERT": certificate} if certificate is not None else {})}
         words = list(files) + ([node] if node is not None else [])
-        if not is_there("posgame-draw"):
+        has_images = (certificate or "").startswith("posgame-cert 3\n")
+        if has_images or _header(self.text) == "posgame-vectors" or not is_there("posgame-draw"):
             return None
-        done = run("posgame-draw", words, {k: v.encode("latin-1") for k, v in files.items()})
-        if done.text.startswith("<"):
-            return done.text
-        error = error_of(done.text.strip(), done.status)
-        if getattr(error, "code", "") in ("G3", "C2"):
-            return None
-        raise error
+        done = run("posgame-draw", words, {name: bytes_of(text) for name, text in files.items()})
+        return done.text if done.text.startswith("<") else answer_of(done, []).text
 
     def _repr_svg_(self) -> Optional[str]:
         return self.picture()
@@ -317,37 +314,45 @@ class Play:
         point that is taken raises MoveRefused, and nothing is played.
         """
         if self.over:
-            raise PosgameError("refused: over", "the game is over")
+            raise error_of("refused: over")
         lines = self._replay([*self.replies, point])
         self.replies.append(point)
         return self._moves(lines)
 
     def back(self) -> None:
         """Takes the last reply back, with the moves that answered it."""
+        if not self.replies:
+            raise error_of("refused: nothing to take back")
         self.replies.pop()
         self._told = []
         self._moves(self._replay(self.replies))
 
 
 def solve_many(games: Union[Iterable[Game], Mapping[Any, Game]], jobs: Optional[int] = None,
-               positions: Optional[int] = None) -> Iterator[Tuple[Any, Answer]]:
+               positions: Optional[int] = None, images: bool = False) \
+        -> Iterator[Tuple[Any, Answer]]:
     """Solves many games, `jobs` at a time, and yields each answer as soon as it is there.
 
     `games` is a mapping, or a list, whose keys are the indices. Yields the key and the solution,
-    or the error that this game raised; the others are solved all the same.
+    or the error that this game raised; the others are solved all the same. If the loop over the
+    answers is left early, no further game is begun.
 
     >>> games = {n: Game.from_lines([range(n)]) for n in (1, 2)}
     >>> sorted((n, solution.answer) for n, solution in solve_many(games, jobs=2))
     [(1, 'maker'), (2, 'breaker')]
     """
     named = games if isinstance(games, Mapping) else dict(enumerate(games))
-    with concurrent.futures.ThreadPoolExecutor(max_workers=jobs or os.cpu_count()) as pool:
-        keys = {pool.submit(game.solve, positions): key for key, game in named.items()}
+    pool = concurrent.futures.ThreadPoolExecutor(max_workers=jobs or os.cpu_count())
+    try:
+        keys = {pool.submit(game.solve, positions, images): key for key, game in named.items()}
         for future in concurrent.futures.as_completed(keys):
             try:
-                yield keys[future], future.result()
+                answer: Answer = future.result()
             except PosgameError as error:
-                yield keys[future], error
+                answer = error
+            yield keys[future], answer
+    finally:
+        pool.shutdown(cancel_futures=True)
 
 
 def _spelled(said: Iterable[Iterable[str]]) -> str:
@@ -355,11 +360,38 @@ def _spelled(said: Iterable[Iterable[str]]) -> str:
     return "".join(" ".join(words) + "\n" for words in said)
 
 
-def _end(numbers: Mapping[Any, str], turn: str, x: Iterable[Hashable],
+def _end(numbers: Mapping[Hashable, int], turn: str, x: Iterable[Hashable],
          y: Iterable[Hashable]) -> List[List[str]]:
     """Returns the last lines of a game file: the marks, if there are any, and the turn."""
-    marks = [[key, *(numbers[v] for v in points)] for key, points in (("x", x), ("y", y))]
+    marks = [[key, *_words(numbers, points)] for key, points in (("x", x), ("y", y))]
     return [line for line in marks if len(line) > 1] + [["turn", turn]]
+
+
+def _numbered(labels: Iterable[Hashable]) -> Dict[Hashable, int]:
+    """Returns the number of each label; they must differ."""
+    numbers: Dict[Hashable, int] = {}
+    for number, label in enumerate(labels):
+        if numbers.setdefault(label, number) != number:
+            raise ValueError(f"{label!r} is listed twice")
+    return numbers
+
+
+def _words(numbers: Mapping[Hashable, int], labels: Iterable[Hashable]) -> List[str]:
+    """Returns the numbers of labels as words."""
+    listed = list(labels)
+    for label in listed:
+        if label not in numbers:
+            raise ValueError(f"{label!r} is not listed")
+    return [str(numbers[label]) for label in listed]
+
+
+def _listed(said: Union[int, Iterable[Hashable], None],
+            found: Iterable[Hashable]) -> List[Hashable]:
+    """Returns labels: so many numbers from 0, or those that are listed; without either, those that
+    are found."""
+    if said is None:
+        return _in_order(found)
+    return list(range(said) if isinstance(said, int) else said)
 
 
 def _in_order(points: Iterable[Hashable]) -> List[Hashable]:
@@ -404,8 +436,8 @@ def _points(text: str) -> int:
     for key, *words in _lines(text):
         if key in ("edge", "vector"):
             count += 1
-        elif key in ("points", "grid") and all(word.isdecimal() for word in words):
+        elif key in ("points", "grid") and all(re.fullmatch("[0-9]{1,9}", it) for it in words):
             sizes = [int(word) for word in words]
             count = sizes[0] if key == "points" and sizes else 0
             count = sizes[0] * sizes[1] if key == "grid" and len(sizes) == 2 else count
-    return min(count, 1_000)
+    return min(count, MOST_POINTS)

@@ -3,12 +3,11 @@ from __future__ import annotations
 
 import os
 import pathlib
-import shutil
 import subprocess
 import tempfile
 from typing import Dict, Iterator, List, NamedTuple, Optional
 
-from .errors import ProgramMissing, error_of
+from .errors import STATUSES, ProgramMissing, RunFailed, error_of
 
 # The names under which each program is looked for in a folder.
 NAMES = {
@@ -29,18 +28,20 @@ class Run(NamedTuple):
         return self.text.splitlines()
 
 
-def folders() -> Iterator[pathlib.Path]:
-    """Yields the folders in which programs are looked for, in order: that of POSGAME, with the
-    crates around it; those of PATH; the crates of the clone that contains the package."""
-    chosen = os.environ.get("POSGAME")
-    if chosen:
-        path = pathlib.Path(chosen).absolute()
-        yield path if path.is_dir() else path.parent
-        if not path.is_dir():
-            yield path.parent.parent.parent
-    for name in os.environ.get("PATH", "").split(os.pathsep):
-        yield pathlib.Path(name or ".").absolute()
-    yield pathlib.Path(__file__).resolve().parents[2] / "crates"
+def places(program: str) -> Iterator[pathlib.Path]:
+    """Yields where a program is looked for, in order: as POSGAME says, on PATH, and in the crates
+    of the clone that contains the package. If POSGAME is set, no other `posgame` is taken."""
+    word = os.environ.get("POSGAME", "")
+    chosen = pathlib.Path(word).absolute()
+    folders = [chosen] if word else []
+    if program != "posgame" or not word:
+        folders += [chosen.parent, chosen.parent.parent.parent] if word else []
+        folders += [pathlib.Path(name or ".").absolute()
+                    for name in os.environ.get("PATH", "").split(os.pathsep)]
+        folders += [pathlib.Path(__file__).resolve().parents[2] / "crates"]
+    elif chosen.is_file():
+        yield chosen
+    yield from (folder / name for folder in folders for name in NAMES[program])
 
 
 def find(program: str) -> str:
@@ -48,15 +49,22 @@ def find(program: str) -> str:
 
     The environment variable POSGAME is the path of `posgame`, or of a folder with the programs.
     """
-    chosen = os.environ.get("POSGAME", "")
-    if program == "posgame" and chosen and os.path.isfile(chosen):
-        return os.path.abspath(chosen)
-    for folder in folders():
-        for name in NAMES[program]:
-            path = folder / name
-            if path.is_file() and os.access(path, os.X_OK):
-                return str(path)
-    raise ProgramMissing(f"{program} not found", "set POSGAME to the path of the built posgame")
+    for path in places(program):
+        if path.is_file() and os.access(path, os.X_OK):
+            return str(path)
+    word = os.environ.get("POSGAME", "")
+    raise ProgramMissing(f"{program} not found", f"it is not where POSGAME says: {word}" if word
+                         else "it is not on PATH, and POSGAME is not set")
+
+
+def bytes_of(text: str) -> bytes:
+    """Returns the bytes of a text; those that are not ASCII are as they were read."""
+    return text.encode("utf-8", "surrogateescape")
+
+
+def text_of(data: bytes) -> str:
+    """Returns the text of some bytes, from which `bytes_of` makes the same bytes."""
+    return data.decode("ascii", "surrogateescape")
 
 
 def run(program: str, words: List[str], files: Dict[str, bytes], typed: str = "") -> Run:
@@ -64,8 +72,11 @@ def run(program: str, words: List[str], files: Dict[str, bytes], typed: str = ""
     with tempfile.TemporaryDirectory(prefix="posgame-") as folder:
         for name, data in files.items():
             pathlib.Path(folder, name).write_bytes(data)
-        done = subprocess.run([find(program), *words], cwd=folder, input=typed.encode(),
-                              stdout=subprocess.PIPE, stderr=subprocess.DEVNULL, check=False)
+        try:
+            done = subprocess.run([find(program), *words], cwd=folder, input=typed.encode(),
+                                  stdout=subprocess.PIPE, stderr=subprocess.DEVNULL, check=False)
+        except OSError as error:
+            raise RunFailed(str(error), f"{program} could not be started") from error
         stored = pathlib.Path(folder, "CERT")
         certificate = stored.read_bytes() if stored.is_file() else None
         return Run(done.stdout.decode("latin-1"), done.returncode, certificate)
@@ -74,13 +85,14 @@ def run(program: str, words: List[str], files: Dict[str, bytes], typed: str = ""
 def answer_of(done: Run, accepted: List[int]) -> Run:
     """Returns the run if its status is one of these; else raises the error that it printed."""
     if done.status not in accepted:
-        raise error_of(done.lines[-1] if done.lines else "", done.status)
+        is_silent = done.status in STATUSES or done.status < 0 or not done.lines
+        raise error_of("" if is_silent else done.lines[-1], done.status)
     return done
 
 
 def is_there(program: str) -> bool:
     """Returns whether a program is found."""
     try:
-        return shutil.which(find(program)) is not None
+        return bool(find(program))
     except ProgramMissing:
         return False

@@ -1,8 +1,13 @@
 """What the methods of a game return."""
 from __future__ import annotations
 
+import os
+import pathlib
 from dataclasses import dataclass, field
-from typing import TYPE_CHECKING, Hashable, Optional, Tuple
+from typing import TYPE_CHECKING, Hashable, Optional, Tuple, Union
+
+from .errors import PosgameError
+from .programs import bytes_of
 
 if TYPE_CHECKING:
     from .game import Game
@@ -26,6 +31,11 @@ class Solution:
     `answer` is the winner ("maker", "breaker", "x", "y", "avoider", "enforcer"), "draw", a class
     ("short", "cut", "maker", "breaker", "first-mover"), or "unknown". Then `positions` is how many
     positions were expanded, and `certificate` is none.
+
+    >>> from posgame import Game
+    >>> solution = Game.from_lines([[0, 1], [0, 2]]).solve()
+    >>> solution.answer, solution.decided, solution.nodes
+    ('maker', True, 1)
     """
     game: "Game" = field(repr=False)
     answer: str
@@ -44,13 +54,23 @@ class Solution:
         lines = (self.certificate or "").splitlines()
         return sum("|" in line or line.startswith(("trees", "parts")) for line in lines)
 
+    def _proof(self) -> str:
+        """Returns the certificate, or raises an error if there is none."""
+        if self.certificate is None:
+            raise PosgameError("no certificate", "the answer is unknown")
+        return self.certificate
+
     def check(self) -> Tuple[Claim, ...]:
         """Checks the certificate by the program; returns its claims."""
-        return self.game.check(self.certificate or "")
+        return self.game.check(self._proof())
 
     def check_again(self) -> Tuple[Claim, ...]:
         """Checks the certificate by `posgame.check`, which shares nothing with the program."""
-        return self.game.check_again(self.certificate or "")
+        return self.game.check_again(self._proof())
+
+    def write(self, path: Union[str, "os.PathLike[str]"]) -> None:
+        """Writes the certificate file, as the program wrote it to the byte."""
+        pathlib.Path(path).write_bytes(bytes_of(self._proof()))
 
     def _repr_svg_(self) -> Optional[str]:
         return self.game.picture(self.certificate)

@@ -1,6 +1,7 @@
 """Compares the second checker with `posgame check` on the same files."""
 from __future__ import annotations
 
+import hashlib
 import pathlib
 import random
 import re
@@ -25,6 +26,27 @@ class Pair(NamedTuple):
     name: str
 
 
+class Verdict(NamedTuple):
+    """The lines that a checker prints, and its status."""
+    lines: List[str]
+    status: int
+
+
+class Comparison(NamedTuple):
+    """A pair with the verdicts of the program and of the second checker."""
+    pair: Pair
+    first: Verdict
+    again: Verdict
+
+    @property
+    def differs(self) -> bool:
+        """Whether the two verdicts differ."""
+        return self.first != self.again
+
+    def __str__(self) -> str:
+        return f"{self.pair.name}: {self.first} and then {self.again}"
+
+
 def words_for(game: bytes) -> List[str]:
     """Returns the words before `check` that the header of a game file needs."""
     words = [line.split()[0] for line in game.decode("latin-1").split("\n")
@@ -32,29 +54,34 @@ def words_for(game: bytes) -> List[str]:
     return {"posgame-span": ["span"], "posgame-vectors": ["vec"]}.get(words[0] if words else "", [])
 
 
-def first_verdict(pair: Pair, folder: str) -> Tuple[List[str], int]:
-    """Returns what `posgame check` prints, and its status."""
+def first_verdict(pair: Pair, folder: str) -> Verdict:
+    """Returns the verdict of `posgame check`, run in a folder of the test's own."""
     for name, data in (("G", pair.game), ("C", pair.certificate)):
         pathlib.Path(folder, name).write_bytes(data)
     words = [find("posgame"), *words_for(pair.game), "check", "G", "C"]
-    done = subprocess.run(words, cwd=folder, stdout=subprocess.PIPE, check=False)
-    return done.stdout.decode("latin-1").splitlines(), done.returncode
+    done = subprocess.run(words, cwd=folder, stdin=subprocess.DEVNULL, stdout=subprocess.PIPE,
+                          check=False)
+    return Verdict(done.stdout.decode("latin-1").splitlines(), done.returncode)
 
 
-def second_verdict(pair: Pair) -> Tuple[List[str], int]:
-    """Returns what the second checker prints, and its status."""
+def second_verdict(pair: Pair) -> Verdict:
+    """Returns the verdict of the second checker."""
     try:
-        return second.check(pair.game, pair.certificate), 0
+        return Verdict(second.check(pair.game, pair.certificate), 0)
     except second.Fault as fault:
-        return [str(fault)], 3 if str(fault).startswith("game") else 4
+        return Verdict([str(fault)], 3 if str(fault).startswith("game") else 4)
 
 
-def differences(pairs: Iterable[Pair]) -> Iterator[str]:
-    """Yields a line for each pair on which the two differ, and an empty one for each other."""
+def comparisons(pairs: Iterable[Pair]) -> Iterator[Comparison]:
+    """Yields the verdicts on each pair."""
     with tempfile.TemporaryDirectory(prefix="posgame-") as folder:
         for pair in pairs:
-            first, again = first_verdict(pair, folder), second_verdict(pair)
-            yield "" if first == again else f"{pair.name}: {first} and then {again}"
+            yield Comparison(pair, first_verdict(pair, folder), second_verdict(pair))
+
+
+def differences(pairs: Iterable[Pair]) -> List[str]:
+    """Returns a line for each pair on which the two differ."""
+    return [str(one) for one in comparisons(pairs) if one.differs]
 
 
 def example_pairs() -> List[Pair]:
@@ -66,13 +93,25 @@ def example_pairs() -> List[Pair]:
                  f"{game} {certificate}") for game, certificate in there]
 
 
-def damaged_pairs(pairs: List[Pair], count: int, seed: int) -> Iterator[Pair]:
-    """Yields so many pairs with a damaged certificate, sometimes with a damaged game too."""
-    draws = random.Random(seed)
+def digest(pair: Pair) -> Tuple[bytes, bytes]:
+    """Returns the hashes of both files."""
+    return hashlib.sha256(pair.game).digest(), hashlib.sha256(pair.certificate).digest()
+
+
+def damaged_pairs(pairs: List[Pair], seed: int) -> Iterator[Pair]:
+    """Yields pairs with a damaged certificate without end, in one of ten with a damaged game too.
+
+    None is one of the given pairs, and none comes twice.
+    """
+    draws, seen, number = random.Random(seed), {digest(pair) for pair in pairs}, 0
     small = [pair for pair in pairs if len(pair.certificate) <= LARGEST]
-    for number in range(count):
-        pair = draws.choice(small if number % 50 else pairs)
+    while True:
+        pair = draws.choice(pairs if number % 50 == 0 else small)
         game, certificate = pair.game, damaged(pair.certificate.decode("latin-1"), draws)
         if draws.random() < 0.1:
             game = damaged(game.decode("latin-1"), draws).encode("latin-1")
-        yield Pair(game, certificate.encode("latin-1"), f"{pair.name} number {number} seed {seed}")
+        new = Pair(game, certificate.encode("latin-1"), f"{pair.name} number {number} seed {seed}")
+        if digest(new) not in seen:
+            seen.add(digest(new))
+            number += 1
+            yield new

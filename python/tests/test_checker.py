@@ -1,6 +1,7 @@
 """The second checker beside the program, and by the tables of crates/test_stories."""
 from __future__ import annotations
 
+import itertools
 import pathlib
 import shutil
 import subprocess
@@ -69,18 +70,18 @@ class Beside(unittest.TestCase):
     def test_examples(self) -> None:
         pairs = example_pairs()
         self.assertGreater(len(pairs), 40)
-        self.assertEqual([line for line in differences(pairs) if line], [])
+        self.assertEqual(differences(pairs), [])
 
     def test_damaged_certificates(self) -> None:
-        pairs = damaged_pairs(example_pairs(), COUNT, seed=1)
-        self.assertEqual([line for line in differences(pairs) if line], [])
+        pairs = itertools.islice(damaged_pairs(example_pairs(), seed=1), COUNT)
+        self.assertEqual(differences(pairs), [])
 
     def test_differences_are_seen(self) -> None:
         pair = example_pairs()[0]
         right = second.check
         try:
             second.check = lambda game, certificate: ["accepted x x draw"]  # type: ignore
-            self.assertEqual(len([line for line in differences([pair]) if line]), 1)
+            self.assertEqual(len(differences([pair])), 1)
         finally:
             second.check = right
 

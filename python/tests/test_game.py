@@ -4,15 +4,20 @@ from __future__ import annotations
 import doctest
 import itertools
 import pathlib
+import pickle
+import subprocess
 import tempfile
 import unittest
 import xml.dom.minidom
+from typing import Optional
 
 import posgame
 import posgame.errors
 import posgame.game
-from posgame import FileError, Game, MoveRefused, Rejected, solve_many
-from posgame.programs import is_there
+import posgame.results
+from posgame import (FileError, Game, MoveRefused, PosgameError, Rejected, RunFailed, Solution,
+                     solve_many)
+from posgame.programs import Run, answer_of, find, is_there
 
 from beside import EXAMPLES, TOP
 
@@ -48,6 +53,52 @@ class Making(unittest.TestCase):
         game = Game.from_vectors([(1, 0), (0, 3)], "11", turn="y")
         self.assertEqual(game.text, "posgame-vectors 1\nrows 2\ntarget 11\nvector 10\nvector 01\n"
                                     "turn y\n")
+
+    def test_points_of_marks(self) -> None:
+        game = Game.from_lines(iter([iter("ab")]), x=iter("c"), y=iter("a"))
+        self.assertEqual(game.labels, ("a", "b", "c"))
+        self.assertEqual(game.text.splitlines()[2:], ["points 3", "line 0 1", "x 2", "y 0",
+                                                      "turn x"])
+
+    def test_what_is_not_listed(self) -> None:
+        for make in (lambda: Game.from_lines([[1, 2]], points=[1, 1, 2]),
+                     lambda: Game.from_lines([["a", "b"]], points=["a"]),
+                     lambda: Game.from_lines([[0, 3]], points=3),
+                     lambda: Game.from_grid(2, 2, lines=[[0, 4]]),
+                     lambda: Game.from_grid(2, 2, "1", x=[9]),
+                     lambda: Game.from_graph([(0, 1)], x=[(1, 2)]),
+                     lambda: Game.from_graph([(0, 1), (0, 1), (0, 1, 1)]),
+                     lambda: Game.from_graph([(0, 1), (1, 2)], vertices=2),
+                     lambda: Game("posgame 1\nkind maker-breaker\npoints 3\n", labels="ab")):
+            with self.assertRaises(ValueError):
+                make()
+
+    def test_vertices_without_an_edge(self) -> None:
+        self.assertIn("vertices 4\n", Game.from_graph([(0, 1)], vertices=4).text)
+        game = Game.from_graph([("s", "a")], terminals=("s", "t"))
+        self.assertIn("vertices 3\nterminals 1 2\nedge 1 0\n", game.text)
+        self.assertEqual(game.solve().answer, "cut")
+
+    def test_errors_are_those_of_the_program(self) -> None:
+        for game, text in [(Game.from_grid(300, 300, "1"), "game G10 line 3"),
+                           (Game.from_lines([[0]], kind="chess"), "game G4 line 2"),
+                           (Game.from_lines([[]], points=2), "game G9 line 4"),
+                           (Game.from_lines([[0]], turn="x # \u2014"), "game G2 line 5"),
+                           (Game.from_grid(3, 3, "10/01"), "game G13 line 4")]:
+            with self.assertRaises(FileError) as raised:
+                game.solve()
+            self.assertEqual(raised.exception.text, text)
+
+    def test_any_bytes_are_kept(self) -> None:
+        with tempfile.TemporaryDirectory() as folder:
+            path = pathlib.Path(folder, "a.game")
+            path.write_bytes(b"posgame 1\r\n# \xff\xe2\x80\x94\n")
+            game = Game.read(path)
+            game.write(path)
+            self.assertEqual(path.read_bytes(), b"posgame 1\r\n# \xff\xe2\x80\x94\n")
+            with self.assertRaises(FileError) as raised:
+                game.solve()
+            self.assertEqual(raised.exception.text, "game G2 line 1")
 
     def test_files(self) -> None:
         for path in sorted(EXAMPLES.glob("*.game")):
@@ -117,6 +168,29 @@ class Answers(unittest.TestCase):
         self.assertEqual(answers["good"].answer, "maker")
         self.assertIsInstance(answers["bad"], FileError)
 
+    def test_many_left_early(self) -> None:
+        begun = []
+
+        class Noted(Game):
+            """A game that notes when it is solved."""
+
+            def solve(self, positions: Optional[int] = None, images: bool = False) -> Solution:
+                begun.append(self)
+                return super().solve(positions, images)
+        answers = solve_many([Noted.from_lines([[n]]) for n in range(20)], jobs=1)
+        self.assertIsInstance(next(answers)[1], Solution)
+        answers.close()
+        self.assertLess(len(begun), 20)
+
+    def test_files_of_a_proof(self) -> None:
+        solution = Game.from_lines(FANO).solve()
+        with tempfile.TemporaryDirectory() as folder:
+            solution.game.write(pathlib.Path(folder, "G"))
+            solution.write(pathlib.Path(folder, "C"))
+            done = subprocess.run([find("posgame"), "check", "G", "C"], cwd=folder, text=True,
+                                  stdout=subprocess.PIPE, check=False)
+            self.assertEqual(done.stdout, "accepted x x win\n")
+
 
 class Errors(unittest.TestCase):
     """The program's text, and what it means."""
@@ -137,6 +211,44 @@ class Errors(unittest.TestCase):
                 check(certificate)
             error = raised.exception
             self.assertEqual((error.code, error.claim, error.node), ("J6", 0, 0))
+
+    def test_errors_travel(self) -> None:
+        for error in (posgame.errors.error_of("game G6 line 4", 3), RunFailed("status 7", "memory"),
+                      posgame.errors.error_of("rejected S2 claim 1", 4), MoveRefused("refused: x")):
+            again = pickle.loads(pickle.dumps(error))
+            self.assertEqual((type(again), str(again), vars(again)),
+                             (type(error), str(error), vars(error)))
+
+    def test_words(self) -> None:
+        game = Game.from_lines(FANO)
+        with self.assertRaises(RunFailed) as raised:
+            game.play(str(game.solve().certificate), "y")
+        self.assertEqual((raised.exception.text, raised.exception.status),
+                         ("words: no claim for side y", 2))
+        self.assertEqual(raised.exception.meaning,
+                         "no claim of Y in the certificate has the game's turn")
+        with self.assertRaises(RunFailed) as raised:
+            game.solve(positions=0)
+        self.assertEqual(raised.exception.text, "words: no meaning")
+
+    def test_silent_ends(self) -> None:
+        for status, meaning in [(7, "out of memory"), (5, "a file could not be read")]:
+            with self.assertRaises(RunFailed) as raised:
+                answer_of(Run("lost 1 1 draw x\n", status, None), [0, 1])
+            self.assertEqual((raised.exception.text, raised.exception.meaning),
+                             (f"status {status}", meaning))
+
+    def test_no_review_of_the_family(self) -> None:
+        with self.assertRaises(FileError) as raised:
+            Game.from_vectors(["1"], "1").review([0])
+        self.assertEqual(raised.exception.text, "game G3 line 1")
+
+    def test_no_proof(self) -> None:
+        solution = Game.from_lines(ROWS, kind="maker-maker").solve(positions=1)
+        for method in (solution.check, solution.check_again):
+            with self.assertRaises(PosgameError) as raised:
+                method()
+            self.assertEqual(str(raised.exception), "no certificate: the answer is unknown")
 
     def test_record(self) -> None:
         with self.assertRaises(FileError) as raised:
@@ -172,8 +284,15 @@ class Playing(unittest.TestCase):
             play.answer(99)
         self.assertEqual((list(play.replies), play.answer(0)), ([1], (4,)))
         play.back()
+        self.assertEqual(list(play.replies), [1])
         self.assertEqual((play.answer(0), play.answer(5)), ((4,), (6,)))
         self.assertEqual(play.result, "breaker")
+        with self.assertRaises(MoveRefused):
+            play.answer(3)
+        while play.replies:
+            play.back()
+        with self.assertRaises(MoveRefused):
+            play.back()
 
     def test_turns_of_two_points(self) -> None:
         game = Game.from_lines([[0, 1], [2, 3]], bias=2, kind="avoider-enforcer")
@@ -201,16 +320,31 @@ class Pictures(unittest.TestCase):
             root = xml.dom.minidom.parseString(str(picture)).documentElement
             self.assertEqual(root.tagName, "svg")
         self.assertIsNone(Game.read(EXAMPLES / "six-vectors.game")._repr_svg_())
+        self.assertIsNone(Game.from_grid(3, 3, lines=ROWS).solve(images=True)._repr_svg_())
+
+    def test_errors(self) -> None:
+        if not is_there("posgame-draw"):
+            self.skipTest("posgame-draw is not found")
+        game = Game.from_lines([[0, 1]])
+        with self.assertRaises(FileError):
+            Game("chess\n").picture()
+        with self.assertRaises(FileError):
+            game.picture("posgame-cert 1\n")
+        with self.assertRaises(RunFailed) as raised:
+            game.picture(game.solve().certificate, "7.0")
+        self.assertEqual(raised.exception.text, "words: no such node")
+        bad = game.picture("posgame-cert 1\nclaim x y win\nnodes 1\n||x|pairs 0-0\n")
+        self.assertIn("J6", str(bad))
 
 
 class Examples(unittest.TestCase):
     """The examples of the docstrings, and those of docs/PYTHON.md."""
 
     def test_docstrings(self) -> None:
-        for module in (posgame, posgame.game, posgame.errors):
+        for module in (posgame, posgame.game, posgame.errors, posgame.results):
             done = doctest.testmod(module)
             self.assertEqual(done.failed, 0)
-        self.assertGreater(done.attempted, 0)
+            self.assertGreater(done.attempted, 0)
 
     def test_page(self) -> None:
         done = doctest.testfile(str(TOP / "docs" / "PYTHON.md"), module_relative=False)
