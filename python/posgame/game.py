@@ -6,7 +6,7 @@ import json
 import os
 import pathlib
 import re
-from typing import (Any, Dict, Hashable, Iterable, Iterator, List, Mapping, Optional, Sequence,
+from typing import (Any, Dict, Generator, Hashable, Iterable, List, Mapping, Optional, Sequence,
                     Tuple, Union)
 
 from .errors import PosgameError, error_of
@@ -330,7 +330,7 @@ class Play:
 
 def solve_many(games: Union[Iterable[Game], Mapping[Any, Game]], jobs: Optional[int] = None,
                positions: Optional[int] = None, images: bool = False) \
-        -> Iterator[Tuple[Any, Answer]]:
+        -> Generator[Tuple[Any, Answer], None, None]:
     """Solves many games, `jobs` at a time, and yields each answer as soon as it is there.
 
     `games` is a mapping, or a list, whose keys are the indices. Yields the key and the solution,

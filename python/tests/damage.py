@@ -8,10 +8,15 @@ WORDS = ["over", "move", "all", "pairs", "potential", "threat", "trees", "cuts",
          "parts", "first", "e", "/", "x", "y", "y2", "win", "draw", "claim", "nodes"]
 
 
+def start_of(text: str, draws: random.Random) -> int:
+    """Returns where a change may begin: mostly at the first node or claim, else anywhere."""
+    begin = text.find("|") if "|" in text else text.find("\n")
+    return max(begin, 0) if draws.random() < 0.95 else 0
+
+
 def changed_number(text: str, draws: random.Random) -> str:
     """Changes one number."""
-    begin = text.find("|") if draws.random() < 0.9 else 0
-    found = list(re.compile(r"\d+").finditer(text, max(begin, 0)))
+    found = list(re.compile(r"\d+").finditer(text, start_of(text, draws)))
     if not found:
         return text
     spot = draws.choice(found)
@@ -22,7 +27,7 @@ def changed_number(text: str, draws: random.Random) -> str:
 
 def changed_word(text: str, draws: random.Random) -> str:
     """Replaces one word by another."""
-    found = list(re.finditer(r"[a-z]\d?|[a-z]+|/", text))
+    found = list(re.compile(r"[a-z]+\d?|/").finditer(text, start_of(text, draws)))
     if not found:
         return text
     spot = draws.choice(found)
@@ -58,8 +63,12 @@ def changed_body(text: str, draws: random.Random) -> str:
     if not nodes:
         return text
     one, other = draws.choice(nodes), draws.choice(nodes)
-    bodies = [lines[other].split("|")[3], "over", "potential", "pairs", "all", "trees /", "cuts /",
-              f"weaker {draws.randrange(8)}", f"image {draws.randrange(9)} {draws.randrange(8)}"]
+    bodies = [lines[other].split("|")[3]] * 3 + ["over", "potential", "pairs", "all", "trees /",
+                                                 "cuts /"]
+    if lines[0] != "posgame-cert 1" or draws.random() < 0.05:
+        bodies += [f"weaker {draws.randrange(8)}"] * 2
+    if lines[0] == "posgame-cert 3" or draws.random() < 0.05:
+        bodies += [f"image {draws.randrange(9)} {draws.randrange(8)}"] * 2
     lines[one] = lines[one].rpartition("|")[0] + "|" + draws.choice(bodies)
     return "\n".join(lines)
 
@@ -69,7 +78,7 @@ CHANGES = [changed_number] * 6 + [changed_body] * 4 + [changed_word, changed_lin
 
 def damaged(text: str, draws: random.Random) -> str:
     """Changes a text, mostly once; a certificate of version 1 becomes one of another sometimes."""
-    if draws.random() < 0.2:
+    if draws.random() < (0.3 if text.count("|") > 12 else 0.05):
         version = draws.choice("23")
         text = re.sub(r"\Aposgame-cert \d", f"posgame-cert {version}", text)
     for _ in range(draws.choice([1, 1, 1, 2, 3])):

@@ -74,7 +74,9 @@ def forms(script: List[bytes]) -> Iterator[Form]:
 
 def checks(script: List[bytes]) -> Iterator[Checked]:
     """The checks of rows, of files that the row says."""
-    named, files, words, says, stored = named_texts(script), {}, "", [], False
+    named, words, stored = named_texts(script), "", False
+    files: Dict[str, bytes] = {}
+    says: List[str] = []
     for entry in script + [b"row "]:
         key, _, rest = entry.partition(b" ")
         if key in (b"row", b"run"):

@@ -9,6 +9,7 @@ import sys
 import tempfile
 import unittest
 from typing import Optional
+from unittest import mock
 
 import posgame.check as second
 
@@ -78,12 +79,8 @@ class Beside(unittest.TestCase):
 
     def test_differences_are_seen(self) -> None:
         pair = example_pairs()[0]
-        right = second.check
-        try:
-            second.check = lambda game, certificate: ["accepted x x draw"]  # type: ignore
+        with mock.patch.object(second, "check", return_value=["accepted x x draw"]):
             self.assertEqual(len(differences([pair])), 1)
-        finally:
-            second.check = right
 
 
 class Alone(unittest.TestCase):

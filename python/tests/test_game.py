@@ -9,7 +9,7 @@ import subprocess
 import tempfile
 import unittest
 import xml.dom.minidom
-from typing import Optional
+from typing import Callable, List, Optional
 
 import posgame
 import posgame.errors
@@ -61,15 +61,17 @@ class Making(unittest.TestCase):
                                                       "turn x"])
 
     def test_what_is_not_listed(self) -> None:
-        for make in (lambda: Game.from_lines([[1, 2]], points=[1, 1, 2]),
-                     lambda: Game.from_lines([["a", "b"]], points=["a"]),
-                     lambda: Game.from_lines([[0, 3]], points=3),
-                     lambda: Game.from_grid(2, 2, lines=[[0, 4]]),
-                     lambda: Game.from_grid(2, 2, "1", x=[9]),
-                     lambda: Game.from_graph([(0, 1)], x=[(1, 2)]),
-                     lambda: Game.from_graph([(0, 1), (0, 1), (0, 1, 1)]),
-                     lambda: Game.from_graph([(0, 1), (1, 2)], vertices=2),
-                     lambda: Game("posgame 1\nkind maker-breaker\npoints 3\n", labels="ab")):
+        makes: List[Callable[[], Game]] = [
+            lambda: Game.from_lines([[1, 2]], points=[1, 1, 2]),
+            lambda: Game.from_lines([["a", "b"]], points=["a"]),
+            lambda: Game.from_lines([[0, 3]], points=3),
+            lambda: Game.from_grid(2, 2, lines=[[0, 4]]),
+            lambda: Game.from_grid(2, 2, "1", x=[9]),
+            lambda: Game.from_graph([(0, 1)], x=[(1, 2)]),
+            lambda: Game.from_graph([(0, 1), (0, 1), (0, 1, 1)]),
+            lambda: Game.from_graph([(0, 1), (1, 2)], vertices=2),
+            lambda: Game("posgame 1\nkind maker-breaker\npoints 3\n", labels="ab")]
+        for make in makes:
             with self.assertRaises(ValueError):
                 make()
 
@@ -114,7 +116,7 @@ class Networkx(unittest.TestCase):
 
     def test_graphs(self) -> None:
         try:
-            import networkx
+            import networkx  # type: ignore[import]
         except ImportError:
             self.skipTest("networkx is not installed")
         wheel = networkx.wheel_graph(6)

@@ -17,7 +17,7 @@ from posgame.programs import find
 from beside import TOP
 
 sys.path.append(str(TOP / "python" / "build_backend"))
-import posgame_build  # noqa: E402
+import posgame_build  # type: ignore[import]  # noqa: E402
 
 SCRIPT = """
 import posgame
