@@ -72,8 +72,12 @@ class Solution:
         """Writes the certificate file, as the program wrote it to the byte."""
         pathlib.Path(path).write_bytes(bytes_of(self._proof()))
 
+    def picture(self, node: Optional[str] = None) -> Optional[str]:
+        """Returns a node of the certificate as SVG (`Game.picture`), or the game without one."""
+        return self.game.picture(self.certificate, node)
+
     def _repr_svg_(self) -> Optional[str]:
-        return self.game.picture(self.certificate)
+        return self.picture()
 
 
 @dataclass(frozen=True)

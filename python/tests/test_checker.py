@@ -83,6 +83,17 @@ class Beside(unittest.TestCase):
             self.assertEqual(len(differences([pair])), 1)
 
 
+    def test_chain_of_images(self) -> None:
+        nodes = ["1|0|x|threat 2"]
+        nodes += [f"1|{2 * (n % 2)}|x|image 1 {n - 1}" for n in range(1, 6_000)]
+        nodes += ["1||y|all 0:5998 2:5999"] * 6_000 + ["||x|move 1 11999"]
+        game = b"posgame 1\nkind maker-breaker\ngrid 3 1\nline 0 1\nline 1 2\nturn x\n"
+        text = "\n".join(["posgame-cert 3", "claim x x win", f"nodes {len(nodes)}", *nodes])
+        pair = Pair(game, text.encode(), "chain")
+        self.assertEqual(second_verdict(pair).lines, ["accepted x x win"])
+        self.assertEqual(differences([pair]), [])
+
+
 class Alone(unittest.TestCase):
     """The checker as one file, at most 600 lines, and as a command."""
 

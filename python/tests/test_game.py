@@ -3,6 +3,7 @@ from __future__ import annotations
 
 import doctest
 import itertools
+import os
 import pathlib
 import pickle
 import subprocess
@@ -10,6 +11,7 @@ import tempfile
 import unittest
 import xml.dom.minidom
 from typing import Callable, List, Optional
+from unittest import mock
 
 import posgame
 import posgame.errors
@@ -349,7 +351,18 @@ class Examples(unittest.TestCase):
             self.assertGreater(done.attempted, 0)
 
     def test_page(self) -> None:
-        done = doctest.testfile(str(TOP / "docs" / "PYTHON.md"), module_relative=False)
+        if not is_there("posgame-draw"):
+            self.skipTest("posgame-draw is not found")
+        here = os.getcwd()
+        chosen = {name: os.path.abspath(os.environ[name]) for name in ("POSGAME",)
+                  if os.environ.get(name)}
+        with tempfile.TemporaryDirectory() as folder, mock.patch.dict(os.environ, chosen):
+            os.chdir(folder)
+            try:
+                done = doctest.testfile(str(TOP / "docs" / "PYTHON.md"), module_relative=False)
+            finally:
+                os.chdir(here)
+            self.assertEqual(sorted(os.listdir(folder)), ["fano.cert", "fano.game", "fano.svg"])
         self.assertGreater(done.attempted, 10)
         self.assertEqual(done.failed, 0)
 
