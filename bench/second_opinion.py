@@ -27,8 +27,10 @@ sys.path[:0] = [str(kit.TOP / "python"), str(kit.TOP / "python" / "tests")]
 
 import beside  # noqa: E402
 from posgame import Game  # noqa: E402
+from posgame.programs import bytes_of  # noqa: E402
 
 BATCH = 100
+POSITIONS = 300
 SIZES = [("maker-breaker", 1), ("maker-maker", 1), ("avoider-enforcer", 1), ("maker-breaker", 2),
          ("avoider-enforcer", 2)]
 ROWS = [[0, 1, 2], [3, 4, 5], [6, 7, 8], [0, 3, 6], [1, 4, 7], [2, 5, 8], [0, 4, 8], [2, 4, 6]]
@@ -42,18 +44,21 @@ class Compared(NamedTuple):
 
 
 def solved_pairs() -> List[beside.Pair]:
-    """Returns pairs that the program writes: each kind on small boards, with images and without."""
+    """Returns pairs that the program writes: each kind on small boards, with images and without,
+    and games on graphs and vectors."""
     games = [Game.from_grid(3, 3, "11/10", kind=kind, bias=bias, turn=turn)
              for kind, bias in SIZES for turn in "xy"]
     games += [Game.from_grid(3, 3, lines=ROWS, kind=kind, bias=bias) for kind, bias in SIZES]
-    pairs = []
-    for number, game in enumerate(games):
-        for images in (False, True):
-            certificate = game.solve(positions=300, images=images).certificate
-            if certificate:
-                pairs.append(beside.Pair(game.text.encode(), certificate.encode("latin-1"),
-                                         f"solved {number}{' with images' * images}"))
-    return pairs
+    tries = [(game, images) for game in games for images in (False, True)]
+    edges = list(itertools.combinations(range(4), 2))
+    tries += [(Game.from_graph(edges[leave:], ends, turn, x=edges[leave:leave + 1]), False)
+              for leave in (0, 1, 2) for ends in (None, (0, 3)) for turn in "xy"]
+    vectors = [f"{number:03b}" for number in range(8)]
+    tries += [(Game.from_vectors(vectors[leave:], "110", turn, y=[2]), False)
+              for leave in (0, 2, 4) for turn in "xy"]
+    solutions = [(game, game.solve(POSITIONS, images)) for game, images in tries]
+    return [beside.Pair(bytes_of(game.text), bytes_of(solution.certificate), f"solved {number}")
+            for number, (game, solution) in enumerate(solutions) if solution.certificate]
 
 
 def pairs_of(folder: pathlib.Path) -> List[beside.Pair]:

@@ -157,13 +157,15 @@ class Game:
         """Decides the game by `posgame solve`, which proves its answer by a certificate.
 
         At most `positions` positions are expanded, 20,000 if it is none. With `images`, nodes that
-        are reflections or turns of others are written as such.
+        are reflections or turns of others are written as such. Neither plays a part in games on
+        graphs and vectors, which are always decided.
 
         >>> Game.from_lines([[0, 1, 2], [2, 3, 4], [4, 5, 0]]).solve()
         Solution(answer='breaker', positions=None)
         """
-        words = ["solve", "GAME", "CERT"] + (["--images"] if images else [])
-        words += ["--positions", str(positions)] if positions is not None else []
+        is_searched = _header(self.text) not in FAMILIES
+        words = ["solve", "GAME", "CERT"] + (["--images"] if images and is_searched else [])
+        words += ["--positions", str(positions)] if positions is not None and is_searched else []
         done = answer_of(self._run(words), [0, 1])
         said = done.lines[-1].split()
         if done.status == 1:

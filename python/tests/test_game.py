@@ -172,6 +172,13 @@ class Answers(unittest.TestCase):
         self.assertEqual(answers["good"].answer, "maker")
         self.assertIsInstance(answers["bad"], FileError)
 
+    def test_options_of_families(self) -> None:
+        for game in (Game.from_graph([(0, 1), (0, 1)]), Game.from_vectors(["1", "1"], "1"),
+                     Game.from_graph([(0, 1), (0, 1)], terminals=(0, 1))):
+            solution = game.solve(positions=1, images=True)
+            self.assertEqual((solution.answer in ("maker", "short"), solution.check()),
+                             (True, solution.check_again()))
+
     def test_many_left_early(self) -> None:
         begun = []
 
