@@ -19,7 +19,7 @@ WHEEL = "Wheel-Version: 1.0\nGenerator: posgame_build\nRoot-Is-Purelib: true\nTa
 Settings = Optional[Dict[str, str]]
 
 
-def said(key: str) -> str:
+def value_of(key: str) -> str:
     """Returns the value of a key of pyproject.toml that is a text."""
     text = (TOP / "pyproject.toml").read_text(encoding="utf-8")
     found = re.search(rf'^{key} = (?:{{ text = )?"(.*?)"', text, re.M)
@@ -30,9 +30,9 @@ def said(key: str) -> str:
 
 def metadata() -> str:
     """Returns the metadata of the package, with README.md as its description."""
-    lines = ["Metadata-Version: 2.1", f"Name: {NAME}", f"Version: {said('version')}",
-             f"Summary: {said('description')}", f"License: {said('license')}",
-             f"Requires-Python: {said('requires-python')}",
+    lines = ["Metadata-Version: 2.1", f"Name: {NAME}", f"Version: {value_of('version')}",
+             f"Summary: {value_of('description')}", f"License: {value_of('license')}",
+             f"Requires-Python: {value_of('requires-python')}",
              "Provides-Extra: graphs", 'Requires-Dist: networkx; extra == "graphs"',
              "Provides-Extra: notebooks", 'Requires-Dist: jupyter; extra == "notebooks"',
              "Description-Content-Type: text/markdown", ""]
@@ -51,11 +51,11 @@ def digest(data: bytes) -> str:
 
 def write_wheel(folder: str, files: Dict[str, bytes]) -> str:
     """Writes a wheel of some files and the metadata; returns the name of its file."""
-    info = f"{NAME}-{said('version')}.dist-info"
+    info = f"{NAME}-{value_of('version')}.dist-info"
     files = {**files, f"{info}/METADATA": metadata().encode(), f"{info}/WHEEL": WHEEL.encode()}
     rows = [f"{name},sha256={digest(data)},{len(data)}\n" for name, data in files.items()]
     files[f"{info}/RECORD"] = "".join([*rows, f"{info}/RECORD,,\n"]).encode()
-    wheel = f"{NAME}-{said('version')}-py3-none-any.whl"
+    wheel = f"{NAME}-{value_of('version')}-py3-none-any.whl"
     with zipfile.ZipFile(pathlib.Path(folder, wheel), "w") as archive:
         for name, data in files.items():
             entry = zipfile.ZipInfo(name)
@@ -79,7 +79,7 @@ def build_editable(wheel_directory: str, config_settings: Settings = None,
 
 def build_sdist(sdist_directory: str, config_settings: Settings = None) -> str:
     """Writes the archive of the sources; returns the name of its file (PEP 517)."""
-    top = f"{NAME}-{said('version')}"
+    top = f"{NAME}-{value_of('version')}"
     paths = [TOP / "pyproject.toml", TOP / "README.md", pathlib.Path(__file__), *sources()]
     files = {str(path.resolve().relative_to(TOP)): path.read_bytes() for path in paths}
     with tarfile.open(pathlib.Path(sdist_directory, f"{top}.tar.gz"), "w:gz") as archive:

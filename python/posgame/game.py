@@ -23,7 +23,7 @@ class Game:
     """A game: the text of its file, and a label for each point.
 
     Points are numbered from 0 in the files. The label of a point is what the script calls it; all
-    methods take and return labels. Where a script gives no labels, they are the numbers.
+    methods take and return labels. If a script gives no labels, they are the numbers.
 
     >>> game = Game.from_lines([[0, 1], [0, 2]])
     >>> print(game.text, end="")

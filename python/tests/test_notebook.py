@@ -56,8 +56,8 @@ class Notebooks(unittest.TestCase):
     def test_form(self) -> None:
         for path in NOTEBOOKS:
             text = path.read_text(encoding="utf-8")
-            said = json.loads(text)
-            codes = [cell for cell in said["cells"] if cell["cell_type"] == "code"]
+            cells = json.loads(text)["cells"]
+            codes = [cell for cell in cells if cell["cell_type"] == "code"]
             self.assertEqual([cell["execution_count"] for cell in codes],
                              list(range(1, len(codes) + 1)))
             shown = [stored_outputs(cell)[1] for cell in codes]

@@ -42,12 +42,12 @@ class Package(unittest.TestCase):
         self.assertEqual(wheel.name, f"posgame-{version}-py3-none-any.whl")
         with zipfile.ZipFile(wheel) as archive:
             names = archive.namelist()
-            told = archive.read(f"posgame-{version}.dist-info/METADATA").decode()
+            text = archive.read(f"posgame-{version}.dist-info/METADATA").decode()
         self.assertIn("posgame/py.typed", names)
         modules = {f"posgame/{path.name}" for path in TOP.glob("python/posgame/*.py")}
         self.assertLess(modules, set(names))
-        self.assertIn(f"\nVersion: {version}\n", told)
-        self.assertIn("\nLicense: MIT OR Apache-2.0\n", told)
+        self.assertIn(f"\nVersion: {version}\n", text)
+        self.assertIn("\nLicense: MIT OR Apache-2.0\n", text)
         done = subprocess.run([sys.executable, "-c", SCRIPT.format(folder=str(wheel))],
                               cwd=self.folder, env={"PYTHONPATH": str(wheel)}, text=True,
                               capture_output=True, check=False)
