@@ -1,6 +1,7 @@
 """Compares the second checker with `posgame check` on the same files."""
 from __future__ import annotations
 
+import concurrent.futures
 import hashlib
 import pathlib
 import random
@@ -54,13 +55,14 @@ def words_for(game: bytes) -> List[str]:
     return {"posgame-span": ["span"], "posgame-vectors": ["vec"]}.get(words[0] if words else "", [])
 
 
-def first_verdict(pair: Pair, folder: str) -> Verdict:
-    """Returns the verdict of `posgame check`, run in a folder of the test's own."""
-    for name, data in (("G", pair.game), ("C", pair.certificate)):
-        pathlib.Path(folder, name).write_bytes(data)
+def first_verdict(pair: Pair) -> Verdict:
+    """Returns the verdict of `posgame check`, run in a folder of its own."""
     words = [find("posgame"), *words_for(pair.game), "check", "G", "C"]
-    done = subprocess.run(words, cwd=folder, stdin=subprocess.DEVNULL, stdout=subprocess.PIPE,
-                          check=False)
+    with tempfile.TemporaryDirectory(prefix="posgame-") as folder:
+        for name, data in (("G", pair.game), ("C", pair.certificate)):
+            pathlib.Path(folder, name).write_bytes(data)
+        done = subprocess.run(words, cwd=folder, stdin=subprocess.DEVNULL, stdout=subprocess.PIPE,
+                              check=False)
     return Verdict(done.stdout.decode("latin-1").splitlines(), done.returncode)
 
 
@@ -72,16 +74,17 @@ def second_verdict(pair: Pair) -> Verdict:
         return Verdict([str(fault)], 3 if str(fault).startswith("game") else 4)
 
 
-def comparisons(pairs: Iterable[Pair]) -> Iterator[Comparison]:
-    """Yields the verdicts on each pair."""
-    with tempfile.TemporaryDirectory(prefix="posgame-") as folder:
-        for pair in pairs:
-            yield Comparison(pair, first_verdict(pair, folder), second_verdict(pair))
+def comparisons(pairs: Iterable[Pair], runs: int = 1) -> Iterator[Comparison]:
+    """Yields the verdicts on each pair; `runs` runs of the program go on at a time."""
+    listed = list(pairs)
+    with concurrent.futures.ThreadPoolExecutor(runs) as pool:
+        for pair, first in zip(listed, pool.map(first_verdict, listed)):
+            yield Comparison(pair, first, second_verdict(pair))
 
 
 def differences(pairs: Iterable[Pair]) -> List[str]:
     """Returns a line for each pair on which the two differ."""
-    return [str(one) for one in comparisons(pairs) if one.differs]
+    return [str(one) for one in comparisons(pairs, runs=8) if one.differs]
 
 
 def example_pairs() -> List[Pair]:
