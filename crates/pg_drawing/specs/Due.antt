@@ -20,7 +20,7 @@ use Rattle.pg_opening.specs.Opening.{IsSaidBy}
 use Rattle.pg_picture.specs.Svg.{picture_text}
 use Rattle.pg_scene.specs.Scenes.{IsSceneOfGame, IsSceneOfNode, LacksNode}
 use Rattle.pg_scene.specs.declared.scene.Scene.{Scene}
-use Rattle.pg_span_scene.specs.SpanScenes.{IsSceneOfSpanClaim, IsSceneOfSpanGame}
+use Rattle.pg_scene.specs.SpanScenes.{IsSceneOfSpanClaim, IsSceneOfSpanGame}
 use Rattle.pg_draw.specs.Pictures.{picture_of}
 use Rattle.pg_drawing.specs.Boards.{BoardEntry, PairEntry, board_held, both_held}
 use Rattle.pg_drawing.specs.Boards.BoardEntry.{Positional, Connectivity}

@@ -5,3 +5,4 @@ pub mod Within
 pub mod ReadBack
 pub mod Scaled
 pub mod Named
+pub mod SpanWithin

@@ -3,3 +3,4 @@ pub mod Items
 pub mod Words
 pub mod Scenes
 pub mod Read
+pub mod SpanScenes

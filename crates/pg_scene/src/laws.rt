@@ -17,6 +17,9 @@ ghost use Rattle.pg_scene.specs.Limits.{IsScene};
 ghost use Rattle.pg_scene.specs.Read.{first_in, pair_in, point_in, reply_in, second_in};
 ghost use Rattle.pg_scene.specs.Scenes.{IsSceneOf, IsSceneOfGame};
 ghost use Rattle.pg_scene.specs.declared.scene.Scene.{Scene};
+ghost use Rattle.pg_span.specs.declared.cert.SpanClaim.{SpanClaim};
+ghost use Rattle.pg_span.specs.declared.game.SpanGame.{SpanGame};
+ghost use Rattle.pg_scene.specs.SpanScenes.{IsSceneOfSpan, IsSceneOfSpanGame};
 
 /// Each item of a scene can stand on its board.
 pub fn scenes_can_be_laid_out()
@@ -44,4 +47,10 @@ pub fn edges_are_drawn_once()
 /// The replies drawn are those of the node, each exactly once and in its order, where they are of points of the game.
 pub fn replies_are_drawn_once()
     ensures { (g : Game) → (claim : Claim) → (k : ℕ) → (node : Node) → (fault : Option ℕ) → (scene : Scene) → IsSceneOf g claim k node fault scene → (replies : List Reply) → node.body ≡ bodies.All replies → All (λ r. r.point < point_count g) replies → flat_map reply_in scene.items ≡ replies }
+{}
+
+/// The points of items are the board's, the board is within the limits, and the legend is short.
+pub fn span_scenes_can_be_laid_out()
+    ensures games { (g : SpanGame) → (scene : Scene) → IsSceneOfSpanGame g scene → IsScene scene }
+    ensures claims { (g : SpanGame) → (claim : SpanClaim) → (fault : Option ℕ) → (scene : Scene) → IsSceneOfSpan g claim fault scene → IsScene scene }
 {}

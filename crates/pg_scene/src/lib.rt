@@ -1,4 +1,5 @@
-//! What is to be seen of a game, or of a node of a certificate.
+//! What is to be seen of a game, of a node of a certificate, of a connectivity game, or of a claim
+//! of its certificate.
 #![tactic(auto)]
 
 mod board;
@@ -11,6 +12,8 @@ mod numbers;
 mod points;
 mod scene;
 mod shown;
+mod span_bodies;
+mod span_shown;
 mod text;
 mod weights;
 mod words;
@@ -21,11 +24,12 @@ pub use bridge::joining_board;
 pub use item::{Item, Items, Set};
 pub use laws::{
     edges_are_drawn_once, pairs_are_drawn_once, points_are_drawn_once, replies_are_drawn_once,
-    scenes_can_be_laid_out,
+    scenes_can_be_laid_out, span_scenes_can_be_laid_out,
 };
 pub use lines::{MAX_DRAWN_LINES, MAX_LEGEND_LINES};
 pub use points::{put_members, put_points};
 pub use scene::Scene;
 pub use shown::{scene_of_game, scene_of_node};
+pub use span_shown::{scene_of_span_claim, scene_of_span_game};
 pub use text::{Text, Texts};
 pub use words::{graph_title, text_of, turn_line};

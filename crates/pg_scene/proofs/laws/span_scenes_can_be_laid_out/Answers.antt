@@ -1,5 +1,5 @@
-use Rattle.pg_span_scene.proofs.SpanWithin.{IsScene-span, IsScene-span_game}
-use Rattle.pg_span_scene.proofs.laws.span_scenes_can_be_laid_out.Goals as goal
+use Rattle.pg_scene.proofs.SpanWithin.{IsScene-span, IsScene-span_game}
+use Rattle.pg_scene.proofs.laws.span_scenes_can_be_laid_out.Goals as goal
 
 pub returns-clause-games : goal.returns-clause-games
 returns-clause-games c = IsScene-span_game

@@ -2,10 +2,11 @@
 ghost use Rattle.std.specs.Prelude.{◌≡◌, ◌≤◌, ◌++◌, OnOk};
 ghost use Rattle.pg_graph.specs.Graph.{edge_count};
 ghost use Rattle.pg_scene.specs.Items.{numbered};
-ghost use Rattle.pg_span_scene.specs.SpanScenes.{first_items, part_item, span_items};
+ghost use Rattle.pg_scene.specs.SpanScenes.{first_items, part_item, span_items};
 
+use crate::item::{Item, Set};
+use crate::points::put_members;
 use pg_base::{MAX_EDGES, Memory};
-use pg_scene::{Item, Set, put_members};
 use pg_span::{SpanBody, SpanGame};
 
 /// Puts the edge that X claims first, where there is one below n.

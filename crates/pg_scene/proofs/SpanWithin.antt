@@ -13,7 +13,7 @@ use Rattle.pg_span.specs.declared.game.SpanGame.{SpanGame}
 use Rattle.pg_scene.specs.Items.{fault_items, member_items, point_items}
 use Rattle.pg_scene.specs.Limits.{IsBoard, IsItemOn, IsScene, points_on, vertices_on}
 use Rattle.pg_scene.specs.Scenes.{IsDrawnGraph}
-use Rattle.pg_span_scene.specs.SpanScenes.{IsSceneOfSpan, IsSceneOfSpanGame, first_items, part_item, span_items, span_legend, span_line}
+use Rattle.pg_scene.specs.SpanScenes.{IsSceneOfSpan, IsSceneOfSpanGame, first_items, part_item, span_items, span_legend, span_line}
 use Rattle.pg_scene.specs.declared.board.Board.{Board}
 use Rattle.pg_scene.specs.declared.item.Item.TheVariants.{Step, Part}
 use Rattle.pg_scene.specs.declared.item.Set.TheVariants.{First, Second}

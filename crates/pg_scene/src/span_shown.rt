@@ -3,15 +3,18 @@ ghost use Rattle.std.specs.Prelude.{◌≡◌, ◌≤◌, ◌++◌, ◌∷◌, [
 ghost use Rattle.pg_graph.specs.Graph.{edge_count};
 ghost use Rattle.pg_span.specs.Game.{marks_at};
 ghost use Rattle.pg_scene.specs.Items.{fault_items, point_items};
-ghost use Rattle.pg_span_scene.specs.SpanScenes.{IsSceneOfSpan, IsSceneOfSpanClaim, IsSceneOfSpanGame, span_claim_text, span_fault_text, span_items, span_legend, span_line};
+ghost use Rattle.pg_scene.specs.SpanScenes.{IsSceneOfSpan, IsSceneOfSpanClaim, IsSceneOfSpanGame, span_claim_text, span_fault_text, span_items, span_legend, span_line};
 
-use crate::bodies::put_span_body;
+use crate::bodies::put_fault;
+use crate::bridge::joining_board;
+use crate::item::{Item, Items};
+use crate::points::put_points;
+use crate::scene::Scene;
+use crate::span_bodies::put_span_body;
+use crate::text::{Text, Texts};
+use crate::words::{graph_title, text_of, turn_line};
 use pg_base::{MAX_EDGES, Memory, Side};
 use pg_game::Position;
-use pg_scene::{
-    Item, Items, Scene, Text, Texts, graph_title, joining_board, put_fault, put_points, text_of,
-    turn_line,
-};
 use pg_span::{SpanBody, SpanCert, SpanClaim, SpanGame};
 use std::alloc::{AllocError, Global};
 use std::fmt::Write;

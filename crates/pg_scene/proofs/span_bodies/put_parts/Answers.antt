@@ -1,7 +1,7 @@
 use Rattle.std.proofs.Common.{arith, get_or, refl}
 use Rattle.pg_scene.proofs.Growing.{numbered_next}
-use Rattle.pg_span_scene.specs.SpanScenes.{part_item}
-use Rattle.pg_span_scene.proofs.bodies.put_parts.Goals as goal
+use Rattle.pg_scene.specs.SpanScenes.{part_item}
+use Rattle.pg_scene.proofs.span_bodies.put_parts.Goals as goal
 
 pub loop-i-preserved : goal.loop-i-preserved
 loop-i-preserved c =
