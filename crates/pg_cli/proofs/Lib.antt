@@ -12,3 +12,4 @@ pub mod Verdicts
 pub mod Differing
 pub mod FoldedFiles
 pub mod InTime
+pub mod ReportTexts

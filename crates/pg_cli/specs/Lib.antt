@@ -8,3 +8,5 @@ pub mod Generating
 pub mod Commands
 pub mod Run
 pub mod Forced
+pub mod Report
+pub mod Values

@@ -8,9 +8,9 @@ use Rattle.pg_files.specs.GameFile.{Entry as GameEntry}
 use Rattle.pg_evidence.specs.Standing.{HasFault, HasImageFault, ShowsValid}
 use Rattle.pg_evidence.specs.Verdicts.{heads_of_evidence}
 use Rattle.pg_evidence.specs.declared.evidence.Evidence.{Evidence}
-use Rattle.pg_report.specs.Report.{report_text, rejection_text}
-use Rattle.pg_report.specs.declared.code.Code.{Code}
-use Rattle.pg_report.specs.declared.code.Code.TheVariants.{Node, Image}
+use Rattle.pg_cli.specs.Report.{report_text, rejection_text}
+use Rattle.pg_cli.specs.declared.code.Code.{Code}
+use Rattle.pg_cli.specs.declared.code.Code.TheVariants.{Node, Image}
 use Rattle.pg_texts.specs.declared.refusal.Refusal.{Refusal}
 use Rattle.pg_texts.specs.declared.statuses.TheConstants.{DONE, REFUSED}
 use Rattle.pg_talk.specs.Done.{End, Finished, Failed, Starved}

@@ -12,12 +12,12 @@ ghost use Rattle.pg_cli.specs.Reading.{AreLacking, read_of};
 ghost use Rattle.pg_cli.specs.Reporting.{Accounts, IsReportEnd, RefusesReport, Reports};
 ghost use Rattle.pg_cli.specs.Run.{Carries};
 
+use crate::code::Code;
 use crate::judging::judge_both;
 use pg_base::Memory;
 use pg_evidence::Verdict;
 use pg_game::Game;
 use pg_io::{Console, Files, Stop};
-use pg_report::Code;
 use pg_talk::{Halt, say_text};
 use pg_texts::{DONE, REFUSED};
 use std::alloc::Global;
@@ -29,13 +29,13 @@ fn account(alloc: Global, game: &Game, verdict: &Verdict) -> Result<(String, u8)
     ensures end { IfOk result (λ told. IsReportEnd told.1) }
 {
     match verdict {
-        Verdict::Valid(claims) => Ok((pg_report::report(alloc, game, claims)?, DONE)),
+        Verdict::Valid(claims) => Ok((crate::report(alloc, game, claims)?, DONE)),
         Verdict::Faulty { claim, node, why } => Ok((
-            pg_report::rejection(alloc, *claim, *node, Code::Node(*why))?,
+            crate::rejection(alloc, *claim, *node, Code::Node(*why))?,
             REFUSED,
         )),
         Verdict::FaultyImage { claim, node, why } => Ok((
-            pg_report::rejection(alloc, *claim, *node, Code::Image(*why))?,
+            crate::rejection(alloc, *claim, *node, Code::Image(*why))?,
             REFUSED,
         )),
     }

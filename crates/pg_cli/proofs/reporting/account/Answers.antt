@@ -1,6 +1,6 @@
 use Rattle.std.proofs.Common.{string_bytes, subst}
 use Rattle.pg_evidence.specs.Verdicts.{IsFound}
-use Rattle.pg_report.specs.declared.code.Code.TheVariants.{Node, Image}
+use Rattle.pg_cli.specs.declared.code.Code.TheVariants.{Node, Image}
 use Rattle.pg_cli.proofs.Reports.{told_fault}
 use Rattle.pg_cli.proofs.reporting.account.Goals as goal
 

@@ -1,15 +1,11 @@
 //! Reports on certificates, as JSON.
-#![tactic(auto)]
-
 ghost use Rattle.std.specs.Prelude.{◌≡◌, IfOk, string_bytes};
-ghost use Rattle.pg_report.specs.Report.{code_text, rejection_text, report_text};
-ghost use Rattle.pg_report.specs.Values.{IsByte, claim_data, claims_data, rejection_data, report_data};
+ghost use Rattle.pg_cli.specs.Report.{code_text, rejection_text, report_text};
+ghost use Rattle.pg_cli.specs.Values.{IsByte, claim_data, claims_data, rejection_data, report_data};
 ghost use Rattle.serde_json.specs.Data.{array};
 ghost use Rattle.serde_json.specs.View.{view};
 
-mod code;
-
-pub use code::Code;
+use crate::code::Code;
 use pg_base::Memory;
 use pg_game::{Field, Game};
 use pg_judge::ClaimHead;
