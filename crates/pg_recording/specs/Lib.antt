@@ -3,3 +3,8 @@ pub mod Request
 pub mod SessionLog
 pub mod Turns
 pub mod Recording
+pub mod Losses
+pub mod Known
+pub mod Review
+pub mod Along
+pub mod Saying
