@@ -6,9 +6,9 @@ use Rattle.pg_io.specs.Files.{Bytes, Holding}
 use Rattle.pg_io.specs.declared.entry.Entry.{Entry}
 use Rattle.pg_io.specs.declared.entry.Entry.TheVariants.{Said}
 use Rattle.pg_pns.specs.Expanded.{Expanded}
-use Rattle.pg_recording.proofs.Standing.{leaves-more}
-use Rattle.pg_recording.specs.Along.{IsOfNames, IsReached, SaysAtLeast}
-use Rattle.pg_recording.specs.Review.{loss_texts}
+use Rattle.pg_sessions.proofs.Standing.{leaves-more}
+use Rattle.pg_sessions.specs.Along.{IsOfNames, IsReached, SaysAtLeast}
+use Rattle.pg_sessions.specs.Review.{loss_texts}
 use Rattle.pg_solve.specs.Left.{LeavesSearch}
 use Rattle.pg_talk.proofs.Speaking.{Grows-then}
 use Rattle.pg_talk.specs.declared.halt.Halt.{Halt}

@@ -15,11 +15,11 @@ use Rattle.pg_talk.specs.Done.{Done, End, Finished, Failed, Starved, SaysFirst}
 use Rattle.pg_talk.specs.declared.halt.Halt.{Halt}
 use Rattle.pg_pns.specs.Expanded.{Expanded}
 use Rattle.pg_solve.specs.Left.{budget}
-use Rattle.pg_recording.specs.Course.{LeadsBy}
-use Rattle.pg_recording.specs.Recording.{Records, RecordsGame}
-use Rattle.pg_recording.specs.SessionLog.{Stage, Listens, Stands, Refuses, Closes, Over, Steps}
-use Rattle.pg_recording.specs.Losses.{Loss, losses}
-use Rattle.pg_recording.specs.Review.{ReviewsMoves, ReviewsRead, loss_texts}
+use Rattle.pg_sessions.specs.Course.{LeadsBy}
+use Rattle.pg_sessions.specs.Recording.{Records, RecordsGame}
+use Rattle.pg_sessions.specs.SessionLog.{Stage, Listens, Stands, Refuses, Closes, Over, Steps}
+use Rattle.pg_sessions.specs.Losses.{Loss, losses}
+use Rattle.pg_sessions.specs.Review.{ReviewsMoves, ReviewsRead, loss_texts}
 use Rattle.pg_families.proofs.Announced.{AllOther, AreOther, IsOther, apart, first_or_later, image_of, none_of, one_other, stays_other}
 
 -- ---- a session that is recorded

@@ -20,9 +20,9 @@ use Rattle.pg_talk.specs.Reading.{lacking}
 use Rattle.pg_talk.specs.Runs.{QuietsBy}
 use Rattle.pg_talk.specs.Storing.{StoresAt}
 use Rattle.pg_families.specs.Family.{GivesInFamily, LacksInFamily, LeavesFamilyFiles, QuietAtReadInFamily, statuses_in_family}
-use Rattle.pg_recording.specs.Recording.{GivesRecord}
-use Rattle.pg_recording.specs.Along.{IsAlong, IsOfNames, IsReached}
-use Rattle.pg_recording.specs.Review.{GivesReview, StandsAgainst}
+use Rattle.pg_sessions.specs.Recording.{GivesRecord}
+use Rattle.pg_sessions.specs.Along.{IsAlong, IsOfNames, IsReached}
+use Rattle.pg_sessions.specs.Review.{GivesReview, StandsAgainst}
 use Rattle.pg_pns.specs.Expanded.{Expanded}
 use Rattle.pg_io.specs.declared.stop.Stop.TheVariants.{Memory}
 use Rattle.pg_talk.specs.declared.halt.Halt.{Halt}

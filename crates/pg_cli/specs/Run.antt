@@ -21,8 +21,8 @@ use Rattle.pg_cli.specs.Reporting.{RefusesReport, Reports}
 use Rattle.pg_cli.specs.Solving.{Solves}
 use Rattle.pg_talk.specs.Runs.{Runs}
 use Rattle.pg_families.specs.Family.{ActsInFamily, RefusesFamily}
-use Rattle.pg_recording.specs.Recording.{Records}
-use Rattle.pg_recording.specs.Review.{RefusesReview, Reviews}
+use Rattle.pg_sessions.specs.Recording.{Records}
+use Rattle.pg_sessions.specs.Review.{RefusesReview, Reviews}
 use Rattle.pg_pns.specs.Expanded.{Expanded}
 use Rattle.pg_talk.specs.declared.halt.Halt.{Halt}
 use Rattle.pg_talk.specs.declared.halt.Halt.TheVariants.{Refused, Stopped}

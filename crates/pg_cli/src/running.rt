@@ -15,7 +15,7 @@ use crate::solving::{Options, positions_for, solve};
 use pg_families::carry_out_in_family;
 use pg_io::{Console, Files, Stop};
 use pg_pns::Work;
-use pg_recording::{record, review};
+use pg_sessions::{record, review};
 use pg_talk::{Halt, say};
 use pg_texts::{Message, NO_MEMORY, READ_FAILED, Refusal, WRITE_FAILED};
 use pg_words::{Command, meaning};

@@ -6,7 +6,7 @@ use Rattle.pg_words.specs.Ordered.{ordered}
 use Rattle.pg_words.specs.Words.{Command, OfFamily, Review, meaning_of}
 use Rattle.pg_words.specs.declared.command.Command.{Command as Order}
 use Rattle.pg_families.specs.Family.{ActsInFamily, RefusesFamily}
-use Rattle.pg_recording.specs.Along.{IsOfNames, IsReached}
+use Rattle.pg_sessions.specs.Along.{IsOfNames, IsReached}
 use Rattle.pg_solve.specs.Left.{LeavesSearch}
 use Rattle.pg_cli.specs.Commands.{SpeaksInTime, asked, built}
 use Rattle.pg_cli.specs.Run.{Carries}

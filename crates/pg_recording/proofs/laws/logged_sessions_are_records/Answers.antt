@@ -1,5 +1,0 @@
-use Rattle.pg_recording.proofs.SessionLogs.{log_records}
-use Rattle.pg_recording.proofs.laws.logged_sessions_are_records.Goals as goal
-
-pub returns : goal.returns
-returns c = log_records

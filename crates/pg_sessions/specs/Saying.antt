@@ -1,0 +1,26 @@
+-- What the code of a review says, one move after the other.
+use Rattle.std.specs.Prelude.{◌≡◌, ℕ, if◌then◌else◌, List, [], ◌∷◌, map, Option, Result, Ok, Err}
+use Rattle.pg_base.specs.declared.kind.Kind.{Kind}
+use Rattle.pg_base.specs.declared.score.Score.{Score}
+use Rattle.pg_base.specs.declared.side.Side.{Side}
+use Rattle.pg_io.specs.Console.{Grows}
+use Rattle.pg_io.specs.Files.{Bytes}
+use Rattle.pg_io.specs.declared.entry.Entry.{Entry}
+use Rattle.pg_io.specs.declared.entry.Entry.TheVariants.{Said}
+use Rattle.pg_io.specs.declared.stop.Stop.{Stop}
+use Rattle.pg_texts.specs.Texts.{lost_text}
+use Rattle.pg_sessions.specs.Losses.{is_worse}
+
+-- what is said of the move of this number, by the values before and after it: its loss, or nothing
+abbrev pub move_texts : Kind → Side → ℕ → ℕ → Score → Score → List Bytes
+move_texts kind mover number point before after =
+    if is_worse mover before after then lost_text number point kind before after ∷ [] else []
+
+-- all these texts were said, or a call has failed and none was
+abbrev pub SaysAtOnce : List Bytes
+    → Option (List Entry)
+    → Option (List Entry)
+    → Result (Unit {0}) Stop
+    → Type 0
+SaysAtOnce texts log after (Ok _) = Grows log after (map Said texts)
+SaysAtOnce texts log after (Err _) = after ≡ log
