@@ -44,7 +44,7 @@ use Rattle.pg_families.proofs.Announced.{AllOther, AreOther, IsOther, accepted_f
 use Rattle.pg_cli.specs.Forced.{SaysGame, IsForcedFrom, IsForced, AreForced, AreForcedInGame, AnnouncesForced}
 use Rattle.pg_cli.specs.Playing.{IsPlayedBy, PlaysOn, claimer}
 use Rattle.pg_cli.specs.Reading.{both_held}
-use Rattle.pg_opening.specs.Opening.{game_held, IsSaidBy}
+use Rattle.pg_talk.specs.Opening.{game_held, IsSaidBy}
 use Rattle.pg_talk.specs.Reading.{both}
 use Rattle.pg_cli.specs.Reporting.{Accounts, Reports}
 use Rattle.pg_cli.specs.Generating.{StoresGame, game_file, size_text, size_texts}

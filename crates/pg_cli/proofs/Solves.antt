@@ -21,7 +21,7 @@ use Rattle.pg_texts.specs.declared.refusal.Refusal.{Refusal}
 use Rattle.pg_texts.specs.declared.statuses.TheConstants.{UNKNOWN}
 use Rattle.pg_words.specs.Words.{Solve}
 use Rattle.pg_talk.specs.Done.{Done, End, Finished, Failed, Starved, Does, Follows, talk, stop_end}
-use Rattle.pg_opening.specs.Opening.{OpensGame, game_held}
+use Rattle.pg_talk.specs.Opening.{OpensGame, game_held}
 use Rattle.pg_cli.specs.Commands.{IsGameHeld}
 use Rattle.pg_cli.specs.Run.{Refuses, CarriesOn, Carries}
 use Rattle.pg_cli.specs.Solving.{IsFileOf, IsLeftBehind, Shows, SolvesGame, Solves, Told, result_alone}

@@ -14,7 +14,7 @@ use Rattle.pg_evidence.specs.Standing.{RejectsEvidence, StandsFor}
 use Rattle.pg_evidence.specs.declared.evidence.Evidence.{Evidence}
 use Rattle.pg_talk.specs.Done.{End}
 use Rattle.pg_talk.specs.Saying.{SaysAll}
-use Rattle.pg_opening.specs.Opening.{IsSaidBy}
+use Rattle.pg_talk.specs.Opening.{IsSaidBy}
 use Rattle.pg_talk.specs.declared.halt.Halt.{Halt}
 use Rattle.pg_talk.specs.declared.halt.Halt.TheVariants.{Refused}
 

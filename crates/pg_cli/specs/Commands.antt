@@ -12,7 +12,7 @@ use Rattle.pg_words.specs.Words.{Command, Solve, Check, Play, Gen, Report, OfFam
 use Rattle.pg_cli.specs.Generating.{IsMade, TellsSize, has_source, names_of, searches}
 use Rattle.pg_talk.specs.Halts.{IsGameHalt, IsReadHalt, IsPlayHalt, IsPlayEnd, IsWriteHalt}
 use Rattle.pg_cli.specs.Reading.{both_held}
-use Rattle.pg_opening.specs.Opening.{game_held}
+use Rattle.pg_talk.specs.Opening.{game_held}
 use Rattle.pg_cli.specs.Reporting.{IsReportEnd}
 use Rattle.pg_cli.specs.Solving.{positions_for}
 use Rattle.pg_cli.specs.declared.solving.TheConstants.{DEFAULT_POSITIONS}

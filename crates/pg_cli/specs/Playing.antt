@@ -16,7 +16,7 @@ use Rattle.pg_evidence.specs.declared.evidence.Evidence.{Evidence}
 use Rattle.pg_talk.specs.Contender.{Contender, contender_of}
 use Rattle.pg_talk.specs.Done.{End}
 use Rattle.pg_talk.specs.Playing.{IsPlay}
-use Rattle.pg_opening.specs.Opening.{IsSaidBy}
+use Rattle.pg_talk.specs.Opening.{IsSaidBy}
 use Rattle.pg_talk.specs.declared.halt.Halt.{Halt}
 use Rattle.pg_talk.specs.declared.halt.Halt.TheVariants.{Refused}
 

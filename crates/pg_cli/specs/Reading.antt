@@ -8,7 +8,7 @@ use Rattle.pg_files.specs.Views.{entry}
 use Rattle.pg_evidence.specs.Evidence.{evidence_held}
 use Rattle.pg_evidence.specs.declared.evidence.Evidence.{Evidence}
 use Rattle.pg_talk.specs.Reading.{IsLackingTwo, OpensTwo, both}
-use Rattle.pg_opening.specs.Opening.{game_held}
+use Rattle.pg_talk.specs.Opening.{game_held}
 use Rattle.pg_talk.specs.declared.halt.Halt.{Halt}
 
 -- the game and the certificate that two names hold, or what stands against the first of them

@@ -16,7 +16,7 @@ use Rattle.pg_cli.specs.Generating.{Generates}
 use Rattle.pg_talk.specs.Halts.{stop_status}
 use Rattle.pg_cli.specs.Playing.{RefusesPlay, PlaysOn}
 use Rattle.pg_cli.specs.Reading.{both_held}
-use Rattle.pg_opening.specs.Opening.{game_held}
+use Rattle.pg_talk.specs.Opening.{game_held}
 use Rattle.pg_cli.specs.Reporting.{RefusesReport, Reports}
 use Rattle.pg_cli.specs.Solving.{Solves}
 use Rattle.pg_talk.specs.Runs.{Runs}

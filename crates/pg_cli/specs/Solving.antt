@@ -33,7 +33,7 @@ use Rattle.pg_texts.specs.Texts.{class_short_text, class_cut_text, class_first_m
 use Rattle.pg_texts.specs.declared.message.Message.{Message}
 use Rattle.pg_texts.specs.declared.statuses.TheConstants.{DONE, UNKNOWN}
 use Rattle.pg_talk.specs.Done.{Done, End, Finished, Failed, Starved}
-use Rattle.pg_opening.specs.Opening.{IsSaidBy}
+use Rattle.pg_talk.specs.Opening.{IsSaidBy}
 use Rattle.pg_talk.specs.Storing.{Delivers}
 use Rattle.pg_cli.specs.declared.solving.TheConstants.{DEFAULT_POSITIONS}
 use Rattle.pg_talk.specs.declared.halt.Halt.{Halt}

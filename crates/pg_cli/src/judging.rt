@@ -8,8 +8,7 @@ ghost use Rattle.pg_cli.specs.Verdicts.{JudgesBoth};
 use pg_evidence::{Verdict, judge_evidence};
 use pg_game::Game;
 use pg_io::Files;
-use pg_opening::open_game;
-use pg_talk::Halt;
+use pg_talk::{Halt, open_game};
 use std::alloc::Global;
 
 /// The game under one name, and what judging the certificate under another for it finds. The

@@ -8,8 +8,7 @@ ghost use Rattle.pg_cli.specs.Reading.{OpensBoth, AreLacking};
 use pg_evidence::{Evidence, open_evidence};
 use pg_game::Game;
 use pg_io::Files;
-use pg_opening::open_game;
-use pg_talk::Halt;
+use pg_talk::{Halt, open_game};
 use std::alloc::Global;
 
 /// The game and the certificate under these names. The certificate is opened only where the game is

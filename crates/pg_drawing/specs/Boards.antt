@@ -14,7 +14,7 @@ use Rattle.pg_texts.specs.declared.refusal.Refusal.TheVariants.{Game as FaultyGa
 use Rattle.pg_talk.specs.Reading.{certificate_held, game_fault}
 use Rattle.pg_talk.specs.declared.halt.Halt.{Halt}
 use Rattle.pg_talk.specs.declared.halt.Halt.TheVariants.{Refused}
-use Rattle.pg_opening.specs.Opening.{game_held}
+use Rattle.pg_talk.specs.Opening.{game_held}
 use Rattle.pg_families.specs.Connectivity.{span_cert_held, span_held}
 use Rattle.pg_drawing.specs.declared.board.Board.{Board}
 use Rattle.pg_drawing.specs.declared.board.Board.TheVariants as boards

@@ -16,7 +16,7 @@ use Rattle.pg_texts.specs.declared.refusal.Refusal.TheVariants.{NoMeaning}
 use Rattle.pg_texts.specs.declared.statuses.TheConstants.{DONE, NO_MEANING, REFUSED}
 use Rattle.pg_talk.specs.declared.halt.Halt.{Halt}
 use Rattle.pg_talk.specs.declared.halt.Halt.TheVariants.{Refused, Stopped}
-use Rattle.pg_opening.specs.Opening.{IsSaidBy}
+use Rattle.pg_talk.specs.Opening.{IsSaidBy}
 use Rattle.pg_picture.specs.Svg.{picture_text}
 use Rattle.pg_scene.specs.Scenes.{IsSceneOfGame, IsSceneOfNode, LacksNode}
 use Rattle.pg_scene.specs.declared.scene.Scene.{Scene}

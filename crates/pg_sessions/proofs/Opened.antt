@@ -9,7 +9,7 @@ use Rattle.pg_io.specs.Files.{Bytes, Holding, FilesTold}
 use Rattle.pg_io.specs.Reading.{IsFile}
 use Rattle.pg_io.specs.declared.entry.Entry.{Entry}
 use Rattle.pg_io.specs.declared.stop.Stop.TheVariants.{Read, Write, Memory}
-use Rattle.pg_opening.specs.Opening.{OpensGame, game_held}
+use Rattle.pg_talk.specs.Opening.{OpensGame, game_held}
 use Rattle.pg_pns.specs.Expanded.{Expanded}
 use Rattle.pg_record.specs.declared.event.Event.{Event}
 use Rattle.pg_record_files.specs.RecordFile.{record_of}

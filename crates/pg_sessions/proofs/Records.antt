@@ -10,7 +10,7 @@ use Rattle.pg_io.specs.declared.stop.Stop.TheVariants.{Read, Write, Memory}
 use Rattle.pg_files.specs.GameFile.{Entry as GameEntry}
 use Rattle.pg_files.specs.Views.{entry}
 use Rattle.pg_game.specs.declared.game.Game.{Game}
-use Rattle.pg_opening.specs.Opening.{OpensGame, game_held}
+use Rattle.pg_talk.specs.Opening.{OpensGame, game_held}
 use Rattle.pg_record.specs.declared.event.Event.{Event}
 use Rattle.pg_talk.specs.Done.{Done, End, Finished, Failed, Starved, Changes, Does, Follows, Stops, stop_end, talk}
 use Rattle.pg_talk.specs.Halts.{IsWriteHalt}

@@ -6,7 +6,7 @@ use Rattle.pg_io.specs.declared.entry.Entry.{Entry}
 use Rattle.pg_io.specs.declared.entry.Entry.TheVariants.{Said}
 use Rattle.pg_files.specs.Views.{entry}
 use Rattle.pg_game.specs.declared.game.Game.{Game}
-use Rattle.pg_opening.specs.Opening.{game_held}
+use Rattle.pg_talk.specs.Opening.{game_held}
 use Rattle.pg_record.specs.Replay.{position_after}
 use Rattle.pg_sessions.specs.Review.{IsGameAt, loss_texts, moves_held}
 

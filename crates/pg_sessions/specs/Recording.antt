@@ -3,7 +3,7 @@ use Rattle.std.specs.Prelude.{◌≡◌, ◌⊎◌, ℕ, ◌==◌, List, [], ◌
 use Rattle.pg_io.specs.Files.{Bytes, Making}
 use Rattle.pg_game.specs.declared.game.Game.{Game}
 use Rattle.pg_files.specs.GameFile.{Entry as GameEntry}
-use Rattle.pg_opening.specs.Opening.{IsSaidBy}
+use Rattle.pg_talk.specs.Opening.{IsSaidBy}
 use Rattle.pg_record.specs.Print.{printed_record}
 use Rattle.pg_record.specs.declared.event.Event.{Event}
 use Rattle.pg_talk.specs.Done.{Done, End, Finished, Failed, Starved}

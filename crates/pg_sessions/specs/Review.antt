@@ -25,7 +25,7 @@ use Rattle.pg_talk.specs.Done.{Done, End, Finished, Failed, Starved, SaysFirst}
 use Rattle.pg_talk.specs.Reading.{game_fault, held_as, lacking}
 use Rattle.pg_talk.specs.declared.halt.Halt.{Halt}
 use Rattle.pg_talk.specs.declared.halt.Halt.TheVariants.{Refused, Stopped}
-use Rattle.pg_opening.specs.Opening.{IsSaidBy, game_held}
+use Rattle.pg_talk.specs.Opening.{IsSaidBy, game_held}
 use Rattle.pg_sessions.specs.Known.{HaveNodes, IsSolvedBy}
 use Rattle.pg_sessions.specs.Losses.{Loss, losses}
 use Rattle.pg_sessions.specs.declared.opening.TheConstants.{SEVERAL_A_TURN}

@@ -16,10 +16,9 @@ use crate::opening::open_moves;
 use crate::reviewing::review_moves;
 use pg_game::{Game, MAX_POSITIONS};
 use pg_io::{Console, Files};
-use pg_opening::open_game;
 use pg_pns::Work;
 use pg_solve::MIN_POSITIONS;
-use pg_talk::Halt;
+use pg_talk::{Halt, open_game};
 use std::alloc::Global;
 
 /// Reviews the record of a game under a name.

@@ -2,7 +2,7 @@
 ghost use Rattle.std.specs.Prelude.{◌≡◌, [], ◌∷◌, Err, IfErr, IfOk, ⊤};
 ghost use Rattle.pg_texts.specs.Texts.{recorded_text};
 ghost use Rattle.pg_texts.specs.declared.statuses.TheConstants.{DONE};
-ghost use Rattle.pg_opening.specs.Opening.{IsGameLacking, game_held};
+ghost use Rattle.pg_talk.specs.Opening.{IsGameLacking, game_held};
 ghost use Rattle.pg_talk.specs.Done.{Does};
 ghost use Rattle.pg_talk.specs.Halts.{BothCauses, IsWriteHalt};
 ghost use Rattle.pg_talk.specs.Runs.{QuietsBy, Runs};
@@ -14,9 +14,8 @@ ghost use Rattle.pg_sessions.specs.SessionLog.{standing_count};
 use crate::dialogue::{Close, hear_session};
 use pg_game::Game;
 use pg_io::{Console, Files};
-use pg_opening::open_game;
 use pg_record::{Session, print_record};
-use pg_talk::{Halt, deliver};
+use pg_talk::{Halt, deliver, open_game};
 use pg_texts::{Message, OUT_OF_REPLIES};
 use std::alloc::Global;
 

@@ -8,3 +8,4 @@ pub mod Plays
 pub mod Players
 pub mod Delivering
 pub mod Parts
+pub mod GameOpenings

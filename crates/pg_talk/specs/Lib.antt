@@ -11,3 +11,4 @@ pub mod Runs
 pub mod Saying
 pub mod Playing
 pub mod Storing
+pub mod Opening

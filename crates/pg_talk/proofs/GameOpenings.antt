@@ -7,7 +7,7 @@ use Rattle.pg_files.specs.GameFile.{game}
 use Rattle.pg_files.specs.Views.{entry}
 use Rattle.pg_files.specs.declared.fault.Fault.TheVariants.{Size}
 use Rattle.pg_files.specs.declared.limits.TheConstants.{MAX_GAME_BYTES}
-use Rattle.pg_opening.specs.Opening.{OpensGame, game_held}
+use Rattle.pg_talk.specs.Opening.{OpensGame, game_held}
 use Rattle.pg_talk.specs.Reading.{IsReadAs}
 use Rattle.pg_talk.specs.declared.halt.Halt.{Halt}
 use Rattle.pg_talk.proofs.Openings.{cut_same, opens_whole}

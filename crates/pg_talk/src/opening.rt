@@ -2,12 +2,12 @@
 ghost use Rattle.std.specs.Prelude.{IfErr};
 ghost use Rattle.pg_io.specs.Files.{IsAbsent, ReadsOnly};
 ghost use Rattle.pg_talk.specs.Halts.{HaltCauses, IsGameHalt};
-ghost use Rattle.pg_opening.specs.Opening.{OpensGame};
+ghost use Rattle.pg_talk.specs.Opening.{OpensGame};
 
+use crate::halt::Halt;
 use pg_files::{GameFault, MAX_GAME_BYTES, read_game};
 use pg_game::Game;
 use pg_io::{Files, Stop, read_whole};
-use pg_talk::Halt;
 use pg_texts::Refusal;
 use std::alloc::Global;
 

@@ -3,10 +3,10 @@ use Rattle.pg_io.specs.Files.{Bytes}
 use Rattle.pg_files.specs.GameFile.{game}
 use Rattle.pg_files.specs.Views.{IsReadAs, entry, number_of}
 use Rattle.pg_text.specs.declared.error.FileError.{FileError}
-use Rattle.pg_opening.proofs.Openings.{opens_game}
+use Rattle.pg_talk.proofs.GameOpenings.{opens_game}
 use Rattle.pg_talk.proofs.Openings.{read_ok, read_bad}
 use Rattle.pg_talk.specs.Reading.{game_fault}
-use Rattle.pg_opening.proofs.opening.open_game.Goals as goal
+use Rattle.pg_talk.proofs.opening.open_game.Goals as goal
 
 pub returns-in-Ok-clause-opened : goal.returns-in-Ok-clause-opened
 returns-in-Ok-clause-opened g c = opens_game (g.F.Files.told c.args.files.now).held c.args.name.now
