@@ -1,7 +1,9 @@
-//! The classes of all small switching games, connectivity games and games on vectors beside plain
-//! search, and each call on two forests once. Nothing of the product calls it.
+//! Classes, threat lines and searches beside plain programs on small games, and on rows worked by
+//! hand. Nothing of the product calls it.
 #![tactic(auto)]
 
+#[cfg(test)]
+mod expanding;
 #[cfg(test)]
 mod families;
 #[cfg(test)]
@@ -10,6 +12,10 @@ mod forests;
 mod plain;
 #[cfg(test)]
 mod rows;
+#[cfg(test)]
+mod search_rows;
+#[cfg(test)]
+mod settling;
 #[cfg(test)]
 mod switching;
 #[cfg(test)]
