@@ -1,7 +1,9 @@
 //! Classes, threat lines and searches beside plain programs on small games, and on rows worked by
-//! hand. Nothing of the product calls it.
+//! hand, and each call on two forests once. Nothing of the product calls it.
 #![tactic(auto)]
 
+#[cfg(test)]
+mod compared;
 #[cfg(test)]
 mod expanding;
 #[cfg(test)]
@@ -10,6 +12,8 @@ mod families;
 mod forests;
 #[cfg(test)]
 mod plain;
+#[cfg(test)]
+mod plain_threats;
 #[cfg(test)]
 mod rows;
 #[cfg(test)]
@@ -20,5 +24,7 @@ mod settling;
 mod switching;
 #[cfg(test)]
 mod tally;
+#[cfg(test)]
+mod threat_rows;
 #[cfg(test)]
 mod told;

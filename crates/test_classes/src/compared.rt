@@ -2,7 +2,7 @@
 ghost use Rattle.std.specs.Prelude.{◌≢◌, ◌≤◌};
 ghost use Rattle.pg_base.specs.declared.kind.Kind.TheVariants.{Switching};
 
-use crate::plain::first_line;
+use crate::plain_threats::first_line;
 use pg_base::Memory;
 use pg_board::Board;
 use pg_game::{Game, may_attack};
