@@ -1,5 +1,5 @@
 #!/usr/bin/env python3
-"""Finds the numbers of test_classes on connectivity games and on games on vectors again, by brute
+"""Finds the numbers of test_plain on connectivity games and on games on vectors again, by brute
 force without anything of the crates.
 
 For connectivity games on two to four vertices and for games on vectors of three signs it prints,
@@ -46,7 +46,7 @@ def classes(count: int, passes: Callable[[int], bool], has_marks: bool) -> List[
 
 
 def line(counts: Iterable[List[int]]) -> str:
-    """The sums of the counts, as the script of test_classes has them."""
+    """The sums of the counts, as the script of test_plain has them."""
     return kit.field(map(sum, zip(*counts))) + ","
 
 

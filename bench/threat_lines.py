@@ -1,5 +1,5 @@
 #!/usr/bin/env python3
-"""Finds again the numbers in crates/test_classes/src/threat_rows.rt, without anything of that crate.
+"""Finds again the numbers in crates/test_plain/src/threat_rows.rt, without anything of that crate.
 
 It goes over every position of small games at which the side to move may attack, and counts by how
 many replies the shortest threat line forces, as docs/DEFINITIONS.md says what one is: none, one,

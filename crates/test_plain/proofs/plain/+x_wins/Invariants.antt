@@ -1,4 +1,4 @@
-use Rattle.test_classes.proofs.plain.+x_wins.Given as goal
+use Rattle.test_plain.proofs.plain.+x_wins.Given as goal
 
 abbrev pub decreases-x_wins : goal.decreases-x_wins
 decreases-x_wins l = l.free

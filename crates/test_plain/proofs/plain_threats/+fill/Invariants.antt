@@ -1,5 +1,5 @@
 use Rattle.std.proofs.Common.{length, ◌-◌}
-use Rattle.test_classes.proofs.plain_threats.+fill.Given as goal
+use Rattle.test_plain.proofs.plain_threats.+fill.Given as goal
 
 abbrev pub decreases-fill : goal.decreases-fill
 decreases-fill l = length l.points.now - l.at
