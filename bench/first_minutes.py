@@ -438,7 +438,7 @@ class Checkout:
 
     def __init__(self, room: pathlib.Path):
         self.top = room / "top"
-        for crate in ("posgame", "low", "test_kit"):
+        for crate in ("posgame", "low", "pg_plain"):
             for part in ("src", "specs", "proofs"):
                 (self.top / "crates" / crate / part).mkdir(parents=True)
             (self.top / "crates" / crate / "src" / "lib.rt").write_text("\n")
@@ -479,7 +479,7 @@ def freshness() -> str:
         there.put(there.made, STAND_IN)
         rows = [
             ("", None, "proved"),
-            ("crates/test_kit/src/lib.rt", "", "proved"),
+            ("crates/pg_plain/src/lib.rt", "", "proved"),
             ("crates.txt", "bench_more: low\n", "proved"),
             ("crates/low/src/lib.rt", "", "builds"),
             ("", None, "runs"),

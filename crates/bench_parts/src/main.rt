@@ -7,9 +7,9 @@ mod matching;
 mod threats;
 
 use pg_game::Game;
+use pg_plain::game;
 use std::alloc::{AllocError, Global};
 use std::{env, fs, io};
-use test_kit::game;
 
 /// Rows of each part, separated by `;`.
 const ROWS: &str = "\

@@ -6,8 +6,8 @@ use crate::told::{asked_side, due, is_point, turn_of, yes_or_no};
 use pg_base::{Pair, Side};
 use pg_game::{Game, Position};
 use pg_pairing::{answer, holds};
+use pg_plain::{numbers, pairs, part};
 use std::alloc::Global;
-use test_kit::{numbers, pairs, part};
 
 /// The position after a move, where the point is free.
 fn played(g: &Game, p: &Position, v: u16) -> Option<Position>

@@ -3,10 +3,10 @@ use crate::told::yes_or_no;
 use pg_base::{Score, Side};
 use pg_game::{Game, Judge};
 use pg_plain::{
-    Class, attack_wins, class_of, has_threat_line, have_private_pairs, is_threat_line, value,
+    Class, attack_wins, class_of, has_threat_line, have_private_pairs, is_threat_line, numbers,
+    part, value,
 };
 use std::alloc::Global;
-use test_kit::{numbers, part};
 
 /// The word for the value of the game.
 pub(crate) fn value_word(alloc: Global, g: &Game) -> Option<&'static str> {
@@ -53,7 +53,7 @@ fn depth_word(g: &Game) -> &'static str {
 /// Whether that depth is the first word of what is due, and the second says whether a threat line wins.
 pub(crate) fn depth_is_due(g: &Game, due: &str) -> bool {
     let wins = yes_or_no(attack_wins(g, &g.start()));
-    depth_word(g) == test_kit::word(due, 0) && wins == test_kit::word(due, 1)
+    depth_word(g) == pg_plain::word(due, 0) && wins == pg_plain::word(due, 1)
 }
 
 /// The word for whether the lines without a point of Y can have private pairs of the free points.

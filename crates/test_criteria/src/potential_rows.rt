@@ -3,7 +3,7 @@ use crate::lines::potential_holds;
 use crate::told::{asked_side, due, is_point, turn_of, yes_or_no};
 use pg_base::{Kind, Side};
 use pg_game::Game;
-use test_kit::{part, word};
+use pg_plain::{part, word};
 
 /// The word for whether a side's potential holds with this side to move, in a game on lines.
 fn potential_word(g: &Game, turn: Side, side: Side) -> &'static str {

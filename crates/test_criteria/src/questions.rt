@@ -2,8 +2,8 @@
 use crate::told::due;
 use crate::{pairing_rows, plain_rows, potential_rows, switch_rows, tables};
 use pg_game::Game;
+use pg_plain::game;
 use std::alloc::Global;
-use test_kit::game;
 
 /// Whether the row tells what is so of the game, of the question with this name; none where there is no such question, or the row tells no more
 /// than that game.

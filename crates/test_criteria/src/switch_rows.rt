@@ -4,9 +4,9 @@ ghost use Rattle.pg_game.specs.Game.{IsPosition};
 use crate::told::{asked_side, due, is_point, turn_of, yes_or_no};
 use pg_base::{Kind, PointSet, Side};
 use pg_game::{Game, Judge, Position, joiner_for};
+use pg_plain::{part, set};
 use pg_switch::{CutPlan, ShortPlan, cuts_hold, trees_hold};
 use std::alloc::Global;
-use test_kit::{part, set};
 
 /// Whether the side's sets hold: trees for X and cuts for Y. There is no answer where the game isn't on a graph, a set has other
 /// members than its edges and e, or no memory is found.

@@ -6,8 +6,8 @@ use crate::threats::tally_threats;
 use crate::told::{asked_side, due, turn_of};
 use pg_base::{Goal, Kind, Pairs, Side};
 use pg_game::{Game, Judge, joiner_for};
+use pg_plain::{part, word};
 use std::alloc::Global;
-use test_kit::{part, word};
 
 /// Whether the text tells the three numbers, and there is no fault.
 fn are_told(alloc: Global, numbers: (u32, u32, u32), faults: u32, text: &str) -> Option<bool> {

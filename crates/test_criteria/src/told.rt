@@ -3,7 +3,7 @@ ghost use Rattle.pg_game.specs.Game.{IsPosition};
 
 use pg_base::Side;
 use pg_game::{Game, Position};
-use test_kit::{part, word};
+use pg_plain::{part, word};
 
 /// The beginning of a turn.
 pub(crate) fn turn_of(g: &Game, turn: Side) -> Position
@@ -14,7 +14,7 @@ pub(crate) fn turn_of(g: &Game, turn: Side) -> Position
 
 /// The side of which a row asks, and Y where it names none.
 pub(crate) fn asked_side(row: &str) -> Side {
-    test_kit::side(word(part(row, 0), 4))
+    pg_plain::side(word(part(row, 0), 4))
 }
 
 /// What is due in a row.

@@ -2,9 +2,9 @@
 //! families again.
 use crate::families::Family;
 use crate::tally::{Tally, add_games};
+use pg_plain::word;
 use std::alloc::Global;
 use std::test::Fail;
-use test_kit::word;
 
 /// Rows with `;` between them, as `FAMILY SIZE COUNT MARKS:X Y FIRST`: how many games X wins
 /// whoever moves, Y does, and the side to move does. SIZE is the number of vertices, or of signs of

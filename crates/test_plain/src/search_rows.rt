@@ -1,10 +1,10 @@
 //! The table of rows.
 use crate::expanding::{is_cached, is_expanded};
 use crate::settling::is_settled;
+use pg_plain::{game, part, word};
 use pg_pns::Work;
 use std::alloc::Global;
 use std::test::Fail;
-use test_kit::{game, part, word};
 
 /// Rows with `;` between them, of games as `KIND COUNT TURN BIAS:LINES:X:Y`, behind a word:
 ///

@@ -3,10 +3,10 @@
 use crate::compared::{Tally, line_at_start};
 use pg_base::{Kind, PointSet, Side};
 use pg_game::Game;
+use pg_plain::{field, game, kind, part, word};
 use pg_threat::ThreatLine;
 use std::alloc::Global;
 use std::test::Fail;
-use test_kit::{field, game, kind, part, word};
 
 /// Rows with `;` between them, behind a word:
 ///

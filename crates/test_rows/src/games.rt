@@ -2,8 +2,8 @@
 use crate::telling::{is_found, is_said};
 use pg_base::{Grid, Kind, LineFault, PointSet, Score, Side};
 use pg_game::{Field, Game, Illegal, Judge, LineField, Position};
+use pg_plain::{game, numbers, part, set, side, word};
 use std::alloc::Global;
-use test_kit::{game, numbers, part, set, side, word};
 
 /// Whether the row tells the outcome at the marks.
 fn has_outcome(alloc: Global, row: &str) -> Option<bool> {
@@ -95,7 +95,7 @@ pub(crate) fn fits(alloc: Global, row: &str) -> Option<bool> {
     }
     let field = LineField::from_rows(alloc, points, &[line.as_slice()]).ok()?;
     let none = PointSet::empty();
-    let kind = test_kit::kind(word(row, 0));
+    let kind = pg_plain::kind(word(row, 0));
     let made = Game::new(kind, Field::Lines(field), none, none, Side::Y, bias);
     Some(is_said(made.is_ok(), word(row, 5)))
 }

@@ -8,8 +8,8 @@ use crate::telling::{is_found, is_said};
 use pg_base::PointSet;
 use pg_game::Field;
 use pg_graph::{Graph, Joiner};
+use pg_plain::{game, numbers, set, word};
 use std::alloc::Global;
-use test_kit::{game, numbers, set, word};
 
 /// The piece of a question that has this number, from 0, and no text where it has fewer.
 fn piece(question: &str, number: usize) -> &str {

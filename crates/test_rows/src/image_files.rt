@@ -4,8 +4,8 @@ use pg_base::{Memory, PointSet};
 use pg_image::{ImageNode, print_image};
 use pg_image_files::{CertFault, read_image};
 use pg_maps::GridMap;
+use pg_plain::{part, set, side, word};
 use std::alloc::Global;
-use test_kit::{part, set, side, word};
 
 /// The lines before the node of a claim that has one.
 const ONE_NODE: &str = "posgame-cert 3;claim x y win;nodes 1;";

@@ -12,9 +12,9 @@ mod points;
 mod polyominoes;
 mod telling;
 
+use pg_plain::word;
 use std::alloc::Global;
 use std::io;
-use test_kit::word;
 
 /// Whether the row is as it tells, of a question of this group; None where there is no such group
 /// or question, the row can't be read, or no memory is found.

@@ -2,8 +2,8 @@
 use pg_base::{Grid, PointSet, Side};
 use pg_game::{Field, Game, Position};
 use pg_maps::{GridMap, fits, fitting_maps};
+use pg_plain::{field, kind, numbers, part, set, word};
 use std::alloc::Global;
-use test_kit::{field, kind, numbers, part, set, word};
 
 /// The number that the word of this place tells.
 fn number_at(text: &str, place: usize) -> Option<u16> {

@@ -8,8 +8,8 @@ use crate::plainly::{are_private, is_short};
 use pg_base::{Lines, Memory, Side};
 use pg_game::{Field, Game};
 use pg_match::{Matching, PairCache, lines_without, pairs_leaf, private_pairs, with_rest};
+use pg_plain::{game, part};
 use std::alloc::Global;
-use test_kit::{game, part};
 
 /// The lines of a game on lines.
 fn lines_of(g: &Game) -> Option<&Lines>

@@ -4,8 +4,8 @@ use pg_base::{
     Goal, Kind, Line, LineFault, Lines, MAX_MEMBERS, Memory, Pair, Pairs, PointSet, Points, Score,
     Side,
 };
+use pg_plain::{numbers, pairs, part, set, side, word};
 use std::alloc::Global;
-use test_kit::{numbers, pairs, part, set, side, word};
 
 /// Whether the word names the side, and is read back.
 fn names_side(word: &str, side: Side) -> bool {

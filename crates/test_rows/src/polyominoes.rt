@@ -1,8 +1,8 @@
 //! Placements of polyominoes.
 use pg_base::{Grid, Lines, Memory};
+use pg_plain::{part, word};
 use pg_poly::{Shape, placements};
 use std::alloc::Global;
-use test_kit::{part, word};
 
 /// The boards of the table, by width and height.
 const BOARDS: [(u16, u16); 9] = [
