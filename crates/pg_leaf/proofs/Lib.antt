@@ -2,3 +2,5 @@ pub mod FirstCriterion
 pub mod ShortCounts
 mod LiveWalk
 mod Taking
+pub mod Nodes
+pub mod KeptNodes

@@ -11,7 +11,7 @@ use Rattle.pg_game.specs.Threat.{IsThreatLine}
 use Rattle.pg_cert.specs.declared.node.Node.{Node}
 use Rattle.pg_cert.specs.declared.node.Body.{Body}
 use Rattle.pg_cert.specs.declared.node.Body.TheVariants.{Over, Move, All as AllReplies, Pairs, Potential, Trees, Cuts, Threat, Weaker}
-use Rattle.pg_prune.specs.Sound.{BodyHolds}
+use Rattle.pg_leaf.specs.Sound.{BodyHolds}
 use Rattle.pg_base.specs.declared.limits.TheConstants.{MAX_MEMBERS}
 
 -- the criterion by which a body shows the answer, where it is by one

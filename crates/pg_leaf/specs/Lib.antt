@@ -1,3 +1,5 @@
 pub mod At
 pub mod Leaf
 pub mod Order
+pub mod Sound
+pub mod Pruned

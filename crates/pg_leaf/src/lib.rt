@@ -1,8 +1,13 @@
-//! What a board tells a search of its position: the leaf of the first criterion that decides it, and the order of its moves.
+//! What a search makes certificates of: the leaf of the first criterion that decides the position
+//! of a board, the order of its moves, and a claim's nodes without those that its root doesn't
+//! reach.
 #![tactic(auto)]
 
 mod criteria;
+mod marks;
 mod order;
+mod pruning;
 
 pub use criteria::leaf;
 pub use order::order_of;
+pub use pruning::prune;

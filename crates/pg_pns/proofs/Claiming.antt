@@ -9,13 +9,13 @@ use Rattle.pg_base.specs.declared.side.Side.{Side}
 use Rattle.pg_cert.specs.declared.node.Body.{Body}
 use Rattle.pg_cert.specs.declared.node.Body.TheVariants.{Over, Move, All as AllReplies, Pairs, Potential, Trees, Cuts, Threat, Weaker}
 use Rattle.pg_cert.specs.declared.node.Node.{Node}
-use Rattle.pg_prune.proofs.Nodes.{nodes-cut}
+use Rattle.pg_leaf.proofs.Nodes.{nodes-cut}
 use Rattle.pg_pns.proofs.ValidNodes.{valid-claim, within-limits, of-version}
 use Rattle.pg_game.specs.declared.game.Game.{Game}
 use Rattle.pg_base.specs.declared.goal.Goal.{Goal}
 use Rattle.pg_base.specs.declared.score.Score.{Score}
 use Rattle.pg_game.specs.Game.{free_points, start, with_turn}
-use Rattle.pg_prune.specs.Sound.{NodesHold}
+use Rattle.pg_leaf.specs.Sound.{NodesHold}
 use Rattle.pg_cert.specs.Node.{position_of}
 use Rattle.pg_pns.specs.declared.known.Answered.{Answered}
 use Rattle.pg_pns.specs.declared.table.Table.{Table}
@@ -24,10 +24,10 @@ use Rattle.pg_pns.specs.Claims.{nodes_of}
 use Rattle.pg_game.specs.Decided.{claimer, claimed_goal, first_criterion}
 use Rattle.pg_leaf.specs.Leaf.{criterion_of}
 use Rattle.pg_base.specs.Sets.{IsMarked}
-use Rattle.pg_prune.specs.Pruned.{AreMarked, IsMoved, IsPruned, IsUsed, Renumbers}
+use Rattle.pg_leaf.specs.Pruned.{AreMarked, IsMoved, IsPruned, IsUsed, Renumbers}
 use Rattle.pg_pns.specs.Search.{Follows, IsSearch}
 use Rattle.pg_pns.specs.Found.{IsClaimOf}
-use Rattle.pg_prune.proofs.KeptNodes.{names-earlier, renumbers-names}
+use Rattle.pg_leaf.proofs.KeptNodes.{names-earlier, renumbers-names}
 use Rattle.std.specs.Option.{is_none}
 use Rattle.std.proofs.Common.{add-one}
 use Rattle.pg_pns.proofs.Showing.{number_of}

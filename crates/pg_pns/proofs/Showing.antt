@@ -21,12 +21,12 @@ use Rattle.pg_text.specs.Text.{ascend_from}
 use Rattle.pg_cert.specs.Valid.{IsNodeOf}
 use Rattle.pg_game.proofs.Limits.{point_count-le}
 use Rattle.pg_leaf.specs.Leaf.{criterion_of, first_criterion}
-use Rattle.pg_prune.proofs.Nodes.{nodes-push}
+use Rattle.pg_leaf.proofs.Nodes.{nodes-push}
 use Rattle.pg_leaf.proofs.FirstCriterion.{undecided-criterion}
 use Rattle.pg_game.specs.declared.game.Game.{Game}
 use Rattle.pg_base.specs.declared.goal.Goal.{Goal}
 use Rattle.pg_base.specs.declared.score.Score.{Score}
-use Rattle.pg_prune.specs.Sound.{NodesHold, BodyHolds}
+use Rattle.pg_leaf.specs.Sound.{NodesHold, BodyHolds}
 use Rattle.pg_cert.specs.Node.{position_of}
 use Rattle.pg_game.specs.Game.{is_over, free_points, point_count, after}
 use Rattle.pg_pns.specs.declared.known.Answered.{Answered}

@@ -16,7 +16,7 @@ use Rattle.pg_pns.specs.declared.work.Found.{Found}
 use Rattle.pg_pns.specs.declared.work.Found.TheVariants.{Yes, No, Unknown}
 use Rattle.pg_game.specs.Decided.{claimer, claimed_goal}
 use Rattle.pg_game.specs.Settled.{IsOpenTable}
-use Rattle.pg_prune.specs.Pruned.{IsUsed}
+use Rattle.pg_leaf.specs.Pruned.{IsUsed}
 use Rattle.pg_pns.specs.Search.{Follows}
 
 -- The claim shows the answer: it is valid and within the limits of version 1 of the format, a decided position has the leaf of the first criterion, the last node is the game's position, they have different positions, each the game's or one move after one of the list, and each but the last is named as a child by a later one.

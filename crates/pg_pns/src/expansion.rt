@@ -32,9 +32,8 @@ use pg_base::{Goal, Kind, Memory, Score, Side};
 use pg_board::Board;
 use pg_cert::{Claim, Nodes};
 use pg_game::{Game, Position};
-use pg_leaf::order_of;
+use pg_leaf::{order_of, prune};
 use pg_match::PairCache;
-use pg_prune::prune;
 use std::alloc::Global;
 
 /// Adds a place before the place.

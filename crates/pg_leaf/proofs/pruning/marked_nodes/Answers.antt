@@ -1,7 +1,7 @@
 use Rattle.std.proofs.Common.{◌<◌, length, get_or, refl, false, arith}
 use Rattle.std.proofs.lemmas.Option.{slice_get_read, slice_get-get_or}
-use Rattle.pg_prune.proofs.KeptNodes.{pruned-step}
-use Rattle.pg_prune.proofs.pruning.marked_nodes.Goals as goal
+use Rattle.pg_leaf.proofs.KeptNodes.{pruned-step}
+use Rattle.pg_leaf.proofs.pruning.marked_nodes.Goals as goal
 
 pub loop-k-preserved : goal.loop-k-preserved
 loop-k-preserved c =

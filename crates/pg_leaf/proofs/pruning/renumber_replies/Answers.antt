@@ -1,8 +1,8 @@
 use Rattle.std.proofs.Common.{get_or}
 use Rattle.std.proofs.lemmas.Option.{slice_get-get_or}
 use Rattle.pg_cert.specs.declared.reply.Reply.{Reply}
-use Rattle.pg_prune.proofs.KeptNodes.{reply-renumbered}
-use Rattle.pg_prune.proofs.pruning.renumber_replies.Goals as goal
+use Rattle.pg_leaf.proofs.KeptNodes.{reply-renumbered}
+use Rattle.pg_leaf.proofs.pruning.renumber_replies.Goals as goal
 
 none : Reply
 none = record { point = 0; child = 0 }

@@ -3,7 +3,7 @@ ghost use Rattle.std.specs.Prelude.{◌≡◌, ◌<◌, ◌≤◌, ◌^◌, ℕ,
 ghost use Rattle.std.specs.List.{All};
 ghost use Rattle.pg_cert.specs.Valid.{NamesEarlier};
 ghost use Rattle.pg_cert.specs.declared.node.Node.{Node};
-ghost use Rattle.pg_prune.specs.Pruned.{AreMarked, AreRenumbered, IsKept, IsPruned, Renumbers};
+ghost use Rattle.pg_leaf.specs.Pruned.{AreMarked, AreRenumbered, IsKept, IsPruned, Renumbers};
 ghost use Rattle.pg_cert.specs.declared.limits.TheConstants.{MAX_CLAIM_NODES};
 
 use crate::marks::{mark_needed, unmarked};

@@ -1,8 +1,8 @@
 use Rattle.std.proofs.Common.{◌≡◌, ◌+◌, ◌-◌, ◌<◌, ℕ, length, refl, sym, subst, arith}
 use Rattle.std.proofs.lemmas.Option.{slice_get_read}
-use Rattle.pg_prune.specs.Pruned.{AreMarked}
-use Rattle.pg_prune.proofs.KeptNodes.{marked-step}
-use Rattle.pg_prune.proofs.marks.mark_all.Goals as goal
+use Rattle.pg_leaf.specs.Pruned.{AreMarked}
+use Rattle.pg_leaf.proofs.KeptNodes.{marked-step}
+use Rattle.pg_leaf.proofs.marks.mark_all.Goals as goal
 
 pub loop-i-preserved : goal.loop-i-preserved
 loop-i-preserved c =

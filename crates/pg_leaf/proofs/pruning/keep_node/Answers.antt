@@ -1,7 +1,7 @@
 use Rattle.std.proofs.Common.{◌≡◌, ◌∙◌, ◌++◌, ◌∷◌, ℕ, List, [], length, refl, sym, ap, subst, rules}
 use Rattle.std.proofs.lemmas.Bool.{false≢true}
-use Rattle.pg_prune.specs.Pruned.{Renumbers}
-use Rattle.pg_prune.proofs.pruning.keep_node.Goals as goal
+use Rattle.pg_leaf.specs.Pruned.{Renumbers}
+use Rattle.pg_leaf.proofs.pruning.keep_node.Goals as goal
 
 pub returns : goal.returns
 returns c =

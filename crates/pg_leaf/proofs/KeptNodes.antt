@@ -18,10 +18,10 @@ use Rattle.pg_cert.specs.declared.node.Body.{Body}
 use Rattle.pg_cert.specs.declared.node.Body.TheVariants.{Over, Move, All as AllReplies, Pairs, Potential, Trees, Cuts, Threat, Weaker}
 use Rattle.pg_cert.specs.declared.node.Node.{Node}
 use Rattle.pg_cert.specs.declared.reply.Reply.{Reply}
-use Rattle.pg_prune.specs.Sound.{BodyHolds}
+use Rattle.pg_leaf.specs.Sound.{BodyHolds}
 use Rattle.pg_base.specs.Sets.{IsMarked}
-use Rattle.pg_prune.specs.Pruned.{AreMarked, AreNamed, AreRenumbered, IsKept, IsMoved, IsPruned, IsSource, MarksMore, Names, Renumbers}
-use Rattle.pg_prune.proofs.Nodes.{nodes-push}
+use Rattle.pg_leaf.specs.Pruned.{AreMarked, AreNamed, AreRenumbered, IsKept, IsMoved, IsPruned, IsSource, MarksMore, Names, Renumbers}
+use Rattle.pg_leaf.proofs.Nodes.{nodes-push}
 use Rattle.pg_base.proofs.Stands.{at_contains, contains_at, contains_push, contains_old, at_new, at_old, at_push, at_set_other, at_set_same, map-same_at, one_at, some≢none}
 
 -- ---- one mark more, and those of replies

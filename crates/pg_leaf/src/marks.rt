@@ -5,7 +5,7 @@ ghost use Rattle.std.proofs.Math.ListN.{replicate};
 ghost use Rattle.pg_cert.specs.Valid.{NamesEarlier};
 ghost use Rattle.pg_cert.specs.declared.node.Node.{Node};
 ghost use Rattle.pg_base.specs.Sets.{IsMarked};
-ghost use Rattle.pg_prune.specs.Pruned.{AreMarked, AreNamed, MarksMore, Names};
+ghost use Rattle.pg_leaf.specs.Pruned.{AreMarked, AreNamed, MarksMore, Names};
 ghost use Rattle.pg_cert.specs.declared.limits.TheConstants.{MAX_CLAIM_NODES};
 
 use pg_base::Memory;

@@ -10,7 +10,7 @@ use Rattle.pg_cert.specs.declared.node.Body.{Body}
 use Rattle.pg_cert.specs.declared.node.Body.TheVariants.{Move, All, Weaker}
 use Rattle.pg_cert.specs.declared.node.Node.{Node}
 use Rattle.pg_cert.specs.declared.reply.Reply.{Reply}
-use Rattle.pg_prune.specs.Sound.{NodesHold}
+use Rattle.pg_leaf.specs.Sound.{NodesHold}
 
 -- ---- marks
 
