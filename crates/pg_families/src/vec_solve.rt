@@ -12,12 +12,11 @@ ghost use Rattle.pg_families.specs.Vectors.{IsVectorLacking, SolvesVectorGame, S
 
 use crate::opening::open_vectors;
 use pg_cert::print_cert;
-use pg_gf2::VecGame;
+use pg_gf2::{VecGame, vec_solve};
 use pg_io::{Console, Files};
 use pg_lehman::Class;
 use pg_talk::{Halt, deliver};
 use pg_texts::Message;
-use pg_vec_solve::vec_solve;
 use std::alloc::Global;
 
 /// The message of a class.

@@ -8,3 +8,4 @@ pub mod VectorConditions
 pub mod ClaimLemmas
 pub mod LawLemmas
 pub mod Lowest
+pub mod VecClaims

@@ -1,4 +1,5 @@
-//! The switching game on vectors over two elements.
+//! The switching game on vectors over two elements: its ground, its classes with their
+//! certificates, and the checking of certificates.
 #![tactic(auto)]
 
 mod checked;
@@ -14,6 +15,7 @@ mod plan;
 mod reduce;
 mod room;
 mod row;
+mod solving;
 mod sums;
 
 pub use checked::{VecChecked, vec_check};
@@ -25,4 +27,5 @@ pub use node::with_e_named;
 pub use plan::VecPlan;
 pub use room::{lowest_needed, lowest_unspanned, spans};
 pub use row::Row;
+pub use solving::vec_solve;
 pub use sums::spanned;

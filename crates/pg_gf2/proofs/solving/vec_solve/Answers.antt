@@ -1,6 +1,6 @@
 use Rattle.std.proofs.Common.{length, ap}
-use Rattle.pg_vec_solve.proofs.VecClaims.{told_sound}
-use Rattle.pg_vec_solve.proofs.solving.vec_solve.Goals as goal
+use Rattle.pg_gf2.proofs.VecClaims.{told_sound}
+use Rattle.pg_gf2.proofs.solving.vec_solve.Goals as goal
 
 pub returns-clause-valid : goal.returns-clause-valid
 returns-clause-valid c =

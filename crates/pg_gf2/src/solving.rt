@@ -7,11 +7,12 @@ ghost use Rattle.pg_gf2.specs.Check.{IsVecValid};
 ghost use Rattle.pg_gf2.specs.Classes.{at_turn, vector_class};
 ghost use Rattle.pg_lehman.specs.Sets.{named};
 
+use crate::classify::vec_classify;
+use crate::game::VecGame;
 use pg_base::{Memory, Side};
 use pg_cert::Cert;
 use pg_class_claims::class_certificate;
 use pg_game::Position;
-use pg_gf2::{VecGame, vec_classify};
 use pg_lehman::Class;
 use std::alloc::Global;
 
