@@ -12,7 +12,7 @@ use Rattle.pg_cert.specs.Print.{printed_certificate}
 use Rattle.pg_cert.specs.declared.cert.Cert.{Cert}
 use Rattle.pg_cert.specs.declared.cert.Claim.{Claim}
 use Rattle.pg_gf2.specs.Check.{IsFirstVecFault, IsVecValid, flaw_number}
-use Rattle.pg_class_claims.specs.ClassClaims.{class_claims}
+use Rattle.pg_lehman.specs.ClassClaims.{class_claims}
 use Rattle.pg_lehman.specs.Sets.{named}
 use Rattle.pg_lehman.specs.declared.class.Class.{Class}
 use Rattle.pg_lehman.specs.declared.class.Class.TheVariants.{Short, Cut, First}

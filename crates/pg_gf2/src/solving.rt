@@ -2,7 +2,7 @@
 ghost use Rattle.std.specs.Prelude.{◌≡◌, length, Some, IfOk};
 ghost use Rattle.pg_base.specs.declared.side.Side.TheVariants.{X, Y};
 ghost use Rattle.pg_cert.specs.Limits.{IsWithinLimits};
-ghost use Rattle.pg_class_claims.specs.ClassClaims.{class_claims};
+ghost use Rattle.pg_lehman.specs.ClassClaims.{class_claims};
 ghost use Rattle.pg_gf2.specs.Check.{IsVecValid};
 ghost use Rattle.pg_gf2.specs.Classes.{at_turn, vector_class};
 ghost use Rattle.pg_lehman.specs.Sets.{named};
@@ -11,9 +11,8 @@ use crate::classify::vec_classify;
 use crate::game::VecGame;
 use pg_base::{Memory, Side};
 use pg_cert::Cert;
-use pg_class_claims::class_certificate;
 use pg_game::Position;
-use pg_lehman::Class;
+use pg_lehman::{Class, class_certificate};
 use std::alloc::Global;
 
 /// The game's marks with a side to move.

@@ -36,7 +36,7 @@ use Rattle.pg_graph.specs.declared.graph.Graph.{Graph}
 use Rattle.pg_base.proofs.Stands.{one_at}
 use Rattle.pg_pns.proofs.ValidNodes.{valid-claim, within-limits, of-version}
 use Rattle.pg_pns.specs.Sound.{BodyHolds, NodesHold}
-use Rattle.pg_class_claims.specs.ClassClaims.{class_claims, node_at, one_node, set_claim, sets_body}
+use Rattle.pg_lehman.specs.ClassClaims.{class_claims, node_at, one_node, set_claim, sets_body}
 use Rattle.pg_lehman.specs.Sets.{SetsHold}
 use Rattle.pg_lehman.specs.declared.class.Class.{Class as Sets}
 use Rattle.pg_lehman.specs.declared.class.Class.TheVariants as sets

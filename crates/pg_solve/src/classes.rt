@@ -9,9 +9,8 @@ ghost use Rattle.pg_solve.specs.Solved.{IsClassified};
 use crate::solution::{Class, Solution};
 use pg_base::{Memory, Side};
 use pg_cert::Cert;
-use pg_class_claims::class_certificate;
 use pg_game::Game;
-use pg_lehman::{Class as Sets, classify};
+use pg_lehman::{Class as Sets, class_certificate, classify};
 use std::alloc::Global;
 
 /// The class that the sets show.

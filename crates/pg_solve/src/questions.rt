@@ -12,8 +12,8 @@ ghost use Rattle.pg_solve.specs.Solved.{IsFoundBy};
 use crate::solution::Solution;
 use pg_base::{Kind, Memory, Score};
 use pg_cert::Claim;
-use pg_class_claims::{one_claim, two_claims};
 use pg_game::Game;
+use pg_lehman::{one_claim, two_claims};
 use pg_pns::{Found, Work, search};
 use std::alloc::Global;
 

@@ -2,13 +2,13 @@
 ghost use Rattle.std.specs.Prelude.{◌≡◌, ◌<◌, IfOk};
 ghost use Rattle.pg_base.specs.declared.side.Side.TheVariants.{X, Y};
 ghost use Rattle.pg_cert.specs.declared.cert.Version.TheVariants.{One};
-ghost use Rattle.pg_class_claims.specs.ClassClaims.{class_claims, set_claim, sets_body, one_node};
+ghost use Rattle.pg_lehman.specs.ClassClaims.{class_claims, set_claim, sets_body, one_node};
 
 use crate::certificates::two_claims;
+use crate::class::Class;
 use pg_base::{Goal, MAX_MEMBERS, Memory, PointSet, Side};
 use pg_cert::{Body, Cert, Claim, EdgeSet, Node, Nodes};
 use pg_game::Position;
-use pg_lehman::Class;
 use std::alloc::Global;
 
 /// The body of the side: X's trees, or Y's cuts.
