@@ -12,11 +12,11 @@ use Rattle.pg_io.specs.declared.stop.Stop.TheVariants.{Read, Write, Memory}
 use Rattle.pg_talk.specs.Opening.{OpensGame, game_held}
 use Rattle.pg_pns.specs.Expanded.{Expanded}
 use Rattle.pg_record.specs.declared.event.Event.{Event}
-use Rattle.pg_record_files.specs.RecordFile.{record_of}
-use Rattle.pg_record_files.specs.Views.{number_of}
-use Rattle.pg_record_files.specs.declared.fault.Fault.{Fault}
-use Rattle.pg_record_files.specs.declared.fault.Fault.TheVariants.{Size}
-use Rattle.pg_record_files.specs.declared.fault.TheConstants.{MAX_RECORD_BYTES}
+use Rattle.pg_record.specs.RecordFile.{record_of}
+use Rattle.pg_record.specs.Views.{number_of}
+use Rattle.pg_record.specs.declared.fault.Fault.{Fault}
+use Rattle.pg_record.specs.declared.fault.Fault.TheVariants.{Size}
+use Rattle.pg_record.specs.declared.fault.TheConstants.{MAX_RECORD_BYTES}
 use Rattle.pg_talk.proofs.Openings.{cut_same, opens_whole}
 use Rattle.pg_talk.proofs.Runs.{performs_more, runs_halt, runs_read}
 use Rattle.pg_talk.specs.Done.{Done, End, Finished, Follows, Performs, stop_end}

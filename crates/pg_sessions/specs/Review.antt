@@ -12,9 +12,9 @@ use Rattle.pg_game.specs.declared.position.Position.{Position}
 use Rattle.pg_files.specs.GameFile.{Entry as GameEntry}
 use Rattle.pg_record.specs.Replay.{position_after, standing}
 use Rattle.pg_record.specs.declared.event.Event.{Event}
-use Rattle.pg_record_files.specs.RecordFile.{record_of}
-use Rattle.pg_record_files.specs.Views.{number_of}
-use Rattle.pg_record_files.specs.declared.fault.Fault.{Fault}
+use Rattle.pg_record.specs.RecordFile.{record_of}
+use Rattle.pg_record.specs.Views.{number_of}
+use Rattle.pg_record.specs.declared.fault.Fault.{Fault}
 use Rattle.pg_pns.specs.Expanded.{Expanded}
 use Rattle.pg_solve.specs.Left.{budget, IsLeftOpen}
 use Rattle.pg_texts.specs.Texts.{lost_text, reviewed_text, unknown_at_text}

@@ -6,7 +6,7 @@ ghost use Rattle.pg_io.specs.declared.entry.Entry.{Entry};
 ghost use Rattle.pg_record.specs.Print.{printed_record};
 ghost use Rattle.pg_record.specs.Replay.{IsRecord};
 ghost use Rattle.pg_record.specs.declared.event.Event.{Event};
-ghost use Rattle.pg_record_files.specs.RecordFile.{record_of};
+ghost use Rattle.pg_record.specs.RecordFile.{record_of};
 ghost use Rattle.pg_sessions.specs.SessionLog.{EndsWith, IsLogTo, IsWholeLog, Stage, events_at, is_refusal};
 ghost use Rattle.std.specs.List.{AllPairs, Contains};
 ghost use Rattle.pg_game.specs.Play.{played};

@@ -7,14 +7,13 @@ ghost use Rattle.pg_record.specs.Replay.{standing};
 ghost use Rattle.pg_record.specs.declared.event.TheConstants.{MAX_EVENTS};
 ghost use Rattle.pg_talk.specs.Halts.{HaltCauses};
 ghost use Rattle.pg_talk.specs.Reading.{IsLackingOne, IsReadAs, Opens};
-ghost use Rattle.pg_record_files.specs.RecordFile.{record_of};
+ghost use Rattle.pg_record.specs.RecordFile.{record_of};
 ghost use Rattle.pg_sessions.specs.Review.{IsReviewHalt, IsTextHalt, moves_held, moves_told};
 
 use pg_base::Memory;
 use pg_game::Game;
 use pg_io::{Files, Stop, read_whole};
-use pg_record::Session;
-use pg_record_files::{MAX_RECORD_BYTES, RecordFault, read_record};
+use pg_record::{MAX_RECORD_BYTES, RecordFault, Session, read_record};
 use pg_talk::Halt;
 use pg_texts::Refusal;
 use std::alloc::Global;

@@ -22,9 +22,9 @@ use Rattle.pg_record.specs.declared.event.Event.TheVariants.{Play, Back}
 use Rattle.pg_record.specs.Print.{printed_record}
 use Rattle.pg_record.specs.Replay.{position_after, with_event, standing, MayFollow, AreAllowed, IsRecord}
 use Rattle.pg_record.proofs.Standing.{standing-more}
-use Rattle.pg_record_files.specs.RecordFile.{event_of, event_from, with_one, after, record_of}
-use Rattle.pg_record_files.proofs.Adding.{move-added, back-added}
-use Rattle.pg_record_files.proofs.PrintedLines.{IsNear, event_are_words, event_text, record_cut, record_length}
+use Rattle.pg_record.specs.RecordFile.{event_of, event_from, with_one, after, record_of}
+use Rattle.pg_record.proofs.Adding.{move-added, back-added}
+use Rattle.pg_record.proofs.PrintedLines.{IsNear, event_are_words, event_text, record_cut, record_length}
 
 -- ---- the points of moves
 

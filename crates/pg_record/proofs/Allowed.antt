@@ -13,10 +13,10 @@ use Rattle.pg_record.specs.declared.event.Event.{Event}
 use Rattle.pg_record.specs.declared.event.Event.TheVariants.{Play, Back}
 use Rattle.pg_record.specs.Replay.{position_after, standing, IsRecord}
 use Rattle.pg_record.proofs.Standing.{record-more}
-use Rattle.pg_record_files.specs.RecordFile.{event_of, is_full, with_one, after, said, record_of}
-use Rattle.pg_record_files.specs.declared.fault.Fault.{Fault}
-use Rattle.pg_record_files.specs.declared.fault.Fault.TheVariants as faults
-use Rattle.pg_record_files.proofs.FirstFault.{chosen}
+use Rattle.pg_record.specs.RecordFile.{event_of, is_full, with_one, after, said, record_of}
+use Rattle.pg_record.specs.declared.fault.Fault.{Fault}
+use Rattle.pg_record.specs.declared.fault.Fault.TheVariants as faults
+use Rattle.pg_record.proofs.FirstFault.{chosen}
 
 abbrev value_or : {A F : Type 0} → A → Result A F → A
 value_or a (Ok b) = b

@@ -1,16 +1,16 @@
 //! A session from the bytes of its file.
 ghost use Rattle.std.specs.Prelude.{◌≡◌, ◌+◌, ◌<◌, ◌≤◌, [], length, Some, IfOk};
 ghost use Rattle.pg_record.specs.declared.event.TheConstants.{MAX_EVENTS};
-ghost use Rattle.pg_record_files.specs.RecordFile.{after, event_faults, record_of, with_one};
-ghost use Rattle.pg_record_files.specs.Views.{event_said, number_of};
-ghost use Rattle.pg_record_files.specs.declared.fault.TheConstants.{MAX_RECORD_BYTES};
+ghost use Rattle.pg_record.specs.RecordFile.{after, event_faults, record_of, with_one};
+ghost use Rattle.pg_record.specs.Views.{event_said, number_of};
+ghost use Rattle.pg_record.specs.declared.fault.TheConstants.{MAX_RECORD_BYTES};
 ghost use Rattle.pg_text.specs.Faults.{least, reading, Becomes, IsReadAs};
 
 use crate::fault::{Fault, MAX_RECORD_BYTES};
 use crate::line::{Said, said_by};
+use crate::session::Session;
 use pg_base::Memory;
 use pg_game::{Game, Judge};
-use pg_record::Session;
 use pg_text::{FileError, LineError, Lines};
 use std::alloc::Global;
 
@@ -120,7 +120,7 @@ fn read_events<'a>(alloc: Global, g: &'a Game, lines: Lines) -> Result<Session<'
 ///
 /// `Bad` with the number of the fault: 1 for a file of more than `MAX_RECORD_BYTES` bytes, with line 0, 2 for another first line,
 /// 3 for a line that is neither `move` with one word nor `back`, 4 for a word that is no number, 5 for a move that
-/// `Session::play` refuses, 6 for `back` where no move stands, 7 for more events than `pg_record::MAX_EVENTS`. `Memory` where no
+/// `Session::play` refuses, 6 for `back` where no move stands, 7 for more events than `crate::MAX_EVENTS`. `Memory` where no
 /// memory is found.
 #[tactic(auto, unfolding(crate::specs::RecordFile::record_of))]
 pub fn read_record<'a>(alloc: Global, g: &'a Game, bytes: &[u8]) -> Result<Session<'a>, FileError>

@@ -7,7 +7,7 @@ use Rattle.pg_game.specs.Judge.{judged_move}
 use Rattle.pg_record.specs.declared.event.Event.{Event}
 use Rattle.pg_record.specs.declared.event.Event.TheVariants.{Play, Back}
 use Rattle.pg_record.specs.Replay.{replay}
-use Rattle.pg_record_files.specs.RecordFile.{is_full, with_one}
+use Rattle.pg_record.specs.RecordFile.{is_full, with_one}
 
 module _ (g : Game) (events : List Event) where
   has_room : length events < 10000 → is_full events ≡ false

@@ -3,9 +3,9 @@ use Rattle.pg_text.specs.Faults.{reading}
 use Rattle.pg_text.specs.Text.{Bytes}
 use Rattle.pg_text.proofs.Reading.{reads_on, ends, is_over}
 use Rattle.pg_record.specs.Session.{Recorded}
-use Rattle.pg_record_files.specs.RecordFile.{after}
-use Rattle.pg_record_files.specs.Views.{number_of}
-use Rattle.pg_record_files.proofs.reading.read_events.Goals as goal
+use Rattle.pg_record.specs.RecordFile.{after}
+use Rattle.pg_record.specs.Views.{number_of}
+use Rattle.pg_record.proofs.reading.read_events.Goals as goal
 
 pub loop-line-preserved : goal.loop-line-preserved
 loop-line-preserved c =

@@ -1,6 +1,6 @@
 //! What the lines of a record file say.
-ghost use Rattle.pg_record_files.specs.RecordFile.{event_of};
-ghost use Rattle.pg_record_files.specs.Views.{event_said};
+ghost use Rattle.pg_record.specs.RecordFile.{event_of};
+ghost use Rattle.pg_record.specs.Views.{event_said};
 ghost use Rattle.pg_text.specs.Faults.{Gives};
 
 use crate::fault::Fault;

@@ -1,7 +1,7 @@
 use Rattle.std.proofs.Common.{◌≡◌, ◌+◌, ◌≤◌, [], length}
 use Rattle.pg_text.specs.Faults.{reading}
-use Rattle.pg_record_files.specs.RecordFile.{after}
-use Rattle.pg_record_files.proofs.reading.read_events.Given as goal
+use Rattle.pg_record.specs.RecordFile.{after}
+use Rattle.pg_record.proofs.reading.read_events.Given as goal
 
 abbrev pub invariant-loop-line : goal.invariant-loop-line
 invariant-loop-line l = record {

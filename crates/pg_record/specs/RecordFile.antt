@@ -10,9 +10,9 @@ use Rattle.pg_record.specs.declared.event.Event.{Event}
 use Rattle.pg_record.specs.declared.event.Event.TheVariants.{Play, Back}
 use Rattle.pg_record.specs.declared.event.TheConstants.{MAX_EVENTS}
 use Rattle.pg_record.specs.Replay.{replay}
-use Rattle.pg_record_files.specs.declared.fault.Fault.{Fault}
-use Rattle.pg_record_files.specs.declared.fault.Fault.TheVariants as faults
-use Rattle.pg_record_files.specs.declared.fault.TheConstants.{MAX_RECORD_BYTES}
+use Rattle.pg_record.specs.declared.fault.Fault.{Fault}
+use Rattle.pg_record.specs.declared.fault.Fault.TheVariants as faults
+use Rattle.pg_record.specs.declared.fault.TheConstants.{MAX_RECORD_BYTES}
 
 -- ---- what a line says
 

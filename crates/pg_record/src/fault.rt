@@ -1,5 +1,5 @@
 //! Why a record file can't be read.
-ghost use Rattle.pg_record_files.specs.Views.{number_of};
+ghost use Rattle.pg_record.specs.Views.{number_of};
 
 use pg_text::Numbered;
 

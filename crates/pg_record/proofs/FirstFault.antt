@@ -10,10 +10,10 @@ use Rattle.pg_text.proofs.Reading.{first_fault, is_least, unless_err}
 use Rattle.pg_game.specs.declared.game.Game.{Game}
 use Rattle.pg_record.specs.declared.event.Event.{Event}
 use Rattle.pg_record.specs.declared.event.Event.TheVariants.{Play, Back}
-use Rattle.pg_record_files.specs.RecordFile.{move_of, event_from, event_of, event_faults, is_full, with_one, after, said, record_of}
-use Rattle.pg_record_files.specs.Faults.{is_refused, line_faults, IsFirstFault}
-use Rattle.pg_record_files.specs.declared.fault.Fault.{Fault}
-use Rattle.pg_record_files.specs.declared.fault.Fault.TheVariants as faults
+use Rattle.pg_record.specs.RecordFile.{move_of, event_from, event_of, event_faults, is_full, with_one, after, said, record_of}
+use Rattle.pg_record.specs.Faults.{is_refused, line_faults, IsFirstFault}
+use Rattle.pg_record.specs.declared.fault.Fault.{Fault}
+use Rattle.pg_record.specs.declared.fault.Fault.TheVariants as faults
 
 abbrev fault_or : {A F : Type 0} → F → Result A F → F
 fault_or f (Ok a) = f

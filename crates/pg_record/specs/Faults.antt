@@ -8,10 +8,10 @@ use Rattle.pg_game.specs.declared.game.Game.{Game}
 use Rattle.pg_game.specs.Judge.{judged_move}
 use Rattle.pg_record.specs.declared.event.Event.{Event}
 use Rattle.pg_record.specs.Replay.{replay}
-use Rattle.pg_record_files.specs.RecordFile.{after, is_full}
-use Rattle.pg_record_files.specs.declared.fault.Fault.{Fault}
-use Rattle.pg_record_files.specs.declared.fault.Fault.TheVariants as faults
-use Rattle.pg_record_files.specs.declared.fault.TheConstants.{MAX_RECORD_BYTES}
+use Rattle.pg_record.specs.RecordFile.{after, is_full}
+use Rattle.pg_record.specs.declared.fault.Fault.{Fault}
+use Rattle.pg_record.specs.declared.fault.Fault.TheVariants as faults
+use Rattle.pg_record.specs.declared.fault.TheConstants.{MAX_RECORD_BYTES}
 
 -- whether the move of this number is refused; a word without a number names none
 abbrev pub is_refused : Game → List Event → Option ℕ → Bool

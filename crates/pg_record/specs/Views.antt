@@ -2,10 +2,10 @@
 use Rattle.std.specs.Prelude.{ℕ}
 use Rattle.pg_record.specs.declared.event.Event.{Event}
 use Rattle.pg_record.specs.declared.event.Event.TheVariants.{Play, Back}
-use Rattle.pg_record_files.specs.declared.fault.Fault.{Fault}
-use Rattle.pg_record_files.specs.declared.fault.Fault.TheVariants as faults
-use Rattle.pg_record_files.specs.declared.line.Said.{Said}
-use Rattle.pg_record_files.specs.declared.line.Said.TheVariants as said
+use Rattle.pg_record.specs.declared.fault.Fault.{Fault}
+use Rattle.pg_record.specs.declared.fault.Fault.TheVariants as faults
+use Rattle.pg_record.specs.declared.line.Said.{Said}
+use Rattle.pg_record.specs.declared.line.Said.TheVariants as said
 
 -- the event that a line says
 abbrev pub event_said : Said → Event

@@ -1,5 +1,0 @@
-use Rattle.pg_record_files.proofs.FirstFault.{first-told}
-use Rattle.pg_record_files.proofs.laws.first_record_fault_is_told.Goals as goal
-
-pub returns : goal.returns
-returns c g text fault number = first-told g text fault number

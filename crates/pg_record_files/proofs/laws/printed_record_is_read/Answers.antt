@@ -1,5 +1,0 @@
-use Rattle.pg_record_files.proofs.ReadBack.{reads-back}
-use Rattle.pg_record_files.proofs.laws.printed_record_is_read.Goals as goal
-
-pub returns : goal.returns
-returns c = reads-back

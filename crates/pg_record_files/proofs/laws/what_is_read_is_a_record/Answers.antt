@@ -1,5 +1,0 @@
-use Rattle.pg_record_files.proofs.Allowed.{read-allowed}
-use Rattle.pg_record_files.proofs.laws.what_is_read_is_a_record.Goals as goal
-
-pub returns : goal.returns
-returns c = read-allowed

@@ -1,3 +1,0 @@
-pub mod RecordFile
-pub mod Faults
-pub mod Views
