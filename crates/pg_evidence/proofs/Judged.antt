@@ -13,7 +13,7 @@ use Rattle.pg_cert_files.specs.declared.fault.Fault.TheVariants.{Size}
 use Rattle.pg_cert_files.specs.declared.limits.TheConstants.{MAX_CERT_BYTES}
 use Rattle.pg_game.specs.declared.game.Game.{Game}
 use Rattle.pg_image.specs.declared.cert.ImageCert.{ImageCert}
-use Rattle.pg_image_files.specs.ImageFile.{image_certificate}
+use Rattle.pg_image.specs.ImageFile.{image_certificate}
 use Rattle.pg_talk.specs.Reading.{IsReadAs as IsHeldAs, certificate_fault, or_halt}
 use Rattle.pg_talk.specs.declared.halt.Halt.{Halt}
 use Rattle.pg_talk.proofs.Openings.{cut_same, opens_whole, read_bad, whole_read}

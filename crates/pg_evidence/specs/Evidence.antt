@@ -10,7 +10,7 @@ use Rattle.pg_cert_files.specs.Views.{number_of}
 use Rattle.pg_cert_files.specs.declared.fault.Fault.{Fault}
 use Rattle.pg_image.specs.Limits.{IsImageWithinLimits}
 use Rattle.pg_image.specs.Print.{image_header}
-use Rattle.pg_image_files.specs.ImageFile.{image_certificate}
+use Rattle.pg_image.specs.ImageFile.{image_certificate}
 use Rattle.pg_io.specs.declared.stop.Stop.TheVariants.{Read, Write, Memory}
 use Rattle.pg_talk.specs.Halts.{IsReadHalt}
 use Rattle.pg_talk.specs.Reading.{Opens, certificate_fault, held_as, or_halt}

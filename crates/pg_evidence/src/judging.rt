@@ -3,7 +3,7 @@ ghost use Rattle.std.specs.Prelude.{◌≡◌, true, false, List, ℕ, IfErr, If
 ghost use Rattle.pg_io.specs.Files.{IsAbsent, ReadsOnly};
 ghost use Rattle.pg_cert_files.specs.Views.{IsReadAs};
 ghost use Rattle.pg_image.specs.Limits.{IsImageWithinLimits};
-ghost use Rattle.pg_image_files.specs.ImageFile.{image_certificate};
+ghost use Rattle.pg_image.specs.ImageFile.{image_certificate};
 ghost use Rattle.pg_judge.specs.Judged.{IsReady, StandsFor as HasBeenFed};
 ghost use Rattle.pg_talk.specs.Halts.{HaltCauses, IsReadHalt};
 ghost use Rattle.pg_evidence.specs.Evidence.{IsInnerHalt, evidence_held, has_images};
@@ -19,8 +19,7 @@ use pg_base::Memory;
 use pg_cert_files::{CertFault, MAX_CERT_BYTES};
 use pg_check::CheckFault;
 use pg_game::Game;
-use pg_image::ImageCert;
-use pg_image_files::read_image;
+use pg_image::{ImageCert, read_image};
 use pg_io::{Files, Stop, pour};
 use pg_judge::{JudgeFault, Judging};
 use pg_talk::Halt;

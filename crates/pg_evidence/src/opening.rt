@@ -12,7 +12,7 @@ use crate::arriving::Arriving;
 use crate::evidence::Evidence;
 use crate::incoming::with_images;
 use pg_cert_files::{CertFault, CertGathering, MAX_CERT_BYTES};
-use pg_image_files::read_image;
+use pg_image::read_image;
 use pg_io::{Files, Stop, pour};
 use pg_talk::Halt;
 use pg_texts::Refusal;

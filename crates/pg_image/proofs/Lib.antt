@@ -1,1 +1,7 @@
 pub mod Walk
+pub mod ImageRead
+pub mod Whole
+pub mod Shadows
+pub mod Within
+pub mod First
+pub mod Back

@@ -1,3 +1,7 @@
 pub mod Node
 pub mod Limits
 pub mod Print
+pub mod ImageLine
+pub mod ImageFile
+pub mod FirstFault
+pub mod Views

@@ -1,8 +1,7 @@
 //! Certificate files with images. A row tells a file with `;` for each line feed and `_` for a
 //! space at the end of a line.
 use pg_base::{Memory, PointSet};
-use pg_image::{ImageNode, print_image};
-use pg_image_files::{CertFault, read_image};
+use pg_image::{CertFault, ImageNode, print_image, read_image};
 use pg_maps::GridMap;
 use pg_plain::{part, set, side, word};
 use std::alloc::Global;

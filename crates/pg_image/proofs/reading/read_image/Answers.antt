@@ -4,11 +4,11 @@ use Rattle.pg_text.specs.Faults.{reading}
 use Rattle.pg_text.proofs.Reading.{lines_few, reads_on, ends, is_over}
 use Rattle.pg_cert_files.specs.CertFile.{end_fault}
 use Rattle.pg_cert_files.specs.Views.{number_of}
-use Rattle.pg_image_files.specs.ImageFile.{nothing, after, ended, image_certificate}
-use Rattle.pg_image_files.specs.Views.{view}
-use Rattle.pg_image_files.proofs.Whole.{fits_file, said_is, carried}
-use Rattle.pg_image_files.proofs.Within.{answer_within}
-use Rattle.pg_image_files.proofs.reading.read_image.Goals as goal
+use Rattle.pg_image.specs.ImageFile.{nothing, after, ended, image_certificate}
+use Rattle.pg_image.specs.Views.{view}
+use Rattle.pg_image.proofs.Whole.{fits_file, said_is, carried}
+use Rattle.pg_image.proofs.Within.{answer_within}
+use Rattle.pg_image.proofs.reading.read_image.Goals as goal
 
 pub overflow_add-number : goal.overflow_add-number
 overflow_add-number c = omega (

@@ -1,10 +1,10 @@
 -- The values of the code, without where they lie in memory.
 use Rattle.std.specs.Prelude.{option_map}
 use Rattle.pg_text.specs.Text.{words_of}
-use Rattle.pg_image_files.specs.ImageFile.{Draft}
-use Rattle.pg_image_files.specs.ImageLine.{ImageLine}
-use Rattle.pg_image_files.specs.declared.draft.ImageDraft.{ImageDraft}
-use Rattle.pg_image_files.specs.declared.image_line.ImageWords.{ImageWords}
+use Rattle.pg_image.specs.ImageFile.{Draft}
+use Rattle.pg_image.specs.ImageLine.{ImageLine}
+use Rattle.pg_image.specs.declared.draft.ImageDraft.{ImageDraft}
+use Rattle.pg_image.specs.declared.image_line.ImageWords.{ImageWords}
 
 -- what a draft in memory says
 abbrev pub view : ImageDraft → Draft

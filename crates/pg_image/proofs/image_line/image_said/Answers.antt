@@ -2,10 +2,10 @@ use Rattle.std.proofs.Common.{subst}
 use Rattle.std.proofs.lemmas.Result.{err_from_is_err_and}
 use Rattle.pg_text.specs.Faults.{Gives}
 use Rattle.pg_cert.specs.declared.node.Node.{Node}
-use Rattle.pg_image_files.specs.ImageLine.{image_by}
-use Rattle.pg_image_files.specs.Views.{line_view}
-use Rattle.pg_image_files.proofs.ImageRead.{fails_so, says_so}
-use Rattle.pg_image_files.proofs.image_line.image_said.Goals as goal
+use Rattle.pg_image.specs.ImageLine.{image_by}
+use Rattle.pg_image.specs.Views.{line_view}
+use Rattle.pg_image.proofs.ImageRead.{fails_so, says_so}
+use Rattle.pg_image.proofs.image_line.image_said.Goals as goal
 
 pub returns-in_err-node : goal.returns-in_err-node
 returns-in_err-node c =

@@ -9,7 +9,7 @@ use Rattle.pg_text.specs.declared.error.FileError.TheVariants.{Bad, Memory}
 use Rattle.pg_cert_files.specs.CertFile.{end_fault}
 use Rattle.pg_cert_files.specs.Views.{number_of}
 use Rattle.pg_cert_files.specs.declared.fault.Fault.{Fault}
-use Rattle.pg_image_files.specs.ImageFile.{Draft, nothing, after, ended, said, image_certificate}
+use Rattle.pg_image.specs.ImageFile.{Draft, nothing, after, ended, said, image_certificate}
 
 -- a file that isn't too large
 pub fits_file : (text : Bytes)

@@ -1,9 +1,9 @@
 use Rattle.std.proofs.Common.{◌≡◌, ◌+◌, length}
 use Rattle.pg_text.specs.Text.{lines}
 use Rattle.pg_text.specs.Faults.{reading}
-use Rattle.pg_image_files.specs.ImageFile.{nothing, after}
-use Rattle.pg_image_files.specs.Views.{view}
-use Rattle.pg_image_files.proofs.reading.read_image.Given as goal
+use Rattle.pg_image.specs.ImageFile.{nothing, after}
+use Rattle.pg_image.specs.Views.{view}
+use Rattle.pg_image.proofs.reading.read_image.Given as goal
 
 abbrev pub invariant-loop-line : goal.invariant-loop-line
 invariant-loop-line l = record {

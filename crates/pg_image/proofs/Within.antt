@@ -33,9 +33,9 @@ use Rattle.pg_image.specs.Print.{image_header}
 use Rattle.pg_image.specs.declared.cert.ImageCert.{ImageCert}
 use Rattle.pg_image.specs.declared.node.ImageNode.{ImageNode}
 use Rattle.pg_image.specs.declared.node.ImageNode.TheVariants.{Image}
-use Rattle.pg_image_files.specs.ImageFile.{Draft, nothing, closed, header_line, with_node, with_part, plain_line, image_added, node_added, line_due, after, ended, said, image_certificate}
-use Rattle.pg_image_files.specs.ImageLine.{ImageLine, image_line, with_turn, move_shape, image_by, image_said}
-use Rattle.pg_image_files.proofs.Shadows.{shadow, claim_shadow, draft_shadow, closed_shadow, one_more, part_added, move_fits, limits_fit}
+use Rattle.pg_image.specs.ImageFile.{Draft, nothing, closed, header_line, with_node, with_part, plain_line, image_added, node_added, line_due, after, ended, said, image_certificate}
+use Rattle.pg_image.specs.ImageLine.{ImageLine, image_line, with_turn, move_shape, image_by, image_said}
+use Rattle.pg_image.proofs.Shadows.{shadow, claim_shadow, draft_shadow, closed_shadow, one_more, part_added, move_fits, limits_fit}
 
 -- ---- the line of an image
 

@@ -2,11 +2,11 @@
 ghost use Rattle.std.specs.Prelude.{IfOk};
 ghost use Rattle.pg_cert_files.specs.Views.{IsReadAs};
 ghost use Rattle.pg_image.specs.Limits.{IsImageWithinLimits};
-ghost use Rattle.pg_image_files.specs.ImageFile.{image_certificate};
+ghost use Rattle.pg_image.specs.ImageFile.{image_certificate};
 
+use crate::cert::ImageCert;
 use crate::draft::ImageDraft;
 use pg_cert_files::{CertFault, Fault, MAX_CERT_BYTES};
-use pg_image::ImageCert;
 use pg_text::Lines;
 use std::alloc::Global;
 

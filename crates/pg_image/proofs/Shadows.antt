@@ -24,7 +24,7 @@ use Rattle.pg_image.specs.Limits.{IsMarked, IsImageNode, IsImageClaim, IsImageWi
 use Rattle.pg_image.specs.declared.cert.ImageClaim.{ImageClaim}
 use Rattle.pg_image.specs.declared.node.ImageNode.{ImageNode}
 use Rattle.pg_image.specs.declared.node.ImageNode.TheVariants.{Plain, Image}
-use Rattle.pg_image_files.specs.ImageFile.{Draft, last_claim, closed, with_part}
+use Rattle.pg_image.specs.ImageFile.{Draft, last_claim, closed, with_part}
 
 -- the move for an image, whatever its point
 abbrev pub move_node : FinSet nat_cmp → FinSet nat_cmp → Side → ℕ → ℕ → ℕ → Node

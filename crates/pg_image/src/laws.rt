@@ -6,8 +6,8 @@ ghost use Rattle.pg_cert_files.specs.declared.limits.TheConstants.{MAX_CERT_BYTE
 ghost use Rattle.pg_image.specs.Limits.{IsImageWithinLimits};
 ghost use Rattle.pg_image.specs.Print.{printed_image_certificate};
 ghost use Rattle.pg_image.specs.declared.cert.ImageCert.{ImageCert};
-ghost use Rattle.pg_image_files.specs.FirstFault.{IsFirstFault};
-ghost use Rattle.pg_image_files.specs.ImageFile.{image_certificate};
+ghost use Rattle.pg_image.specs.FirstFault.{IsFirstFault};
+ghost use Rattle.pg_image.specs.ImageFile.{image_certificate};
 
 /// What reading gives is within the limits of the format.
 pub fn reads_within_limits()

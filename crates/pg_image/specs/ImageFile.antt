@@ -20,7 +20,7 @@ use Rattle.pg_image.specs.declared.cert.ImageCert.{ImageCert}
 use Rattle.pg_image.specs.declared.cert.ImageClaim.{ImageClaim}
 use Rattle.pg_image.specs.declared.node.ImageNode.{ImageNode}
 use Rattle.pg_image.specs.declared.node.ImageNode.TheVariants.{Plain}
-use Rattle.pg_image_files.specs.ImageLine.{ImageLine, image_line, image_said}
+use Rattle.pg_image.specs.ImageLine.{ImageLine, image_line, image_said}
 
 -- what the lines so far have said
 pub record Draft : Type 0 where

@@ -3,12 +3,12 @@ ghost use Rattle.std.specs.Prelude.{◌≡◌, nat_lt, if◌then◌else◌, Some
 ghost use Rattle.pg_text.specs.Faults.{Gives};
 ghost use Rattle.pg_maps.specs.GridMaps.{numbered};
 ghost use Rattle.pg_maps.specs.declared.grid_map.TheConstants.{MAP_COUNT};
-ghost use Rattle.pg_image_files.specs.ImageLine.{image_line, image_by, image_said};
-ghost use Rattle.pg_image_files.specs.Views.{line_view};
+ghost use Rattle.pg_image.specs.ImageLine.{image_line, image_by, image_said};
+ghost use Rattle.pg_image.specs.Views.{line_view};
 
+use crate::node::ImageNode;
 use pg_cert::{Body, Node, Part};
 use pg_cert_files::{Fault, Form, Outline, read_node, turn_of};
-use pg_image::ImageNode;
 use pg_maps::GridMap;
 use pg_text::{LineError, first_word, four_parts};
 use std::alloc::Global;

@@ -3,13 +3,14 @@ ghost use Rattle.std.specs.Prelude.{◌≡◌, IfOk};
 ghost use Rattle.pg_text.specs.Faults.{Gives};
 ghost use Rattle.pg_cert_files.specs.CertFile.{end_fault};
 ghost use Rattle.pg_cert_files.specs.Views.{IsReadAs};
-ghost use Rattle.pg_image_files.specs.ImageFile.{nothing, closed, header_line, with_node, with_part, plain_line, image_added, after, ended};
-ghost use Rattle.pg_image_files.specs.Views.{view, line_view};
+ghost use Rattle.pg_image.specs.ImageFile.{nothing, closed, header_line, with_node, with_part, plain_line, image_added, after, ended};
+ghost use Rattle.pg_image.specs.Views.{view, line_view};
 
+use crate::cert::{ImageCert, ImageClaim, ImageClaims};
 use crate::image_line::{ImageWords, image_line, image_said};
+use crate::node::{ImageNode, ImageNodes};
 use pg_cert::{Part, Version};
 use pg_cert_files::{Due, Fault, Head, Progress};
-use pg_image::{ImageCert, ImageClaim, ImageClaims, ImageNode, ImageNodes};
 use pg_text::{FileError, LineError};
 use std::alloc::{AllocError, Global};
 

@@ -41,10 +41,10 @@ use Rattle.pg_image.specs.declared.cert.ImageCert.{ImageCert}
 use Rattle.pg_image.specs.declared.cert.ImageClaim.{ImageClaim}
 use Rattle.pg_image.specs.declared.node.ImageNode.{ImageNode}
 use Rattle.pg_image.specs.declared.node.ImageNode.TheVariants.{Plain, Image}
-use Rattle.pg_image_files.specs.ImageFile.{Draft, nothing, closed, with_node, with_part, node_added, line_due, after, ended, image_certificate}
-use Rattle.pg_image_files.specs.ImageLine.{ImageLine, begun_with, with_fields, image_line, image_said}
-use Rattle.pg_image_files.proofs.Shadows.{move_node, move_fits}
-use Rattle.pg_image_files.proofs.Whole.{fits_file, said_is}
+use Rattle.pg_image.specs.ImageFile.{Draft, nothing, closed, with_node, with_part, node_added, line_due, after, ended, image_certificate}
+use Rattle.pg_image.specs.ImageLine.{ImageLine, begun_with, with_fields, image_line, image_said}
+use Rattle.pg_image.proofs.Shadows.{move_node, move_fits}
+use Rattle.pg_image.proofs.Whole.{fits_file, said_is}
 
 -- ---- texts of whole lines
 

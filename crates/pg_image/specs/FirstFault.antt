@@ -11,8 +11,8 @@ use Rattle.pg_cert_files.specs.declared.progress.Due.{Due}
 use Rattle.pg_cert_files.specs.declared.progress.Due.TheVariants as due
 use Rattle.pg_cert_files.specs.declared.progress.Progress.{Progress}
 use Rattle.pg_image.specs.Print.{image_header}
-use Rattle.pg_image_files.specs.ImageFile.{Draft, nothing, after}
-use Rattle.pg_image_files.specs.ImageLine.{ImageLine, image_line, move_shape, image_said}
+use Rattle.pg_image.specs.ImageFile.{Draft, nothing, after}
+use Rattle.pg_image.specs.ImageLine.{ImageLine, image_line, move_shape, image_said}
 
 -- the faults of a node's line: an image may lack the form of one, or have a wrong number; any other
 -- line is one of version 2

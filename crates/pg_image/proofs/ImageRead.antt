@@ -14,7 +14,7 @@ use Rattle.pg_cert_files.specs.declared.form.Form.TheVariants as forms
 use Rattle.pg_cert_files.specs.declared.turn.Turn.{Turn}
 use Rattle.pg_cert_files.proofs.Outlines.{node_formed}
 use Rattle.pg_image.specs.declared.node.ImageNode.{ImageNode}
-use Rattle.pg_image_files.specs.ImageLine.{ImageLine, with_turn, image_by, image_said}
+use Rattle.pg_image.specs.ImageLine.{ImageLine, with_turn, image_by, image_said}
 
 abbrev pub outline : ImageLine → Turn → Shape
 outline l turn = record { x = l.x; y = l.y; turn = turn; form = forms.Move; words = l.words }

@@ -23,9 +23,9 @@ use Rattle.pg_cert_files.proofs.LeastFaults.{OnlyNumber, only_then, only_node, n
 use Rattle.pg_cert_files.proofs.NodeLimits.{chosen, done}
 use Rattle.pg_image.specs.Print.{image_header}
 use Rattle.pg_image.specs.declared.node.ImageNode.{ImageNode}
-use Rattle.pg_image_files.specs.FirstFault.{node_faults, line_faults, IsFirstFault}
-use Rattle.pg_image_files.specs.ImageFile.{Draft, nothing, with_node, with_part, plain_line, node_added, line_due, after, ended, said, image_certificate}
-use Rattle.pg_image_files.specs.ImageLine.{ImageLine, image_line, move_shape, image_by, image_said}
+use Rattle.pg_image.specs.FirstFault.{node_faults, line_faults, IsFirstFault}
+use Rattle.pg_image.specs.ImageFile.{Draft, nothing, with_node, with_part, plain_line, node_added, line_due, after, ended, said, image_certificate}
+use Rattle.pg_image.specs.ImageLine.{ImageLine, image_line, move_shape, image_by, image_said}
 
 -- ---- the least of a line
 

@@ -1,6 +1,0 @@
-pub mod ImageRead
-pub mod Whole
-pub mod Shadows
-pub mod Within
-pub mod First
-pub mod Back

@@ -1,5 +1,0 @@
-use Rattle.pg_image_files.proofs.First.{first_told}
-use Rattle.pg_image_files.proofs.laws.names_the_first_fault.Goals as goal
-
-pub returns : goal.returns
-returns c = first_told

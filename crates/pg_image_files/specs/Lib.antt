@@ -1,4 +1,0 @@
-pub mod ImageLine
-pub mod ImageFile
-pub mod FirstFault
-pub mod Views
