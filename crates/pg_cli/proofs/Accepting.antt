@@ -10,8 +10,8 @@ use Rattle.pg_judge.specs.declared.claim_head.ClaimHead.{ClaimHead}
 use Rattle.pg_evidence.specs.Standing.{HasFault, HasImageFault, ShowsValid}
 use Rattle.pg_evidence.specs.Verdicts.{heads_of_evidence}
 use Rattle.pg_evidence.specs.declared.evidence.Evidence.{Evidence}
-use Rattle.pg_texts.specs.declared.refusal.Refusal.TheVariants.{Rejected, RejectedImage}
-use Rattle.pg_texts.specs.declared.statuses.TheConstants.{DONE}
+use Rattle.pg_messages.specs.declared.refusal.Refusal.TheVariants.{Rejected, RejectedImage}
+use Rattle.pg_messages.specs.declared.statuses.TheConstants.{DONE}
 use Rattle.pg_cli.specs.Checking.{acceptance, head_acceptance, RefusesCheck, AcceptsAll}
 use Rattle.pg_talk.specs.Saying.{IsCut}
 use Rattle.pg_talk.specs.Done.{Finished, Failed, Starved, Performs}

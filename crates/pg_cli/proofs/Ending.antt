@@ -9,11 +9,11 @@ use Rattle.pg_io.specs.declared.entry.Entry.{Entry}
 use Rattle.pg_io.specs.declared.entry.Entry.TheVariants.{Said}
 use Rattle.pg_io.specs.declared.stop.Stop.{Stop}
 use Rattle.pg_io.specs.declared.stop.Stop.TheVariants.{Read, Write, Memory}
-use Rattle.pg_texts.specs.Statuses.{refusal_status}
-use Rattle.pg_texts.specs.Texts.{refusal_text}
-use Rattle.pg_texts.specs.declared.refusal.Refusal.{Refusal}
-use Rattle.pg_texts.specs.declared.refusal.Refusal.TheVariants.{NoMeaning, NoClaim, Game, Certificate, Rejected, RejectedSpan, RejectedVectors, RejectedImage, Record as FaultyRecord}
-use Rattle.pg_texts.specs.declared.statuses.TheConstants.{DONE, UNKNOWN, REFUSED, NO_MEANING, READ_FAILED, WRITE_FAILED, NO_MEMORY, OUT_OF_REPLIES}
+use Rattle.pg_messages.specs.Statuses.{refusal_status}
+use Rattle.pg_messages.specs.Texts.{refusal_text}
+use Rattle.pg_messages.specs.declared.refusal.Refusal.{Refusal}
+use Rattle.pg_messages.specs.declared.refusal.Refusal.TheVariants.{NoMeaning, NoClaim, Game, Certificate, Rejected, RejectedSpan, RejectedVectors, RejectedImage, Record as FaultyRecord}
+use Rattle.pg_messages.specs.declared.statuses.TheConstants.{DONE, UNKNOWN, REFUSED, NO_MEANING, READ_FAILED, WRITE_FAILED, NO_MEMORY, OUT_OF_REPLIES}
 use Rattle.pg_words.specs.Words.{Command, Solve, Check, Play, Gen, Report, OfFamily, Record, Review}
 use Rattle.pg_words.specs.declared.family.FamilyTask.TheVariants as tasks
 use Rattle.pg_words.specs.declared.source.Source.{Source}

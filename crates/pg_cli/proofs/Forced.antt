@@ -30,9 +30,9 @@ use Rattle.pg_cert.specs.declared.cert.Claim.{Claim}
 use Rattle.pg_game.specs.Game.{with_turn}
 use Rattle.pg_game.specs.Value.{Forces}
 use Rattle.pg_player.specs.Player.{is_win, is_claim_of, is_win_of, chosen_claim}
-use Rattle.pg_texts.specs.Texts.{refusal_text, unknown_text, expanded_text}
-use Rattle.pg_texts.specs.declared.refusal.Refusal.{Refusal}
-use Rattle.pg_texts.specs.declared.refusal.Refusal.TheVariants as refusals
+use Rattle.pg_messages.specs.Texts.{refusal_text, unknown_text, expanded_text}
+use Rattle.pg_messages.specs.declared.refusal.Refusal.{Refusal}
+use Rattle.pg_messages.specs.declared.refusal.Refusal.TheVariants as refusals
 use Rattle.pg_words.specs.Words.{Command, Solve, Check, Play, Gen, Report, OfFamily, Record, Review}
 use Rattle.pg_words.specs.declared.family.Family.{Family}
 use Rattle.pg_words.specs.declared.family.FamilyTask.{FamilyTask}

@@ -13,7 +13,7 @@ use Rattle.pg_solve.specs.Left.{LeavesSearch}
 use Rattle.pg_talk.proofs.Speaking.{Grows-then}
 use Rattle.pg_talk.specs.declared.halt.Halt.{Halt}
 use Rattle.pg_talk.specs.declared.halt.Halt.TheVariants.{Refused, Stopped}
-use Rattle.pg_texts.specs.Texts.{refusal_text}
+use Rattle.pg_messages.specs.Texts.{refusal_text}
 use Rattle.pg_words.specs.Words.{Command, Solve, Check, Play, Gen, Report, OfFamily, Record, Review}
 use Rattle.pg_cli.specs.Commands.{SpeaksInTime}
 use Rattle.pg_cli.specs.Run.{Ends}

@@ -13,7 +13,7 @@ use Rattle.pg_evidence.specs.Evidence.{IsInnerHalt}
 use Rattle.pg_evidence.specs.Standing.{HasFault, MakesStanding, StandsFor}
 use Rattle.pg_evidence.specs.declared.evidence.Evidence.{Evidence}
 use Rattle.pg_player.specs.Player.{Play, chosen_claim}
-use Rattle.pg_texts.specs.declared.refusal.Refusal.TheVariants as refusals
+use Rattle.pg_messages.specs.declared.refusal.Refusal.TheVariants as refusals
 use Rattle.pg_cli.specs.Playing.{PlaysOn, RefusesPlay, claimer}
 use Rattle.pg_cli.specs.Reading.{read_of}
 use Rattle.pg_talk.specs.Contender.{Contender, contender_of, player_of}

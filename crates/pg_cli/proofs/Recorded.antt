@@ -8,9 +8,9 @@ use Rattle.pg_io.specs.declared.entry.Entry.TheVariants.{Said}
 use Rattle.pg_game.specs.Game.{start}
 use Rattle.pg_game.specs.declared.game.Game.{Game}
 use Rattle.pg_files.specs.GameFile.{Entry as GameEntry}
-use Rattle.pg_texts.specs.Texts.{lost_text, reply_text, reviewed_text, unknown_at_text}
-use Rattle.pg_texts.specs.declared.message.ReplyFault.{ReplyFault}
-use Rattle.pg_texts.specs.declared.message.ReplyFault.TheVariants as fault
+use Rattle.pg_messages.specs.Texts.{lost_text, reply_text, reviewed_text, unknown_at_text}
+use Rattle.pg_messages.specs.declared.message.ReplyFault.{ReplyFault}
+use Rattle.pg_messages.specs.declared.message.ReplyFault.TheVariants as fault
 use Rattle.pg_talk.specs.Done.{Done, End, Finished, Failed, Starved, SaysFirst}
 use Rattle.pg_talk.specs.declared.halt.Halt.{Halt}
 use Rattle.pg_pns.specs.Expanded.{Expanded}

@@ -10,7 +10,7 @@ use Rattle.pg_talk.specs.Done.{Finished, Performs, stop_end}
 use Rattle.pg_cli.specs.Reading.{read_of}
 use Rattle.pg_cli.specs.Report.{rejection_text}
 use Rattle.pg_cli.specs.declared.code.Code.{Code}
-use Rattle.pg_texts.specs.declared.statuses.TheConstants.{REFUSED}
+use Rattle.pg_messages.specs.declared.statuses.TheConstants.{REFUSED}
 use Rattle.pg_cli.specs.Reporting.{Accounts, HasCode, RefusesReport, Reports}
 use Rattle.pg_talk.specs.declared.halt.Halt.TheVariants.{Stopped}
 use Rattle.pg_talk.proofs.Runs.{silent, talked_texts}

@@ -7,7 +7,7 @@ use Rattle.pg_base.specs.declared.side.Side.{Side}
 use Rattle.pg_game.specs.declared.game.Game.{Game}
 use Rattle.pg_files.specs.GameFile.{Entry as GameEntry}
 use Rattle.pg_evidence.specs.declared.evidence.Evidence.{Evidence}
-use Rattle.pg_texts.specs.declared.refusal.Refusal.{Refusal}
+use Rattle.pg_messages.specs.declared.refusal.Refusal.{Refusal}
 use Rattle.pg_words.specs.Words.{Command, Solve, Check, Play, Gen, Report, OfFamily, Record, Review}
 use Rattle.pg_cli.specs.Checking.{RefusesCheck, AcceptsAll}
 use Rattle.pg_cli.specs.Commands.{Gives, LeavesFiles, LeavesWork, Quiets, SpeaksInTime}

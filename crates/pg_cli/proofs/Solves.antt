@@ -16,9 +16,9 @@ use Rattle.pg_pns.specs.Budget.{budget_for, most_for}
 use Rattle.pg_pns.specs.Expanded.{Expanded}
 use Rattle.pg_solve.specs.Left.{budget, IsLeft, IsLeftOpen, LeavesSearch}
 use Rattle.pg_solve.specs.declared.solution.Solution.{Solution}
-use Rattle.pg_texts.specs.Texts.{unknown_text}
-use Rattle.pg_texts.specs.declared.refusal.Refusal.{Refusal}
-use Rattle.pg_texts.specs.declared.statuses.TheConstants.{UNKNOWN}
+use Rattle.pg_messages.specs.Texts.{unknown_text}
+use Rattle.pg_messages.specs.declared.refusal.Refusal.{Refusal}
+use Rattle.pg_messages.specs.declared.statuses.TheConstants.{UNKNOWN}
 use Rattle.pg_words.specs.Words.{Solve}
 use Rattle.pg_talk.specs.Done.{Done, End, Finished, Failed, Starved, Does, Follows, talk, stop_end}
 use Rattle.pg_talk.specs.Opening.{OpensGame, game_held}

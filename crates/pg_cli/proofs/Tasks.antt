@@ -6,10 +6,10 @@ use Rattle.pg_io.specs.Console.{ConsoleTold}
 use Rattle.pg_io.specs.Files.{Bytes, FilesTold, ReadsOnly}
 use Rattle.pg_io.specs.declared.stop.Stop.{Stop}
 use Rattle.pg_io.specs.declared.stop.Stop.TheVariants.{Read, Write, Memory}
-use Rattle.pg_texts.specs.Statuses.{refusal_status}
-use Rattle.pg_texts.specs.declared.refusal.Refusal.{Refusal}
-use Rattle.pg_texts.specs.declared.refusal.Refusal.TheVariants.{NoMeaning, NoClaim, Game, Certificate, Rejected, RejectedSpan, RejectedVectors, RejectedImage, Record}
-use Rattle.pg_texts.specs.declared.statuses.TheConstants.{DONE, INPUT_ENDED, OUT_OF_REPLIES}
+use Rattle.pg_messages.specs.Statuses.{refusal_status}
+use Rattle.pg_messages.specs.declared.refusal.Refusal.{Refusal}
+use Rattle.pg_messages.specs.declared.refusal.Refusal.TheVariants.{NoMeaning, NoClaim, Game, Certificate, Rejected, RejectedSpan, RejectedVectors, RejectedImage, Record}
+use Rattle.pg_messages.specs.declared.statuses.TheConstants.{DONE, INPUT_ENDED, OUT_OF_REPLIES}
 use Rattle.pg_words.specs.declared.family.FamilyTask.{FamilyTask}
 use Rattle.pg_words.specs.declared.family.FamilyTask.TheVariants.{Solve, Check, Play}
 use Rattle.pg_families.specs.Family.{GivesInFamily, LeavesFamilyFiles, QuietAtReadInFamily, statuses_in_family}

@@ -16,7 +16,7 @@ use Rattle.pg_evidence.specs.Verdicts.{IsFound, heads_of_evidence, image_head}
 use Rattle.pg_evidence.specs.declared.evidence.Evidence.{Evidence}
 use Rattle.pg_evidence.specs.declared.evidence.Evidence.TheVariants.{Plain, Folded}
 use Rattle.pg_evidence.specs.declared.verdict.Verdict.{Verdict}
-use Rattle.pg_texts.specs.Texts.{accepted_text}
+use Rattle.pg_messages.specs.Texts.{accepted_text}
 use Rattle.pg_words.specs.Words.{Check, Report}
 use Rattle.pg_pns.specs.Expanded.{Expanded}
 use Rattle.pg_cli.specs.Checking.{AcceptsAll, RefusesCheck, acceptance, head_acceptance}

@@ -8,8 +8,8 @@ use Rattle.pg_cert.specs.Valid.{IsValid}
 use Rattle.pg_cert.specs.declared.cert.Cert.{Cert}
 use Rattle.pg_cert.specs.declared.cert.Claim.{Claim}
 use Rattle.pg_judge.specs.declared.claim_head.ClaimHead.{ClaimHead}
-use Rattle.pg_texts.specs.Texts.{accepted_text}
-use Rattle.pg_texts.specs.declared.refusal.Refusal.{Refusal}
+use Rattle.pg_messages.specs.Texts.{accepted_text}
+use Rattle.pg_messages.specs.declared.refusal.Refusal.{Refusal}
 use Rattle.pg_evidence.specs.Standing.{RejectsEvidence, StandsFor}
 use Rattle.pg_evidence.specs.declared.evidence.Evidence.{Evidence}
 use Rattle.pg_talk.specs.Done.{End}

@@ -5,9 +5,9 @@ use Rattle.pg_io.specs.Files.{Bytes, Holding, FilesTold, ReadsOnly}
 use Rattle.pg_files.specs.Views.{entry}
 use Rattle.pg_game.specs.declared.game.Game.{Game}
 use Rattle.pg_io.specs.declared.entry.Entry.TheVariants.{Said}
-use Rattle.pg_texts.specs.Texts.{no_meaning_text}
-use Rattle.pg_texts.specs.declared.refusal.Refusal.TheVariants.{NoMeaning}
-use Rattle.pg_texts.specs.declared.statuses.TheConstants.{DONE, UNKNOWN, NO_MEANING, FAULTY_GAME, REFUSED, READ_FAILED, WRITE_FAILED, NO_MEMORY, INPUT_ENDED, OUT_OF_REPLIES, FAULTY_RECORD}
+use Rattle.pg_messages.specs.Texts.{no_meaning_text}
+use Rattle.pg_messages.specs.declared.refusal.Refusal.TheVariants.{NoMeaning}
+use Rattle.pg_messages.specs.declared.statuses.TheConstants.{DONE, UNKNOWN, NO_MEANING, FAULTY_GAME, REFUSED, READ_FAILED, WRITE_FAILED, NO_MEMORY, INPUT_ENDED, OUT_OF_REPLIES, FAULTY_RECORD}
 use Rattle.pg_words.specs.Words.{Command, Solve, Check, Play, Gen, Report, OfFamily, Record, Review, meaning_of}
 use Rattle.pg_cli.specs.Generating.{IsMade, TellsSize, has_source, names_of, searches}
 use Rattle.pg_talk.specs.Halts.{IsGameHalt, IsReadHalt, IsPlayHalt, IsPlayEnd, IsWriteHalt}

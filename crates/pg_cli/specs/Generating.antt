@@ -12,7 +12,7 @@ use Rattle.pg_gen.specs.Bridge.{IsBridgeGame, has_bridge}
 use Rattle.pg_gen.specs.Rows.{IsRowsGame, has_rows}
 use Rattle.pg_gen.specs.Scatter.{IsScatterGame, has_scatter}
 use Rattle.pg_pns.specs.Expanded.{Expanded}
-use Rattle.pg_texts.specs.Texts.{line_game_text, switching_game_text}
+use Rattle.pg_messages.specs.Texts.{line_game_text, switching_game_text}
 use Rattle.pg_words.specs.declared.source.Source.{Source}
 use Rattle.pg_words.specs.declared.source.Source.TheVariants.{Rows, Bridge, Scatter}
 use Rattle.pg_talk.specs.Done.{Done, End}

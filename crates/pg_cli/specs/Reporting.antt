@@ -11,8 +11,8 @@ use Rattle.pg_evidence.specs.declared.evidence.Evidence.{Evidence}
 use Rattle.pg_cli.specs.Report.{report_text, rejection_text}
 use Rattle.pg_cli.specs.declared.code.Code.{Code}
 use Rattle.pg_cli.specs.declared.code.Code.TheVariants.{Node, Image}
-use Rattle.pg_texts.specs.declared.refusal.Refusal.{Refusal}
-use Rattle.pg_texts.specs.declared.statuses.TheConstants.{DONE, REFUSED}
+use Rattle.pg_messages.specs.declared.refusal.Refusal.{Refusal}
+use Rattle.pg_messages.specs.declared.statuses.TheConstants.{DONE, REFUSED}
 use Rattle.pg_talk.specs.Done.{End, Finished, Failed, Starved}
 use Rattle.pg_talk.specs.Opening.{IsSaidBy}
 use Rattle.pg_talk.specs.declared.halt.Halt.{Halt}

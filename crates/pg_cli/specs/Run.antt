@@ -4,11 +4,11 @@ use Rattle.pg_io.specs.Causes.{Rose}
 use Rattle.pg_io.specs.Console.{ConsoleTold, Grows}
 use Rattle.pg_io.specs.Files.{Holding, FilesTold}
 use Rattle.pg_io.specs.declared.entry.Entry.TheVariants.{Said}
-use Rattle.pg_texts.specs.Statuses.{refusal_status}
-use Rattle.pg_texts.specs.Texts.{refusal_text}
-use Rattle.pg_texts.specs.declared.refusal.Refusal.{Refusal}
-use Rattle.pg_texts.specs.declared.refusal.Refusal.TheVariants.{NoMeaning}
-use Rattle.pg_texts.specs.declared.statuses.TheConstants.{WRITE_FAILED}
+use Rattle.pg_messages.specs.Statuses.{refusal_status}
+use Rattle.pg_messages.specs.Texts.{refusal_text}
+use Rattle.pg_messages.specs.declared.refusal.Refusal.{Refusal}
+use Rattle.pg_messages.specs.declared.refusal.Refusal.TheVariants.{NoMeaning}
+use Rattle.pg_messages.specs.declared.statuses.TheConstants.{WRITE_FAILED}
 use Rattle.pg_words.specs.Words.{Command, Solve, Check, Play, Gen, Report, OfFamily, Record, Review}
 use Rattle.pg_cli.specs.Checking.{RefusesCheck, AcceptsAll}
 use Rattle.pg_talk.specs.Done.{Done, End, Finished, Failed, Starved, Changes, Follows, IsNothing, ending}

@@ -29,9 +29,9 @@ use Rattle.pg_solve.specs.declared.solution.Class.TheVariants.{Short, Cut, First
 use Rattle.pg_solve.specs.declared.solution.Solution.{Solution}
 use Rattle.pg_solve.specs.declared.solution.Solution.TheVariants.{Value, Class as ForClass, Unknown}
 use Rattle.pg_solve.specs.declared.solving.TheConstants.{MIN_POSITIONS}
-use Rattle.pg_texts.specs.Texts.{class_short_text, class_cut_text, class_first_mover_text, expanded_text, message_text, result_text, unknown_text}
-use Rattle.pg_texts.specs.declared.message.Message.{Message}
-use Rattle.pg_texts.specs.declared.statuses.TheConstants.{DONE, UNKNOWN}
+use Rattle.pg_messages.specs.Texts.{class_short_text, class_cut_text, class_first_mover_text, expanded_text, message_text, result_text, unknown_text}
+use Rattle.pg_messages.specs.declared.message.Message.{Message}
+use Rattle.pg_messages.specs.declared.statuses.TheConstants.{DONE, UNKNOWN}
 use Rattle.pg_talk.specs.Done.{Done, End, Finished, Failed, Starved}
 use Rattle.pg_talk.specs.Opening.{IsSaidBy}
 use Rattle.pg_talk.specs.Storing.{Delivers}

@@ -5,7 +5,7 @@ ghost use Rattle.pg_io.specs.Stop.{Causes};
 ghost use Rattle.pg_game.specs.declared.game.Game.{Game};
 ghost use Rattle.pg_evidence.specs.Verdicts.{IsFound};
 ghost use Rattle.pg_evidence.specs.declared.evidence.Evidence.{Evidence};
-ghost use Rattle.pg_texts.specs.declared.statuses.TheConstants.{DONE};
+ghost use Rattle.pg_messages.specs.declared.statuses.TheConstants.{DONE};
 ghost use Rattle.pg_pns.specs.Expanded.{Expanded};
 ghost use Rattle.pg_words.specs.Words.{Check};
 ghost use Rattle.pg_cli.specs.Checking.{AcceptsAll, RefusesCheck, head_acceptance};
@@ -20,8 +20,8 @@ use crate::judging::judge_both;
 use pg_evidence::Verdict;
 use pg_io::{Console, Files, Stop};
 use pg_judge::ClaimHead;
+use pg_messages::{DONE, Message, Refusal};
 use pg_talk::{Halt, say};
-use pg_texts::{DONE, Message, Refusal};
 use std::alloc::Global;
 
 /// Says that each claim is accepted.

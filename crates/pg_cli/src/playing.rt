@@ -20,9 +20,9 @@ use pg_check::{CheckFault, Checked};
 use pg_evidence::{Evidence, check_standing, standing_of};
 use pg_game::Game;
 use pg_io::{Console, Files, Stop};
+use pg_messages::Refusal;
 use pg_player::{OpenFault, Player};
 use pg_talk::{Halt, play_claim};
-use pg_texts::Refusal;
 use std::alloc::Global;
 
 /// Plays a side of the game over a console by the claim for it.

@@ -18,8 +18,8 @@ use pg_base::Memory;
 use pg_evidence::Verdict;
 use pg_game::Game;
 use pg_io::{Console, Files, Stop};
+use pg_messages::{DONE, REFUSED};
 use pg_talk::{Halt, say_text};
-use pg_texts::{DONE, REFUSED};
 use std::alloc::Global;
 
 /// What there is to say of a certificate for a game, and the status that goes with it.

@@ -14,10 +14,10 @@ use crate::reporting::report;
 use crate::solving::{Options, positions_for, solve};
 use pg_families::carry_out_in_family;
 use pg_io::{Console, Files, Stop};
+use pg_messages::{Message, NO_MEMORY, READ_FAILED, Refusal, WRITE_FAILED};
 use pg_pns::Work;
 use pg_sessions::{record, review};
 use pg_talk::{Halt, say};
-use pg_texts::{Message, NO_MEMORY, READ_FAILED, Refusal, WRITE_FAILED};
 use pg_words::{Command, meaning};
 use std::alloc::Global;
 

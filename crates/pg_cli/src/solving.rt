@@ -6,8 +6,8 @@ ghost use Rattle.pg_base.specs.declared.kind.Kind.TheVariants.{Switching};
 ghost use Rattle.pg_game.specs.declared.bounds.TheConstants.{MAX_POSITIONS};
 ghost use Rattle.pg_solve.specs.Left.{budget, IsLeft};
 ghost use Rattle.pg_solve.specs.declared.solving.TheConstants.{MIN_POSITIONS};
-ghost use Rattle.pg_texts.specs.Texts.{message_text};
-ghost use Rattle.pg_texts.specs.declared.statuses.TheConstants.{DONE, UNKNOWN};
+ghost use Rattle.pg_messages.specs.Texts.{message_text};
+ghost use Rattle.pg_messages.specs.declared.statuses.TheConstants.{DONE, UNKNOWN};
 ghost use Rattle.pg_words.specs.Words.{Solve};
 ghost use Rattle.pg_cli.specs.Commands.{Gives, LeavesWork, Quiets};
 ghost use Rattle.pg_talk.specs.Done.{Does};
@@ -22,10 +22,10 @@ use pg_base::Memory;
 use pg_cert::{Cert, print_cert};
 use pg_game::{Game, MAX_POSITIONS};
 use pg_io::{Console, Files};
+use pg_messages::{Message, UNKNOWN};
 use pg_pns::{Work, budget_of};
 use pg_solve::{Class, MIN_POSITIONS, Solution};
 use pg_talk::{Halt, deliver, open_game, say};
-use pg_texts::{Message, UNKNOWN};
 use std::alloc::Global;
 
 /// How many positions may be expanded where the words say none.

@@ -5,10 +5,10 @@ use Rattle.pg_io.specs.Console.{ConsoleTold}
 use Rattle.pg_io.specs.Files.{Bytes}
 use Rattle.pg_io.specs.declared.stop.Stop.{Stop}
 use Rattle.pg_io.specs.declared.stop.Stop.TheVariants.{Read, Write, Memory}
-use Rattle.pg_texts.specs.Statuses.{refusal_status}
-use Rattle.pg_texts.specs.declared.refusal.Refusal.{Refusal}
-use Rattle.pg_texts.specs.declared.refusal.Refusal.TheVariants.{NoMeaning, NoClaim, Game, Certificate, Rejected, RejectedSpan, RejectedVectors, RejectedImage, Record}
-use Rattle.pg_texts.specs.declared.statuses.TheConstants.{DONE, NO_MEANING, REFUSED, WRITE_FAILED}
+use Rattle.pg_messages.specs.Statuses.{refusal_status}
+use Rattle.pg_messages.specs.declared.refusal.Refusal.{Refusal}
+use Rattle.pg_messages.specs.declared.refusal.Refusal.TheVariants.{NoMeaning, NoClaim, Game, Certificate, Rejected, RejectedSpan, RejectedVectors, RejectedImage, Record}
+use Rattle.pg_messages.specs.declared.statuses.TheConstants.{DONE, NO_MEANING, REFUSED, WRITE_FAILED}
 use Rattle.pg_talk.specs.Halts.{stop_status}
 use Rattle.pg_talk.specs.declared.halt.Halt.TheVariants.{Refused, Stopped}
 use Rattle.pg_drawing.specs.Orders.{Order}

@@ -7,7 +7,7 @@ use Rattle.pg_cert.specs.declared.cert.Cert.{Cert}
 use Rattle.pg_span.specs.declared.cert.SpanCert.{SpanCert}
 use Rattle.pg_span.specs.declared.game.SpanGame.{SpanGame}
 use Rattle.pg_family_files.specs.Views.{span_entry}
-use Rattle.pg_texts.specs.declared.statuses.TheConstants.{DONE}
+use Rattle.pg_messages.specs.declared.statuses.TheConstants.{DONE}
 use Rattle.pg_talk.specs.Reading.{OpensCertificate}
 use Rattle.pg_talk.specs.declared.halt.Halt.{Halt}
 use Rattle.pg_families.specs.Connectivity.{OpensSpanCert}

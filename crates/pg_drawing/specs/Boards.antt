@@ -10,7 +10,7 @@ use Rattle.pg_cert.specs.declared.cert.Cert.{Cert}
 use Rattle.pg_span.specs.declared.cert.SpanCert.{SpanCert}
 use Rattle.pg_family_files.specs.FamilyFile.{SpanEntry}
 use Rattle.pg_family_files.specs.Views.{span_entry}
-use Rattle.pg_texts.specs.declared.refusal.Refusal.TheVariants.{Game as FaultyGame}
+use Rattle.pg_messages.specs.declared.refusal.Refusal.TheVariants.{Game as FaultyGame}
 use Rattle.pg_talk.specs.Reading.{certificate_held, game_fault}
 use Rattle.pg_talk.specs.declared.halt.Halt.{Halt}
 use Rattle.pg_talk.specs.declared.halt.Halt.TheVariants.{Refused}

@@ -10,10 +10,10 @@ use Rattle.pg_span.specs.declared.cert.SpanCert.{SpanCert}
 use Rattle.pg_span.specs.declared.flaw.SpanFlaw.{SpanFlaw}
 use Rattle.pg_span.specs.declared.game.SpanGame.{SpanGame}
 use Rattle.pg_family_files.specs.Views.{span_entry}
-use Rattle.pg_texts.specs.Statuses.{refusal_status}
-use Rattle.pg_texts.specs.Texts.{refusal_text}
-use Rattle.pg_texts.specs.declared.refusal.Refusal.TheVariants.{NoMeaning}
-use Rattle.pg_texts.specs.declared.statuses.TheConstants.{DONE, NO_MEANING, REFUSED}
+use Rattle.pg_messages.specs.Statuses.{refusal_status}
+use Rattle.pg_messages.specs.Texts.{refusal_text}
+use Rattle.pg_messages.specs.declared.refusal.Refusal.TheVariants.{NoMeaning}
+use Rattle.pg_messages.specs.declared.statuses.TheConstants.{DONE, NO_MEANING, REFUSED}
 use Rattle.pg_talk.specs.declared.halt.Halt.{Halt}
 use Rattle.pg_talk.specs.declared.halt.Halt.TheVariants.{Refused, Stopped}
 use Rattle.pg_talk.specs.Opening.{IsSaidBy}

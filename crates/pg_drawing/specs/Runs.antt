@@ -4,8 +4,8 @@ use Rattle.pg_io.specs.Causes.{Rose}
 use Rattle.pg_io.specs.Console.{ConsoleTold, Grows}
 use Rattle.pg_io.specs.Files.{Bytes, Holding}
 use Rattle.pg_io.specs.declared.entry.Entry.TheVariants.{Said}
-use Rattle.pg_texts.specs.declared.refusal.Refusal.TheVariants.{NoMeaning}
-use Rattle.pg_texts.specs.declared.statuses.TheConstants.{DONE, NO_MEANING, FAULTY_GAME, REFUSED, READ_FAILED, WRITE_FAILED, NO_MEMORY}
+use Rattle.pg_messages.specs.declared.refusal.Refusal.TheVariants.{NoMeaning}
+use Rattle.pg_messages.specs.declared.statuses.TheConstants.{DONE, NO_MEANING, FAULTY_GAME, REFUSED, READ_FAILED, WRITE_FAILED, NO_MEMORY}
 use Rattle.pg_talk.specs.Halts.{IsGameHalt, IsReadHalt}
 use Rattle.pg_talk.specs.Reading.{IsLackingOne, IsLackingTwo}
 use Rattle.pg_talk.specs.declared.halt.Halt.{Halt}

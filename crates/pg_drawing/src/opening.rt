@@ -10,9 +10,9 @@ use crate::board::Board;
 use pg_family_files::read_span;
 use pg_files::{Fault, MAX_GAME_BYTES, read_game};
 use pg_io::{Files, Stop, read_whole};
+use pg_messages::Refusal;
 use pg_talk::Halt;
 use pg_text::{FileError, Numbered};
-use pg_texts::Refusal;
 use std::alloc::Global;
 
 /// Whether the fault is that the file doesn't begin as one of games on lines and switching games.

@@ -9,8 +9,8 @@ ghost use Rattle.pg_drawing.specs.Runs.{EndsWith, IsLacking, IsStopped, Ran, sta
 
 use crate::telling::tell;
 use pg_io::{Console, Files, Stop};
+use pg_messages::{NO_MEMORY, READ_FAILED, WRITE_FAILED};
 use pg_talk::{Halt, say_text};
-use pg_texts::{NO_MEMORY, READ_FAILED, WRITE_FAILED};
 use std::alloc::Global;
 
 /// Says a text, and gives the status that goes with it.

@@ -5,7 +5,7 @@ ghost use Rattle.pg_files.specs.Views.{entry};
 ghost use Rattle.pg_family_files.specs.Views.{span_entry};
 ghost use Rattle.pg_talk.specs.Halts.{HaltCauses, IsGameHalt, IsReadHalt};
 ghost use Rattle.pg_talk.specs.Reading.{IsLackingOne, IsLackingTwo};
-ghost use Rattle.pg_texts.specs.declared.statuses.TheConstants.{DONE};
+ghost use Rattle.pg_messages.specs.declared.statuses.TheConstants.{DONE};
 ghost use Rattle.pg_drawing.specs.Boards.{board_entry, board_held, both_held, with_certificate};
 ghost use Rattle.pg_drawing.specs.Boards.BoardEntry.{Positional, Connectivity};
 ghost use Rattle.pg_drawing.specs.Due.{Finds, IsDue, IsDueOfBoth, IsDueOfGame};
@@ -21,9 +21,9 @@ use pg_base::Memory;
 use pg_families::open_span_cert;
 use pg_game::Game;
 use pg_io::Files;
+use pg_messages::{DONE, Refusal};
 use pg_span::SpanGame;
 use pg_talk::{Halt, open_certificate};
-use pg_texts::{DONE, Refusal};
 use std::alloc::Global;
 
 /// The text of the picture of a game.

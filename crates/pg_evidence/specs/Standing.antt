@@ -6,8 +6,8 @@ use Rattle.pg_cert.specs.declared.cert.Cert.{Cert}
 use Rattle.pg_cert.specs.declared.cert.Claim.{Claim}
 use Rattle.pg_game.specs.declared.game.Game.{Game}
 use Rattle.pg_image.specs.declared.cert.ImageCert.{ImageCert}
-use Rattle.pg_texts.specs.declared.refusal.Refusal.{Refusal}
-use Rattle.pg_texts.specs.declared.refusal.Refusal.TheVariants.{Rejected, RejectedImage}
+use Rattle.pg_messages.specs.declared.refusal.Refusal.{Refusal}
+use Rattle.pg_messages.specs.declared.refusal.Refusal.TheVariants.{Rejected, RejectedImage}
 use Rattle.pg_unfold.specs.Flaws.{IsFaultless, IsFirstFault as IsFirstImageFault}
 use Rattle.pg_unfold.specs.Unfolded.{IsUnfoldedCert}
 use Rattle.pg_unfold.specs.declared.unfolded.Unfolded.{Unfolded}

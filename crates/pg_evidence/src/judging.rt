@@ -22,8 +22,8 @@ use pg_game::Game;
 use pg_image::{ImageCert, read_image};
 use pg_io::{Files, Stop, pour};
 use pg_judge::{JudgeFault, Judging};
+use pg_messages::Refusal;
 use pg_talk::Halt;
-use pg_texts::Refusal;
 use pg_unfold::{ImageFault, unfold};
 use std::alloc::Global;
 

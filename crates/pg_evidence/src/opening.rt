@@ -14,8 +14,8 @@ use crate::incoming::with_images;
 use pg_cert_files::{CertFault, CertGathering, MAX_CERT_BYTES};
 use pg_image::read_image;
 use pg_io::{Files, Stop, pour};
+use pg_messages::Refusal;
 use pg_talk::Halt;
-use pg_texts::Refusal;
 use std::alloc::Global;
 
 /// The certificate of a text with images, or its first fault with the number of the line.

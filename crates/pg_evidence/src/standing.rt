@@ -9,8 +9,8 @@ use pg_cert::Cert;
 use pg_check::{CheckFault, Checked, check};
 use pg_game::Game;
 use pg_io::Stop;
+use pg_messages::Refusal;
 use pg_talk::Halt;
-use pg_texts::Refusal;
 use pg_unfold::{ImageFault, Sources, Unfolded, unfold};
 use std::alloc::Global;
 

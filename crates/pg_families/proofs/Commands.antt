@@ -3,7 +3,7 @@ use Rattle.std.proofs.Common.{◌≡◌, ℕ, Option, Some, None, Result, Ok, Er
 use Rattle.std.specs.Prelude.{IfErr, IfSome}
 use Rattle.pg_io.specs.Console.{ConsoleTold}
 use Rattle.pg_io.specs.Files.{Holding, FilesTold}
-use Rattle.pg_texts.specs.declared.refusal.Refusal.{Refusal}
+use Rattle.pg_messages.specs.declared.refusal.Refusal.{Refusal}
 use Rattle.pg_talk.specs.Done.{Done, End, Finished, Does, Follows, stop_end}
 use Rattle.pg_talk.specs.Halts.{IsPlayHalt, IsTalkHalt}
 use Rattle.pg_talk.specs.Runs.{Runs}

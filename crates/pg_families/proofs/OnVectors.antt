@@ -16,7 +16,7 @@ use Rattle.pg_gf2.specs.declared.plan.VecPlan.{VecPlan}
 use Rattle.pg_cert.specs.Print.{printed_certificate}
 use Rattle.pg_lehman.specs.declared.class.Class.{Class}
 use Rattle.pg_family_files.specs.Views.{vector_entry}
-use Rattle.pg_texts.specs.declared.refusal.Refusal.TheVariants.{RejectedVectors}
+use Rattle.pg_messages.specs.declared.refusal.Refusal.TheVariants.{RejectedVectors}
 use Rattle.pg_talk.specs.Contender.{Answers, Contender, MakesMove, Moves, TakesReply, at}
 use Rattle.pg_talk.specs.Done.{Does, Performs}
 use Rattle.pg_talk.specs.Playing.{IsPlay}

@@ -17,7 +17,7 @@ use Rattle.pg_span.specs.declared.game.SpanGame.{SpanGame}
 use Rattle.pg_span.specs.declared.solved.SpanClass.{SpanClass}
 use Rattle.pg_family_files.specs.SpanCertPrint.{printed_span}
 use Rattle.pg_family_files.specs.Views.{span_entry}
-use Rattle.pg_texts.specs.declared.refusal.Refusal.TheVariants.{RejectedSpan}
+use Rattle.pg_messages.specs.declared.refusal.Refusal.TheVariants.{RejectedSpan}
 use Rattle.pg_talk.specs.Contender.{Answers, Contender, MakesMove, Moves, TakesReply, at}
 use Rattle.pg_talk.specs.Done.{Does, Performs}
 use Rattle.pg_talk.specs.Playing.{IsPlay}

@@ -22,9 +22,9 @@ use Rattle.pg_family_files.specs.SpanCertFile.{span_cert}
 use Rattle.pg_family_files.specs.SpanCertPrint.{IsWithinRanges, printed_span}
 use Rattle.pg_family_files.specs.SpanCertViews.{number_of as certificate_fault_number}
 use Rattle.pg_family_files.specs.Views.{span_entry}
-use Rattle.pg_texts.specs.Texts.{accepted_text, class_breaker_text, class_first_mover_text, class_maker_text}
-use Rattle.pg_texts.specs.declared.refusal.Refusal.{Refusal}
-use Rattle.pg_texts.specs.declared.refusal.Refusal.TheVariants.{RejectedSpan}
+use Rattle.pg_messages.specs.Texts.{accepted_text, class_breaker_text, class_first_mover_text, class_maker_text}
+use Rattle.pg_messages.specs.declared.refusal.Refusal.{Refusal}
+use Rattle.pg_messages.specs.declared.refusal.Refusal.TheVariants.{RejectedSpan}
 use Rattle.pg_talk.specs.Contender.{Contender}
 use Rattle.pg_talk.specs.Done.{Done, End}
 use Rattle.pg_talk.specs.Reading.{Opens, OpensTwo, IsLackingOne, IsLackingTwo, both, certificate_fault, game_fault, held_as, or_halt}

@@ -14,9 +14,9 @@ use Rattle.pg_gf2.specs.Classes.{at_turn, vector_rules}
 use Rattle.pg_gf2.specs.declared.game.VecGame.{VecGame}
 use Rattle.pg_family_files.specs.FamilyFile.{span_game, vector_game}
 use Rattle.pg_family_files.specs.Views.{span_entry, vector_entry}
-use Rattle.pg_texts.specs.Texts.{accepted_text, claim_text}
-use Rattle.pg_texts.specs.declared.refusal.Refusal.{Refusal}
-use Rattle.pg_texts.specs.declared.statuses.TheConstants.{DONE, NO_MEANING, FAULTY_GAME, REFUSED, READ_FAILED, WRITE_FAILED, NO_MEMORY, INPUT_ENDED, OUT_OF_REPLIES}
+use Rattle.pg_messages.specs.Texts.{accepted_text, claim_text}
+use Rattle.pg_messages.specs.declared.refusal.Refusal.{Refusal}
+use Rattle.pg_messages.specs.declared.statuses.TheConstants.{DONE, NO_MEANING, FAULTY_GAME, REFUSED, READ_FAILED, WRITE_FAILED, NO_MEMORY, INPUT_ENDED, OUT_OF_REPLIES}
 use Rattle.pg_words.specs.declared.family.Family.{Family}
 use Rattle.pg_words.specs.declared.family.Family.TheVariants.{Connectivity, Vectors}
 use Rattle.pg_words.specs.declared.family.FamilyTask.{FamilyTask}

@@ -22,9 +22,9 @@ use Rattle.pg_gf2.specs.declared.flaw.VecFlaw.{VecFlaw}
 use Rattle.pg_gf2.specs.declared.game.VecGame.{VecGame}
 use Rattle.pg_family_files.specs.FamilyFile.{VectorEntry, vector_game}
 use Rattle.pg_family_files.specs.Views.{vector_entry}
-use Rattle.pg_texts.specs.Texts.{accepted_text, class_cut_text, class_first_mover_text, class_short_text}
-use Rattle.pg_texts.specs.declared.refusal.Refusal.{Refusal}
-use Rattle.pg_texts.specs.declared.refusal.Refusal.TheVariants.{RejectedVectors}
+use Rattle.pg_messages.specs.Texts.{accepted_text, class_cut_text, class_first_mover_text, class_short_text}
+use Rattle.pg_messages.specs.declared.refusal.Refusal.{Refusal}
+use Rattle.pg_messages.specs.declared.refusal.Refusal.TheVariants.{RejectedVectors}
 use Rattle.pg_talk.specs.Contender.{Contender}
 use Rattle.pg_talk.specs.Done.{Done, End}
 use Rattle.pg_talk.specs.Reading.{Opens, OpensTwo, IsLackingOne, IsLackingTwo, both, certificate_held, game_fault, held_as, or_halt}

@@ -12,10 +12,10 @@ use pg_family_files::{MAX_SPAN_CERT_BYTES, read_span, read_span_cert, read_vecto
 use pg_files::MAX_GAME_BYTES;
 use pg_gf2::VecGame;
 use pg_io::{Files, Stop, read_whole};
+use pg_messages::Refusal;
 use pg_span::{SpanCert, SpanGame};
 use pg_talk::{Halt, open_certificate};
 use pg_text::FileError;
-use pg_texts::Refusal;
 use std::alloc::Global;
 
 /// The connectivity game under this name.

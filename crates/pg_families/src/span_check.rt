@@ -3,7 +3,7 @@ ghost use Rattle.std.specs.Prelude.{◌≡◌, ◌≢◌, [], map, Err, IfErr, I
 ghost use Rattle.pg_io.specs.Console.{Grows};
 ghost use Rattle.pg_io.specs.Files.{ReadsOnly};
 ghost use Rattle.pg_io.specs.Stop.{Causes};
-ghost use Rattle.pg_texts.specs.declared.statuses.TheConstants.{DONE};
+ghost use Rattle.pg_messages.specs.declared.statuses.TheConstants.{DONE};
 ghost use Rattle.pg_family_files.specs.SpanCertPrint.{IsWithinRanges};
 ghost use Rattle.pg_talk.specs.Done.{Performs};
 ghost use Rattle.pg_talk.specs.Halts.{BothCauses, HaltCauses, IsReadHalt};
@@ -14,9 +14,9 @@ ghost use Rattle.pg_families.specs.Connectivity.{AcceptsSpans, AreSpansLacking, 
 use crate::opening::open_span_both;
 use pg_base::Goal;
 use pg_io::{Console, Files, Stop};
+use pg_messages::{DONE, Message, Refusal};
 use pg_span::{SpanCert, SpanClaim, SpanFault, SpanGame};
 use pg_talk::{Halt, say};
-use pg_texts::{DONE, Message, Refusal};
 use std::alloc::Global;
 
 /// Says that each claim is accepted.

@@ -12,9 +12,9 @@ use crate::opening::open_span_both;
 use pg_base::{Goal, Kind, Score, Side};
 use pg_game::Illegal;
 use pg_io::{Console, Files, Stop};
+use pg_messages::Refusal;
 use pg_span::{SpanCert, SpanFault, SpanGame, SpanOpen, SpanPlayer};
 use pg_talk::{Contestant, Halt, play_claim};
-use pg_texts::Refusal;
 use std::alloc::Global;
 
 /// A player of a connectivity game.

@@ -1,8 +1,8 @@
 //! Solving a connectivity game, and storing what shows its class.
 ghost use Rattle.std.specs.Prelude.{◌≡◌, [], ◌∷◌, Err, IfErr, IfOk};
 ghost use Rattle.pg_io.specs.Console.{Grows};
-ghost use Rattle.pg_texts.specs.Texts.{message_text};
-ghost use Rattle.pg_texts.specs.declared.statuses.TheConstants.{DONE};
+ghost use Rattle.pg_messages.specs.Texts.{message_text};
+ghost use Rattle.pg_messages.specs.declared.statuses.TheConstants.{DONE};
 ghost use Rattle.pg_talk.specs.Done.{Does};
 ghost use Rattle.pg_talk.specs.Halts.{BothCauses, IsGameHalt, IsWriteHalt, MuteAtMemory};
 ghost use Rattle.pg_talk.specs.Runs.{QuietsBy, Runs};
@@ -13,9 +13,9 @@ ghost use Rattle.pg_families.specs.Connectivity.{IsSpanLacking, SolvesSpan, Solv
 use crate::opening::open_span;
 use pg_family_files::print_span_cert;
 use pg_io::{Console, Files};
+use pg_messages::Message;
 use pg_span::{SpanClass, SpanGame};
 use pg_talk::{Halt, deliver};
-use pg_texts::Message;
 use std::alloc::Global;
 
 /// The message of a class.

@@ -3,7 +3,7 @@ ghost use Rattle.std.specs.Prelude.{◌≡◌, ◌≢◌, [], map, Err, IfErr, I
 ghost use Rattle.pg_io.specs.Console.{Grows};
 ghost use Rattle.pg_io.specs.Files.{ReadsOnly};
 ghost use Rattle.pg_io.specs.Stop.{Causes};
-ghost use Rattle.pg_texts.specs.declared.statuses.TheConstants.{DONE};
+ghost use Rattle.pg_messages.specs.declared.statuses.TheConstants.{DONE};
 ghost use Rattle.pg_cert.specs.Limits.{IsWithinLimits};
 ghost use Rattle.pg_talk.specs.Done.{Performs};
 ghost use Rattle.pg_talk.specs.Halts.{BothCauses, HaltCauses, IsReadHalt};
@@ -15,8 +15,8 @@ use crate::opening::open_vectors_both;
 use pg_cert::{Cert, Claim};
 use pg_gf2::{VecFault, VecGame};
 use pg_io::{Console, Files, Stop};
+use pg_messages::{DONE, Message, Refusal};
 use pg_talk::{Halt, say};
-use pg_texts::{DONE, Message, Refusal};
 use std::alloc::Global;
 
 /// Says that each claim is accepted.

@@ -14,8 +14,8 @@ use pg_cert::Cert;
 use pg_game::Illegal;
 use pg_gf2::{VecFault, VecGame};
 use pg_io::{Console, Files, Stop};
+use pg_messages::Refusal;
 use pg_talk::{Contestant, Halt, play_claim};
-use pg_texts::Refusal;
 use pg_vec_player::{VecOpen, VecPlayer};
 use std::alloc::Global;
 

@@ -1,8 +1,8 @@
 //! Solving a game on vectors, and storing what shows its class.
 ghost use Rattle.std.specs.Prelude.{◌≡◌, [], ◌∷◌, Err, IfErr, IfOk};
 ghost use Rattle.pg_io.specs.Console.{Grows};
-ghost use Rattle.pg_texts.specs.Texts.{message_text};
-ghost use Rattle.pg_texts.specs.declared.statuses.TheConstants.{DONE};
+ghost use Rattle.pg_messages.specs.Texts.{message_text};
+ghost use Rattle.pg_messages.specs.declared.statuses.TheConstants.{DONE};
 ghost use Rattle.pg_talk.specs.Done.{Does};
 ghost use Rattle.pg_talk.specs.Halts.{BothCauses, IsGameHalt, IsWriteHalt, MuteAtMemory};
 ghost use Rattle.pg_talk.specs.Runs.{QuietsBy, Runs};
@@ -15,8 +15,8 @@ use pg_cert::print_cert;
 use pg_gf2::{VecGame, vec_solve};
 use pg_io::{Console, Files};
 use pg_lehman::Class;
+use pg_messages::Message;
 use pg_talk::{Halt, deliver};
-use pg_texts::Message;
 use std::alloc::Global;
 
 /// The message of a class.

@@ -25,7 +25,7 @@ use Rattle.pg_talk.specs.Reading.{IsLackingOne, IsReadAs, Opens, held_as, lackin
 use Rattle.pg_talk.specs.Runs.{Runs}
 use Rattle.pg_talk.specs.declared.halt.Halt.{Halt}
 use Rattle.pg_talk.specs.declared.halt.Halt.TheVariants.{Refused, Stopped}
-use Rattle.pg_texts.specs.declared.refusal.Refusal.{Refusal}
+use Rattle.pg_messages.specs.declared.refusal.Refusal.{Refusal}
 use Rattle.pg_solve.specs.Left.{LeavesSearch}
 use Rattle.pg_sessions.proofs.Standing.{leaves-more}
 use Rattle.pg_sessions.specs.Along.{IsOfMoves, IsOfNames}

@@ -22,9 +22,9 @@ use Rattle.pg_talk.proofs.Openings.{not_opened, opened}
 use Rattle.pg_talk.proofs.Parts.{hears_then}
 use Rattle.pg_talk.proofs.Runs.{kept, runs_halt}
 use Rattle.pg_talk.proofs.Speaking.{Grows-then}
-use Rattle.pg_texts.specs.Texts.{recorded_text}
-use Rattle.pg_texts.specs.declared.refusal.Refusal.{Refusal}
-use Rattle.pg_texts.specs.declared.statuses.TheConstants.{DONE, OUT_OF_REPLIES}
+use Rattle.pg_messages.specs.Texts.{recorded_text}
+use Rattle.pg_messages.specs.declared.refusal.Refusal.{Refusal}
+use Rattle.pg_messages.specs.declared.statuses.TheConstants.{DONE, OUT_OF_REPLIES}
 use Rattle.pg_sessions.specs.Course.{LeadsBy, Course, BreaksOff}
 use Rattle.pg_sessions.specs.Recording.{GivesRecord, GivesSession, Records, RecordsGame, record_file}
 use Rattle.pg_sessions.specs.SessionLog.{Listens, Closes, Over, Steps, IsOpen, IsClosingLog, standing_count}

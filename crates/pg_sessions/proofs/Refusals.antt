@@ -12,10 +12,10 @@ use Rattle.pg_record.specs.Replay.{replay}
 use Rattle.pg_record.specs.declared.event.Event.{Event}
 use Rattle.pg_record.specs.declared.event.TheConstants.{MAX_EVENTS}
 use Rattle.pg_talk.specs.declared.dialogue.TheConstants.{MAX_REFUSALS}
-use Rattle.pg_texts.specs.Texts.{recorded_text, reply_text, standing_text}
-use Rattle.pg_texts.specs.declared.message.ReplyFault.{ReplyFault}
-use Rattle.pg_texts.specs.declared.message.ReplyFault.TheVariants.{NoNumber, NoPoint, Taken, Over as GameOver, NothingToTakeBack}
-use Rattle.pg_texts.specs.declared.statuses.TheConstants.{OUT_OF_REPLIES}
+use Rattle.pg_messages.specs.Texts.{recorded_text, reply_text, standing_text}
+use Rattle.pg_messages.specs.declared.message.ReplyFault.{ReplyFault}
+use Rattle.pg_messages.specs.declared.message.ReplyFault.TheVariants.{NoNumber, NoPoint, Taken, Over as GameOver, NothingToTakeBack}
+use Rattle.pg_messages.specs.declared.statuses.TheConstants.{OUT_OF_REPLIES}
 use Rattle.pg_sessions.specs.Course.{LeadsBy}
 use Rattle.pg_sessions.specs.Request.{request_of}
 use Rattle.pg_sessions.specs.SessionLog.{Stage, Listens, Stands, Refuses, Closes, Over, Steps, IsWholeLog, EndsWith, after_answer, after_event, after_refusal, after_request, back_or_refusal, is_refusal, move_or_refusal, standing_count}

@@ -28,8 +28,8 @@ use Rattle.pg_talk.proofs.Runs.{talked_texts}
 use Rattle.pg_talk.proofs.Speaking.{Grows-nothing, Grows-then}
 use Rattle.pg_talk.specs.Done.{Finished, Performs, SaysFirst, stop_end}
 use Rattle.pg_talk.specs.declared.halt.Halt.TheVariants.{Stopped}
-use Rattle.pg_texts.specs.Texts.{lost_text, reviewed_text, unknown_at_text}
-use Rattle.pg_texts.specs.declared.statuses.TheConstants.{DONE, UNKNOWN}
+use Rattle.pg_messages.specs.Texts.{lost_text, reviewed_text, unknown_at_text}
+use Rattle.pg_messages.specs.declared.statuses.TheConstants.{DONE, UNKNOWN}
 use Rattle.pg_sessions.proofs.LossLaws.{told_append, told_more}
 use Rattle.pg_sessions.proofs.Standing.{after-at, at-after, legal-at, start-at}
 use Rattle.pg_sessions.specs.Losses.{Loss, loses_value, loss_at, losses, losses_from}

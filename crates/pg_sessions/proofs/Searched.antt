@@ -13,7 +13,7 @@ use Rattle.pg_io.specs.declared.entry.Entry.TheVariants.{Said}
 use Rattle.pg_pns.specs.Expanded.{Expanded}
 use Rattle.pg_record.specs.Replay.{position_after}
 use Rattle.pg_solve.specs.Left.{LeavesSearch}
-use Rattle.pg_texts.specs.Texts.{lost_text}
+use Rattle.pg_messages.specs.Texts.{lost_text}
 use Rattle.pg_sessions.proofs.LossLaws.{told_append}
 use Rattle.pg_sessions.proofs.Standing.{leaves-more, leaves-then}
 use Rattle.pg_sessions.specs.Along.{IsAlong, IsReached, SaysAtLeast}

@@ -13,8 +13,8 @@ use Rattle.pg_record.specs.declared.event.Event.TheVariants.{Play, Back}
 use Rattle.pg_record.specs.declared.event.TheConstants.{MAX_EVENTS}
 use Rattle.pg_record.proofs.Standing.{record-more}
 use Rattle.pg_talk.specs.declared.dialogue.TheConstants.{MAX_REFUSALS}
-use Rattle.pg_texts.specs.declared.message.ReplyFault.TheVariants.{NothingToTakeBack}
-use Rattle.pg_texts.specs.declared.statuses.TheConstants.{OUT_OF_REPLIES}
+use Rattle.pg_messages.specs.declared.message.ReplyFault.TheVariants.{NothingToTakeBack}
+use Rattle.pg_messages.specs.declared.statuses.TheConstants.{OUT_OF_REPLIES}
 use Rattle.pg_sessions.specs.Course.{LeadsBy}
 use Rattle.pg_sessions.specs.Request.{request_of}
 use Rattle.pg_sessions.specs.SessionLog.{Stage, Listens, Stands, Refuses, Closes, Over, Steps, IsLogTo, after_answer, after_event, after_refusal, after_request, events_at, move_or_refusal, standing_count}

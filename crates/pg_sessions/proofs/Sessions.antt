@@ -15,8 +15,8 @@ use Rattle.pg_record.specs.declared.event.Event.{Event}
 use Rattle.pg_record.specs.declared.event.Event.TheVariants.{Play, Back}
 use Rattle.pg_record.specs.declared.event.TheConstants.{MAX_EVENTS}
 use Rattle.pg_talk.specs.declared.dialogue.TheConstants.{MAX_REFUSALS}
-use Rattle.pg_texts.specs.declared.message.ReplyFault.TheVariants as fault
-use Rattle.pg_texts.specs.declared.statuses.TheConstants.{OUT_OF_REPLIES}
+use Rattle.pg_messages.specs.declared.message.ReplyFault.TheVariants as fault
+use Rattle.pg_messages.specs.declared.statuses.TheConstants.{OUT_OF_REPLIES}
 use Rattle.pg_sessions.specs.Course.{Course, BreaksOff, Goes}
 use Rattle.pg_sessions.specs.Turns.{turned}
 use Rattle.pg_sessions.specs.declared.dialogue.Turn.{Turn}

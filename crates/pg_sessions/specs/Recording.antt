@@ -10,7 +10,7 @@ use Rattle.pg_talk.specs.Done.{Done, End, Finished, Failed, Starved}
 use Rattle.pg_talk.specs.Halts.{IsGameHalt}
 use Rattle.pg_talk.specs.declared.halt.Halt.{Halt}
 use Rattle.pg_talk.specs.declared.halt.Halt.TheVariants.{Refused, Stopped}
-use Rattle.pg_texts.specs.declared.statuses.TheConstants.{DONE, OUT_OF_REPLIES}
+use Rattle.pg_messages.specs.declared.statuses.TheConstants.{DONE, OUT_OF_REPLIES}
 use Rattle.pg_sessions.specs.SessionLog.{IsClosingLog, IsOpenLog, IsWholeLog}
 
 -- the record of these events as the file under a name

@@ -17,10 +17,10 @@ use Rattle.pg_record.specs.Views.{number_of}
 use Rattle.pg_record.specs.declared.fault.Fault.{Fault}
 use Rattle.pg_pns.specs.Expanded.{Expanded}
 use Rattle.pg_solve.specs.Left.{budget, IsLeftOpen}
-use Rattle.pg_texts.specs.Texts.{lost_text, reviewed_text, unknown_at_text}
-use Rattle.pg_texts.specs.declared.refusal.Refusal.{Refusal}
-use Rattle.pg_texts.specs.declared.refusal.Refusal.TheVariants.{Game as FaultyGame, Record as FaultyRecord}
-use Rattle.pg_texts.specs.declared.statuses.TheConstants.{DONE, UNKNOWN}
+use Rattle.pg_messages.specs.Texts.{lost_text, reviewed_text, unknown_at_text}
+use Rattle.pg_messages.specs.declared.refusal.Refusal.{Refusal}
+use Rattle.pg_messages.specs.declared.refusal.Refusal.TheVariants.{Game as FaultyGame, Record as FaultyRecord}
+use Rattle.pg_messages.specs.declared.statuses.TheConstants.{DONE, UNKNOWN}
 use Rattle.pg_talk.specs.Done.{Done, End, Finished, Failed, Starved, SaysFirst}
 use Rattle.pg_talk.specs.Reading.{game_fault, held_as, lacking}
 use Rattle.pg_talk.specs.declared.halt.Halt.{Halt}

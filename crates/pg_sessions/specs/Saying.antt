@@ -8,7 +8,7 @@ use Rattle.pg_io.specs.Files.{Bytes}
 use Rattle.pg_io.specs.declared.entry.Entry.{Entry}
 use Rattle.pg_io.specs.declared.entry.Entry.TheVariants.{Said}
 use Rattle.pg_io.specs.declared.stop.Stop.{Stop}
-use Rattle.pg_texts.specs.Texts.{lost_text}
+use Rattle.pg_messages.specs.Texts.{lost_text}
 use Rattle.pg_sessions.specs.Losses.{is_worse}
 
 -- what is said of the move of this number, by the values before and after it: its loss, or nothing

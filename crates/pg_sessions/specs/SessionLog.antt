@@ -14,10 +14,10 @@ use Rattle.pg_record.specs.declared.event.Event.{Event}
 use Rattle.pg_record.specs.declared.event.Event.TheVariants.{Play, Back}
 use Rattle.pg_record.specs.declared.event.TheConstants.{MAX_EVENTS}
 use Rattle.pg_talk.specs.declared.dialogue.TheConstants.{MAX_REFUSALS}
-use Rattle.pg_texts.specs.Texts.{recorded_text, reply_text, standing_text}
-use Rattle.pg_texts.specs.declared.message.ReplyFault.{ReplyFault}
-use Rattle.pg_texts.specs.declared.message.ReplyFault.TheVariants as fault
-use Rattle.pg_texts.specs.declared.statuses.TheConstants.{DONE, OUT_OF_REPLIES}
+use Rattle.pg_messages.specs.Texts.{recorded_text, reply_text, standing_text}
+use Rattle.pg_messages.specs.declared.message.ReplyFault.{ReplyFault}
+use Rattle.pg_messages.specs.declared.message.ReplyFault.TheVariants as fault
+use Rattle.pg_messages.specs.declared.statuses.TheConstants.{DONE, OUT_OF_REPLIES}
 use Rattle.pg_sessions.specs.Course.{LeadsBy}
 use Rattle.pg_sessions.specs.Request.{request_of}
 use Rattle.pg_sessions.specs.declared.request.Request.{Request}

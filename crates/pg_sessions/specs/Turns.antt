@@ -3,7 +3,7 @@ use Rattle.std.specs.Prelude.{◌≡◌, ℕ, ◌+◌, List, length, Result, Ok,
 use Rattle.pg_io.specs.declared.stop.Stop.{Stop}
 use Rattle.pg_record.specs.Session.{Recorded}
 use Rattle.pg_record.specs.declared.event.Event.{Event}
-use Rattle.pg_texts.specs.declared.statuses.TheConstants.{OUT_OF_REPLIES}
+use Rattle.pg_messages.specs.declared.statuses.TheConstants.{OUT_OF_REPLIES}
 use Rattle.pg_sessions.specs.SessionLog.{Stage, Closes, Over, after_event, after_refusal}
 use Rattle.pg_sessions.specs.declared.dialogue.Close.{Close}
 use Rattle.pg_sessions.specs.declared.dialogue.Close.TheVariants as close

@@ -11,9 +11,9 @@ ghost use Rattle.pg_sessions.specs.Turns.{Turns, closed, turned};
 use crate::request::{Request, request_of};
 use pg_game::Illegal;
 use pg_io::{Console, Heard, Stop};
+use pg_messages::{Message, ReplyFault};
 use pg_record::Session;
 use pg_talk::{MAX_REFUSALS, MAX_REPLY, say};
-use pg_texts::{Message, ReplyFault};
 
 /// What came of a line.
 #[derive(Clone, Copy, Debug, PartialEq, Eq)]

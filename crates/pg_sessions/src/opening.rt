@@ -13,9 +13,9 @@ ghost use Rattle.pg_sessions.specs.Review.{IsReviewHalt, IsTextHalt, moves_held,
 use pg_base::Memory;
 use pg_game::Game;
 use pg_io::{Files, Stop, read_whole};
+use pg_messages::Refusal;
 use pg_record::{MAX_RECORD_BYTES, RecordFault, Session, read_record};
 use pg_talk::Halt;
-use pg_texts::Refusal;
 use std::alloc::Global;
 
 /// The number of the game's fault where Y claims several points a turn: such a game isn't reviewed.

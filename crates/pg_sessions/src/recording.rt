@@ -1,7 +1,7 @@
 //! Recording a session of a game, and storing its record.
 ghost use Rattle.std.specs.Prelude.{◌≡◌, [], ◌∷◌, Err, IfErr, IfOk, ⊤};
-ghost use Rattle.pg_texts.specs.Texts.{recorded_text};
-ghost use Rattle.pg_texts.specs.declared.statuses.TheConstants.{DONE};
+ghost use Rattle.pg_messages.specs.Texts.{recorded_text};
+ghost use Rattle.pg_messages.specs.declared.statuses.TheConstants.{DONE};
 ghost use Rattle.pg_talk.specs.Opening.{IsGameLacking, game_held};
 ghost use Rattle.pg_talk.specs.Done.{Does};
 ghost use Rattle.pg_talk.specs.Halts.{BothCauses, IsWriteHalt};
@@ -14,9 +14,9 @@ ghost use Rattle.pg_sessions.specs.SessionLog.{standing_count};
 use crate::dialogue::{Close, hear_session};
 use pg_game::Game;
 use pg_io::{Console, Files};
+use pg_messages::{Message, OUT_OF_REPLIES};
 use pg_record::{Session, print_record};
 use pg_talk::{Halt, deliver, open_game};
-use pg_texts::{Message, OUT_OF_REPLIES};
 use std::alloc::Global;
 
 /// Stores the record of a session, and says how many moves stand.

@@ -19,9 +19,9 @@ use crate::playing::play;
 use pg_base::{Kind, Score, Side};
 use pg_game::Game;
 use pg_io::{Console, Stop};
+use pg_messages::{DONE, Message, UNKNOWN};
 use pg_pns::{Work, budget_of};
 use pg_talk::{Halt, say};
-use pg_texts::{DONE, Message, UNKNOWN};
 use std::alloc::Global;
 
 /// Says that the move of this number lost value, where it did, by the values before and after it.

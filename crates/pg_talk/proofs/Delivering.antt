@@ -10,9 +10,9 @@ use Rattle.pg_io.specs.declared.entry.Entry.{Entry}
 use Rattle.pg_io.specs.declared.entry.Entry.TheVariants.{Said}
 use Rattle.pg_io.specs.declared.stop.Stop.{Stop}
 use Rattle.pg_io.specs.declared.stop.Stop.TheVariants.{Read, Write, Memory}
-use Rattle.pg_texts.specs.Texts.{message_text}
-use Rattle.pg_texts.specs.declared.message.Message.{Message}
-use Rattle.pg_texts.specs.declared.statuses.TheConstants.{DONE}
+use Rattle.pg_messages.specs.Texts.{message_text}
+use Rattle.pg_messages.specs.declared.message.Message.{Message}
+use Rattle.pg_messages.specs.declared.statuses.TheConstants.{DONE}
 use Rattle.pg_talk.specs.Done.{Done, End, Finished, Failed, Changes, Does, Follows, Keeps, nothing, stop_end}
 use Rattle.pg_talk.specs.Storing.{delivered, Delivers, IsCutShort, KeepOthers, SaysTexts, texts_of}
 use Rattle.pg_talk.specs.declared.halt.Halt.{Halt}

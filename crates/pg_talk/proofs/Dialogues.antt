@@ -16,9 +16,9 @@ use Rattle.pg_talk.specs.Contest.{Contest}
 use Rattle.pg_talk.specs.Dialogue.{Stage, At, Owes, Over, Steps, Leads, EndsWith, IsOwnMove, position_at, is_heard, after_refusal, after_reply}
 use Rattle.pg_talk.specs.Reply.{said_number, point_or_refusal, replied_point}
 use Rattle.pg_talk.specs.declared.dialogue.TheConstants.{MAX_REFUSALS}
-use Rattle.pg_texts.specs.declared.message.ReplyFault.{ReplyFault}
-use Rattle.pg_texts.specs.declared.message.ReplyFault.TheVariants.{NoPoint, Taken}
-use Rattle.pg_texts.specs.declared.statuses.TheConstants.{DONE, INPUT_ENDED, OUT_OF_REPLIES}
+use Rattle.pg_messages.specs.declared.message.ReplyFault.{ReplyFault}
+use Rattle.pg_messages.specs.declared.message.ReplyFault.TheVariants.{NoPoint, Taken}
+use Rattle.pg_messages.specs.declared.statuses.TheConstants.{DONE, INPUT_ENDED, OUT_OF_REPLIES}
 
 -- no side is the other side
 apart : (side turn : Side) → turn ≡ side → turn ≢ other side

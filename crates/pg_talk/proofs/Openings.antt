@@ -10,7 +10,7 @@ use Rattle.pg_cert.specs.declared.cert.Cert.{Cert}
 use Rattle.pg_cert_files.specs.CertFile.{certificate}
 use Rattle.pg_cert_files.specs.declared.fault.Fault.TheVariants.{Size}
 use Rattle.pg_cert_files.specs.declared.limits.TheConstants.{MAX_CERT_BYTES}
-use Rattle.pg_texts.specs.declared.refusal.Refusal.{Refusal}
+use Rattle.pg_messages.specs.declared.refusal.Refusal.{Refusal}
 use Rattle.pg_talk.specs.Reading.{IsReadAs, Opens, OpensCertificate, OpensTwo, certificate_held, held_as, or_halt}
 use Rattle.pg_talk.specs.declared.halt.Halt.{Halt}
 use Rattle.pg_talk.specs.declared.halt.Halt.TheVariants.{Refused}

@@ -11,8 +11,8 @@ use Rattle.pg_io.specs.declared.stop.Stop.{Stop}
 use Rattle.pg_io.specs.declared.stop.Stop.TheVariants.{Read, Write, Memory}
 use Rattle.pg_game.specs.Rules.{reaches}
 use Rattle.pg_game.specs.declared.position.Position.{Position}
-use Rattle.pg_texts.specs.Texts.{claim_text}
-use Rattle.pg_texts.specs.declared.statuses.TheConstants.{DONE}
+use Rattle.pg_messages.specs.Texts.{claim_text}
+use Rattle.pg_messages.specs.declared.statuses.TheConstants.{DONE}
 use Rattle.pg_talk.specs.Contender.{Contender}
 use Rattle.pg_talk.specs.Dialogue.{At, Over}
 use Rattle.pg_talk.specs.Done.{Performs, stop_end}

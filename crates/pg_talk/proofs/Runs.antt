@@ -5,7 +5,7 @@ use Rattle.pg_io.specs.Console.{ConsoleTold, Grows}
 use Rattle.pg_io.specs.Files.{Bytes, Holding, FilesTold}
 use Rattle.pg_io.specs.declared.entry.Entry.{Entry}
 use Rattle.pg_io.specs.declared.entry.Entry.TheVariants.{Said}
-use Rattle.pg_texts.specs.declared.refusal.Refusal.{Refusal}
+use Rattle.pg_messages.specs.declared.refusal.Refusal.{Refusal}
 use Rattle.pg_talk.specs.Done.{Done, End, Finished, Failed, Starved, Talked, Changes, Follows, Performs, Keeps, nothing, talk, stop_end}
 use Rattle.pg_talk.specs.Hearing.{Hearing, InOrder}
 use Rattle.pg_talk.specs.Runs.{Runs}

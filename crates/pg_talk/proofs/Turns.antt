@@ -13,10 +13,10 @@ use Rattle.pg_game.specs.declared.position.Position.{Position}
 use Rattle.pg_game.specs.Position.{is_free}
 use Rattle.pg_game.specs.Judging.{ending_by, judged_by}
 use Rattle.pg_game.specs.Rules.{Rules, moved}
-use Rattle.pg_texts.specs.Texts.{move_text, result_text}
-use Rattle.pg_texts.specs.declared.message.ReplyFault.{ReplyFault}
-use Rattle.pg_texts.specs.declared.message.ReplyFault.TheVariants.{NoPoint, Taken as IsTaken}
-use Rattle.pg_texts.specs.declared.statuses.TheConstants.{DONE, OUT_OF_REPLIES}
+use Rattle.pg_messages.specs.Texts.{move_text, result_text}
+use Rattle.pg_messages.specs.declared.message.ReplyFault.{ReplyFault}
+use Rattle.pg_messages.specs.declared.message.ReplyFault.TheVariants.{NoPoint, Taken as IsTaken}
+use Rattle.pg_messages.specs.declared.statuses.TheConstants.{DONE, OUT_OF_REPLIES}
 use Rattle.pg_talk.specs.Contender.{Contender, MakesMove, TakesReply, at}
 use Rattle.pg_talk.specs.Contest.{Contest}
 use Rattle.pg_talk.specs.Dialogue.{Stage, At, Owes, Over, Steps, IsOpen, after_refusal, after_reply}

@@ -12,10 +12,10 @@ use Rattle.pg_game.specs.Rules.{moved}
 use Rattle.pg_talk.specs.Contest.{Contest}
 use Rattle.pg_talk.specs.Reply.{replied_point}
 use Rattle.pg_talk.specs.declared.dialogue.TheConstants.{MAX_REFUSALS}
-use Rattle.pg_texts.specs.Texts.{move_text, reply_text, result_text}
-use Rattle.pg_texts.specs.declared.message.ReplyFault.{ReplyFault}
-use Rattle.pg_texts.specs.declared.message.ReplyFault.TheVariants.{NoNumber}
-use Rattle.pg_texts.specs.declared.statuses.TheConstants.{DONE, INPUT_ENDED, OUT_OF_REPLIES}
+use Rattle.pg_messages.specs.Texts.{move_text, reply_text, result_text}
+use Rattle.pg_messages.specs.declared.message.ReplyFault.{ReplyFault}
+use Rattle.pg_messages.specs.declared.message.ReplyFault.TheVariants.{NoNumber}
+use Rattle.pg_messages.specs.declared.statuses.TheConstants.{DONE, INPUT_ENDED, OUT_OF_REPLIES}
 
 -- where a dialogue stands: at a position, after so many refusals; there, before a refusal is said;
 -- or at its end, with the last position and a status

@@ -7,8 +7,8 @@ use Rattle.pg_io.specs.declared.entry.Entry.{Entry}
 use Rattle.pg_io.specs.declared.entry.Entry.TheVariants.{Said}
 use Rattle.pg_io.specs.declared.stop.Stop.{Stop}
 use Rattle.pg_io.specs.declared.stop.Stop.TheVariants.{Read, Write, Memory}
-use Rattle.pg_texts.specs.declared.refusal.Refusal.{Refusal}
-use Rattle.pg_texts.specs.declared.statuses.TheConstants.{READ_FAILED, WRITE_FAILED, NO_MEMORY}
+use Rattle.pg_messages.specs.declared.refusal.Refusal.{Refusal}
+use Rattle.pg_messages.specs.declared.statuses.TheConstants.{READ_FAILED, WRITE_FAILED, NO_MEMORY}
 use Rattle.pg_talk.specs.Hearing.{Hearing}
 use Rattle.pg_talk.specs.declared.halt.Halt.{Halt}
 use Rattle.pg_talk.specs.declared.halt.Halt.TheVariants.{Refused, Stopped}

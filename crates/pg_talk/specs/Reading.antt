@@ -5,7 +5,7 @@ use Rattle.pg_io.specs.declared.stop.Stop.TheVariants.{Read}
 use Rattle.pg_cert.specs.declared.cert.Cert.{Cert}
 use Rattle.pg_cert_files.specs.CertFile.{certificate}
 use Rattle.pg_cert_files.specs.Views.{number_of as certificate_fault_number}
-use Rattle.pg_texts.specs.declared.refusal.Refusal.TheVariants.{Game as FaultyGame, Certificate as FaultyCertificate}
+use Rattle.pg_messages.specs.declared.refusal.Refusal.TheVariants.{Game as FaultyGame, Certificate as FaultyCertificate}
 use Rattle.pg_talk.specs.declared.halt.Halt.{Halt}
 use Rattle.pg_talk.specs.declared.halt.Halt.TheVariants.{Refused, Stopped}
 

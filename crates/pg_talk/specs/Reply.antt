@@ -6,8 +6,8 @@ use Rattle.pg_text.specs.Text.{number}
 use Rattle.pg_game.specs.declared.position.Position.{Position}
 use Rattle.pg_game.specs.Position.{is_free}
 use Rattle.pg_game.specs.Rules.{Rules}
-use Rattle.pg_texts.specs.declared.message.ReplyFault.{ReplyFault}
-use Rattle.pg_texts.specs.declared.message.ReplyFault.TheVariants.{NoNumber, NoPoint, Taken}
+use Rattle.pg_messages.specs.declared.message.ReplyFault.{ReplyFault}
+use Rattle.pg_messages.specs.declared.message.ReplyFault.TheVariants.{NoNumber, NoPoint, Taken}
 
 -- a space, a tab, or a carriage return
 abbrev pub is_blank : ℕ → Bool

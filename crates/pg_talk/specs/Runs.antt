@@ -4,7 +4,7 @@ use Rattle.std.specs.Prelude.{ℕ, [], Result, Ok, Err, IfSome, ⊤}
 use Rattle.pg_io.specs.Console.{ConsoleTold, Grows}
 use Rattle.pg_io.specs.Files.{Holding, FilesTold}
 use Rattle.pg_io.specs.declared.stop.Stop.TheVariants.{Read, Write, Memory}
-use Rattle.pg_texts.specs.declared.refusal.Refusal.{Refusal}
+use Rattle.pg_messages.specs.declared.refusal.Refusal.{Refusal}
 use Rattle.pg_talk.specs.Done.{Done, End, Follows}
 use Rattle.pg_talk.specs.declared.halt.Halt.{Halt}
 use Rattle.pg_talk.specs.declared.halt.Halt.TheVariants.{Refused, Stopped}

@@ -5,9 +5,9 @@ use Rattle.pg_io.specs.Files.{Bytes, Holding, Making, FilesTold, ReadsOnly}
 use Rattle.pg_io.specs.declared.entry.Entry.{Entry}
 use Rattle.pg_io.specs.declared.entry.Entry.TheVariants.{Said}
 use Rattle.pg_io.specs.declared.stop.Stop.{Stop}
-use Rattle.pg_texts.specs.Texts.{message_text}
-use Rattle.pg_texts.specs.declared.message.Message.{Message}
-use Rattle.pg_texts.specs.declared.statuses.TheConstants.{DONE}
+use Rattle.pg_messages.specs.Texts.{message_text}
+use Rattle.pg_messages.specs.declared.message.Message.{Message}
+use Rattle.pg_messages.specs.declared.statuses.TheConstants.{DONE}
 use Rattle.pg_talk.specs.Done.{Done, End, Finished, Failed, Starved, Stops, behind}
 
 -- a file was stored, and then these texts were said

@@ -12,7 +12,7 @@ use Rattle.pg_talk.specs.Contest.{Contest}
 use Rattle.pg_talk.specs.Dialogue.{Stage, At, Over, IsTheirs, Leads, IsOpen, after_refusal, after_reply}
 use Rattle.pg_talk.specs.Hearing.{Hearing}
 use Rattle.pg_talk.specs.Reply.{point_or_refusal}
-use Rattle.pg_texts.specs.declared.statuses.TheConstants.{INPUT_ENDED}
+use Rattle.pg_messages.specs.declared.statuses.TheConstants.{INPUT_ENDED}
 use Rattle.pg_talk.specs.declared.dialogue.Turn.{Turn}
 use Rattle.pg_talk.specs.declared.dialogue.Turn.TheVariants as turns
 

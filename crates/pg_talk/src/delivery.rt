@@ -2,7 +2,7 @@
 ghost use Rattle.std.specs.Prelude.{◌≡◌, [], ◌∷◌, map, IfErr, IfOk};
 ghost use Rattle.pg_io.specs.Console.{Grows};
 ghost use Rattle.pg_io.specs.declared.entry.Entry.TheVariants.{Said};
-ghost use Rattle.pg_texts.specs.declared.statuses.TheConstants.{DONE};
+ghost use Rattle.pg_messages.specs.declared.statuses.TheConstants.{DONE};
 ghost use Rattle.pg_talk.specs.Done.{Does};
 ghost use Rattle.pg_talk.specs.Halts.{BothCauses, IsWriteHalt, MuteAtMemory};
 ghost use Rattle.pg_talk.specs.Storing.{Delivers, StoresAt, texts_of};
@@ -10,7 +10,7 @@ ghost use Rattle.pg_talk.specs.Storing.{Delivers, StoresAt, texts_of};
 use crate::halt::Halt;
 use crate::saying::say_both;
 use pg_io::{Console, Files, store};
-use pg_texts::{DONE, Message};
+use pg_messages::{DONE, Message};
 
 /// Stores a file, and then says a message, and a further one where it is given.
 pub fn deliver<F: Files, C: Console>(

@@ -4,7 +4,7 @@ ghost use Rattle.pg_base.specs.declared.side.Side.{Side};
 ghost use Rattle.pg_io.specs.Stop.{Causes};
 ghost use Rattle.pg_game.specs.Rules.{reaches};
 ghost use Rattle.pg_game.specs.declared.position.Position.{Position};
-ghost use Rattle.pg_texts.specs.declared.statuses.TheConstants.{DONE};
+ghost use Rattle.pg_messages.specs.declared.statuses.TheConstants.{DONE};
 ghost use Rattle.pg_talk.specs.Contest.{Contest};
 ghost use Rattle.pg_talk.specs.Dialogue.{At, Owes, Over};
 ghost use Rattle.pg_talk.specs.Done.{Performs};
@@ -19,7 +19,7 @@ use crate::reply::said_number;
 use crate::saying::say;
 use pg_game::Illegal;
 use pg_io::{Console, Heard, Stop};
-use pg_texts::{DONE, INPUT_ENDED, Message, OUT_OF_REPLIES, ReplyFault};
+use pg_messages::{DONE, INPUT_ENDED, Message, OUT_OF_REPLIES, ReplyFault};
 
 /// How many bytes of a line are heard at once; a longer line is refused.
 pub const MAX_REPLY: usize = 64;

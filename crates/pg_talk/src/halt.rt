@@ -1,7 +1,7 @@
 //! What ends a command before it is done.
 use pg_base::Memory;
 use pg_io::Stop;
-use pg_texts::Refusal;
+use pg_messages::Refusal;
 
 /// What ends a command before it is done.
 #[derive(Clone, Copy, Debug)]

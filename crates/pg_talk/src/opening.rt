@@ -8,7 +8,7 @@ use crate::halt::Halt;
 use pg_files::{GameFault, MAX_GAME_BYTES, read_game};
 use pg_game::Game;
 use pg_io::{Files, Stop, read_whole};
-use pg_texts::Refusal;
+use pg_messages::Refusal;
 use std::alloc::Global;
 
 /// The game under this name.

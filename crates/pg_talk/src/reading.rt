@@ -9,7 +9,7 @@ use crate::halt::Halt;
 use pg_cert::Cert;
 use pg_cert_files::{CertFault, MAX_CERT_BYTES, read_cert};
 use pg_io::{Files, Stop, read_whole};
-use pg_texts::Refusal;
+use pg_messages::Refusal;
 use std::alloc::Global;
 
 /// The certificate under this name.

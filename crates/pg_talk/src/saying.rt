@@ -2,11 +2,11 @@
 ghost use Rattle.std.specs.Prelude.{◌≡◌, IfErr};
 ghost use Rattle.pg_io.specs.Console.{Says};
 ghost use Rattle.pg_io.specs.Stop.{Causes};
-ghost use Rattle.pg_texts.specs.Texts.{message_text};
+ghost use Rattle.pg_messages.specs.Texts.{message_text};
 ghost use Rattle.pg_talk.specs.Storing.{SaysTexts, texts_of};
 
 use pg_io::{Console, Stop};
-use pg_texts::Message;
+use pg_messages::Message;
 
 /// Says a text.
 pub fn say_text<C: Console>(console: &mut C, text: &str) -> Result<(), Stop>

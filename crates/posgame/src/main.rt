@@ -3,8 +3,8 @@
 
 use pg_cli::run;
 use pg_host::{HostConsole, HostFiles, guard_streams};
+use pg_messages::{NO_MEMORY, NO_WORDS};
 use pg_pns::Work;
-use pg_texts::{NO_MEMORY, NO_WORDS};
 use std::env;
 use std::io::ErrorKind;
 use std::process::ExitCode;

@@ -1,7 +1,7 @@
 //! What went wrong, said to people on standard error.
 use crate::usage::NAME;
 use clap::Error;
-use pg_texts::{NO_MEANING, NO_MEMORY, READ_FAILED, WRITE_FAILED};
+use pg_messages::{NO_MEANING, NO_MEMORY, READ_FAILED, WRITE_FAILED};
 use std::fs;
 
 /// Says which of the two files can't be read, and why.

@@ -6,7 +6,7 @@ mod usage;
 
 use pg_drawing::draw;
 use pg_host::{HostConsole, HostFiles, guard_streams};
-use pg_texts::{DONE, NO_MEMORY, NO_WORDS};
+use pg_messages::{DONE, NO_MEMORY, NO_WORDS};
 use std::env;
 use std::io::ErrorKind;
 use std::process::ExitCode;

@@ -4,8 +4,8 @@ use Rattle.pg_io.specs.Files.{Bytes}
 use Rattle.pg_io.specs.declared.stop.Stop.TheVariants.{Memory}
 use Rattle.pg_cert.specs.Print.{printed_certificate}
 use Rattle.pg_cert.specs.declared.cert.Cert.{Cert}
-use Rattle.pg_texts.specs.Texts.{expanded_text, message_text, unknown_text}
-use Rattle.pg_texts.specs.declared.message.Message.{Message}
+use Rattle.pg_messages.specs.Texts.{expanded_text, message_text, unknown_text}
+use Rattle.pg_messages.specs.declared.message.Message.{Message}
 use Rattle.pg_cli.specs.Solving.{IsFound, SolvesGame, result_and_counts, solution_text}
 use Rattle.pg_cli.specs.declared.solving.TheConstants.{DEFAULT_POSITIONS}
 use Rattle.pg_talk.proofs.Delivering.{stopped_first}

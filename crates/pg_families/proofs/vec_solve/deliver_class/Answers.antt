@@ -2,7 +2,7 @@ use Rattle.std.proofs.Common.{[], ◌∷◌, ◌∙◌, refl, ap, subst}
 use Rattle.std.proofs.lemmas.Result.{err_from_is_err_and}
 use Rattle.pg_io.specs.Files.{Bytes}
 use Rattle.pg_io.specs.declared.stop.Stop.TheVariants.{Memory}
-use Rattle.pg_texts.specs.Texts.{message_text}
+use Rattle.pg_messages.specs.Texts.{message_text}
 use Rattle.pg_talk.specs.Done.{Does}
 use Rattle.pg_talk.specs.Storing.{Delivers}
 use Rattle.pg_talk.proofs.Delivering.{stopped_first}

@@ -5,7 +5,7 @@ use Rattle.pg_io.specs.declared.stop.Stop.{Stop}
 use Rattle.pg_io.specs.declared.stop.Stop.TheVariants.{Memory}
 use Rattle.pg_record.specs.Session.{Recorded}
 use Rattle.pg_talk.proofs.Delivering.{stopped_first}
-use Rattle.pg_texts.specs.declared.statuses.TheConstants.{OUT_OF_REPLIES}
+use Rattle.pg_messages.specs.declared.statuses.TheConstants.{OUT_OF_REPLIES}
 use Rattle.pg_sessions.specs.Course.{BreaksOff, Course}
 use Rattle.pg_sessions.specs.Recording.{RecordsGame}
 use Rattle.pg_sessions.specs.SessionLog.{Closes, IsOpen, Listens, Over, Steps}

@@ -10,7 +10,7 @@ use Rattle.pg_sessions.proofs.Standing.{known-value, leaves-one}
 use Rattle.pg_sessions.specs.Known.{IsKnown, IsSolvedBy}
 use Rattle.pg_sessions.specs.Review.{IsGameAt, loss_texts}
 use Rattle.pg_sessions.specs.declared.known.Known.{Known}
-use Rattle.pg_texts.specs.Texts.{reviewed_text, unknown_at_text}
+use Rattle.pg_messages.specs.Texts.{reviewed_text, unknown_at_text}
 use Rattle.pg_sessions.proofs.reviewing.review_moves.Goals as goal
 
 -- ---- the first position

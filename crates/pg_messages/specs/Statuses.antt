@@ -1,8 +1,8 @@
 -- The status of each refusal.
 use Rattle.std.specs.Prelude.{ℕ}
-use Rattle.pg_texts.specs.declared.refusal.Refusal.{Refusal}
-use Rattle.pg_texts.specs.declared.refusal.Refusal.TheVariants.{NoMeaning, NoClaim, Game, Certificate, Rejected, RejectedSpan, RejectedVectors, RejectedImage, Record}
-use Rattle.pg_texts.specs.declared.statuses.TheConstants.{NO_MEANING, FAULTY_GAME, REFUSED, FAULTY_RECORD}
+use Rattle.pg_messages.specs.declared.refusal.Refusal.{Refusal}
+use Rattle.pg_messages.specs.declared.refusal.Refusal.TheVariants.{NoMeaning, NoClaim, Game, Certificate, Rejected, RejectedSpan, RejectedVectors, RejectedImage, Record}
+use Rattle.pg_messages.specs.declared.statuses.TheConstants.{NO_MEANING, FAULTY_GAME, REFUSED, FAULTY_RECORD}
 
 abbrev pub refusal_status : Refusal → ℕ
 refusal_status NoMeaning = NO_MEANING

@@ -1,7 +1,7 @@
 //! Why a command isn't carried out.
 ghost use Rattle.std.specs.Prelude.{◌≡◌, ◌≤◌, length};
-ghost use Rattle.pg_texts.specs.Texts.{faulty_claim_text, faulty_node_text, file_fault_text, no_claim_text, refusal_text};
-ghost use Rattle.pg_texts.specs.Statuses.{refusal_status};
+ghost use Rattle.pg_messages.specs.Texts.{faulty_claim_text, faulty_node_text, file_fault_text, no_claim_text, refusal_text};
+ghost use Rattle.pg_messages.specs.Statuses.{refusal_status};
 
 use crate::line::{Line, push_number};
 use crate::statuses::{FAULTY_GAME, FAULTY_RECORD, NO_MEANING, REFUSED};

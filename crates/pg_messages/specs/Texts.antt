@@ -9,12 +9,12 @@ use Rattle.pg_base.specs.declared.kind.Kind.TheVariants.{MakerBreaker, MakerMake
 use Rattle.pg_base.specs.declared.score.Score.{Score}
 use Rattle.pg_base.specs.declared.score.Score.TheVariants.{XWins, YWins, Draw as Drawn}
 use Rattle.pg_base.specs.declared.side.Side.{Side}
-use Rattle.pg_texts.specs.declared.message.Message.{Message}
-use Rattle.pg_texts.specs.declared.message.Message.TheVariants.{Refused, Accepted, Claim, Move, NoReply, Result, ClassShort, ClassCut, ClassMaker, ClassBreaker, ClassFirstMover, Unknown, LineGame, SwitchingGame, Expanded, Standing, Recorded, Lost, Reviewed, UnknownAt}
-use Rattle.pg_texts.specs.declared.message.ReplyFault.{ReplyFault}
-use Rattle.pg_texts.specs.declared.message.ReplyFault.TheVariants.{NoNumber, NoPoint, Taken, Over, NothingToTakeBack}
-use Rattle.pg_texts.specs.declared.refusal.Refusal.{Refusal}
-use Rattle.pg_texts.specs.declared.refusal.Refusal.TheVariants.{NoMeaning, NoClaim, Game, Certificate, Rejected, RejectedSpan, RejectedVectors, RejectedImage, Record}
+use Rattle.pg_messages.specs.declared.message.Message.{Message}
+use Rattle.pg_messages.specs.declared.message.Message.TheVariants.{Refused, Accepted, Claim, Move, NoReply, Result, ClassShort, ClassCut, ClassMaker, ClassBreaker, ClassFirstMover, Unknown, LineGame, SwitchingGame, Expanded, Standing, Recorded, Lost, Reviewed, UnknownAt}
+use Rattle.pg_messages.specs.declared.message.ReplyFault.{ReplyFault}
+use Rattle.pg_messages.specs.declared.message.ReplyFault.TheVariants.{NoNumber, NoPoint, Taken, Over, NothingToTakeBack}
+use Rattle.pg_messages.specs.declared.refusal.Refusal.{Refusal}
+use Rattle.pg_messages.specs.declared.refusal.Refusal.TheVariants.{NoMeaning, NoClaim, Game, Certificate, Rejected, RejectedSpan, RejectedVectors, RejectedImage, Record}
 
 -- ---- refusals
 
