@@ -6,7 +6,7 @@ use Rattle.std.specs.Ordering.{nat_cmp}
 use Rattle.std.specs.Prelude.{IfSome, get_or}
 use Rattle.std.proofs.lemmas.List.Elements.{All-weaker}
 use Rattle.pg_base.specs.declared.side.Side.{Side}
-use Rattle.pg_claims.specs.Span.{IsFirst}
+use Rattle.pg_switch.specs.Span.{IsFirst}
 use Rattle.pg_game.specs.declared.position.Position.{Position}
 use Rattle.pg_graph.specs.Graph.{edge_count}
 use Rattle.pg_span.specs.Game.{marks_at}

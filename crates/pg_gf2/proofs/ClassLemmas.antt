@@ -3,7 +3,7 @@ use Rattle.std.proofs.Common.{◌≡◌, ℕ, refl, Some, length}
 use Rattle.std.specs.FinSet.{contains}
 use Rattle.pg_base.specs.declared.side.Side.{Side}
 use Rattle.pg_base.specs.declared.side.Side.TheVariants.{X, Y}
-use Rattle.pg_claims.specs.Claims.{IsPlace}
+use Rattle.pg_switch.specs.Claims.{IsPlace}
 use Rattle.pg_exchange.specs.Matroid.{Matroid}
 use Rattle.pg_lehman.specs.declared.class.Class.{Class}
 use Rattle.pg_lehman.specs.Sets.{named}

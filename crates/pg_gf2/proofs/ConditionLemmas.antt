@@ -12,7 +12,7 @@ use Rattle.pg_base.proofs.BelowLemmas.{below_from, below_parts, same_sets}
 use Rattle.pg_base.proofs.SetLemmas.{minus_from, minus_parts, outside_from, outside_parts, plus_cases, plus_new, plus_old}
 use Rattle.pg_game.specs.declared.position.Position.{Position}
 use Rattle.pg_game.specs.Position.{is_free}
-use Rattle.pg_claims.specs.Claims.{kept, left_without, AreFree, AreFreeOrE, AreSpanTrees, AreSpanCuts, IsSpanBridge}
+use Rattle.pg_switch.specs.Claims.{kept, left_without, AreFree, AreFreeOrE, AreSpanTrees, AreSpanCuts, IsSpanBridge}
 
 module _ (spans : (ℕ → Bool) → ℕ → Bool) (n : ℕ) (p : Position) where
   not_e : (set : FinSet nat_cmp) → AreFree n p set → contains set n ≡ false

@@ -15,7 +15,7 @@ use Rattle.pg_cert.specs.declared.cert.Claim.{Claim}
 use Rattle.pg_cert.specs.declared.cert.Version.{Version}
 use Rattle.pg_graph.proofs.Swap.{spans_mono}
 use Rattle.pg_game.specs.Rules.{ForcesBy}
-use Rattle.pg_claims.proofs.SpanLaws.{ForcesBy-trees, ForcesBy-cuts}
+use Rattle.pg_switch.proofs.SpanLaws.{ForcesBy-trees, ForcesBy-cuts}
 use Rattle.pg_gf2.specs.declared.flaw.VecFlaw.{VecFlaw}
 use Rattle.pg_gf2.specs.declared.flaw.VecFlaw.TheVariants as flaws
 use Rattle.pg_gf2.specs.declared.game.VecGame.{VecGame}

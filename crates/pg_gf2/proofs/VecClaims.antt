@@ -20,7 +20,7 @@ use Rattle.pg_cert.specs.declared.limits.TheConstants.{MAX_CLAIMS, MAX_NODES}
 use Rattle.pg_cert.specs.declared.node.Body.{Body}
 use Rattle.pg_cert.specs.declared.node.Body.TheVariants.{Trees, Cuts}
 use Rattle.pg_cert.specs.declared.node.Node.{Node}
-use Rattle.pg_claims.specs.Claims.{AreFree, AreFreeOrE}
+use Rattle.pg_switch.specs.Claims.{AreFree, AreFreeOrE}
 use Rattle.pg_lehman.specs.ClassClaims.{class_claims, node_at, set_claim, sets_body}
 use Rattle.pg_game.specs.declared.position.Position.{Position}
 use Rattle.pg_gf2.specs.Check.{AreVectorSets, HasCuts, HasTrees, IsOfSide, IsVecClaimValid, IsVecValid, NodePasses, names_sets, with_e_named}

@@ -6,7 +6,7 @@ use Rattle.std.specs.Ordering.{nat_cmp}
 use Rattle.pg_base.specs.Points.{AreBelow, AreWithin}
 use Rattle.pg_base.specs.Sets.{either, outside, plus}
 use Rattle.pg_base.specs.declared.side.Side.{Side}
-use Rattle.pg_claims.specs.Claims.{kept, left_without, IsSpanBridge}
+use Rattle.pg_switch.specs.Claims.{kept, left_without, IsSpanBridge}
 use Rattle.pg_gf2.specs.declared.game.VecGame.{VecGame}
 use Rattle.pg_gf2.specs.Vectors.{vector_spans}
 use Rattle.pg_gf2.specs.Classes.{with_target, at_turn}

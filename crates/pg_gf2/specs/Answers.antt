@@ -8,7 +8,7 @@ use Rattle.pg_base.specs.declared.side.Side.{Side}
 use Rattle.pg_base.specs.declared.side.Side.TheVariants.{X, Y}
 use Rattle.pg_game.specs.declared.position.Position.{Position}
 use Rattle.pg_game.specs.Position.{is_free}
-use Rattle.pg_claims.specs.Claims.{left_without}
+use Rattle.pg_switch.specs.Claims.{left_without}
 use Rattle.pg_gf2.specs.declared.plan.VecPlan.{VecPlan}
 
 -- the claimed vector, and the plan that is left

@@ -7,7 +7,7 @@ use Rattle.pg_base.specs.declared.side.Side.TheVariants.{X, Y}
 use Rattle.pg_game.specs.declared.position.Position.{Position}
 use Rattle.pg_game.specs.Class.{Class as Named, class_by}
 use Rattle.pg_game.specs.Rules.{Rules, value_by}
-use Rattle.pg_claims.specs.Claims.{span_rules, AreSpanTrees, AreSpanCuts}
+use Rattle.pg_switch.specs.Claims.{span_rules, AreSpanTrees, AreSpanCuts}
 use Rattle.pg_lehman.specs.declared.class.Class.{Class}
 use Rattle.pg_lehman.specs.SpanSets.{SpanSetsHold}
 use Rattle.pg_gf2.specs.declared.game.VecGame.{VecGame}

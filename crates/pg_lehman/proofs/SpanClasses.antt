@@ -21,8 +21,8 @@ use Rattle.pg_game.specs.declared.position.Position.{Position}
 use Rattle.pg_game.specs.Class.{class_by}
 use Rattle.pg_game.specs.Position.{is_free}
 use Rattle.pg_game.specs.Rules.{value_by, reaches}
-use Rattle.pg_claims.specs.Claims.{kept, span_rules, IsPlace, AreFreeOrE, AreFree, AreSpanTrees, AreSpanCuts}
-use Rattle.pg_claims.proofs.SpanLaws.{ForcesBy-trees, ForcesBy-cuts}
+use Rattle.pg_switch.specs.Claims.{kept, span_rules, IsPlace, AreFreeOrE, AreFree, AreSpanTrees, AreSpanCuts}
+use Rattle.pg_switch.proofs.SpanLaws.{ForcesBy-trees, ForcesBy-cuts}
 use Rattle.pg_lehman.specs.declared.class.Class.{Class}
 use Rattle.pg_lehman.specs.declared.class.Class.TheVariants.{Short, Cut, First}
 use Rattle.pg_lehman.specs.Sets.{named}

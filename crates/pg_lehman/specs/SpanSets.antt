@@ -3,7 +3,7 @@ use Rattle.std.specs.Prelude.{◌≡◌, ℕ, Bool, true, not}
 use Rattle.std.specs.FinSet.{contains}
 use Rattle.pg_base.specs.Sets.{below, either, plus}
 use Rattle.pg_game.specs.declared.position.Position.{Position}
-use Rattle.pg_claims.specs.Claims.{AreSpanTrees, AreSpanCuts}
+use Rattle.pg_switch.specs.Claims.{AreSpanTrees, AreSpanCuts}
 use Rattle.pg_lehman.specs.declared.class.Class.{Class}
 use Rattle.pg_lehman.specs.declared.class.Class.TheVariants.{Short, Cut, First}
 

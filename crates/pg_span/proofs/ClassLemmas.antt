@@ -15,9 +15,9 @@ use Rattle.pg_graph.specs.Graph.{edge_count, first_end_of, second_end_of}
 use Rattle.pg_graph.proofs.GraphLemmas.{ends_in_range}
 use Rattle.pg_game.specs.declared.position.Position.{Position}
 use Rattle.pg_game.specs.Rules.{value_by, reaches, ForcesBy}
-use Rattle.pg_claims.specs.Claims.{IsPlace}
-use Rattle.pg_claims.proofs.JoinLaws.{ForcesBy-joining_trees}
-use Rattle.pg_claims.proofs.PartLaws.{ForcesBy-parts}
+use Rattle.pg_switch.specs.Claims.{IsPlace}
+use Rattle.pg_switch.proofs.JoinLaws.{ForcesBy-joining_trees}
+use Rattle.pg_switch.proofs.PartLaws.{ForcesBy-parts}
 use Rattle.pg_span.specs.declared.game.SpanGame.{SpanGame}
 use Rattle.pg_span.specs.declared.cert.SpanBody.{SpanBody}
 use Rattle.pg_span.specs.declared.cert.SpanBody.TheVariants.{Trees, Parts}

@@ -14,12 +14,12 @@ use Rattle.pg_graph.specs.Walks.{joins}
 use Rattle.pg_graph.proofs.EdgeTests.{uncrossed_joins}
 use Rattle.pg_graph.proofs.GraphLemmas.{ends_in_range, joins_same}
 use Rattle.pg_graph.proofs.WalkLemmas.{joined_on, joined_back, joined_more, joins_sound, joins_complete}
-use Rattle.pg_claims.specs.Span.{joins_below, joins_pairs}
-use Rattle.pg_claims.proofs.PartLemmas.{joined_pairs}
+use Rattle.pg_switch.specs.Span.{joins_below, joins_pairs}
+use Rattle.pg_switch.proofs.PartLemmas.{joined_pairs}
 use Rattle.pg_base.specs.declared.score.Score.TheVariants.{YWins}
 use Rattle.pg_game.specs.declared.position.Position.{Position}
 use Rattle.pg_game.specs.Judging.{ending_by}
-use Rattle.pg_claims.specs.Claims.{kept}
+use Rattle.pg_switch.specs.Claims.{kept}
 use Rattle.pg_span.specs.declared.game.SpanGame.{SpanGame}
 use Rattle.pg_span.specs.Judge.{connects}
 use Rattle.pg_span.specs.Game.{span_rules_of}

@@ -12,8 +12,8 @@ use Rattle.pg_span.specs.Conditions.{AreFew}
 use Rattle.pg_span.specs.Valid.{ArePartsOfGame}
 use Rattle.pg_span.specs.declared.cert.TheConstants.{PART_NUMBERS}
 use Rattle.pg_span.specs.declared.game.SpanGame.{SpanGame}
-use Rattle.pg_claims.specs.Span.{crosses, crossing, image}
-use Rattle.pg_claims.proofs.PartLemmas.{image-at}
+use Rattle.pg_switch.specs.Span.{crosses, crossing, image}
+use Rattle.pg_switch.proofs.PartLemmas.{image-at}
 
 -- the next number, as loops say it
 next : (P : ℕ → Type 0) (n : ℕ) → P (suc n) → P (n + 1)

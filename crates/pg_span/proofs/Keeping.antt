@@ -26,11 +26,11 @@ use Rattle.pg_game.specs.Rules.{Rules, moved, reaches, IsEnding, IsPlayBy, playe
 use Rattle.pg_game.specs.Trees.{IsFreeEdge, answered_edge, short_edge, trees_answer}
 use Rattle.pg_game.proofs.RulesLaws.{some_free, value_by-over, ForcesBy-all-from}
 use Rattle.pg_game.proofs.Sides.{side≢other, side_cases}
-use Rattle.pg_claims.specs.Claims.{IsPlace}
-use Rattle.pg_claims.specs.Span.{joins_all, AreJoiningTrees}
-use Rattle.pg_claims.proofs.ClaimLaws.{turn-next, free-next, x-plus, x-same, IsPlace-next, IsEnding-claims}
-use Rattle.pg_claims.proofs.JoinLaws.{ForcesBy-joining_trees}
-use Rattle.pg_claims.proofs.PartLaws.{joins_all-more, ForcesBy-parts}
+use Rattle.pg_switch.specs.Claims.{IsPlace}
+use Rattle.pg_switch.specs.Span.{joins_all, AreJoiningTrees}
+use Rattle.pg_switch.proofs.ClaimLaws.{turn-next, free-next, x-plus, x-same, IsPlace-next, IsEnding-claims}
+use Rattle.pg_switch.proofs.JoinLaws.{ForcesBy-joining_trees}
+use Rattle.pg_switch.proofs.PartLaws.{joins_all-more, ForcesBy-parts}
 use Rattle.pg_span.specs.declared.cert.SpanBody.{SpanBody}
 use Rattle.pg_span.specs.declared.cert.SpanBody.TheVariants.{Trees, Parts}
 use Rattle.pg_span.specs.declared.game.SpanGame.{SpanGame}

@@ -15,8 +15,8 @@ use Rattle.pg_base.specs.declared.side.Side.TheVariants.{X, Y}
 use Rattle.pg_base.specs.contracts.side.Side as side_row
 use Rattle.pg_graph.specs.Graph.{edge_count}
 use Rattle.pg_game.specs.declared.position.Position.{Position}
-use Rattle.pg_claims.specs.Claims.{IsPlace}
-use Rattle.pg_claims.specs.Span.{AreParts, AreJoiningTrees, IsFirst}
+use Rattle.pg_switch.specs.Claims.{IsPlace}
+use Rattle.pg_switch.specs.Span.{AreParts, AreJoiningTrees, IsFirst}
 use Rattle.pg_span.specs.declared.cert.SpanBody.{SpanBody}
 use Rattle.pg_span.specs.declared.cert.SpanBody.TheVariants.{Trees, Parts}
 use Rattle.pg_span.specs.declared.cert.SpanCert.{SpanCert}

@@ -14,10 +14,10 @@ use Rattle.pg_graph.specs.Graph.{edge_count, first_end_of, second_end_of}
 use Rattle.pg_game.specs.declared.position.Position.{Position}
 use Rattle.pg_game.specs.Position.{is_free}
 use Rattle.pg_game.specs.Trees.{IsFreeEdge, lowest_free_edge}
-use Rattle.pg_claims.specs.Claims.{IsPlace}
-use Rattle.pg_claims.specs.Span.{joins_all, crosses, crossing, spare, AreParts}
-use Rattle.pg_claims.proofs.ClaimLaws.{next, turn-next, free-next, x-plus, x-same}
-use Rattle.pg_claims.proofs.PartLaws.{crossing-less, crossing-minus, crossing-none, crossing-plus, crossing-plus_off}
+use Rattle.pg_switch.specs.Claims.{IsPlace}
+use Rattle.pg_switch.specs.Span.{joins_all, crosses, crossing, spare, AreParts}
+use Rattle.pg_switch.proofs.ClaimLaws.{next, turn-next, free-next, x-plus, x-same}
+use Rattle.pg_switch.proofs.PartLaws.{crossing-less, crossing-minus, crossing-none, crossing-plus, crossing-plus_off}
 use Rattle.pg_span.specs.Answers.{parts_edge}
 use Rattle.pg_switch.proofs.Finding.{find_below-cases, lowest_free-free}
 

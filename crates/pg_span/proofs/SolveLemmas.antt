@@ -21,8 +21,8 @@ use Rattle.pg_graph.proofs.WalkLemmas.{joins_sound}
 use Rattle.pg_exchange.specs.Chain.{AreBases}
 use Rattle.pg_exchange.specs.Forest.{elements_of}
 use Rattle.pg_game.specs.Position.{is_free}
-use Rattle.pg_claims.specs.Span.{joins_all, spare}
-use Rattle.pg_claims.proofs.Settled.{AreParts-shared, AreParts-apart, joined_by_base, AreJoiningTrees-none, AreJoiningTrees-one}
+use Rattle.pg_switch.specs.Span.{joins_all, spare}
+use Rattle.pg_switch.proofs.Settled.{AreParts-shared, AreParts-apart, joined_by_base, AreJoiningTrees-none, AreJoiningTrees-one}
 use Rattle.pg_span.specs.declared.game.SpanGame.{SpanGame}
 use Rattle.pg_span.specs.Game.{marks_at}
 use Rattle.pg_span.specs.FreeEdges.{free_matroid}

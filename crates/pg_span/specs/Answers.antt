@@ -6,7 +6,7 @@ use Rattle.pg_graph.specs.Graph.{edge_count, first_end_of, second_end_of}
 use Rattle.pg_game.specs.declared.position.Position.{Position}
 use Rattle.pg_game.specs.Position.{is_free}
 use Rattle.pg_game.specs.Trees.{lowest_free_edge, trees_answer}
-use Rattle.pg_claims.specs.Span.{crosses}
+use Rattle.pg_switch.specs.Span.{crosses}
 use Rattle.pg_span.specs.declared.cert.SpanBody.{SpanBody}
 use Rattle.pg_span.specs.declared.cert.SpanBody.TheVariants.{Trees, Parts}
 

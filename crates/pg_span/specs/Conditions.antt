@@ -6,7 +6,7 @@ use Rattle.pg_base.specs.declared.side.Side.TheVariants.{X}
 use Rattle.pg_graph.specs.Graph.{edge_count}
 use Rattle.pg_game.specs.Position.{is_free}
 use Rattle.pg_base.specs.declared.side.Side.{Side}
-use Rattle.pg_claims.specs.Span.{spare}
+use Rattle.pg_switch.specs.Span.{spare}
 use Rattle.pg_span.specs.Game.{marks_at}
 use Rattle.pg_span.specs.declared.game.SpanGame.{SpanGame}
 

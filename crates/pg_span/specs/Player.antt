@@ -8,7 +8,7 @@ use Rattle.pg_game.specs.declared.position.Position.{Position}
 use Rattle.pg_game.specs.Position.{is_free}
 use Rattle.pg_game.specs.Judging.{judged_by}
 use Rattle.pg_game.specs.Rules.{moved, IsPlayBy, played_by, ForcesBy}
-use Rattle.pg_claims.specs.Claims.{IsPlace}
+use Rattle.pg_switch.specs.Claims.{IsPlace}
 use Rattle.pg_span.specs.declared.cert.SpanBody.{SpanBody}
 use Rattle.pg_span.specs.declared.cert.SpanCert.{SpanCert}
 use Rattle.pg_span.specs.declared.cert.SpanClaim.{SpanClaim}

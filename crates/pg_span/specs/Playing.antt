@@ -8,7 +8,7 @@ use Rattle.pg_game.specs.declared.position.Position.{Position}
 use Rattle.pg_game.specs.Judging.{ending_by}
 use Rattle.pg_game.specs.Position.{is_free}
 use Rattle.pg_game.specs.Rules.{moved}
-use Rattle.pg_claims.specs.Claims.{IsPlace}
+use Rattle.pg_switch.specs.Claims.{IsPlace}
 use Rattle.pg_span.specs.declared.cert.SpanBody.{SpanBody}
 use Rattle.pg_span.specs.declared.game.SpanGame.{SpanGame}
 use Rattle.pg_span.specs.declared.judge.SpanJudge.{SpanJudge}

@@ -7,7 +7,7 @@ use Rattle.pg_base.specs.declared.side.Side.{Side}
 use Rattle.pg_base.specs.declared.side.Side.TheVariants.{X, Y}
 use Rattle.pg_graph.specs.Graph.{edge_count, first_end_of, second_end_of}
 use Rattle.pg_game.specs.declared.position.Position.{Position}
-use Rattle.pg_claims.specs.Span.{AreParts, AreJoiningTrees}
+use Rattle.pg_switch.specs.Span.{AreParts, AreJoiningTrees}
 use Rattle.pg_span.specs.Game.{marks_at}
 use Rattle.pg_span.specs.declared.cert.SpanBody.{SpanBody}
 use Rattle.pg_span.specs.declared.cert.SpanBody.TheVariants.{Trees, Parts}

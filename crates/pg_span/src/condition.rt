@@ -6,7 +6,7 @@ ghost use Rattle.pg_graph.specs.Graph.{edge_count, first_end_of, second_end_of};
 ghost use Rattle.pg_base.specs.declared.limits.TheConstants.{MAX_EDGES};
 ghost use Rattle.pg_game.specs.Position.{is_free};
 ghost use Rattle.pg_game.specs.declared.bounds.TheConstants.{MAX_VERTICES};
-ghost use Rattle.pg_claims.specs.Span.{IsFirst, crosses, crossing, image, with_first};
+ghost use Rattle.pg_switch.specs.Span.{IsFirst, crosses, crossing, image, with_first};
 ghost use Rattle.pg_span.specs.Game.{marks_at};
 ghost use Rattle.pg_span.specs.Conditions.{AreFew, AreFree, AreFreePair};
 ghost use Rattle.pg_span.specs.Judge.{IsJudgeOf, connects};

@@ -30,7 +30,7 @@ use Rattle.pg_game.specs.Trees.{IsFreeEdge, AreFreeEdges, AreFreeWithE, AreTrees
 use Rattle.pg_game.proofs.Moves.{side≢other, free-stays}
 use Rattle.pg_game.proofs.Strategy.{free_point}
 use Rattle.pg_switch.specs.Replies.{short_reply, cut_reply, HeldUntil}
-use Rattle.pg_claims.proofs.ClaimLaws.{y-next_x, x-plus, x-same, kept-same, kept-minus}
+use Rattle.pg_switch.proofs.ClaimLaws.{y-next_x, x-plus, x-same, kept-same, kept-minus}
 use Rattle.pg_switch.proofs.EdgeSets.{left_edges, left_edges-below, with_set-edges, IsTrees-from, AreTrees-from, IsCuts-from, AreCuts-from, without-agree, minus-agree}
 use Rattle.pg_switch.proofs.Finding.{crossing-cases, parting-cases, parting-apart, joins-agree, lowest_free-free}
 

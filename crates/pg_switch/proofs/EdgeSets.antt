@@ -18,7 +18,7 @@ use Rattle.pg_game.specs.declared.position.Position.{Position}
 use Rattle.pg_game.specs.Fit.{AreBelow}
 use Rattle.pg_game.specs.Trees.{AreFreeEdges, AreFreeWithE, with_set, without_set, AreTrees, AreCuts}
 use Rattle.pg_game.proofs.Moves.{free-of}
-use Rattle.pg_claims.specs.Claims.{kept}
+use Rattle.pg_switch.specs.Claims.{kept}
 
 -- the edges that aren't Y's, with e
 abbrev pub left_edges : Graph → Position → ℕ → Bool

@@ -28,8 +28,8 @@ use Rattle.pg_game.specs.Trees.{AreTrees, AreCuts, TreesHold, TreesHoldOn, CutsH
 use Rattle.pg_game.specs.Value.{rules_of, Forces}
 use Rattle.pg_game.proofs.Outcomes.{switching-on_graph}
 use Rattle.pg_game.proofs.TerminalLemmas.{terminals-from_joined}
-use Rattle.pg_claims.specs.Claims.{kept, claim_rules, IsMonotone, IsPlace}
-use Rattle.pg_claims.proofs.SpanLaws.{ForcesBy-trees, ForcesBy-cuts}
+use Rattle.pg_switch.specs.Claims.{kept, claim_rules, IsMonotone, IsPlace}
+use Rattle.pg_switch.proofs.SpanLaws.{ForcesBy-trees, ForcesBy-cuts}
 use Rattle.pg_switch.proofs.EdgeSets.{IsTrees-from, IsCuts-from}
 
 same_rules : (p q b c : ℕ) (o u : Position → Bool) (s t : Position → Score) → p ≡ q → b ≡ c → o ≡ u → s ≡ t

@@ -1,2 +1,4 @@
 pub mod Parts
 pub mod Replies
+pub mod Claims
+pub mod Span

@@ -1,7 +1,9 @@
-//! The switching game by trees and by cuts: whether they hold, what they force, and the answers to a reply.
+//! Games in which X wants its points to pass a test, and the switching game among them: trees, cuts
+//! and parts, whether they hold, what they force, and the answers to a reply.
 //!
-//! A reply is met as Lehman does it (A solution of the Shannon switching game, 1964): where the other side has taken an
-//! edge of one of two sets, an edge of the other set is claimed that makes good for it.
+//! A reply is met as Lehman does it (A solution of the Shannon switching game, 1964): where the
+//! other side has taken an edge of one of two sets, an edge of the other set is claimed that makes
+//! good for it.
 #![tactic(auto)]
 
 mod answers;

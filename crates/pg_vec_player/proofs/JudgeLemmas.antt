@@ -10,7 +10,7 @@ use Rattle.pg_base.proofs.BelowLemmas.{same_sets, below_parts, below_from}
 use Rattle.pg_base.proofs.PointSetLaws.{contains-union_either, contains-difference_outside}
 use Rattle.pg_game.specs.declared.position.Position.{Position}
 use Rattle.pg_game.specs.Judging.{ending_by}
-use Rattle.pg_claims.specs.Claims.{kept, left_without}
+use Rattle.pg_switch.specs.Claims.{kept, left_without}
 use Rattle.pg_gf2.specs.declared.game.VecGame.{VecGame}
 use Rattle.pg_gf2.specs.Classes.{with_target, vector_rules}
 use Rattle.pg_gf2.specs.Vectors.{vector_spans}

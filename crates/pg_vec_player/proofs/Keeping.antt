@@ -23,9 +23,9 @@ use Rattle.pg_game.specs.Judging.{ending_by, judged_by}
 use Rattle.pg_game.specs.Rules.{Rules, moved, reaches, IsEnding, IsPlayBy, played_by, ForcesBy}
 use Rattle.pg_game.proofs.RulesLaws.{some_free, value_by-over, ForcesBy-all-from}
 use Rattle.pg_game.proofs.Sides.{side≢other, other_other}
-use Rattle.pg_claims.specs.Claims.{kept, IsMonotone, IsPlace, AreFreeOrE}
-use Rattle.pg_claims.proofs.ClaimLaws.{turn-next, free-next, x-plus, x-same, kept-same, kept-minus, IsPlace-next, IsEnding-claims}
-use Rattle.pg_claims.proofs.SpanLaws.{ForcesBy-trees, ForcesBy-cuts}
+use Rattle.pg_switch.specs.Claims.{kept, IsMonotone, IsPlace, AreFreeOrE}
+use Rattle.pg_switch.proofs.ClaimLaws.{turn-next, free-next, x-plus, x-same, kept-same, kept-minus, IsPlace-next, IsEnding-claims}
+use Rattle.pg_switch.proofs.SpanLaws.{ForcesBy-trees, ForcesBy-cuts}
 use Rattle.pg_gf2.specs.declared.game.VecGame.{VecGame}
 use Rattle.pg_vec_player.specs.declared.judge.VecJudge.{VecJudge}
 use Rattle.pg_gf2.specs.declared.plan.VecPlan.{VecPlan}

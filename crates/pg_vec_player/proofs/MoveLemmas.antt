@@ -8,7 +8,7 @@ use Rattle.pg_base.specs.Sets.{minus, either}
 use Rattle.pg_base.specs.declared.side.Side.{Side}
 use Rattle.pg_base.specs.declared.side.Side.TheVariants.{X, Y}
 use Rattle.pg_game.specs.declared.position.Position.{Position}
-use Rattle.pg_claims.specs.Claims.{left_without}
+use Rattle.pg_switch.specs.Claims.{left_without}
 use Rattle.pg_gf2.specs.declared.plan.VecPlan.{VecPlan}
 use Rattle.pg_gf2.specs.Answers.{VecMove, vec_move, lowest_unspanned, lowest_needed, reply_vector, answer_vector, lost_vector, plan_without}
 use Rattle.pg_gf2.specs.Vectors.{vector_spans}

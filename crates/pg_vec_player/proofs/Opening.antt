@@ -11,7 +11,7 @@ use Rattle.pg_base.specs.declared.side.Side.{Side}
 use Rattle.pg_base.specs.declared.side.Side.TheVariants.{X, Y}
 use Rattle.pg_base.specs.contracts.side.Side as side_row
 use Rattle.pg_game.specs.declared.position.Position.{Position}
-use Rattle.pg_claims.specs.Claims.{IsPlace, AreFreeOrE, AreSpanTrees, AreSpanCuts}
+use Rattle.pg_switch.specs.Claims.{IsPlace, AreFreeOrE, AreSpanTrees, AreSpanCuts}
 use Rattle.pg_cert.specs.declared.cert.Cert.{Cert}
 use Rattle.pg_cert.specs.declared.cert.Claim.{Claim}
 use Rattle.pg_cert.specs.declared.node.Body.{Body}

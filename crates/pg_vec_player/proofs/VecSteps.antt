@@ -15,7 +15,7 @@ use Rattle.pg_graph.proofs.Trees.{IsTrees-other, IsTrees-dropped, IsTrees-claime
 use Rattle.pg_graph.proofs.Cuts.{IsCuts-other, IsCuts-claimed, IsCuts-dropped, IsCuts-answered, find_parting}
 use Rattle.pg_game.specs.declared.position.Position.{Position}
 use Rattle.pg_game.specs.Position.{is_free}
-use Rattle.pg_claims.specs.Claims.{kept}
+use Rattle.pg_switch.specs.Claims.{kept}
 use Rattle.pg_gf2.specs.declared.plan.VecPlan.{VecPlan}
 use Rattle.pg_gf2.specs.Answers.{lowest_free, reply_vector, answer_vector}
 use Rattle.pg_gf2.proofs.Lowest.{find_below-cases, free-free}

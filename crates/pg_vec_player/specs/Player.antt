@@ -10,7 +10,7 @@ use Rattle.pg_game.specs.declared.position.Position.{Position}
 use Rattle.pg_game.specs.Position.{is_free}
 use Rattle.pg_game.specs.Judging.{ending_by, judged_by}
 use Rattle.pg_game.specs.Rules.{moved, IsPlayBy, played_by, ForcesBy}
-use Rattle.pg_claims.specs.Claims.{IsPlace, AreSpanTrees, AreSpanCuts}
+use Rattle.pg_switch.specs.Claims.{IsPlace, AreSpanTrees, AreSpanCuts}
 use Rattle.pg_cert.specs.declared.cert.Cert.{Cert}
 use Rattle.pg_cert.specs.declared.cert.Claim.{Claim}
 use Rattle.pg_cert.specs.declared.node.Body.{Body}

@@ -3,7 +3,7 @@ ghost use Rattle.std.specs.Prelude.{◌≡◌, ◌<◌, ◌≤◌, ◌+◌, leng
 ghost use Rattle.std.specs.FinSet.{contains, remove};
 ghost use Rattle.pg_base.specs.Sets.{either};
 ghost use Rattle.pg_game.specs.Judging.{ending_by, judged_by};
-ghost use Rattle.pg_claims.specs.Claims.{kept, left_without};
+ghost use Rattle.pg_switch.specs.Claims.{kept, left_without};
 ghost use Rattle.pg_gf2.specs.declared.game.TheConstants.{MAX_VECTORS};
 ghost use Rattle.pg_gf2.specs.Answers.{lowest_free, reply_vector, answer_vector};
 ghost use Rattle.pg_gf2.specs.Classes.{with_target, vector_rules};

@@ -4,7 +4,7 @@ use Rattle.std.proofs.lemmas.Result.{IfOk-weaker}
 use Rattle.std.specs.FinSet.{contains}
 use Rattle.pg_base.specs.declared.side.Side.TheVariants.{Y}
 use Rattle.pg_base.specs.Sets.{plus}
-use Rattle.pg_claims.specs.Claims.{IsSpanBridge}
+use Rattle.pg_switch.specs.Claims.{IsSpanBridge}
 use Rattle.pg_exchange.proofs.Tests.{of_outside}
 use Rattle.pg_gf2.specs.Vectors.{vector_spans}
 use Rattle.pg_gf2.specs.Classes.{with_target, at_turn, CutsAt}

@@ -4,7 +4,7 @@ use Rattle.std.specs.Prelude.{unwrap_or, slice_index}
 use Rattle.pg_graph.specs.Graph.{edge_count, first_end_of, second_end_of}
 use Rattle.pg_game.specs.Position.{is_free}
 use Rattle.pg_game.specs.Trees.{lowest_free_edge}
-use Rattle.pg_claims.specs.Span.{crosses}
+use Rattle.pg_switch.specs.Span.{crosses}
 use Rattle.pg_switch.proofs.Finding.{first_below, none_below}
 use Rattle.pg_span.proofs.answers.parts_edge.Goals as goal
 

@@ -1,5 +1,5 @@
 use Rattle.std.proofs.Common.{◌≡◌, false, slice_index}
-use Rattle.pg_claims.specs.Span.{image}
+use Rattle.pg_switch.specs.Span.{image}
 use Rattle.pg_span.proofs.condition.stands_before.Given as goal
 
 abbrev pub invariant-loop-k : goal.invariant-loop-k

@@ -2,7 +2,7 @@ use Rattle.std.proofs.Common.{◌≡◌, ◌∙◌, ℕ, length, sym, ap, subst}
 use Rattle.std.specs.FinSet.{contains, remove}
 use Rattle.pg_base.specs.Sets.{either}
 use Rattle.pg_base.specs.declared.side.Side.{Side}
-use Rattle.pg_claims.specs.Claims.{left_without}
+use Rattle.pg_switch.specs.Claims.{left_without}
 use Rattle.pg_gf2.specs.Answers.{lowest_free, reply_vector, lowest_unspanned, lowest_needed}
 use Rattle.pg_gf2.specs.Classes.{with_target}
 use Rattle.pg_gf2.specs.Vectors.{vector_spans}

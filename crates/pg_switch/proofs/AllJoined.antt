@@ -6,8 +6,8 @@ use Rattle.pg_base.specs.Sets.{below}
 use Rattle.pg_graph.specs.Walks.{joins}
 use Rattle.pg_graph.proofs.GraphLemmas.{joins-below}
 use Rattle.pg_graph.proofs.WalkLemmas.{joins_sound, joins_complete}
-use Rattle.pg_claims.specs.Span.{joins_below, joins_pairs, joins_all, AreAllJoined}
-use Rattle.pg_claims.proofs.PartLemmas.{joined_pairs}
+use Rattle.pg_switch.specs.Span.{joins_below, joins_pairs, joins_all, AreAllJoined}
+use Rattle.pg_switch.proofs.PartLemmas.{joined_pairs}
 
 module _ (a b : ℕ → ℕ) (m n : ℕ) (set : ℕ → Bool) where
   below_from_each : ((u v : ℕ) → u < n → v < n → joins a b set m u v ≡ true) → (u k : ℕ) → u < n → k ≤ n → joins_below a b m set u k ≡ true

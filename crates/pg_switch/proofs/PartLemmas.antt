@@ -7,7 +7,7 @@ use Rattle.pg_base.proofs.SetLemmas.{minus_parts, minus_from, count_le, count_mi
 use Rattle.pg_graph.specs.Walks.{IsWalk, joins}
 use Rattle.pg_graph.proofs.WalkLemmas.{joins_sound}
 use Rattle.pg_graph.proofs.GraphLemmas.{joins-below}
-use Rattle.pg_claims.specs.Span.{joins_below, joins_pairs, joins_all, image, crosses, crossing}
+use Rattle.pg_switch.specs.Span.{joins_below, joins_pairs, joins_all, image, crosses, crossing}
 
 -- ---- numbers of vertices
 

@@ -13,10 +13,10 @@ use Rattle.pg_graph.proofs.GraphLemmas.{joins_more}
 use Rattle.pg_game.specs.declared.position.Position.{Position}
 use Rattle.pg_game.specs.Position.{is_free}
 use Rattle.pg_game.specs.Rules.{ForcesBy}
-use Rattle.pg_claims.specs.Claims.{IsMonotone, IsPlace}
-use Rattle.pg_claims.specs.Span.{joins_below, joins_pairs, joins_all, connectivity_rules, image, crosses, crossing, spare, AreParts}
-use Rattle.pg_claims.proofs.ClaimLaws.{CanAnswer, next, free-next, x-plus, x-same, y_wins, forces-ready}
-use Rattle.pg_claims.proofs.PartLemmas.{crossing_many}
+use Rattle.pg_switch.specs.Claims.{IsMonotone, IsPlace}
+use Rattle.pg_switch.specs.Span.{joins_below, joins_pairs, joins_all, connectivity_rules, image, crosses, crossing, spare, AreParts}
+use Rattle.pg_switch.proofs.ClaimLaws.{CanAnswer, next, free-next, x-plus, x-same, y_wins, forces-ready}
+use Rattle.pg_switch.proofs.PartLemmas.{crossing_many}
 
 module _ (a b : ℕ → ℕ) (m : ℕ) (label : ℕ → ℕ) where
   abbrev marks : (ℕ → Bool) → ℕ → Bool

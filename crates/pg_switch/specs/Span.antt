@@ -10,7 +10,7 @@ use Rattle.pg_graph.specs.Walks.{IsJoined, joins}
 use Rattle.pg_game.specs.declared.position.Position.{Position}
 use Rattle.pg_game.specs.Position.{is_free}
 use Rattle.pg_game.specs.Rules.{Rules}
-use Rattle.pg_claims.specs.Claims.{claim_rules}
+use Rattle.pg_switch.specs.Claims.{claim_rules}
 
 -- ---- the vertices are the numbers below n; edge k below m has the ends a k and b k
 

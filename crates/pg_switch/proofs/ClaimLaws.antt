@@ -17,7 +17,7 @@ use Rattle.pg_game.specs.Position.{is_free, claims_in_turn}
 use Rattle.pg_game.specs.Rules.{moved, reaches, ForcesBy, IsEnding, KeepsBy}
 use Rattle.pg_game.proofs.RulesLaws.{is_free-moved, some_free, ForcesBy-from_keeps}
 use Rattle.pg_game.proofs.Sides.{side≢other, side_cases, other_other}
-use Rattle.pg_claims.specs.Claims.{kept, claim_rules, IsMonotone, IsPlace}
+use Rattle.pg_switch.specs.Claims.{kept, claim_rules, IsMonotone, IsPlace}
 
 -- ---- positions after a move
 

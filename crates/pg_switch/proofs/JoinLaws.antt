@@ -21,14 +21,14 @@ use Rattle.pg_game.specs.Position.{is_free}
 use Rattle.pg_game.specs.Rules.{ForcesBy}
 use Rattle.pg_game.proofs.RulesLaws.{ForcesBy-over, ForcesBy-move}
 use Rattle.pg_game.proofs.Sides.{side≢other}
-use Rattle.pg_claims.specs.Claims.{kept, claim_rules, IsPlace}
-use Rattle.pg_claims.specs.Span.{joins_all, connectivity_rules, AreJoiningTrees}
-use Rattle.pg_claims.proofs.ClaimLaws.{next, turn-next, IsPlace-next, IsEnding-claims, free-next, x-plus, x-kept, free-kept, x_wins}
-use Rattle.pg_claims.proofs.TreeForces.{ForcesBy-targets}
-use Rattle.pg_claims.proofs.AllJoined.{joins_all-from}
-use Rattle.pg_claims.proofs.PartLemmas.{joined_pairs}
-use Rattle.pg_claims.proofs.PartLaws.{joins_all-more}
-use Rattle.pg_claims.proofs.TargetAnswers.{AllStand, AllOwed-stand}
+use Rattle.pg_switch.specs.Claims.{kept, claim_rules, IsPlace}
+use Rattle.pg_switch.specs.Span.{joins_all, connectivity_rules, AreJoiningTrees}
+use Rattle.pg_switch.proofs.ClaimLaws.{next, turn-next, IsPlace-next, IsEnding-claims, free-next, x-plus, x-kept, free-kept, x_wins}
+use Rattle.pg_switch.proofs.TreeForces.{ForcesBy-targets}
+use Rattle.pg_switch.proofs.AllJoined.{joins_all-from}
+use Rattle.pg_switch.proofs.PartLemmas.{joined_pairs}
+use Rattle.pg_switch.proofs.PartLaws.{joins_all-more}
+use Rattle.pg_switch.proofs.TargetAnswers.{AllStand, AllOwed-stand}
 
 -- ---- the edges below m, and an edge from vertex 0 to each vertex below n
 
