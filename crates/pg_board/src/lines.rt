@@ -10,8 +10,7 @@ ghost use Rattle.pg_board.specs.Lines.{Claims, clear_in};
 use crate::counts::claim;
 use crate::layout::Layout;
 use pg_base::Side;
-use pg_links::Ring;
-use pg_trail::Trail;
+use pg_links::{Ring, Trail};
 
 /// One more point of the side in the line, which leaves the side's live lines.
 fn claim_line(layout: &Layout, trail: &mut Trail, live: &mut Ring, side: Side, line: u32)

@@ -1,7 +1,7 @@
 use Rattle.std.proofs.Common.{◌≡◌, ℕ, ◌+◌, ◌-◌, ◌<◌, ◌≤◌, length, arith, sym, ap, ◌∙◌}
-use Rattle.pg_trail.specs.Trail.{back_to}
-use Rattle.pg_trail.proofs.Undoing.{back_to-level, back_to-more, length-back_to}
-use Rattle.pg_trail.proofs.trail.Trail.undo_to.Goals as goal
+use Rattle.pg_links.specs.Trail.{back_to}
+use Rattle.pg_links.proofs.Undoing.{back_to-level, back_to-more, length-back_to}
+use Rattle.pg_links.proofs.trail.Trail.undo_to.Goals as goal
 
 pub loop-self-init : goal.loop-self-init
 loop-self-init c = (sym (back_to-level c.args.self.now), c.requires, omega arith)

@@ -1,6 +1,6 @@
 //! Trails.
 ghost use Rattle.std.specs.Prelude.{◌≡◌, ◌<◌, ◌≤◌, ◌-◌, [], length, slice_index, IfOk};
-ghost use Rattle.pg_trail.specs.Trail.{with_set, back_to, settled};
+ghost use Rattle.pg_links.specs.Trail.{with_set, back_to, settled};
 
 use pg_base::Memory;
 use std::alloc::Global;
@@ -21,7 +21,7 @@ impl Model for Trail {
     ghost use Rattle.std.specs.Prelude.{◌≤◌, ◌-◌, ◌<◌, length};
     ghost use Rattle.std.specs.List.{All};
     ghost use Rattle.std.specs.Vec.{vec_capacity};
-    ghost use Rattle.pg_trail.specs.Trail.{Cells};
+    ghost use Rattle.pg_links.specs.Trail.{Cells};
 
     ghost Value = { Cells };
 

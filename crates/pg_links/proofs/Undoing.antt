@@ -1,7 +1,7 @@
 -- A trail after changes that are undone is the trail before them.
 use Rattle.std.proofs.Common.{◌≡◌, ℕ, ◌+◌, ◌-◌, ◌<◌, ◌≤◌, List, [], ◌∷◌, ◌++◌, length, get_or, set, take, drop, refl, sym, ap, ◌∙◌, arith, append_assoc, length-append, length-drop}
 use Rattle.std.proofs.lemmas.List.{set-set, set-get_or, take-append-drop, drop-append-le, take-append-le, take-take, length-take-le, drop_at, take_at, drop_all, take_all, length_push}
-use Rattle.pg_trail.specs.Trail.{Cells, with_set, before, back_to}
+use Rattle.pg_links.specs.Trail.{Cells, with_set, before, back_to}
 
 pub same_cells : (a b : Cells) → a.cells ≡ b.cells → a.entries ≡ b.entries → a.spare ≡ b.spare → a ≡ b
 same_cells a b cells entries spare = λ i. record { cells = cells i; entries = entries i; spare = spare i }

@@ -1,6 +1,6 @@
 use Rattle.std.proofs.Common.{◌≡◌, ◌+◌, ◌-◌, length, arith, ap, ◌∙◌}
-use Rattle.pg_trail.specs.Trail.{Cells, settled}
-use Rattle.pg_trail.proofs.trail.Trail.settle.Goals as goal
+use Rattle.pg_links.specs.Trail.{Cells, settled}
+use Rattle.pg_links.proofs.trail.Trail.settle.Goals as goal
 
 pub returns : goal.returns
 unfolding settled
