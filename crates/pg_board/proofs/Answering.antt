@@ -9,9 +9,9 @@ use Rattle.pg_base.specs.Sets.{one_if}
 use Rattle.pg_base.specs.declared.side.Side.{Side}
 use Rattle.pg_base.specs.declared.side.Side.TheVariants.{X, Y}
 use Rattle.pg_game.specs.Position.{is_free, points_of}
-use Rattle.pg_links.specs.Ring.{present}
-use Rattle.pg_links.proofs.Finding.{first_of_all}
-use Rattle.pg_links.specs.Trail.{Cells}
+use Rattle.pg_undo.specs.Ring.{present}
+use Rattle.pg_undo.proofs.Finding.{first_of_all}
+use Rattle.pg_undo.specs.Trail.{Cells}
 use Rattle.pg_board.specs.Shape.{Shape, line_in}
 use Rattle.pg_board.specs.Counts.{count_in, is_clear, clear_lines}
 use Rattle.pg_board.specs.Fits.{Rules, Fits, pick, live_lines_in, free_points_in, position_of, has_mark, set_below, turn_of, left_of}

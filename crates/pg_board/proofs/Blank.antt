@@ -10,8 +10,8 @@ use Rattle.pg_base.specs.declared.side.Side.{Side}
 use Rattle.pg_base.specs.declared.side.Side.TheVariants.{X, Y}
 use Rattle.pg_game.specs.declared.position.Position.{Position}
 use Rattle.pg_game.specs.Position.{is_free, points_of}
-use Rattle.pg_links.specs.Ring.{present}
-use Rattle.pg_links.specs.Trail.{Cells}
+use Rattle.pg_undo.specs.Ring.{present}
+use Rattle.pg_undo.specs.Trail.{Cells}
 use Rattle.pg_board.specs.Shape.{Shape, IsShape, line_in, mark_cell, count_cell, free_cell, cell_count}
 use Rattle.pg_board.specs.Counts.{count_in, lines_in, lines_with, has_free, is_clear, clear_lines, free_by}
 use Rattle.pg_board.specs.Fits.{Rules, pick, has_mark, mark_of, position_of, entries_of, free_points_in}

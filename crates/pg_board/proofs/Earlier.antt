@@ -1,6 +1,6 @@
 -- How a board was before its plays.
 use Rattle.std.proofs.Common.{◌≡◌, List, [], ◌∷◌, ◌++◌, length, refl, arith, length-append}
-use Rattle.pg_links.specs.Trail.{Cells, back_to}
+use Rattle.pg_undo.specs.Trail.{Cells, back_to}
 use Rattle.pg_board.specs.Shape.{Shape}
 use Rattle.pg_board.specs.Fits.{stand_of, earlier_of}
 use Rattle.pg_board.specs.declared.plays.Played.{Played}

@@ -10,10 +10,10 @@ use Rattle.pg_base.specs.declared.side.Side.TheVariants.{X, Y}
 use Rattle.pg_base.specs.Side.{other, is_same_side}
 use Rattle.pg_game.specs.Position.{is_free, points_of, after_with}
 use Rattle.pg_game.specs.Potential.{is_on}
-use Rattle.pg_links.specs.Ring.{present, without}
-use Rattle.pg_links.specs.Trail.{Cells, with_set, back_to}
-use Rattle.pg_links.specs.Extends.{Extends}
-use Rattle.pg_links.proofs.Extending.{extends-set, extends-both, extends-back}
+use Rattle.pg_undo.specs.Ring.{present, without}
+use Rattle.pg_undo.specs.Trail.{Cells, with_set, back_to}
+use Rattle.pg_undo.specs.Extends.{Extends}
+use Rattle.pg_undo.proofs.Extending.{extends-set, extends-both, extends-back}
 use Rattle.pg_board.specs.Shape.{Shape, line_in, lines_through, degree_in, turn_cell, mark_cell, count_cell, free_cell, cell_count}
 use Rattle.pg_board.specs.Counts.{AreCounted, count_in, lines_with, is_clear, clear_lines}
 use Rattle.pg_board.specs.Lines.{clear_in}

@@ -18,7 +18,7 @@ use Rattle.pg_base.specs.declared.score.Score.{Score}
 use Rattle.pg_game.specs.Potential.{is_on, total, weight, greatest_weight, potential_holds, total_weight, point_weight, full_weight}
 use Rattle.pg_game.specs.Avoider.{avoider_total, avoider_weight, avoider_holds}
 use Rattle.pg_game.specs.Game.{free_points}
-use Rattle.pg_links.specs.Trail.{Cells}
+use Rattle.pg_undo.specs.Trail.{Cells}
 use Rattle.pg_board.specs.Shape.{Shape, IsShape, shape_of, lines_holding, lines_through, degree_in, turn_cell}
 use Rattle.pg_board.specs.Fits.{Rules, Fits, rules_of, position_of, turn_of, left_of, live_lines_in, free_points_in}
 use Rattle.pg_board.specs.Board.{line_at, degree, live_lines, is_live_with, live_with}

@@ -4,7 +4,7 @@ use Rattle.std.proofs.Common.{[]}
 use Rattle.std.proofs.lemmas.List.Sums.{length-filter}
 use Rattle.std.specs.List.{range_with_len}
 use Rattle.pg_game.specs.Position.{is_free}
-use Rattle.pg_links.specs.Ring.{present}
+use Rattle.pg_undo.specs.Ring.{present}
 use Rattle.pg_board.specs.declared.plays.Played.{Played}
 use Rattle.pg_board.specs.Fits.{AreFit, earlier_of, free_points_in}
 use Rattle.pg_board.proofs.Ranges.{count-few}
@@ -16,7 +16,7 @@ use Rattle.pg_base.specs.declared.side.Side.{Side}
 use Rattle.pg_base.specs.declared.side.Side.TheVariants.{X, Y}
 use Rattle.pg_game.specs.declared.position.Position.{Position}
 use Rattle.pg_game.specs.Position.{claims_in_turn}
-use Rattle.pg_links.specs.Trail.{Cells, with_set, settled}
+use Rattle.pg_undo.specs.Trail.{Cells, with_set, settled}
 use Rattle.pg_board.specs.Shape.{Shape, turn_cell}
 use Rattle.pg_board.specs.Fits.{Rules, Fits, position_of, turn_of, left_of}
 use Rattle.pg_board.specs.Opening.{Opens, turn_code}

@@ -11,7 +11,7 @@ use Rattle.pg_base.specs.Side.{other}
 use Rattle.pg_game.specs.declared.position.Position.{Position}
 use Rattle.pg_game.specs.Position.{is_free, points_of, after_with}
 use Rattle.pg_base.specs.Side.{is_same_side}
-use Rattle.pg_links.specs.Trail.{Cells, with_set}
+use Rattle.pg_undo.specs.Trail.{Cells, with_set}
 use Rattle.pg_board.specs.Shape.{Shape, line_in, turn_cell, mark_cell}
 use Rattle.pg_board.specs.Counts.{is_clear, clear_lines}
 use Rattle.pg_board.specs.Fits.{Rules, Fits, Leads, has_mark, mark_of, turn_of, position_of, set_below, summed, entries_of, free_points_in}

@@ -15,7 +15,7 @@ use Rattle.pg_base.proofs.LineLemmas.{count-ascending}
 use Rattle.pg_game.specs.declared.position.Position.{Position}
 use Rattle.pg_game.specs.Position.{is_free, points_of, after_with, x_after, y_after}
 use Rattle.pg_game.specs.Potential.{is_on}
-use Rattle.pg_links.specs.Ring.{without}
+use Rattle.pg_undo.specs.Ring.{without}
 use Rattle.pg_board.specs.Shape.{Shape}
 use Rattle.pg_board.specs.Fits.{summed, free_points_in}
 use Rattle.pg_board.proofs.Ranges.{count-one, filter-same, filter-both, in_filtered}

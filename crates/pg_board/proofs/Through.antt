@@ -22,7 +22,7 @@ use Rattle.std.proofs.lemmas.List.Sums.{length-filter}
 use Rattle.pg_base.specs.Sets.{one_if}
 use Rattle.pg_base.specs.declared.side.Side.TheVariants.{X, Y}
 use Rattle.pg_base.specs.Side.{is_same_side}
-use Rattle.pg_links.specs.Trail.{Cells}
+use Rattle.pg_undo.specs.Trail.{Cells}
 use Rattle.pg_board.specs.Lines.{Claims}
 use Rattle.pg_board.proofs.Ranges.{not_before}
 use Rattle.std.proofs.lemmas.Bool.{or_left, or_right, or_cases}

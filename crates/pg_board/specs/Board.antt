@@ -8,7 +8,7 @@ use Rattle.pg_game.specs.declared.position.Position.{Position}
 use Rattle.pg_game.specs.Position.{is_free, points_of}
 use Rattle.pg_game.specs.Game.{lines_of, is_touched}
 use Rattle.pg_game.specs.Potential.{is_on}
-use Rattle.pg_links.specs.Trail.{Cells}
+use Rattle.pg_undo.specs.Trail.{Cells}
 
 -- a position with the trail that leads to it
 pub record Stand : Type 0 where

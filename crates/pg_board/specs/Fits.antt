@@ -12,8 +12,8 @@ use Rattle.pg_game.specs.declared.position.Position.{Position}
 use Rattle.pg_game.specs.Position.{is_free, points_of, after_with}
 use Rattle.pg_game.specs.Game.{is_touched}
 use Rattle.pg_base.specs.Side.{is_same_side}
-use Rattle.pg_links.specs.Ring.{present}
-use Rattle.pg_links.specs.Trail.{Cells, back_to}
+use Rattle.pg_undo.specs.Ring.{present}
+use Rattle.pg_undo.specs.Trail.{Cells, back_to}
 use Rattle.pg_board.specs.Board.{Stand}
 use Rattle.pg_board.specs.Shape.{Shape, IsShape, shape_of, line_in, lines_through, degree_in, turn_cell, mark_cell}
 use Rattle.pg_board.specs.Counts.{AreCounted, count_in, clear_lines}

@@ -6,7 +6,7 @@ use Rattle.pg_base.specs.declared.side.Side.{Side}
 use Rattle.pg_base.specs.declared.side.Side.TheVariants.{X, Y}
 use Rattle.pg_game.specs.declared.position.Position.{Position}
 use Rattle.pg_game.specs.Position.{is_free, points_of}
-use Rattle.pg_links.specs.Trail.{Cells}
+use Rattle.pg_undo.specs.Trail.{Cells}
 use Rattle.pg_board.specs.Shape.{Shape, line_in, cell_count}
 use Rattle.pg_board.specs.Counts.{lines_in}
 use Rattle.pg_board.specs.Fits.{Rules, Fits, position_of, summed, entries_of}

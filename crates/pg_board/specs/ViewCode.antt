@@ -5,7 +5,7 @@ use Rattle.pg_game.specs.declared.game.Game.{Game}
 use Rattle.pg_game.specs.contracts.game.Game as game_code
 use Rattle.pg_game.specs.declared.position.Position.{Position}
 use Rattle.pg_game.specs.contracts.position.Position as position_code
-use Rattle.pg_links.specs.Trail.{Cells}
+use Rattle.pg_undo.specs.Trail.{Cells}
 use Rattle.pg_board.specs.Board.{Stand, View}
 
 abbrev pub cells_code : Coded Cells

@@ -22,7 +22,7 @@ use crate::points::{free_point, is_unmarked, left, marked, turn};
 use crate::totals;
 use pg_base::{Kind, Memory, Score, Side};
 use pg_game::{Game, MAX_POINTS, Position, at_least, defender, is_over_by, outcome_by};
-use pg_links::{Ring, Trail};
+use pg_undo::{Ring, Trail};
 use std::alloc::Global;
 use std::marker::Model;
 

@@ -4,14 +4,14 @@ ghost use Rattle.pg_base.specs.declared.side.Side.{Side};
 ghost use Rattle.pg_base.specs.declared.side.Side.TheVariants.{X, Y};
 ghost use Rattle.pg_base.specs.Side.{other};
 ghost use Rattle.pg_base.specs.Sets.{one_if};
-ghost use Rattle.pg_links.specs.Extends.{Extends};
+ghost use Rattle.pg_undo.specs.Extends.{Extends};
 ghost use Rattle.pg_board.specs.Shape.{line_in, count_cell, free_cell, cell_count};
 ghost use Rattle.pg_board.specs.Counts.{AreCounted, IsCountedMore, IsMoved, count_in, lines_in};
 
 use crate::layout::Layout;
 use pg_base::Side;
 use pg_game::MAX_LINES;
-use pg_links::Trail;
+use pg_undo::Trail;
 
 /// Where the line has none of the side's points: one line fewer of the side's with so many free points, by their cell.
 fn leave(layout: &Layout, trail: &mut Trail, side: Side, own: u32, free: u32) -> usize

@@ -13,7 +13,7 @@ use crate::points::{left, turn};
 use crate::totals::{greatest_weight, live_with, total};
 use pg_base::Side;
 use pg_game::x_takes_last;
-use pg_links::Trail;
+use pg_undo::Trail;
 
 /// How often the greatest weight counts for the side.
 fn times_counted(layout: &Layout, trail: &Trail, bias: u8, side: Side) -> u8

@@ -2,7 +2,7 @@
 ghost use Rattle.std.specs.Prelude.{◌≡◌, ◌<◌, ◌≤◌, ◌+◌, ◌-◌, ◌*◌, ℕ, true, [], ◌∷◌, length, take};
 ghost use Rattle.pg_base.specs.declared.side.Side.TheVariants.{X, Y};
 ghost use Rattle.pg_game.specs.Potential.{is_on};
-ghost use Rattle.pg_links.specs.Ring.{present};
+ghost use Rattle.pg_undo.specs.Ring.{present};
 ghost use Rattle.pg_board.specs.Shape.{line_in, lines_through, degree_in, cell_count};
 ghost use Rattle.pg_board.specs.Counts.{AreCounted, count_in, clear_lines};
 ghost use Rattle.pg_board.specs.Lines.{Claims, clear_in};
@@ -10,7 +10,7 @@ ghost use Rattle.pg_board.specs.Lines.{Claims, clear_in};
 use crate::counts::claim;
 use crate::layout::Layout;
 use pg_base::Side;
-use pg_links::{Ring, Trail};
+use pg_undo::{Ring, Trail};
 
 /// One more point of the side in the line, which leaves the side's live lines.
 fn claim_line(layout: &Layout, trail: &mut Trail, live: &mut Ring, side: Side, line: u32)

@@ -2,14 +2,14 @@
 ghost use Rattle.std.specs.Prelude.{◌≡◌, ◌<◌, true};
 ghost use Rattle.pg_base.specs.declared.side.Side.TheVariants.{X, Y};
 ghost use Rattle.pg_game.specs.Position.{is_free};
-ghost use Rattle.pg_links.specs.Trail.{back_to};
+ghost use Rattle.pg_undo.specs.Trail.{back_to};
 ghost use Rattle.pg_board.specs.Fits.{Fits, IsPlayed, Leads, fewer, left_by, position_of};
 
 use crate::layout::Layout;
 use crate::lines::relink_lines;
 use crate::points::{claim_point, pass, turn};
 use pg_base::Side;
-use pg_links::{Ring, Trail};
+use pg_undo::{Ring, Trail};
 
 /// A play: its point, and how many entries the trail had before it.
 #[derive(Clone, Copy, Debug)]

@@ -4,8 +4,8 @@ ghost use Rattle.std.specs.List.{Contains, find};
 ghost use Rattle.pg_board.specs.Near.{has_none};
 ghost use Rattle.pg_base.specs.declared.side.Side.TheVariants.{X, Y};
 ghost use Rattle.pg_game.specs.Potential.{is_on};
-ghost use Rattle.pg_links.specs.Ring.{present};
-ghost use Rattle.pg_links.specs.Trail.{with_set};
+ghost use Rattle.pg_undo.specs.Ring.{present};
+ghost use Rattle.pg_undo.specs.Trail.{with_set};
 ghost use Rattle.pg_board.specs.Shape.{line_in, degree_in, turn_cell, mark_cell, cell_count};
 ghost use Rattle.pg_board.specs.Counts.{AreCounted, count_in, clear_lines};
 ghost use Rattle.pg_board.specs.Points.{ClaimsPoint, next_turn};
@@ -15,7 +15,7 @@ use crate::layout::Layout;
 use crate::lines::claim_lines;
 use pg_base::{PointSet, Side};
 use pg_game::MAX_POINTS;
-use pg_links::{Ring, Trail};
+use pg_undo::{Ring, Trail};
 
 /// The side to move.
 pub(crate) fn turn(trail: &Trail) -> Side

@@ -11,7 +11,7 @@ ghost use Rattle.pg_board.specs.Totals.{live_with_in, total_in, weight_in, great
 use crate::layout::Layout;
 use crate::points::is_unmarked;
 use pg_base::Side;
-use pg_links::Trail;
+use pg_undo::Trail;
 
 /// How many lines without a point of the side have so many free points.
 pub(crate) fn live_with(layout: &Layout, trail: &Trail, side: Side, free: u16) -> u32

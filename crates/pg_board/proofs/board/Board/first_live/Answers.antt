@@ -4,7 +4,7 @@ use Rattle.pg_base.specs.Points.{ShareNone}
 use Rattle.pg_base.specs.declared.side.Side.TheVariants.{X, Y}
 use Rattle.pg_game.specs.declared.position.Position.{Position}
 use Rattle.pg_game.specs.Game.{IsPosition}
-use Rattle.pg_links.specs.Ring.{present}
+use Rattle.pg_undo.specs.Ring.{present}
 use Rattle.pg_board.specs.Shape.{shape_of}
 use Rattle.pg_board.specs.Fits.{position_of}
 use Rattle.pg_board.proofs.Fitting.{fit-first}

@@ -3,7 +3,7 @@ use Rattle.std.proofs.lemmas.Bool.{cases_eq, ltb-false, false≢true}
 use Rattle.std.specs.Prelude.{slice_get, nat_lt}
 use Rattle.std.specs.List.{find}
 use Rattle.pg_base.specs.Side.{other}
-use Rattle.pg_links.proofs.Finding.{first_of_all}
+use Rattle.pg_undo.proofs.Finding.{first_of_all}
 use Rattle.pg_board.specs.Board.{live_lines}
 use Rattle.pg_game.specs.Game.{lines_of}
 use Rattle.pg_board.specs.Near.{WalksNear, place_of}

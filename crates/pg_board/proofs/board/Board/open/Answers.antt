@@ -5,7 +5,7 @@ use Rattle.pg_game.specs.Potential.{greatest_length}
 use Rattle.pg_game.proofs.LineSums.{full_weight-is}
 use Rattle.pg_game.proofs.Moves.{some_bias}
 use Rattle.pg_game.proofs.WeightBounds.{bias-le, bias-few}
-use Rattle.pg_links.specs.Trail.{Cells, with_set}
+use Rattle.pg_undo.specs.Trail.{Cells, with_set}
 use Rattle.pg_board.specs.Shape.{Shape, turn_cell}
 use Rattle.pg_board.specs.Opening.{turn_code}
 use Rattle.pg_board.specs.Fits.{Rules, Fits, position_of}

@@ -5,8 +5,8 @@ use Rattle.pg_game.specs.Position.{is_free}
 use Rattle.pg_game.specs.Game.{after}
 use Rattle.pg_board.specs.Shape.{Shape, shape_of, degree_in}
 use Rattle.pg_board.proofs.Judging.{degree-of}
-use Rattle.pg_links.specs.Ring.{present}
-use Rattle.pg_links.specs.Trail.{Cells, back_to}
+use Rattle.pg_undo.specs.Ring.{present}
+use Rattle.pg_undo.specs.Trail.{Cells, back_to}
 use Rattle.pg_board.specs.declared.plays.Played.{Played}
 use Rattle.pg_board.specs.Fits.{Rules, PlaysBack, stand_of, earlier_of}
 use Rattle.pg_board.proofs.Fitting.{fit-first, fit-more}

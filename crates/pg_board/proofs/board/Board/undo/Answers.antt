@@ -1,8 +1,8 @@
 use Rattle.std.proofs.Common.{◌≡◌, ℕ, ◌+◌, ◌≤◌, List, [], ◌∷◌, ◌++◌, length, reverse, arith, rules, ap, ◌∙◌, sym, subst}
 use Rattle.std.proofs.lemmas.List.{reverse-append, length-reverse}
 use Rattle.std.specs.Vec.{vec_len, vec_capacity}
-use Rattle.pg_links.specs.Ring.{present}
-use Rattle.pg_links.specs.Trail.{Cells}
+use Rattle.pg_undo.specs.Ring.{present}
+use Rattle.pg_undo.specs.Trail.{Cells}
 use Rattle.pg_board.specs.Fits.{Rules, AreFit, stand_of, earlier_of}
 use Rattle.pg_board.proofs.Fitting.{fit-first, fit-played, fit-before}
 use Rattle.pg_board.proofs.Earlier.{earlier-more, length-earlier}

@@ -1,5 +1,0 @@
-use Rattle.pg_links.proofs.Undoing.{back_to-level}
-use Rattle.pg_links.proofs.laws.own_level_is_the_trail.Goals as goal
-
-pub returns : goal.returns
-returns c = back_to-level
