@@ -15,7 +15,7 @@ use Rattle.pg_game.specs.Pairs.{pairs_answer}
 use Rattle.pg_game.specs.Potential.{potential_answer}
 use Rattle.pg_game.specs.Avoider.{avoider_answer}
 use Rattle.pg_game.specs.Trees.{Answered, trees_answer, cuts_answer}
-use Rattle.pg_weaker.specs.Weaker.{free_or_lowest}
+use Rattle.pg_game.specs.Weaker.{free_or_lowest}
 use Rattle.pg_cert.specs.Node.{position_of}
 use Rattle.pg_cert.specs.Valid.{with_e_named}
 use Rattle.pg_cert.specs.declared.node.Node.{Node}

@@ -21,7 +21,7 @@ use Rattle.pg_game.specs.Potential.{PotentialHolds}
 use Rattle.pg_game.specs.Avoider.{AvoiderHolds}
 use Rattle.pg_game.specs.Trees.{TreesHold, CutsHold}
 use Rattle.pg_game.specs.Threat.{may_attack, IsThreatLine}
-use Rattle.pg_weaker.specs.Weaker.{IsNoWorse}
+use Rattle.pg_game.specs.Weaker.{IsNoWorse}
 use Rattle.pg_cert.specs.Node.{position_of}
 use Rattle.pg_cert.specs.NodeFault.{fault_number}
 use Rattle.pg_cert.specs.declared.cert.Cert.{Cert}

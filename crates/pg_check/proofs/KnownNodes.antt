@@ -6,7 +6,7 @@ use Rattle.std.proofs.lemmas.List.{take_more, map_push}
 use Rattle.pg_base.specs.declared.side.Side.{Side}
 use Rattle.pg_game.specs.declared.game.Game.{Game}
 use Rattle.pg_game.specs.declared.position.Position.{Position}
-use Rattle.pg_weaker.specs.Weaker.{IsNoWorse}
+use Rattle.pg_game.specs.Weaker.{IsNoWorse}
 use Rattle.pg_cert.specs.declared.cert.Claim.{Claim}
 use Rattle.pg_cert.specs.declared.node.Node.{Node}
 use Rattle.pg_cert.specs.declared.node.Body.{Body}

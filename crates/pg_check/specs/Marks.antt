@@ -12,7 +12,7 @@ use Rattle.pg_game.specs.declared.game.Game.{Game}
 use Rattle.pg_game.specs.declared.position.Position.{Position}
 use Rattle.pg_game.specs.Game.{point_count}
 use Rattle.pg_game.specs.Position.{points_of}
-use Rattle.pg_weaker.specs.Weaker.{IsNoWorse}
+use Rattle.pg_game.specs.Weaker.{IsNoWorse}
 use Rattle.pg_check.specs.declared.marks.Marks.{Marks}
 use Rattle.pg_check.specs.declared.marks.Turn.{Turn}
 

@@ -37,7 +37,7 @@ use Rattle.pg_maps.proofs.Criteria.{Contains-map, PotentialHolds-image, AvoiderH
 use Rattle.pg_maps.proofs.Imaging.{over-image, outcome-image}
 use Rattle.pg_maps.proofs.MoreCriteria.{IsThreatLine-image, PairsHold-image}
 use Rattle.pg_maps.proofs.Positions.{image_set-has, image_set-below, image_position-stays, replies-image, IsNoWorse-image}
-use Rattle.pg_weaker.specs.Weaker.{IsNoWorse}
+use Rattle.pg_game.specs.Weaker.{IsNoWorse}
 use Rattle.pg_unfold.specs.Unfolded.{IsReplyImage, AreReplyImages, IsBodyImage}
 
 -- ---- what doesn't depend on the game

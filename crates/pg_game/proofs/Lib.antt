@@ -24,3 +24,6 @@ pub mod ThreatSearch
 pub mod LineWeights
 pub mod WeightWalks
 pub mod SettledLaws
+pub mod Endings
+pub mod NoWorse
+pub mod Imagining

@@ -20,3 +20,4 @@ pub mod Threat
 pub mod Trees
 pub mod Rows
 pub mod Weights
+pub mod Weaker

@@ -10,7 +10,7 @@ use Rattle.pg_base.specs.declared.side.Side.{Side}
 use Rattle.pg_game.specs.Pairs.{PairsHold, SharesNone, has_point}
 use Rattle.pg_game.specs.declared.game.Game.{Game}
 use Rattle.pg_game.specs.declared.position.Position.{Position}
-use Rattle.pg_weaker.specs.Weaker.{IsNoWorse}
+use Rattle.pg_game.specs.Weaker.{IsNoWorse}
 use Rattle.pg_cert.specs.Node.{position_of}
 use Rattle.pg_cert.specs.NodeFault.{fault_number}
 use Rattle.pg_cert.specs.Valid.{AreSoundBefore, FollowMoves, FollowsMove, HasWeaker, IsFirstFault, IsInGame, IsLeastFault, IsNodeOf, IsOwed, IsSound, IsValid, IsValidClaim, Passes}

@@ -20,7 +20,7 @@ use Rattle.pg_game.proofs.Limits.{point_count-le}
 use Rattle.pg_game.proofs.Greatest.{member-within}
 use Rattle.pg_game.proofs.Members.{list_any-one, member-from_any, All-from_members}
 use Rattle.pg_maps.specs.Images.{IsAutomorphism, IsImage, image_set, image_position}
-use Rattle.pg_weaker.specs.Weaker.{IsNoWorse}
+use Rattle.pg_game.specs.Weaker.{IsNoWorse}
 use Rattle.pg_maps.proofs.ImageLines.{is_in, filter-rising, rising_range}
 use Rattle.pg_maps.proofs.SetImages.{member_of, of_member, in_image}
 use Rattle.pg_maps.proofs.Imaging.{has-image}

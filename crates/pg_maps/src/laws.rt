@@ -18,7 +18,7 @@ ghost use Rattle.pg_game.specs.declared.position.Position.{Position};
 ghost use Rattle.pg_maps.specs.GridMaps.{IsMapOf, numbered, number_of, image_of, followed_by, reverse_of, identity};
 ghost use Rattle.pg_maps.specs.Images.{AreInverse, IsAutomorphism, Fits, IsImage, board_of, image_on, image_pair, image_position};
 ghost use Rattle.pg_maps.specs.declared.grid_map.GridMap.{GridMap};
-ghost use Rattle.pg_weaker.specs.Weaker.{IsNoWorse};
+ghost use Rattle.pg_game.specs.Weaker.{IsNoWorse};
 
 /// The numbers from 0 to 7 name eight different maps, and all maps.
 pub fn maps_have_numbers()

@@ -9,9 +9,9 @@ use Rattle.pg_game.specs.declared.position.Position.{Position}
 use Rattle.pg_game.specs.Position.{is_free}
 use Rattle.pg_game.specs.Game.{point_count, is_over, after, IsPosition}
 use Rattle.pg_game.specs.Value.{Forces}
-use Rattle.pg_weaker.specs.Weaker.{free_or_lowest}
-use Rattle.pg_weaker.proofs.Imagining.{Forces-imagined, imagined-going, imagined-move, imagined-reply}
-use Rattle.pg_weaker.proofs.NoWorse.{IsNoWorse-trans}
+use Rattle.pg_game.specs.Weaker.{free_or_lowest}
+use Rattle.pg_game.proofs.Imagining.{Forces-imagined, imagined-going, imagined-move, imagined-reply}
+use Rattle.pg_game.proofs.NoWorse.{IsNoWorse-trans}
 use Rattle.pg_player.specs.Beside.{IsBeside}
 
 -- the point that stands for w in a position is a legal move there

@@ -13,7 +13,7 @@ use Rattle.pg_game.specs.Judge.{IsMadeForGame, HasJoiner, judged_move}
 use Rattle.pg_game.specs.Value.{Forces}
 use Rattle.pg_game.proofs.Limits.{point_count-le}
 use Rattle.pg_game.proofs.Moves.{IsPosition-after}
-use Rattle.pg_weaker.specs.Weaker.{free_or_lowest}
+use Rattle.pg_game.specs.Weaker.{free_or_lowest}
 use Rattle.pg_cert.specs.declared.cert.Claim.{Claim}
 use Rattle.pg_cert.specs.OwnMove.{Standing, replied_by}
 use Rattle.pg_player.specs.InPlay.{GoesOn, IsPlaying, IsReached, KeepsUp}

@@ -35,7 +35,7 @@ use Rattle.pg_game.specs.Trees.{IsFreeEdge, AreFreeWithE, AreTrees, AreCuts, Tre
 use Rattle.pg_game.proofs.Members.{list_any-one, member-from_any}
 use Rattle.pg_switch.proofs.EdgeSets.{with_e-edges, free-edges, with_set-edges}
 use Rattle.pg_pairing.proofs.PairLoops.{Contains-any, any-Contains}
-use Rattle.pg_weaker.specs.Weaker.{IsNoWorse}
+use Rattle.pg_game.specs.Weaker.{IsNoWorse}
 use Rattle.pg_cert.specs.declared.cert.Claim.{Claim}
 use Rattle.pg_cert.specs.declared.node.Node.{Node}
 use Rattle.pg_cert.specs.declared.node.Body.{Body}

@@ -13,9 +13,8 @@ use crate::standing::{Stand, replied, root};
 use pg_base::{Goal, Kind, Memory, Score, Side};
 use pg_cert::Claim;
 use pg_check::Checked;
-use pg_game::{Game, Illegal, Judge, Position, joiner_for};
+use pg_game::{Game, Illegal, Judge, Position, free_or_lowest, joiner_for};
 use pg_graph::Joiner;
-use pg_weaker::free_or_lowest;
 use std::alloc::Global;
 use std::marker::Model;
 

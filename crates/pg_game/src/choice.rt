@@ -1,9 +1,10 @@
 //! The point that stands for another.
 ghost use Rattle.std.specs.Prelude.{◌≡◌, ◌<◌};
 ghost use Rattle.pg_base.specs.declared.limits.TheConstants.{MAX_MEMBERS};
-ghost use Rattle.pg_weaker.specs.Weaker.{free_or_lowest};
+ghost use Rattle.pg_game.specs.Weaker.{free_or_lowest};
 
-use pg_game::{Game, Position};
+use crate::game::Game;
+use crate::position::Position;
 
 /// The point v, below 1,024, where it is free, else the lowest free point, and 0 where none is free.
 pub fn free_or_lowest(g: &Game, p: &Position, v: u16) -> u16

@@ -1,9 +1,9 @@
 //! Whether a position is no worse for a side than another.
 ghost use Rattle.std.specs.Prelude.{◌↔◌, IsTrue};
-ghost use Rattle.pg_weaker.specs.Weaker.{IsNoWorse};
+ghost use Rattle.pg_game.specs.Weaker.{IsNoWorse};
 
+use crate::position::Position;
 use pg_base::Side;
-use pg_game::Position;
 
 /// Whether p is no worse for the side than `weaker`: the side has all its points of `weaker`, the other side no others
 /// than there, and the same side is to move and claims as many points.

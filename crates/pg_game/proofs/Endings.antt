@@ -22,7 +22,7 @@ use Rattle.pg_game.proofs.FreePoints.{none-full}
 use Rattle.pg_game.proofs.Members.{Contains-head, Contains-tail, true-at, false-at, list_any-one, member-from_any}
 use Rattle.pg_game.proofs.Limits.{lines-range}
 use Rattle.pg_game.proofs.ValueLaws.{value-over}
-use Rattle.pg_weaker.specs.Weaker.{IsNoWorse}
+use Rattle.pg_game.specs.Weaker.{IsNoWorse}
 
 -- ---- a test of all members
 

@@ -17,9 +17,9 @@ use Rattle.pg_game.proofs.FreePoints.{any-free_points}
 use Rattle.pg_game.proofs.Greatest.{member-free, member-within}
 use Rattle.pg_game.proofs.Moves.{IsPosition-after}
 use Rattle.pg_game.proofs.ValueLaws.{Forces-all-from}
-use Rattle.pg_weaker.specs.Weaker.{IsNoWorse, IsImagined, MovesOn, RepliesOn, free_or_lowest}
-use Rattle.pg_weaker.proofs.Endings.{going-weaker}
-use Rattle.pg_weaker.proofs.NoWorse.{Forces-no_worse, own-no_worse, reply-no_worse, IsNoWorse-trans}
+use Rattle.pg_game.specs.Weaker.{IsNoWorse, IsImagined, MovesOn, RepliesOn, free_or_lowest}
+use Rattle.pg_game.proofs.Endings.{going-weaker}
+use Rattle.pg_game.proofs.NoWorse.{Forces-no_worse, own-no_worse, reply-no_worse, IsNoWorse-trans}
 
 -- ---- the point where it is free, else the lowest free point
 

@@ -24,8 +24,8 @@ use Rattle.pg_game.proofs.Strategy.{Forces-from_keeps, free_point}
 use Rattle.pg_game.proofs.Moves.{free-of, points_of-mover, points_of-waiter}
 use Rattle.pg_game.proofs.Sides.{other_other}
 use Rattle.pg_game.proofs.ValueLaws.{Forces-move-from, Forces-all-from}
-use Rattle.pg_weaker.specs.Weaker.{IsNoWorse}
-use Rattle.pg_weaker.proofs.Endings.{ends-no_worse, going-weaker}
+use Rattle.pg_game.specs.Weaker.{IsNoWorse}
+use Rattle.pg_game.proofs.Endings.{ends-no_worse, going-weaker}
 
 -- ---- the relation
 

@@ -1,5 +1,0 @@
-use Rattle.pg_weaker.proofs.Imagining.{imagined-move, imagined-reply, imagined-going}
-use Rattle.pg_weaker.proofs.laws.imagined_positions_serve.Goals as goal
-
-pub returns : goal.returns
-returns c = record { moves = imagined-move; replies = imagined-reply; goes_on = imagined-going }

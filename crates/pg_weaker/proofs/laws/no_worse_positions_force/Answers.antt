@@ -1,5 +1,0 @@
-use Rattle.pg_weaker.proofs.NoWorse.{Forces-no_worse}
-use Rattle.pg_weaker.proofs.laws.no_worse_positions_force.Goals as goal
-
-pub returns : goal.returns
-returns c = Forces-no_worse

@@ -1,5 +1,0 @@
-use Rattle.pg_weaker.proofs.NoWorse.{value-no_worse_x, value-no_worse_y}
-use Rattle.pg_weaker.proofs.laws.values_keep_order.Goals as goal
-
-pub returns : goal.returns
-returns c = record { x = value-no_worse_x; y = value-no_worse_y }
