@@ -4,7 +4,8 @@ use pg_board::Board;
 use pg_game::Game;
 use std::alloc::{AllocError, Global};
 
-/// Mixes the points, each with one that stands no later (Fisher and Yates). The state is that of a linear congruential generator.
+/// Mixes the points, each with one that stands no later (Fisher and Yates). The state is that of a
+/// linear congruential generator.
 fn mix(order: &mut [u16; 256], state: &mut u32) {
     for place in 0..256 {
         *state = state.wrapping_mul(1_103_515_245).wrapping_add(12_345) % 2_147_483_648;
@@ -43,7 +44,8 @@ fn play_games(b: &mut Board, rounds: u16) -> usize {
     plays
 }
 
-/// How many lines the board of a game has, and how many plays are made in so many games; None where no memory is found.
+/// How many lines the board of a game has, and how many plays are made in so many games; None where
+/// no memory is found.
 fn played(alloc: Global, g: &Game, rounds: u16) -> Option<(u32, usize)> {
     if g.kind == Kind::Switching {
         return None;

@@ -1,5 +1,6 @@
-//! What the scripts under `bench/` measure of boards, threat lines and private pairs. The first of its words names the part, the second a
-//! file with a game, and the others say what is done; without words it does small rows of each part.
+//! What the scripts under `bench/` measure of boards, threat lines and private pairs. The first of
+//! its words names the part, the second a file with a game, and the others say what is done;
+//! without words it does small rows of each part.
 #![tactic(auto)]
 
 mod boards;

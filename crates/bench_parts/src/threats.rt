@@ -1,9 +1,9 @@
 //! Threat lines asked for on a game of 256 points: what `bench/threat.py` measures.
 //!
-//! Its words are `walk`, for twenty walks through the game by moves at random, or `still`, for
-//! two thousand questions at its beginning, where no line lacks two points or fewer; and `ask`, or another word where the
-//! positions are to be counted alone. It tells how many positions were asked, and how many threat lines of each depth were
-//! found.
+//! Its words are `walk`, for twenty walks through the game by moves at random, or `still`, for two
+//! thousand questions at its beginning, where no line lacks two points or fewer; and `ask`, or
+//! another word where the positions are to be counted alone. It tells how many positions were
+//! asked, and how many threat lines of each depth were found.
 ghost use Rattle.std.specs.Prelude.{◌≡◌, ◌<◌, true, IfSome};
 ghost use Rattle.pg_base.specs.declared.kind.Kind.TheVariants.{Switching};
 ghost use Rattle.pg_game.specs.Game.{point_count};

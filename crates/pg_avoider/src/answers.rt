@@ -42,9 +42,10 @@ fn least_free(g: &Game, p: &Position, points: &[u128; MAX_POINTS]) -> u128
 
 /// The answer by Avoider's potential: the lowest free point of least weight.
 ///
-/// Where the potential holds with Avoider to move, the game is won for Avoider if it is over after the answer, and else
-/// the potential holds again after Enforcer's next point, whichever it is. Between the two it may fail. The game is one
-/// on lines, and some point is free. The time is linear in the points of all lines; it takes no memory.
+/// Where the potential holds with Avoider to move, the game is won for Avoider if it is over after
+/// the answer, and else the potential holds again after Enforcer's next point, whichever it is.
+/// Between the two it may fail. The game is one on lines, and some point is free. The time is
+/// linear in the points of all lines; it takes no memory.
 pub fn answer(g: &Game, p: &Position) -> u16
     requires lines { g.now.kind ≢ Switching }
     requires position { IsPosition g.now p.now }
@@ -52,8 +53,16 @@ pub fn answer(g: &Game, p: &Position) -> u16
     ensures rule { result ≡ avoider_answer g.now p.now }
     ensures within { result < point_count g.now }
     ensures free { is_free p.now result ≡ true }
-    ensures wins { g.now.kind ≡ AvoiderEnforcer → p.now.turn ≡ X → AvoiderHolds g.now p.now → is_over g.now (after g.now p.now result) ≡ true → outcome g.now (after g.now p.now result) ≡ XWins }
-    ensures keeps { p.now.turn ≡ X → AvoiderHolds g.now p.now → (u : ℕ) → u < point_count g.now → is_free (after g.now p.now result) u ≡ true → AvoiderHolds g.now (after g.now (after g.now p.now result) u) }
+    ensures wins { g.now.kind ≡ AvoiderEnforcer
+        → p.now.turn ≡ X
+        → AvoiderHolds g.now p.now
+        → is_over g.now (after g.now p.now result) ≡ true
+        → outcome g.now (after g.now p.now result) ≡ XWins }
+    ensures keeps { p.now.turn ≡ X
+        → AvoiderHolds g.now p.now
+        → (u : ℕ) → u < point_count g.now
+        → is_free (after g.now p.now result) u ≡ true
+        → AvoiderHolds g.now (after g.now (after g.now p.now result) u) }
 {
     let weights = weigh(g, 2, &p.y, p);
     let least = least_free(g, p, &weights.points);

@@ -21,7 +21,8 @@ same_sets a b v w = fun_ext (λ z. same_bit (a z) (b z) (v z) (w z))
 pub ruleset cuts = (sets, below_parts, below_from)
 
 pub below_none : (a b : ℕ → Bool) (n : ℕ) → n ≡ 0 → ((z : ℕ) → b z ≡ false) → b ≡ below a n
-below_none a b n e none = same_sets _ _ (λ z h. absurd (both_ways _ (none z) h)) (λ z h. let p : (a z ≡ true) × (z < n) = below_parts a n z h in absurd (omega arith))
+below_none a b n e none = same_sets _ _ (λ z h. absurd (both_ways _ (none z) h))
+    (λ z h. let p : (a z ≡ true) × (z < n) = below_parts a n z h in absurd (omega arith))
 
 pub below_in : (a : ℕ → Bool) (n : ℕ) → a n ≡ true → plus (below a n) n ≡ below a (n + 1)
 below_in a n e = same_sets _ _ (λ z h. grind (arith, cuts)) (λ z h. grind (arith, cuts))

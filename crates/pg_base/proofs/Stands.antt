@@ -14,7 +14,9 @@ pub same_some : {X : Type 0} {x y : X} → Some x ≡ Some y → x ≡ y
 same_some {x = x} {y = y} e = same_Some x y e
 
 module _ {X : Type 0} where
-  pub at_old : (xs : List X) (x y : X) (k : ℕ) → slice_get xs k ≡ Some y → slice_get (xs ++ x ∷ []) k ≡ Some y
+  pub at_old : (xs : List X) (x y : X) (k : ℕ)
+      → slice_get xs k ≡ Some y
+      → slice_get (xs ++ x ∷ []) k ≡ Some y
   at_old [] x y k h = absurd (none-some y h)
   at_old (z ∷ zs) x y zero h = h
   at_old (z ∷ zs) x y (suc k) h = at_old zs x y k h
@@ -24,13 +26,21 @@ module _ {X : Type 0} where
   at_new (z ∷ zs) x = at_new zs x
 
   -- what stands there after a push stood there before, or is the new last one
-  pub at_push : (xs : List X) (x y : X) (k : ℕ) → slice_get (xs ++ x ∷ []) k ≡ Some y → (slice_get xs k ≡ Some y) ⊎ ((k ≡ length xs) × (x ≡ y))
+  pub at_push : (xs : List X) (x y : X) (k : ℕ)
+      → slice_get (xs ++ x ∷ []) k ≡ Some y
+      → (slice_get xs k ≡ Some y) ⊎ ((k ≡ length xs) × (x ≡ y))
   at_push [] x y zero h = inr (refl, same_Some x y h)
   at_push [] x y (suc k) h = inl h
   at_push (z ∷ zs) x y zero h = inl h
-  at_push (z ∷ zs) x y (suc k) h = elim (at_push zs x y k h) [ inl old ↦ inl old | inr new ↦ inr (ap suc new.0, new.1) ]
+  at_push (z ∷ zs) x y (suc k) h = elim (at_push zs x y k h) [
+    | inl old ↦ inl old
+    | inr new ↦ inr (ap suc new.0, new.1)
+  ]
 
-  pub one_at : (xs : List X) (k : ℕ) (x y : X) → slice_get xs k ≡ Some x → slice_get xs k ≡ Some y → x ≡ y
+  pub one_at : (xs : List X) (k : ℕ) (x y : X)
+      → slice_get xs k ≡ Some x
+      → slice_get xs k ≡ Some y
+      → x ≡ y
   one_at xs k x y hx hy = same_Some x y (sym hx ∙ hy)
 
   pub at_contains : (xs : List X) (k : ℕ) (x : X) → slice_get xs k ≡ Some x → Contains xs x
@@ -46,20 +56,26 @@ module _ {X : Type 0} where
   contains_old xs x y c = Contains-append_left xs (x ∷ []) y c
 
   -- what stands there after a write
-  pub at_set_other : (xs : List X) (i k : ℕ) (x : X) → k ≢ i → slice_get (slice_set xs i x) k ≡ slice_get xs k
+  pub at_set_other : (xs : List X) (i k : ℕ) (x : X)
+      → k ≢ i
+      → slice_get (slice_set xs i x) k ≡ slice_get xs k
   at_set_other [] i k x ne = refl
   at_set_other (z ∷ zs) zero zero x ne = absurd (ne refl)
   at_set_other (z ∷ zs) zero (suc k) x ne = refl
   at_set_other (z ∷ zs) (suc i) zero x ne = refl
   at_set_other (z ∷ zs) (suc i) (suc k) x ne = at_set_other zs i k x (λ e. ne (ap suc e))
 
-  pub at_set_same : (xs : List X) (i : ℕ) (x : X) → i < length xs → slice_get (slice_set xs i x) i ≡ Some x
+  pub at_set_same : (xs : List X) (i : ℕ) (x : X)
+      → i < length xs
+      → slice_get (slice_set xs i x) i ≡ Some x
   at_set_same [] i x h = absurd (omega arith)
   at_set_same (z ∷ zs) zero x h = refl
   at_set_same (z ∷ zs) (suc i) x h = at_set_same zs i x (omega arith)
 
   -- what stands there after a write is the new one, or stood there before
-  pub at_set : (xs : List X) (i k : ℕ) (x y : X) → slice_get (slice_set xs i x) k ≡ Some y → ((k ≡ i) × (x ≡ y)) ⊎ ((k ≢ i) × (slice_get xs k ≡ Some y))
+  pub at_set : (xs : List X) (i k : ℕ) (x y : X)
+      → slice_get (slice_set xs i x) k ≡ Some y
+      → ((k ≡ i) × (x ≡ y)) ⊎ ((k ≢ i) × (slice_get xs k ≡ Some y))
   at_set xs i k x y h = elim (cases_eq k i) [
     | inl e ↦
         let within : k < length (slice_set xs i x) = slice_get_within (slice_set xs i x) k y h in
@@ -68,11 +84,19 @@ module _ {X : Type 0} where
     | inr ne ↦ inr (ne, sym (at_set_other xs i k x ne) ∙ h)
   ]
     where
-      inr_or : slice_get (slice_set xs i x) i ≡ Some y → k ≡ i → i < length xs → ((k ≡ i) × (x ≡ y)) ⊎ ((k ≢ i) × (slice_get xs k ≡ Some y))
-      inr_or there e inside = inl (e, one_at (slice_set xs i x) i x y (at_set_same xs i x inside) there)
+      inr_or : slice_get (slice_set xs i x) i ≡ Some y
+          → k ≡ i
+          → i < length xs
+          → ((k ≡ i) × (x ≡ y)) ⊎ ((k ≢ i) × (slice_get xs k ≡ Some y))
+      inr_or there e inside =
+          inl (e, one_at (slice_set xs i x) i x y (at_set_same xs i x inside) there)
 
   -- what was read stands there
-  pub read_at : (xs : List X) (i : ℕ) (x y : X) → i < length xs → x ≡ get_or xs i x → x ≡ y → slice_get xs i ≡ Some y
+  pub read_at : (xs : List X) (i : ℕ) (x y : X)
+      → i < length xs
+      → x ≡ get_or xs i x
+      → x ≡ y
+      → slice_get xs i ≡ Some y
   read_at xs i x y within read e = slice_get-get_or xs i x within ∙ ap Some (sym read ∙ e)
 
   -- what stands in the first part
@@ -83,14 +107,21 @@ module _ {X : Type 0} where
   taken-at (y ∷ ys) (suc n) zero lt = refl
   taken-at (y ∷ ys) (suc n) (suc k) lt = taken-at ys n k (omega (arith, lt))
 
-  pub in_take : (xs : List X) (n k : ℕ) (x : X) → k < n → slice_get xs k ≡ Some x → slice_get (take n xs) k ≡ Some x
+  pub in_take : (xs : List X) (n k : ℕ) (x : X)
+      → k < n
+      → slice_get xs k ≡ Some x
+      → slice_get (take n xs) k ≡ Some x
   in_take xs n k x lt at = taken-at xs n k lt ∙ at
 
-  pub from_take : (xs : List X) (n k : ℕ) (x : X) → slice_get (take n xs) k ≡ Some x → (slice_get xs k ≡ Some x) × (k < n)
+  pub from_take : (xs : List X) (n k : ℕ) (x : X)
+      → slice_get (take n xs) k ≡ Some x
+      → (slice_get xs k ≡ Some x) × (k < n)
   from_take xs zero k x at = absurd (none-some x at)
   from_take [] (suc n) k x at = absurd (none-some x at)
   from_take (y ∷ ys) (suc n) zero x at = (at, omega arith)
-  from_take (y ∷ ys) (suc n) (suc k) x at = let r = from_take ys n k x at in (r.0, omega (arith, r.1))
+  from_take (y ∷ ys) (suc n) (suc k) x at =
+      let r = from_take ys n k x at in
+      (r.0, omega (arith, r.1))
 
 module _ {X Y : Type 0} (f : X → Y) (t : Y → Bool) where
   pub list_any-map : (xs : List X) → list_any t (map f xs) ≡ list_any (λ x. t (f x)) xs
@@ -102,7 +133,10 @@ module _ {X Y : Type 0} (f : X → Y) (t : Y → Bool) where
 
 -- lists of one length with the same numbers at each place are the same
 module _ {A B : Type 0} (f : A → ℕ) (h : B → ℕ) where
-  pub map-same_at : (xs : List A) (ys : List B) → length xs ≡ length ys → ((n : ℕ) (x : A) (y : B) → slice_get xs n ≡ Some x → slice_get ys n ≡ Some y → f x ≡ h y) → map f xs ≡ map h ys
+  pub map-same_at : (xs : List A) (ys : List B)
+      → length xs ≡ length ys
+      → ((n : ℕ) (x : A) (y : B) → slice_get xs n ≡ Some x → slice_get ys n ≡ Some y → f x ≡ h y)
+      → map f xs ≡ map h ys
   map-same_at [] [] len each = refl
   map-same_at [] (y ∷ ys) len each = absurd (omega (arith, len))
   map-same_at (x ∷ xs) [] len each = absurd (omega (arith, len))

@@ -11,4 +11,8 @@ goal_word Draw = codes "draw"
 
 -- the goal that a word names
 abbrev pub goal_of : List ℕ → Option Goal
-goal_of word = if bytes_eq (goal_word Win) word then Some Win else if bytes_eq (goal_word Draw) word then Some Draw else None
+goal_of word = if bytes_eq (goal_word Win) word
+    then Some Win
+    else if bytes_eq (goal_word Draw) word
+    then Some Draw
+    else None

@@ -13,4 +13,12 @@ kind_word Switching = codes "switching"
 
 -- the kind that a word names
 abbrev pub kind_of : List ℕ → Option Kind
-kind_of word = if bytes_eq (kind_word MakerBreaker) word then Some MakerBreaker else if bytes_eq (kind_word MakerMaker) word then Some MakerMaker else if bytes_eq (kind_word AvoiderEnforcer) word then Some AvoiderEnforcer else if bytes_eq (kind_word Switching) word then Some Switching else None
+kind_of word = if bytes_eq (kind_word MakerBreaker) word
+    then Some MakerBreaker
+    else if bytes_eq (kind_word MakerMaker) word
+    then Some MakerMaker
+    else if bytes_eq (kind_word AvoiderEnforcer) word
+    then Some AvoiderEnforcer
+    else if bytes_eq (kind_word Switching) word
+    then Some Switching
+    else None

@@ -26,8 +26,15 @@ same_bit a b f g = elim (cases_Bool a) [
 pub equal-decides : (s t : FinSet nat_cmp) → Decides (equal s t) (s ≡ t)
 unfolding equal
 equal-decides s t = (
-  λ both. let parts = and_parts _ _ both in same_points s t (λ q. same_bit _ _ (is_subset-contains nat_cmp_total s t parts.0 q) (is_subset-contains nat_cmp_total t s parts.1 q)),
-  λ same. and_from _ _ (contains-is_subset nat_cmp_total s t (λ q h. subst (λ (u : FinSet nat_cmp). contains u q ≡ true) same h)) (contains-is_subset nat_cmp_total t s (λ q h. subst (λ (u : FinSet nat_cmp). contains u q ≡ true) (sym same) h)),
+  λ both.
+      let parts = and_parts _ _ both in
+      same_points s t (λ q. same_bit _ _ (is_subset-contains nat_cmp_total s t parts.0 q)
+      (is_subset-contains nat_cmp_total t s parts.1 q)),
+  λ same. and_from _ _
+      (contains-is_subset nat_cmp_total s t
+      (λ q h. subst (λ (u : FinSet nat_cmp). contains u q ≡ true) same h))
+      (contains-is_subset nat_cmp_total t s
+      (λ q h. subst (λ (u : FinSet nat_cmp). contains u q ≡ true) (sym same) h)),
 )
 
 pub equal-equivalence : IsEquivalence equal

@@ -1,4 +1,5 @@
--- Sets of numbers as tests: one member more or less, both, either, outside, and how many there are below a number.
+-- Sets of numbers as tests: one member more or less, both, either, outside, and how many there are
+-- below a number.
 use Rattle.std.specs.Prelude.{◌≡◌, ℕ, ◌+◌, Bool, true, false, not, ◌&&◌, ◌||◌, ◌==◌, ◌<◌, zero, suc, nat_lt, List, slice_get, Some}
 
 -- the set with one more member

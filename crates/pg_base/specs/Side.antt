@@ -23,4 +23,8 @@ side_word Y = codes "y"
 
 -- the side that a word names
 abbrev pub side_of : List ℕ → Option Side
-side_of word = if bytes_eq (side_word X) word then Some X else if bytes_eq (side_word Y) word then Some Y else None
+side_of word = if bytes_eq (side_word X) word
+    then Some X
+    else if bytes_eq (side_word Y) word
+    then Some Y
+    else None

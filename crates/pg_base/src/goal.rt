@@ -4,8 +4,8 @@ ghost use Rattle.pg_base.specs.Goal.{goal_of, goal_word};
 
 use std::fmt::{self, Display, Formatter, Write};
 
-/// What a side claims of a position: side X reaches `Win` where the score is `XWins`, and `Draw` where it is `Draw`
-/// or `XWins`; side Y the same with the two ends exchanged.
+/// What a side claims of a position: side X reaches `Win` where the score is `XWins`, and `Draw`
+/// where it is `Draw` or `XWins`; side Y the same with the two ends exchanged.
 #[derive(Clone, Copy, Debug, PartialEq, Eq, PartialOrd, Ord, Hash)]
 pub enum Goal {
     /// The side wins.

@@ -4,8 +4,8 @@ ghost use Rattle.pg_base.specs.Kind.{kind_of, kind_word};
 
 use std::fmt::{self, Display, Formatter, Write};
 
-/// A kind of positional game (Hefetz, Krivelevich, Stojaković and Szabó, Positional Games; Lehman 1964 for the
-/// switching game).
+/// A kind of positional game (Hefetz, Krivelevich, Stojaković and Szabó, Positional Games; Lehman
+/// 1964 for the switching game).
 #[derive(Clone, Copy, Debug, PartialEq, Eq, Hash)]
 pub enum Kind {
     /// X, Maker, wants to fill a line; Y, Breaker, wants to prevent it.
@@ -36,8 +36,8 @@ impl Kind {
         }
     }
 
-    /// The word that names the kind in files and texts: `maker-breaker`, `maker-maker`, `avoider-enforcer` or
-    /// `switching`.
+    /// The word that names the kind in files and texts: `maker-breaker`, `maker-maker`,
+    /// `avoider-enforcer` or `switching`.
     pub fn word(self) -> &'static str
         ensures { result.now ≡ kind_word self }
     {

@@ -46,7 +46,8 @@ impl From<AllocError> for LineFault {
 }
 
 impl Line {
-    /// The line of these points, which may come in any order; `Repeated` comes exactly where a point stands twice.
+    /// The line of these points, which may come in any order; `Repeated` comes exactly where a
+    /// point stands twice.
     pub fn new(alloc: Global, points: &[u16]) -> Result<Line, LineFault>
         ensures points { IfOk result (λ line. IsPermutation points.now line) }
         ensures ascending { IfOk result IsStrictlyIncreasing }

@@ -115,7 +115,8 @@ impl PointSet {
         self.words[(p / 64) as usize] >> (p % 64) & 1 == 1
     }
 
-    /// The set as machine words of 64 points each: bit b of word i stands for the point `64 * i + b`.
+    /// The set as machine words of 64 points each: bit b of word i stands for the point
+    /// `64 * i + b`.
     pub fn words(&self) -> &[u64]
         ensures words { result.now ≡ words_of self.now }
         ensures count { length result.now ≡ 16 }
@@ -167,8 +168,8 @@ impl PointSet {
         points
     }
 
-    /// The least point of the set that is not below `p`; none exactly where each point is below it. Each point
-    /// of a set is below `MAX_MEMBERS`.
+    /// The least point of the set that is not below `p`; none exactly where each point is below it.
+    /// Each point of a set is below `MAX_MEMBERS`.
     pub fn first_from(&self, p: u16) -> Option<u16>
         ensures found { IfSome result (λ v. IsLeastFrom self.now p v) }
         ensures range { IfSome result (λ v. v < MAX_MEMBERS) }
@@ -191,7 +192,9 @@ impl PointSet {
         requires column { column < 64 }
         ensures found { IfSome result (λ v. IsLeastFrom self.now (64 * row + column) v) }
         ensures range { IfSome result (λ v. v < MAX_MEMBERS) }
-        ensures none { IfNone result ((q : ℕ) → 64 * row + column ≤ q → q < 64 * (row + 1) → set.contains self.now q ≡ false) }
+        ensures none { IfNone result
+            ((q : ℕ) → 64 * row + column ≤ q → q < 64 * (row + 1)
+            → set.contains self.now q ≡ false) }
     {
         let word = self.words[row as usize] >> column;
         if word == 0 {
@@ -236,7 +239,8 @@ impl PointSet {
 
     /// The points that are in one or both of the sets.
     pub fn union(&self, other: &PointSet) -> PointSet
-        ensures members { (v : ℕ) → set.contains result v ≡ (set.contains self.now v || set.contains other.now v) }
+        ensures members { (v : ℕ)
+            → set.contains result v ≡ (set.contains self.now v || set.contains other.now v) }
         ensures union { result ≡ set.union self.now other.now }
     {
         let (mut words, theirs) = (self.words, &other.words);
@@ -248,7 +252,8 @@ impl PointSet {
 
     /// The points of the set that aren't in the other set.
     pub fn without(&self, other: &PointSet) -> PointSet
-        ensures members { (v : ℕ) → set.contains result v ≡ (set.contains self.now v && not (set.contains other.now v)) }
+        ensures members { (v : ℕ)
+            → set.contains result v ≡ (set.contains self.now v && not (set.contains other.now v)) }
         ensures difference { result ≡ set.difference self.now other.now }
     {
         let (mut words, theirs) = (self.words, &other.words);

@@ -4,7 +4,8 @@ ghost use Rattle.pg_base.specs.Side.{other, is_same_side, side_of, side_word};
 
 use std::fmt::{self, Display, Formatter, Write};
 
-/// One of the two sides. X is Maker, Avoider and Short, and Y is Breaker, Enforcer and Cut, in the games of these names.
+/// One of the two sides. X is Maker, Avoider and Short, and Y is Breaker, Enforcer and Cut, in the
+/// games of these names.
 #[derive(Clone, Copy, Debug, PartialEq, Eq, PartialOrd, Ord, Hash)]
 pub enum Side {
     /// The side for which `Score::XWins` is the best result.

@@ -29,13 +29,18 @@ code-turns X left some = refl
 code-turns Y zero some = absurd (omega arith)
 code-turns Y (suc k) some = refl
 
-code-left : (turn : Side) (bias left : ℕ) → 1 ≤ left → left ≤ claims_in_turn bias turn → left_of (turn_code turn left) ≡ left
+code-left : (turn : Side) (bias left : ℕ)
+    → 1 ≤ left
+    → left ≤ claims_in_turn bias turn
+    → left_of (turn_code turn left) ≡ left
 unfolding left_of
 code-left X bias left some few = omega arith
 code-left Y bias zero some few = absurd (omega arith)
 code-left Y bias (suc k) some few = refl
 
-pub code-low : (turn : Side) (bias left : ℕ) → left ≤ claims_in_turn bias turn → turn_code turn left ≤ bias
+pub code-low : (turn : Side) (bias left : ℕ)
+    → left ≤ claims_in_turn bias turn
+    → turn_code turn left ≤ bias
 code-low X bias left few = omega arith
 code-low Y bias left few = few
 
@@ -48,35 +53,52 @@ unfolding position_of
 left-now s cells = refl
 
 -- the position is the one at which the board was to be opened
-pub opened-position : (r : Rules) (p : Position) (t : Cells) (x y free : List (List ℕ)) → Opens r p r.shape.points t x y free → ((v : ℕ) → contains p.x v ≡ true → v < r.shape.points) → ((v : ℕ) → contains p.y v ≡ true → v < r.shape.points)
-    → 1 ≤ p.left → p.left ≤ claims_in_turn r.bias p.turn → position_of r.shape (with_set t turn_cell (turn_code p.turn p.left)).cells ≡ p
+pub opened-position : (r : Rules) (p : Position) (t : Cells) (x y free : List (List ℕ))
+    → Opens r p r.shape.points t x y free
+    → ((v : ℕ) → contains p.x v ≡ true → v < r.shape.points)
+    → ((v : ℕ) → contains p.y v ≡ true → v < r.shape.points)
+    → 1 ≤ p.left
+    → p.left ≤ claims_in_turn r.bias p.turn
+    → position_of r.shape (with_set t turn_cell (turn_code p.turn p.left)).cells ≡ p
 unfolding with_set
 opened-position r p t x y free opens x_low y_low some few =
     let n = turn_code p.turn p.left in
     let cells = set t.cells turn_cell n in
-    let at : get_or cells 0 0 ≡ n = get_or-set_same t.cells turn_cell n 0 (some-cells r t x y free opens.fits) in
-    let x_is : (position_of r.shape cells).x ≡ p.x = turned-x r.shape t.cells n ∙ same_points _ _ (λ q. opens.marks X q ∙ below (contains p.x q) q (x_low q)) in
-    let y_is : (position_of r.shape cells).y ≡ p.y = turned-y r.shape t.cells n ∙ same_points _ _ (λ q. opens.marks Y q ∙ below (contains p.y q) q (y_low q)) in
+    let at : get_or cells 0 0 ≡ n =
+    get_or-set_same t.cells turn_cell n 0 (some-cells r t x y free opens.fits) in
+    let x_is : (position_of r.shape cells).x ≡ p.x = turned-x r.shape t.cells n
+    ∙ same_points _ _ (λ q. opens.marks X q ∙ below (contains p.x q) q (x_low q)) in
+    let y_is : (position_of r.shape cells).y ≡ p.y = turned-y r.shape t.cells n
+    ∙ same_points _ _ (λ q. opens.marks Y q ∙ below (contains p.y q) q (y_low q)) in
     let turn_is = turn-now r.shape cells ∙ (ap turn_of at ∙ code-turns p.turn p.left some) in
-    let left_is = left-now r.shape cells ∙ (ap left_of at ∙ code-left p.turn r.bias p.left some few) in
+    let left_is =
+    left-now r.shape cells ∙ (ap left_of at ∙ code-left p.turn r.bias p.left some few) in
     λ i. record { x = x_is i; y = y_is i; turn = turn_is i; left = left_is i }
   where
     below : (b : Bool) (q : ℕ) → (b ≡ true → q < r.shape.points) → (b && ltb q r.shape.points) ≡ b
     below true q low = lt-ltb q r.shape.points (low refl)
     below false q low = refl
 
-pub fit-none : (r : Rules) (t : Cells) (x y free : List (List ℕ)) (plays : List Played) → plays ≡ [] → Fits r t x y free → AreFit r t x y free plays
+pub fit-none : (r : Rules) (t : Cells) (x y free : List (List ℕ)) (plays : List Played)
+    → plays ≡ []
+    → Fits r t x y free
+    → AreFit r t x y free plays
 unfolding AreFit
 fit-none r t x y free plays none fits = rw none fits
 
-pub earlier-none : (s : Shape) (t : Cells) (plays : List Played) → plays ≡ [] → earlier_of s t plays ≡ []
+pub earlier-none : (s : Shape) (t : Cells) (plays : List Played)
+    → plays ≡ []
+    → earlier_of s t plays ≡ []
 unfolding earlier_of
 earlier-none s t plays none = rw none refl
 
-pub free-few : (r : Rules) (t : Cells) (x y free : List (List ℕ)) → Fits r t x y free → length (present free) ≤ r.shape.points
+pub free-few : (r : Rules) (t : Cells) (x y free : List (List ℕ))
+    → Fits r t x y free
+    → length (present free) ≤ r.shape.points
 unfolding free_points_in
 free-few r t x y free fits =
-    let all = length-filter (is_free (position_of r.shape t.cells)) (range_with_len 0 r.shape.points) in
+    let all =
+    length-filter (is_free (position_of r.shape t.cells)) (range_with_len 0 r.shape.points) in
     let few = count-few (is_free (position_of r.shape t.cells)) 0 r.shape.points in
     let same = ap length fits.free_is in
     omega arith
@@ -87,11 +109,15 @@ pub settled-none : (now t : Cells) → now ≡ settled t → now.entries ≡ []
 unfolding settled
 settled-none now t is = ap (λ (k : Cells). k.entries) is
 
-pub settled-position : (s : Shape) (now t : Cells) → now ≡ settled t → position_of s now.cells ≡ position_of s t.cells
+pub settled-position : (s : Shape) (now t : Cells)
+    → now ≡ settled t
+    → position_of s now.cells ≡ position_of s t.cells
 unfolding settled
 settled-position s now t is = ap (λ (k : Cells). position_of s k.cells) is
 
-pub settled-fits : (r : Rules) (t : Cells) (x y free : List (List ℕ)) → Fits r t x y free → Fits r (settled t) x y free
+pub settled-fits : (r : Rules) (t : Cells) (x y free : List (List ℕ))
+    → Fits r t x y free
+    → Fits r (settled t) x y free
 unfolding settled
 settled-fits r t x y free fits = record {
   shape = fits.shape;

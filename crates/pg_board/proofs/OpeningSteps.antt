@@ -24,34 +24,50 @@ use Rattle.pg_board.proofs.Fitting.{same-counts, same-counted, some-cells}
 
 -- ---- another side is to move
 
-marks-same : (cells : List ℕ) (n : ℕ) (k : Side) → has_mark (set cells turn_cell n) k ≡ has_mark cells k
+marks-same : (cells : List ℕ) (n : ℕ) (k : Side)
+    → has_mark (set cells turn_cell n) k ≡ has_mark cells k
 unfolding has_mark
-marks-same cells n k = λ i v. eqb (get_or-set_other cells turn_cell (mark_cell v) n 0 (λ e. (let at = mark_cell-is v in omega arith)) i) (mark_of k)
+marks-same cells n k = λ i v. eqb (get_or-set_other cells turn_cell (mark_cell v) n 0
+    (λ e. (let at = mark_cell-is v in omega arith)) i) (mark_of k)
 
-pub turned-x : (s : Shape) (cells : List ℕ) (n : ℕ) → (position_of s (set cells turn_cell n)).x ≡ (position_of s cells).x
+pub turned-x : (s : Shape) (cells : List ℕ) (n : ℕ)
+    → (position_of s (set cells turn_cell n)).x ≡ (position_of s cells).x
 unfolding position_of
 turned-x s cells n = ap (λ t. set_below t s.points) (marks-same cells n X)
 
-pub turned-y : (s : Shape) (cells : List ℕ) (n : ℕ) → (position_of s (set cells turn_cell n)).y ≡ (position_of s cells).y
+pub turned-y : (s : Shape) (cells : List ℕ) (n : ℕ)
+    → (position_of s (set cells turn_cell n)).y ≡ (position_of s cells).y
 unfolding position_of
 turned-y s cells n = ap (λ t. set_below t s.points) (marks-same cells n Y)
 
-turned-points : (s : Shape) (cells : List ℕ) (n : ℕ) (k : Side) → points_of (position_of s (set cells turn_cell n)) k ≡ points_of (position_of s cells) k
+turned-points : (s : Shape) (cells : List ℕ) (n : ℕ) (k : Side)
+    → points_of (position_of s (set cells turn_cell n)) k ≡ points_of (position_of s cells) k
 turned-points s cells n X = turned-x s cells n
 turned-points s cells n Y = turned-y s cells n
 
-turned-free : (s : Shape) (cells : List ℕ) (n : ℕ) → is_free (position_of s (set cells turn_cell n)) ≡ is_free (position_of s cells)
-turned-free s cells n = λ i v. not (contains (turned-x s cells n i) v) && not (contains (turned-y s cells n i) v)
+turned-free : (s : Shape) (cells : List ℕ) (n : ℕ)
+    → is_free (position_of s (set cells turn_cell n)) ≡ is_free (position_of s cells)
+turned-free s cells n =
+    λ i v. not (contains (turned-x s cells n i) v) && not (contains (turned-y s cells n i) v)
 
-turned-free_points : (s : Shape) (cells : List ℕ) (n : ℕ) → free_points_in s (position_of s (set cells turn_cell n)) ≡ free_points_in s (position_of s cells)
+turned-free_points : (s : Shape) (cells : List ℕ) (n : ℕ)
+    → free_points_in s (position_of s (set cells turn_cell n))
+    ≡ free_points_in s (position_of s cells)
 unfolding free_points_in
-turned-free_points s cells n = ap (λ t. filter t (range_with_len 0 s.points)) (turned-free s cells n)
+turned-free_points s cells n =
+    ap (λ t. filter t (range_with_len 0 s.points)) (turned-free s cells n)
 
-pub fits-turned : (r : Rules) (t : Cells) (x y free : List (List ℕ)) (n : ℕ) → Fits r t x y free → n ≤ r.bias → summed (entries_of r.shape) (is_free (position_of r.shape t.cells)) r.shape.points + 1 ≤ t.spare
+pub fits-turned : (r : Rules) (t : Cells) (x y free : List (List ℕ)) (n : ℕ)
+    → Fits r t x y free
+    → n ≤ r.bias
+    → summed (entries_of r.shape) (is_free (position_of r.shape t.cells)) r.shape.points + 1
+    ≤ t.spare
     → Fits r (with_set t turn_cell n) x y free
 unfolding with_set clear_lines
 fits-turned r t x y free n fits few room =
-    let beyond : (k : ℕ) → r.shape.points < k → get_or (set t.cells turn_cell n) k 0 ≡ get_or t.cells k 0 = λ k high. get_or-set_other t.cells turn_cell k n 0 (λ e. omega arith) in
+    let beyond : (k : ℕ) → r.shape.points < k
+    → get_or (set t.cells turn_cell n) k 0 ≡ get_or t.cells k 0 =
+    λ k high. get_or-set_other t.cells turn_cell k n 0 (λ e. omega arith) in
     let counts = same-counts r.shape t.cells (set t.cells turn_cell n) beyond in
     let some = some-cells r t x y free fits in
     record {
@@ -60,13 +76,20 @@ fits-turned r t x y free n fits few room =
       few_bias = fits.few_bias;
       few_weights = fits.few_weights;
       turn = subst (λ m. m ≤ r.bias) (sym (get_or-set_same t.cells turn_cell n 0 some)) few;
-      counted = same-counted r.shape t.cells (set t.cells turn_cell n) fits.counted (length-set t.cells turn_cell n) beyond;
-      counts = λ k i low. ap (λ (c : Side → ℕ → ℕ). c k i) counts ∙ (fits.counts k i low ∙ ap (λ (q : FinSet nat_cmp). count_by (contains q) (line_in r.shape i)) (sym (turned-points r.shape t.cells n k)));
-      live = λ k. fits.live k ∙ ap (λ (c : Side → ℕ → ℕ). filter (is_clear c k) (range_with_len 0 (length r.shape.lines))) (sym counts);
+      counted = same-counted r.shape t.cells (set t.cells turn_cell n) fits.counted
+          (length-set t.cells turn_cell n) beyond;
+      counts = λ k i low. ap (λ (c : Side → ℕ → ℕ). c k i) counts
+          ∙ (fits.counts k i low
+          ∙ ap (λ (q : FinSet nat_cmp). count_by (contains q) (line_in r.shape i))
+          (sym (turned-points r.shape t.cells n k)));
+      live = λ k. fits.live k
+          ∙ ap (λ (c : Side → ℕ → ℕ).
+          filter (is_clear c k) (range_with_len 0 (length r.shape.lines))) (sym counts);
       free_is = fits.free_is ∙ sym (turned-free_points r.shape t.cells n);
       some_live = fits.some_live;
       some_free = fits.some_free;
-      room = subst (λ f. summed (entries_of r.shape) f r.shape.points ≤ t.spare - 1) (sym (turned-free r.shape t.cells n)) (omega arith);
+      room = subst (λ f. summed (entries_of r.shape) f r.shape.points ≤ t.spare - 1)
+          (sym (turned-free r.shape t.cells n)) (omega arith);
     }
 
 -- ---- one mark more
@@ -103,52 +126,90 @@ other-mark false true l h = refl
 other-mark false false l h = refl
 
 -- a point that isn't marked yet is free
-pub unmarked-free : (r : Rules) (p : Position) (v : ℕ) (t : Cells) (x y free : List (List ℕ)) → Opens r p v t x y free → is_free (position_of r.shape t.cells) v ≡ true
+pub unmarked-free : (r : Rules) (p : Position) (v : ℕ) (t : Cells) (x y free : List (List ℕ))
+    → Opens r p v t x y free
+    → is_free (position_of r.shape t.cells) v ≡ true
 unmarked-free r p v t x y free opens =
-    let none : (k : Side) → contains (points_of (position_of r.shape t.cells) k) v ≡ false = λ k. opens.marks k v ∙ and_right _ _ (le-ltb v v (omega arith)) in
+    let none : (k : Side) → contains (points_of (position_of r.shape t.cells) k) v ≡ false =
+    λ k. opens.marks k v ∙ and_right _ _ (le-ltb v v (omega arith)) in
     let none_x : contains (position_of r.shape t.cells).x v ≡ false = none X in
     let none_y : contains (position_of r.shape t.cells).y v ≡ false = none Y in
     rw (none_x, none_y) refl
 
-pub turned-unmarked : (r : Rules) (p : Position) (v n : ℕ) (t : Cells) (x y free : List (List ℕ)) → Opens r p v t x y free → is_free (position_of r.shape (with_set t turn_cell n).cells) v ≡ true
+pub turned-unmarked : (r : Rules) (p : Position) (v n : ℕ) (t : Cells) (x y free : List (List ℕ))
+    → Opens r p v t x y free
+    → is_free (position_of r.shape (with_set t turn_cell n).cells) v ≡ true
 unfolding with_set
-turned-unmarked r p v n t x y free opens = ap (λ (f : ℕ → Bool). f v) (turned-free r.shape t.cells n) ∙ unmarked-free r p v t x y free opens
+turned-unmarked r p v n t x y free opens =
+    ap (λ (f : ℕ → Bool). f v) (turned-free r.shape t.cells n)
+    ∙ unmarked-free r p v t x y free opens
 
-pub turned-fits : (r : Rules) (p : Position) (v n : ℕ) (t : Cells) (x y free : List (List ℕ)) → Opens r p v t x y free → n ≤ r.bias → Fits r (with_set t turn_cell n) x y free
-turned-fits r p v n t x y free opens few = fits-turned r t x y free n opens.fits few (omega (arith, opens.room))
+pub turned-fits : (r : Rules) (p : Position) (v n : ℕ) (t : Cells) (x y free : List (List ℕ))
+    → Opens r p v t x y free
+    → n ≤ r.bias
+    → Fits r (with_set t turn_cell n) x y free
+turned-fits r p v n t x y free opens few =
+    fits-turned r t x y free n opens.fits few (omega (arith, opens.room))
 
-pub opens-more : (r : Rules) (p : Position) (side : Side) (v : ℕ) (t : Cells) (x y free : List (List ℕ)) (now : Cells) (x2 y2 free2 : List (List ℕ)) → Opens r p v t x y free → v < r.shape.points
-    → contains (points_of p side) v ≡ true → contains (points_of p (other side)) v ≡ false → Leads r (with_set t turn_cell (turn_code side r.bias)) x y free now x2 y2 free2 v → Opens r p (v + 1) now x2 y2 free2
+pub opens-more : (r : Rules) (p : Position) (side : Side) (v : ℕ) (t : Cells)
+    (x y free : List (List ℕ)) (now : Cells) (x2 y2 free2 : List (List ℕ))
+    → Opens r p v t x y free
+    → v < r.shape.points
+    → contains (points_of p side) v ≡ true
+    → contains (points_of p (other side)) v ≡ false
+    → Leads r (with_set t turn_cell (turn_code side r.bias)) x y free now x2 y2 free2 v
+    → Opens r p (v + 1) now x2 y2 free2
 unfolding with_set
 opens-more r p side v t x y free now x2 y2 free2 opens low own theirs leads =
     let n = turn_code side r.bias in
     let was = position_of r.shape (set t.cells turn_cell n) in
     let some = some-cells r t x y free opens.fits in
-    let mover : was.turn ≡ side = turn-of r.shape (set t.cells turn_cell n) ∙ (ap turn_of (get_or-set_same t.cells turn_cell n 0 some) ∙ code-turn side r.bias opens.fits.some_bias) in
-    let free_was : is_free was v ≡ true = ap (λ (f : ℕ → Bool). f v) (turned-free r.shape t.cells n) ∙ unmarked-free r p v t x y free opens in
-    let sum = summed-without (entries_of r.shape) (is_free was) (is_free (after_with r.bias was v)) v r.shape.points low free_was (free-gone r.bias was v) (λ q q_low apart. free-other r.bias was v q apart) in
-    let same_sum = ap (λ f. summed (entries_of r.shape) f r.shape.points) (turned-free r.shape t.cells n) in
-    let now_sum = ap (λ (q : Position). summed (entries_of r.shape) (is_free q) r.shape.points) leads.position in
+    let mover : was.turn ≡ side = turn-of r.shape (set t.cells turn_cell n)
+    ∙ (ap turn_of (get_or-set_same t.cells turn_cell n 0 some)
+    ∙ code-turn side r.bias opens.fits.some_bias) in
+    let free_was : is_free was v ≡ true = ap (λ (f : ℕ → Bool). f v) (turned-free r.shape t.cells n)
+    ∙ unmarked-free r p v t x y free opens in
+    let sum = summed-without (entries_of r.shape) (is_free was)
+    (is_free (after_with r.bias was v)) v r.shape.points low free_was (free-gone r.bias was v)
+    (λ q q_low apart. free-other r.bias was v q apart) in
+    let same_sum =
+    ap (λ f. summed (entries_of r.shape) f r.shape.points) (turned-free r.shape t.cells n) in
+    let now_sum =
+    ap (λ (q : Position). summed (entries_of r.shape) (is_free q) r.shape.points) leads.position in
     let entries = leads.spare in
     record {
       fits = leads.fits;
       marks = λ k q.
-          let after = ap (λ (z : Position). contains (points_of z k) q) leads.position ∙ points-after r.bias was k v q in
-          let before = ap (λ (z : FinSet nat_cmp). contains z q) (turned-points r.shape t.cells n k) ∙ opens.marks k q in
-          after ∙ (ap (λ b. (is_same_side k was.turn && eqb q v) || b) before ∙ (ap (λ m. (is_same_side k m && eqb q v) || (contains (points_of p k) q && ltb q v)) mover
+          let after = ap (λ (z : Position). contains (points_of z k) q) leads.position
+          ∙ points-after r.bias was k v q in
+          let before = ap (λ (z : FinSet nat_cmp). contains z q) (turned-points r.shape t.cells n k)
+          ∙ opens.marks k q in
+          after
+          ∙ (ap (λ b. (is_same_side k was.turn && eqb q v) || b) before
+          ∙ (ap (λ m. (is_same_side k m && eqb q v) || (contains (points_of p k) q && ltb q v))
+          mover
           ∙ (elim (same_side side k) [
-            | inl e ↦ rw (e, is_own side) (own-mark _ (eqb q v) (ltb q v) (λ on. ap (contains (points_of p side)) (eqb-true q v on) ∙ own))
-            | inr e ↦ rw (e, is_others side) (other-mark _ (eqb q v) (ltb q v) (λ on. ap (contains (points_of p (other side))) (eqb-true q v on) ∙ theirs))
+            | inl e ↦ rw (e, is_own side)
+                (own-mark _ (eqb q v) (ltb q v)
+                (λ on. ap (contains (points_of p side)) (eqb-true q v on) ∙ own))
+            | inr e ↦ rw (e, is_others side)
+                (other-mark _ (eqb q v) (ltb q v)
+                (λ on. ap (contains (points_of p (other side))) (eqb-true q v on) ∙ theirs))
           ]
           ∙ ap (λ b. contains (points_of p k) q && b) (sym (ltb-more q v)))));
       room = omega (arith, opens.room);
     }
 
 -- a point without a mark
-pub opens-skip : (r : Rules) (p : Position) (v : ℕ) (t : Cells) (x y free : List (List ℕ)) → Opens r p v t x y free → contains p.x v ≡ false → contains p.y v ≡ false → Opens r p (v + 1) t x y free
+pub opens-skip : (r : Rules) (p : Position) (v : ℕ) (t : Cells) (x y free : List (List ℕ))
+    → Opens r p v t x y free
+    → contains p.x v ≡ false
+    → contains p.y v ≡ false
+    → Opens r p (v + 1) t x y free
 opens-skip r p v t x y free opens none_x none_y = record {
   fits = opens.fits;
-  marks = λ k q. opens.marks k q ∙ (skip k q ∙ ap (λ b. contains (points_of p k) q && b) (sym (ltb-more q v)));
+  marks = λ k q. opens.marks k q
+      ∙ (skip k q ∙ ap (λ b. contains (points_of p k) q && b) (sym (ltb-more q v)));
   room = omega (arith, opens.room);
 }
   where
@@ -156,5 +217,8 @@ opens-skip r p v t x y free opens none_x none_y = record {
     none X = none_x
     none Y = none_y
 
-    skip : (k : Side) (q : ℕ) → (contains (points_of p k) q && ltb q v) ≡ (contains (points_of p k) q && (eqb q v || ltb q v))
-    skip k q = other-mark (contains (points_of p k) q) (eqb q v) (ltb q v) (λ on. ap (contains (points_of p k)) (eqb-true q v on) ∙ none k)
+    skip : (k : Side) (q : ℕ)
+        → (contains (points_of p k) q && ltb q v)
+        ≡ (contains (points_of p k) q && (eqb q v || ltb q v))
+    skip k q = other-mark (contains (points_of p k) q) (eqb q v) (ltb q v)
+        (λ on. ap (contains (points_of p k)) (eqb-true q v on) ∙ none k)

@@ -18,8 +18,12 @@ summed-next f n = rw add-one refl
 
 pub degree-few : (s : Shape) (v : ℕ) → degree_in s v ≤ length s.lines
 unfolding lines_through lines_holding
-degree-few s v = let few = count-few (λ i. is_on v (line_in s i)) 0 (length s.lines) in omega (arith, length-filter (λ i. is_on v (line_in s i)) (range_with_len 0 (length s.lines)))
+degree-few s v =
+    let few = count-few (λ i. is_on v (line_in s i)) 0 (length s.lines) in
+    omega (arith, length-filter (λ i. is_on v (line_in s i)) (range_with_len 0 (length s.lines)))
 
-pub whole-is : (s : Shape) (n : ℕ) → n ≡ s.points → summed (entries_of s) (λ _. true) n + n + 1 ≡ whole_room s
+pub whole-is : (s : Shape) (n : ℕ)
+    → n ≡ s.points
+    → summed (entries_of s) (λ _. true) n + n + 1 ≡ whole_room s
 unfolding whole_room
 whole-is s n is = ap (λ m. summed (entries_of s) (λ _. true) m + m + 1) is

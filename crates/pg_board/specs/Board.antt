@@ -15,7 +15,8 @@ pub record Stand : Type 0 where
   pub position : Position
   pub trail : Cells
 
--- the game, how the board stands, and how it stood before each play that was not taken back, oldest first
+-- the game, how the board stands, and how it stood before each play that was not taken back, oldest
+-- first
 pub record View : Type 0 where
   pub game : Game
   pub stand : Stand
@@ -35,11 +36,13 @@ count_of g p side i = count_by (contains (points_of p side)) (line_at g i)
 
 -- the lines without a point of the side, ascending
 unfoldable pub live_lines : Game → Position → Side → List ℕ
-live_lines g p side = filter (λ i. not (is_touched (points_of p side) (line_at g i))) (range_with_len 0 (length (lines_of g)))
+live_lines g p side = filter (λ i. not (is_touched (points_of p side) (line_at g i)))
+    (range_with_len 0 (length (lines_of g)))
 
 -- whether the line has none of the side's points, and so many free points
 abbrev pub is_live_with : Position → Side → ℕ → List ℕ → Bool
-is_live_with p side free line = not (is_touched (points_of p side) line) && (count_by (is_free p) line == free)
+is_live_with p side free line =
+    not (is_touched (points_of p side) line) && (count_by (is_free p) line == free)
 
 -- how many such lines there are
 unfoldable pub live_with : Game → Position → Side → ℕ → ℕ

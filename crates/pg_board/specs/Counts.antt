@@ -38,20 +38,31 @@ lines_with s c side f = count_by (has_free s c side f) (range_with_len 0 (length
 unfoldable pub clear_lines : Shape → (Side → ℕ → ℕ) → Side → List ℕ
 clear_lines s c side = filter (is_clear c side) (range_with_len 0 (length s.lines))
 
--- the cells agree: no line has more points of both sides than points, and the numbers of lines are those that the counts give
+-- the cells agree: no line has more points of both sides than points, and the numbers of lines are
+-- those that the counts give
 pub record AreCounted (s : Shape) (cells : List ℕ) : Type 0 where
   pub width : length cells ≡ cell_count s
-  pub within : (i : ℕ) → i < length s.lines → count_in s cells X i + count_in s cells Y i ≤ length (line_in s i)
-  pub lines : (side : Side) (f : ℕ) → f ≤ s.longest → lines_in s cells side f ≡ lines_with s (count_in s cells) side f
+  pub within : (i : ℕ)
+      → i < length s.lines
+      → count_in s cells X i + count_in s cells Y i ≤ length (line_in s i)
+  pub lines : (side : Side) (f : ℕ)
+      → f ≤ s.longest
+      → lines_in s cells side f ≡ lines_with s (count_in s cells) side f
 
 -- the counts with one more point of the side in one line
 pub record IsCountedMore (s : Shape) (side : Side) (i : ℕ) (cells now : List ℕ) : Type 0 where
-  pub counts : (k : Side) (j : ℕ) → j < length s.lines → count_in s now k j ≡ count_in s cells k j + one_if (is_same_side k side && (j == i))
+  pub counts : (k : Side) (j : ℕ)
+      → j < length s.lines
+      → count_in s now k j ≡ count_in s cells k j + one_if (is_same_side k side && (j == i))
   pub marks : (k : ℕ) → k ≤ s.points → get_or now k 0 ≡ get_or cells k 0
 
 -- the numbers of the side's lines fall by `less` and rise by `more`, and all other cells stay
 pub record IsMoved (s : Shape) (side : Side) (less more : ℕ → ℕ) (cells now : List ℕ) : Type 0 where
-  pub own : (f : ℕ) → f ≤ s.longest → lines_in s now side f + less f ≡ lines_in s cells side f + more f
-  pub theirs : (f : ℕ) → f ≤ s.longest → lines_in s now (other side) f ≡ lines_in s cells (other side) f
+  pub own : (f : ℕ)
+      → f ≤ s.longest
+      → lines_in s now side f + less f ≡ lines_in s cells side f + more f
+  pub theirs : (f : ℕ)
+      → f ≤ s.longest
+      → lines_in s now (other side) f ≡ lines_in s cells (other side) f
   pub counts : (k : Side) (j : ℕ) → j < length s.lines → count_in s now k j ≡ count_in s cells k j
   pub marks : (k : ℕ) → k ≤ s.points → get_or now k 0 ≡ get_or cells k 0

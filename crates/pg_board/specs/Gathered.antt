@@ -9,4 +9,6 @@ holds lines v k = is_on v (get_or lines k [])
 
 -- the row of each point has those of the first lines that hold it, ascending
 pub record AreGathered (lines : List (List ℕ)) (first : ℕ) (rows : List (List ℕ)) : Type 0 where
-  pub gathered : (v : ℕ) → v < length rows → get_or rows v [] ≡ filter (holds lines v) (range_with_len 0 first)
+  pub gathered : (v : ℕ)
+      → v < length rows
+      → get_or rows v [] ≡ filter (holds lines v) (range_with_len 0 first)

@@ -31,7 +31,8 @@ abbrev pub place_of : ℕ → Option ℕ → ℕ
 place_of n (Some i) = i
 place_of n None = n
 
--- a walk over the lines without a point of the other side has come to such a line, or to the end, and no line before it is near
+-- a walk over the lines without a point of the other side has come to such a line, or to the end,
+-- and no line before it is near
 pub record WalksNear (g : Game) (p : Position) (side : Side) (next : Option ℕ) : Type 0 where
   pub disjoint : ShareNone p.x p.y
   pub live : IfSome next (Contains (live_lines g p (other side)))

@@ -15,17 +15,23 @@ use Rattle.pg_board.specs.Fits.{Rules, Fits, position_of, summed, entries_of}
 pub record AreBlank (s : Shape) (lines : ℕ) (cells : List ℕ) : Type 0 where
   pub width : length cells ≡ cell_count s
   pub zeros : (k : ℕ) → k < 1 + s.points + length s.lines + length s.lines → get_or cells k 0 ≡ 0
-  pub counted : (k : Side) (f : ℕ) → f ≤ s.longest → lines_in s cells k f ≡ count_by (λ i. length (line_in s i) == f) (range_with_len 0 lines)
+  pub counted : (k : Side) (f : ℕ)
+      → f ≤ s.longest
+      → lines_in s cells k f ≡ count_by (λ i. length (line_in s i) == f) (range_with_len 0 lines)
 
 -- how many entries the opening and the whole game may add
 unfoldable pub whole_room : Shape → ℕ
 whole_room s = summed (entries_of s) (λ _. true) s.points + s.points + 1
 
 -- the first points of the position are marked
-pub record Opens (r : Rules) (p : Position) (v : ℕ) (t : Cells) (x y free : List (List ℕ)) : Type 0 where
+pub record Opens (r : Rules) (p : Position) (v : ℕ) (t : Cells)
+    (x y free : List (List ℕ)) : Type 0 where
   pub fits : Fits r t x y free
-  pub marks : (k : Side) (q : ℕ) → contains (points_of (position_of r.shape t.cells) k) q ≡ (contains (points_of p k) q && nat_lt q v)
-  pub room : summed (entries_of r.shape) (is_free (position_of r.shape t.cells)) r.shape.points + (r.shape.points - v) + 1 ≤ t.spare
+  pub marks : (k : Side) (q : ℕ)
+      → contains (points_of (position_of r.shape t.cells) k) q
+      ≡ (contains (points_of p k) q && nat_lt q v)
+  pub room : summed (entries_of r.shape) (is_free (position_of r.shape t.cells)) r.shape.points
+      + (r.shape.points - v) + 1 ≤ t.spare
 
 -- what the cell of the turn holds for a side with so many points left
 abbrev pub turn_code : Side → ℕ → ℕ

@@ -8,7 +8,8 @@ use Rattle.pg_board.specs.Lines.{Claims}
 use Rattle.pg_board.specs.Fits.{mark_of}
 
 -- the lines through it are claimed, its mark is the side's, and it is free no more
-pub record ClaimsPoint (s : Shape) (side : Side) (v : ℕ) (t now : Cells) (lists after free taken : List (List ℕ)) : Type 0 where
+pub record ClaimsPoint (s : Shape) (side : Side) (v : ℕ) (t now : Cells)
+    (lists after free taken : List (List ℕ)) : Type 0 where
   pub between : Cells
   pub lines : Claims s side (lines_through s v) t between lists after
   pub mark : now ≡ with_set between (mark_cell v) (mark_of side)

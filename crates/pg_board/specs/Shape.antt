@@ -17,7 +17,11 @@ pub record Shape : Type 0 where
 
 -- those of a game
 abbrev pub shape_of : Game → Shape
-shape_of g = record { points = point_count g; longest = greatest_length (lines_of g); lines = lines_of g }
+shape_of g = record {
+  points = point_count g;
+  longest = greatest_length (lines_of g);
+  lines = lines_of g;
+}
 
 -- the line of a number
 abbrev pub line_in : Shape → ℕ → List ℕ
@@ -54,7 +58,8 @@ pub record IsLayout (s : Shape) (through : List (List ℕ)) : Type 0 where
   pub count : length through ≡ s.points
   pub through_is : (v : ℕ) → v < s.points → get_or through v [] ≡ lines_through s v
 
--- ---- the cells: the turn, the mark of each point, each side's points in each line, and each side's live lines by their free points
+-- ---- the cells: the turn, the mark of each point, each side's points in each line, and each
+-- side's live lines by their free points
 
 -- the cell of the turn
 abbrev pub turn_cell : ℕ

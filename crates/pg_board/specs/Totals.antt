@@ -33,7 +33,8 @@ total_in base s p side = sum_by (line_weight base s.longest (points_of p side) p
 
 -- the sum of those through a point
 unfoldable pub weight_in : ℕ → Shape → Position → Side → ℕ → ℕ
-weight_in base s p side v = sum_by (λ line. if is_on v line then line_weight base s.longest (points_of p side) p line else 0) s.lines
+weight_in base s p side v = sum_by (λ line.
+    if is_on v line then line_weight base s.longest (points_of p side) p line else 0) s.lines
 
 -- the greatest of a free point, 0 where none is free
 unfoldable pub greatest_in : ℕ → Shape → Position → Side → ℕ
@@ -47,11 +48,14 @@ times_in r p side = if is_same_side side p.turn then r.bias - p.left else r.bias
 
 -- whether the potential is low enough for the side
 unfoldable pub potential_in : Rules → Position → Side → Bool
-potential_in r p side = nat_lt (total_in (1 + r.bias) r.shape p side + times_in r p side * greatest_in (1 + r.bias) r.shape p side) ((1 + r.bias) ^ r.shape.longest)
+potential_in r p side = nat_lt (total_in (1 + r.bias) r.shape p side
+    + times_in r p side * greatest_in (1 + r.bias) r.shape p side) ((1 + r.bias) ^ r.shape.longest)
 
 -- the total of Avoider's weights, twice where Avoider takes the last point
 abbrev pub risk_in : Rules → Position → ℕ
-risk_in r p = if x_takes_last r.bias p.turn p.left (length (free_points_in r.shape p)) then 2 * total_in 2 r.shape p Y else total_in 2 r.shape p Y
+risk_in r p = if x_takes_last r.bias p.turn p.left (length (free_points_in r.shape p))
+    then 2 * total_in 2 r.shape p Y
+    else total_in 2 r.shape p Y
 
 -- whether that is low enough
 unfoldable pub avoider_in : Rules → Position → Bool
@@ -63,7 +67,9 @@ avoider_in r p = nat_lt (risk_in r p) (2 ^ r.shape.longest)
 pub record Agree (s : Shape) (cells : List ℕ) : Type 0 where
   pub shape : IsShape s
   pub counted : AreCounted s cells
-  pub counts : (k : Side) (i : ℕ) → i < length s.lines → count_in s cells k i ≡ held_in s (position_of s cells) k i
+  pub counts : (k : Side) (i : ℕ)
+      → i < length s.lines
+      → count_in s cells k i ≡ held_in s (position_of s cells) k i
 
 -- a base for which no weight is too great
 pub record IsBase (base : ℕ) (s : Shape) : Type 0 where

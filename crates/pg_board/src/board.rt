@@ -54,9 +54,14 @@ impl<'a> Model for Board<'a> {
 
     ghost coded = { view_code };
 
-    ghost view = { λ a. record { game = a.game.now; stand = stand_of a.layout a.trail; earlier = earlier_of a.layout a.trail (reverse a.plays.items) } };
+    ghost view = { λ a. record {
+      game = a.game.now;
+      stand = stand_of a.layout a.trail;
+      earlier = earlier_of a.layout a.trail (reverse a.plays.items);
+    } };
 
-    ghost invariant = { λ a. IsBoard a.game.now a.layout a.trail a.live_x a.live_y a.free (reverse a.plays.items) (vec_capacity a.plays) };
+    ghost invariant = { λ a. IsBoard a.game.now a.layout a.trail a.live_x a.live_y a.free
+        (reverse a.plays.items) (vec_capacity a.plays) };
 }
 
 impl<'a> Board<'a> {
@@ -111,7 +116,8 @@ impl<'a> Board<'a> {
         ensures game { self.new.game ≡ self.old.game }
         ensures position { self.new.stand.position ≡ after self.old.game self.old.stand.position v }
         ensures earlier { self.new.earlier ≡ self.old.earlier ++ self.old.stand ∷ [] }
-        ensures entries { length self.new.stand.trail.entries ≤ length self.old.stand.trail.entries + (2 + 4 * degree self.old.game v) }
+        ensures entries { length self.new.stand.trail.entries
+            ≤ length self.old.stand.trail.entries + (2 + 4 * degree self.old.game v) }
     {
         let level = self.trail.level();
         play_point(
@@ -250,7 +256,8 @@ impl<'a> Board<'a> {
 
     /// The first line without a point of the side, and None where there is none.
     pub fn first_live(&self, side: Side) -> Option<u32>
-        ensures line { result ≡ slice_get (live_lines self.now.game self.now.stand.position side) 0 }
+        ensures line { result
+            ≡ slice_get (live_lines self.now.game self.now.stand.position side) 0 }
         ensures disjoint { ShareNone self.now.stand.position.x self.now.stand.position.y }
         ensures fits { IsPosition self.now.game self.now.stand.position }
     {
@@ -263,7 +270,8 @@ impl<'a> Board<'a> {
     /// The next line without a point of the side after such a line, and None at the last one.
     pub fn next_live(&self, side: Side, line: u32) -> Option<u32>
         requires { Contains (live_lines self.now.game self.now.stand.position side) line }
-        ensures { result ≡ find (nat_lt line) (live_lines self.now.game self.now.stand.position side) }
+        ensures { result
+            ≡ find (nat_lt line) (live_lines self.now.game self.now.stand.position side) }
     {
         match side {
             Side::X => self.live_x.next(line),
@@ -313,10 +321,11 @@ impl<'a> Board<'a> {
         }
     }
 
-    /// The sum of the weights of the lines without a point of the side, in time of the longest line.
+    /// The sum of the weights of the lines without a point of the side, in time of the longest
+    /// line.
     ///
-    /// A line weighs `1 + q` to the power of the greatest length of a line less its free points, where Y claims q points
-    /// a turn.
+    /// A line weighs `1 + q` to the power of the greatest length of a line less its free points,
+    /// where Y claims q points a turn.
     pub fn total(&self, side: Side) -> u128
         ensures { result ≡ total self.now.game self.now.stand.position side }
     {
@@ -341,8 +350,8 @@ impl<'a> Board<'a> {
         totals::greatest_weight(&self.layout, &self.trail, side, base)
     }
 
-    /// Avoider's total: the lines without a point of Y weigh 2 to the power of the greatest length of a line less their
-    /// free points.
+    /// Avoider's total: the lines without a point of Y weigh 2 to the power of the greatest length
+    /// of a line less their free points.
     pub fn avoider_total(&self) -> u128
         ensures { result ≡ avoider_total self.now.game self.now.stand.position }
     {
@@ -371,7 +380,8 @@ impl<'a> Board<'a> {
         decided::avoider_holds(&self.layout, &self.trail, self.game.bias, self.free_count())
     }
 
-    /// Whether the potential of the kind holds for the side that defends where it is asked whether X reaches the score.
+    /// Whether the potential of the kind holds for the side that defends where it is asked whether
+    /// X reaches the score.
     pub fn defends(&self, wanted: Score) -> bool
         ensures { result ≡ defends self.now.game.kind self.now.game wanted self.now.stand.position }
     {
@@ -418,11 +428,14 @@ impl<'a> Board<'a> {
         }
     }
 
-    /// The lowest line whose points are all the side's but one free one, with that point, and None exactly where there
-    /// is none. It walks the lines without a point of the other side.
+    /// The lowest line whose points are all the side's but one free one, with that point, and None
+    /// exactly where there is none. It walks the lines without a point of the other side.
     pub fn near(&self, side: Side) -> Option<(u32, u16)>
-        ensures found { IfSome result (λ n. IsNearest self.now.game self.now.stand.position side n.0 n.1) }
-        ensures none { IfNone result (NoneNear self.now.game self.now.stand.position side (length (lines_of self.now.game))) }
+        ensures found { IfSome result
+            (λ n. IsNearest self.now.game self.now.stand.position side n.0 n.1) }
+        ensures none { IfNone result
+            (NoneNear self.now.game self.now.stand.position side
+            (length (lines_of self.now.game))) }
     {
         let enemy = side.other();
         let mut next = self.first_live(enemy);
@@ -435,12 +448,17 @@ impl<'a> Board<'a> {
         None
     }
 
-    /// The free point of a line without a point of the other side, where all its other points are the side's.
+    /// The free point of a line without a point of the other side, where all its other points are
+    /// the side's.
     fn last_point(&self, line: u32, side: Side) -> Option<u16>
         requires range { line < length (lines_of self.now.game) }
-        requires live { Contains (live_lines self.now.game self.now.stand.position (other side)) line }
-        ensures found { IfSome result (λ v. is_near self.now.stand.position side (line_at self.now.game line) v ≡ true) }
-        ensures none { IfNone result ((u : ℕ) → is_near self.now.stand.position side (line_at self.now.game line) u ≡ false) }
+        requires live { Contains (live_lines self.now.game self.now.stand.position (other side))
+            line }
+        ensures found { IfSome result
+            (λ v. is_near self.now.stand.position side (line_at self.now.game line) v ≡ true) }
+        ensures none { IfNone result
+            ((u : ℕ)
+            → is_near self.now.stand.position side (line_at self.now.game line) u ≡ false) }
     {
         let len = self.layout.line(line).len();
         if usize::from(self.count(line, side)) + 1 != len {

@@ -13,13 +13,15 @@ use pg_base::Side;
 use pg_game::MAX_LINES;
 use pg_undo::Trail;
 
-/// Where the line has none of the side's points: one line fewer of the side's with so many free points, by their cell.
+/// Where the line has none of the side's points: one line fewer of the side's with so many free
+/// points, by their cell.
 fn leave(layout: &Layout, trail: &mut Trail, side: Side, own: u32, free: u32) -> usize
     requires width { length trail.old.cells ≡ cell_count layout.now }
     requires short { free ≤ layout.now.longest }
     requires some { own ≡ 0 → 1 ≤ lines_in layout.now trail.old.cells side free }
     requires room { 1 ≤ trail.old.spare }
-    ensures lines { IsMoved layout.now side (λ f. one_if ((own == 0) && (free == f))) (λ f. 0) trail.old.cells trail.new.cells }
+    ensures lines { IsMoved layout.now side (λ f. one_if ((own == 0) && (free == f)))
+        (λ f. 0) trail.old.cells trail.new.cells }
     ensures trail { Extends 1 trail.old trail.new }
     ensures cell { own ≡ 0 → result ≡ free_cell layout.now side free }
 {
@@ -38,9 +40,11 @@ fn narrow(layout: &Layout, trail: &mut Trail, side: Side, own: u32, free: u32)
     requires short { free ≤ layout.now.longest }
     requires more { 1 ≤ free }
     requires some { own ≡ 0 → 1 ≤ lines_in layout.now trail.old.cells side free }
-    requires few { (f : ℕ) → f ≤ layout.now.longest → lines_in layout.now trail.old.cells side f ≤ MAX_LINES }
+    requires few { (f : ℕ) → f ≤ layout.now.longest
+        → lines_in layout.now trail.old.cells side f ≤ MAX_LINES }
     requires room { 2 ≤ trail.old.spare }
-    ensures lines { IsMoved layout.now side (λ f. one_if ((own == 0) && (free == f))) (λ f. one_if ((own == 0) && (free == f + 1))) trail.old.cells trail.new.cells }
+    ensures lines { IsMoved layout.now side (λ f. one_if ((own == 0) && (free == f)))
+        (λ f. one_if ((own == 0) && (free == f + 1))) trail.old.cells trail.new.cells }
     ensures trail { Extends 2 trail.old trail.new }
 {
     if own == 0 {
@@ -54,7 +58,8 @@ fn narrow(layout: &Layout, trail: &mut Trail, side: Side, own: u32, free: u32)
 pub(crate) fn claim(layout: &Layout, trail: &mut Trail, side: Side, line: u32) -> bool
     requires counted { AreCounted layout.now trail.old.cells }
     requires range { line < length layout.now.lines }
-    requires free { count_in layout.now trail.old.cells X line + count_in layout.now trail.old.cells Y line < length (line_in layout.now line) }
+    requires free { count_in layout.now trail.old.cells X line
+        + count_in layout.now trail.old.cells Y line < length (line_in layout.now line) }
     requires room { 4 ≤ trail.old.spare }
     ensures clear { result ≡ (count_in layout.now trail.old.cells side line == 0) }
     ensures counted { AreCounted layout.now trail.new.cells }

@@ -20,7 +20,10 @@ fn times_counted(layout: &Layout, trail: &Trail, bias: u8, side: Side) -> u8
     requires agrees { Agree layout.now trail.now.cells }
     requires some { 1 ≤ bias }
     requires turn { get_or trail.now.cells turn_cell 0 ≤ bias }
-    ensures { result ≡ times_in (record { bias = bias; shape = layout.now }) (position_of layout.now trail.now.cells) side }
+    ensures { result ≡ times_in (record {
+      bias = bias;
+      shape = layout.now;
+    }) (position_of layout.now trail.now.cells) side }
 {
     if side.is_same(turn(trail)) {
         bias - left(trail)
@@ -29,15 +32,19 @@ fn times_counted(layout: &Layout, trail: &Trail, bias: u8, side: Side) -> u8
     }
 }
 
-/// Whether the potential is low enough for the side: the total, with the greatest weight of a free point as often as it
-/// counts, is below the limit. The greatest weight is found only where the total is below it.
+/// Whether the potential is low enough for the side: the total, with the greatest weight of a free
+/// point as often as it counts, is below the limit. The greatest weight is found only where the
+/// total is below it.
 pub(crate) fn potential_holds(layout: &Layout, trail: &Trail, bias: u8, side: Side) -> bool
     requires agrees { Agree layout.now trail.now.cells }
     requires fits { IsBase (1 + bias) layout.now }
     requires some { 1 ≤ bias }
     requires few { bias ≤ 7 }
     requires turn { get_or trail.now.cells turn_cell 0 ≤ bias }
-    ensures { result ≡ potential_in (record { bias = bias; shape = layout.now }) (position_of layout.now trail.now.cells) side }
+    ensures { result ≡ potential_in (record {
+      bias = bias;
+      shape = layout.now;
+    }) (position_of layout.now trail.now.cells) side }
 {
     let base = 1 + u128::from(bias);
     let limit = base.pow(u32::from(layout.longest()));
@@ -57,21 +64,28 @@ fn avoider_ends(layout: &Layout, trail: &Trail, bias: u8, free: u16) -> bool
     requires agrees { Agree layout.now trail.now.cells }
     requires few { bias ≤ 7 }
     requires turn { get_or trail.now.cells turn_cell 0 ≤ bias }
-    requires free { free ≡ length (free_points_in layout.now (position_of layout.now trail.now.cells)) }
-    ensures { result ≡ x_takes_last bias (position_of layout.now trail.now.cells).turn (position_of layout.now trail.now.cells).left (length (free_points_in layout.now (position_of layout.now trail.now.cells))) }
+    requires free { free
+        ≡ length (free_points_in layout.now (position_of layout.now trail.now.cells)) }
+    ensures { result ≡ x_takes_last bias (position_of layout.now trail.now.cells).turn
+        (position_of layout.now trail.now.cells).left
+        (length (free_points_in layout.now (position_of layout.now trail.now.cells))) }
 {
     x_takes_last(u16::from(bias), turn(trail), u16::from(left(trail)), free)
 }
 
-/// Whether Avoider's potential is low enough: the total, twice where Avoider takes the last free point, is below the
-/// limit.
+/// Whether Avoider's potential is low enough: the total, twice where Avoider takes the last free
+/// point, is below the limit.
 pub(crate) fn avoider_holds(layout: &Layout, trail: &Trail, bias: u8, free: u16) -> bool
     requires agrees { Agree layout.now trail.now.cells }
     requires fits { IsBase 2 layout.now }
     requires few { bias ≤ 7 }
     requires turn { get_or trail.now.cells turn_cell 0 ≤ bias }
-    requires free { free ≡ length (free_points_in layout.now (position_of layout.now trail.now.cells)) }
-    ensures { result ≡ avoider_in (record { bias = bias; shape = layout.now }) (position_of layout.now trail.now.cells) }
+    requires free { free
+        ≡ length (free_points_in layout.now (position_of layout.now trail.now.cells)) }
+    ensures { result ≡ avoider_in (record {
+      bias = bias;
+      shape = layout.now;
+    }) (position_of layout.now trail.now.cells) }
 {
     let base: u128 = 2;
     let limit = base.pow(u32::from(layout.longest()));
@@ -90,7 +104,8 @@ pub(crate) fn avoider_holds(layout: &Layout, trail: &Trail, bias: u8, free: u16)
 /// Whether the side has filled a line: some line has no point of the other side and no free point.
 pub(crate) fn has_filled(layout: &Layout, trail: &Trail, side: Side) -> bool
     requires { Agree layout.now trail.now.cells }
-    ensures { result ≡ list_any (is_filled (points_of (position_of layout.now trail.now.cells) side)) layout.now.lines }
+    ensures { result ≡ list_any
+        (is_filled (points_of (position_of layout.now trail.now.cells) side)) layout.now.lines }
 {
     live_with(layout, trail, side.other(), 0) != 0
 }

@@ -30,7 +30,11 @@ impl Model for Layout {
 
     ghost view = { λ a. record { points = a.points; longest = a.longest; lines = a.lines } };
 
-    ghost invariant = { λ a. IsLayout (record { points = a.points; longest = a.longest; lines = a.lines }) a.through };
+    ghost invariant = { λ a. IsLayout (record {
+      points = a.points;
+      longest = a.longest;
+      lines = a.lines;
+    }) a.through };
 }
 
 impl Layout {
@@ -207,7 +211,8 @@ fn gathered(alloc: Global, rows: &mut [Row], lines: &[Line]) -> Result<Rows, Mem
     requires ascending { All IsStrictlyIncreasing lines.now }
     requires range { All (λ line. All (λ v. v < length rows.old) line) lines.now }
     requires before { AreGathered lines.now 0 rows.old }
-    ensures { IfOk result (λ all. all ≡ map (lines_holding lines.now) (range_with_len 0 (length rows.old))) }
+    ensures { IfOk result
+        (λ all. all ≡ map (lines_holding lines.now) (range_with_len 0 (length rows.old))) }
 {
     for i in 0..lines.len() {
         add_line(rows, lines, i)?;

@@ -16,8 +16,10 @@ use pg_undo::{Ring, Trail};
 fn claim_line(layout: &Layout, trail: &mut Trail, live: &mut Ring, side: Side, line: u32)
     requires counted { AreCounted layout.now trail.old.cells }
     requires range { line < length layout.now.lines }
-    requires free { count_in layout.now trail.old.cells X line + count_in layout.now trail.old.cells Y line < length (line_in layout.now line) }
-    requires live { present live.old ≡ clear_lines layout.now (count_in layout.now trail.old.cells) side }
+    requires free { count_in layout.now trail.old.cells X line
+        + count_in layout.now trail.old.cells Y line < length (line_in layout.now line) }
+    requires live { present live.old
+        ≡ clear_lines layout.now (count_in layout.now trail.old.cells) side }
     requires room { 4 ≤ trail.old.spare }
     ensures { Claims layout.now side (line ∷ []) trail.old trail.new live.old live.new }
 {
@@ -30,10 +32,15 @@ fn claim_line(layout: &Layout, trail: &mut Trail, live: &mut Ring, side: Side, l
 pub(crate) fn claim_lines(layout: &Layout, trail: &mut Trail, live: &mut Ring, side: Side, v: u16)
     requires counted { AreCounted layout.now trail.old.cells }
     requires range { v < layout.now.points }
-    requires free { (i : ℕ) → i < length layout.now.lines → is_on v (line_in layout.now i) ≡ true → count_in layout.now trail.old.cells X i + count_in layout.now trail.old.cells Y i < length (line_in layout.now i) }
-    requires live { present live.old ≡ clear_lines layout.now (count_in layout.now trail.old.cells) side }
+    requires free { (i : ℕ) → i < length layout.now.lines
+        → is_on v (line_in layout.now i) ≡ true
+        → count_in layout.now trail.old.cells X i + count_in layout.now trail.old.cells Y i
+        < length (line_in layout.now i) }
+    requires live { present live.old
+        ≡ clear_lines layout.now (count_in layout.now trail.old.cells) side }
     requires room { 4 * degree_in layout.now v ≤ trail.old.spare }
-    ensures { Claims layout.now side (lines_through layout.now v) trail.old trail.new live.old live.new }
+    ensures { Claims layout.now side
+        (lines_through layout.now v) trail.old trail.new live.old live.new }
 {
     for line in layout.through(v) {
         claim_line(layout, trail, live, side, *line);
@@ -44,8 +51,11 @@ pub(crate) fn claim_lines(layout: &Layout, trail: &mut Trail, live: &mut Ring, s
 pub(crate) fn relink_lines(layout: &Layout, trail: &Trail, live: &mut Ring, side: Side, v: u16)
     requires width { length trail.now.cells ≡ cell_count layout.now }
     requires range { v < layout.now.points }
-    requires many { clear_in layout.now trail.now.cells side (lines_through layout.now v) < length live.old }
-    ensures { live.new ≡ take (length live.old - clear_in layout.now trail.now.cells side (lines_through layout.now v)) live.old }
+    requires many { clear_in layout.now trail.now.cells side (lines_through layout.now v)
+        < length live.old }
+    ensures { live.new ≡ take
+        (length live.old - clear_in layout.now trail.now.cells side (lines_through layout.now v))
+        live.old }
 {
     for line in layout.through(v) {
         if trail.get(layout.count_cell(side, *line)) == 0 {

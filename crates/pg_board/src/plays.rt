@@ -28,10 +28,12 @@ pub(crate) fn play_point(
     free: &mut Ring,
     v: u16,
 )
-    requires fits { Fits (record { bias = bias; shape = layout.now }) trail.old live_x.old live_y.old free.old }
+    requires fits { Fits (record { bias = bias; shape = layout.now }) trail.old live_x.old
+        live_y.old free.old }
     requires range { v < layout.now.points }
     requires open { is_free (position_of layout.now trail.old.cells) v ≡ true }
-    ensures { Leads (record { bias = bias; shape = layout.now }) trail.old live_x.old live_y.old free.old trail.new live_x.new live_y.new free.new v }
+    ensures { Leads (record { bias = bias; shape = layout.now }) trail.old live_x.old live_y.old
+        free.old trail.new live_x.new live_y.new free.new v }
 {
     match turn(trail) {
         Side::X => claim_point(layout, trail, live_x, free, Side::X, v),
@@ -50,11 +52,18 @@ pub(crate) fn undo_play(
     free: &mut Ring,
     play: Played,
 )
-    requires played { IsPlayed (record { bias = bias; shape = layout.now }) trail.old live_x.old live_y.old free.old play }
-    requires before { Fits (record { bias = bias; shape = layout.now }) (back_to play.level trail.old) (fewer (left_by layout.now (back_to play.level trail.old).cells X play.point) live_x.old) (fewer (left_by layout.now (back_to play.level trail.old).cells Y play.point) live_y.old) (fewer 1 free.old) }
+    requires played { IsPlayed (record { bias = bias; shape = layout.now }) trail.old live_x.old
+        live_y.old free.old play }
+    requires before { Fits (record { bias = bias; shape = layout.now })
+        (back_to play.level trail.old)
+        (fewer (left_by layout.now (back_to play.level trail.old).cells X play.point) live_x.old)
+        (fewer (left_by layout.now (back_to play.level trail.old).cells Y play.point) live_y.old)
+        (fewer 1 free.old) }
     ensures trail { trail.new ≡ back_to play.level trail.old }
-    ensures live_x { live_x.new ≡ fewer (left_by layout.now (back_to play.level trail.old).cells X play.point) live_x.old }
-    ensures live_y { live_y.new ≡ fewer (left_by layout.now (back_to play.level trail.old).cells Y play.point) live_y.old }
+    ensures live_x { live_x.new
+        ≡ fewer (left_by layout.now (back_to play.level trail.old).cells X play.point) live_x.old }
+    ensures live_y { live_y.new
+        ≡ fewer (left_by layout.now (back_to play.level trail.old).cells Y play.point) live_y.old }
     ensures free { free.new ≡ fewer 1 free.old }
 {
     trail.undo_to(play.level);

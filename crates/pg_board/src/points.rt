@@ -86,11 +86,16 @@ pub(crate) fn claim_point(
 )
     requires counted { AreCounted layout.now trail.old.cells }
     requires range { v < layout.now.points }
-    requires open { (i : ℕ) → i < length layout.now.lines → is_on v (line_in layout.now i) ≡ true → count_in layout.now trail.old.cells X i + count_in layout.now trail.old.cells Y i < length (line_in layout.now i) }
-    requires live { present live.old ≡ clear_lines layout.now (count_in layout.now trail.old.cells) side }
+    requires open { (i : ℕ) → i < length layout.now.lines
+        → is_on v (line_in layout.now i) ≡ true
+        → count_in layout.now trail.old.cells X i + count_in layout.now trail.old.cells Y i
+        < length (line_in layout.now i) }
+    requires live { present live.old
+        ≡ clear_lines layout.now (count_in layout.now trail.old.cells) side }
     requires free { Contains (present free.old) v }
     requires room { 1 + 4 * degree_in layout.now v ≤ trail.old.spare }
-    ensures { ClaimsPoint layout.now side v trail.old trail.new live.old live.new free.old free.new }
+    ensures { ClaimsPoint layout.now side v trail.old trail.new live.old live.new free.old
+        free.new }
 {
     claim_lines(layout, trail, live, side, v);
     trail.set(layout.mark_cell(v), mark_of(side));
@@ -111,7 +116,8 @@ fn mark_of(side: Side) -> u32
 pub(crate) fn pass(trail: &mut Trail, bias: u8)
     requires width { 1 ≤ length trail.old.cells }
     requires room { 1 ≤ trail.old.spare }
-    ensures { trail.new ≡ with_set trail.old turn_cell (next_turn bias (get_or trail.old.cells turn_cell 0)) }
+    ensures { trail.new
+        ≡ with_set trail.old turn_cell (next_turn bias (get_or trail.old.cells turn_cell 0)) }
 {
     let left = trail.get(0);
     trail.set(0, if left == 0 { u32::from(bias) } else { left - 1 });

@@ -22,11 +22,13 @@ pub(crate) fn live_with(layout: &Layout, trail: &Trail, side: Side, free: u16) -
     trail.get(layout.free_cell(side, u32::from(free)))
 }
 
-/// The sum of the weights of the lines without a point of the side, from how many of them have how many free points.
+/// The sum of the weights of the lines without a point of the side, from how many of them have how
+/// many free points.
 pub(crate) fn total(layout: &Layout, trail: &Trail, side: Side, base: u128) -> u128
     requires agrees { Agree layout.now trail.now.cells }
     requires fits { IsBase base layout.now }
-    ensures exact { result ≡ total_in base layout.now (position_of layout.now trail.now.cells) side }
+    ensures exact { result
+        ≡ total_in base layout.now (position_of layout.now trail.now.cells) side }
     ensures few { result ≤ 2 ^ 115 }
 {
     let mut total = 0;
@@ -37,12 +39,15 @@ pub(crate) fn total(layout: &Layout, trail: &Trail, side: Side, base: u128) -> u
     total
 }
 
-/// What a line with none of the side's points weighs: the base to the power of `longest` less its free points.
+/// What a line with none of the side's points weighs: the base to the power of `longest` less its
+/// free points.
 fn live_weight(layout: &Layout, trail: &Trail, side: Side, base: u128, line: u32) -> u128
     requires agrees { Agree layout.now trail.now.cells }
     requires fits { IsBase base layout.now }
     requires range { line < length layout.now.lines }
-    ensures { result ≡ line_weight base layout.now.longest (points_of (position_of layout.now trail.now.cells) side) (position_of layout.now trail.now.cells) (line_in layout.now line) }
+    ensures { result ≡ line_weight base layout.now.longest
+        (points_of (position_of layout.now trail.now.cells) side)
+        (position_of layout.now trail.now.cells) (line_in layout.now line) }
 {
     if trail.get(layout.count_cell(side, line)) != 0 {
         return 0;
@@ -57,7 +62,8 @@ pub(crate) fn weight(layout: &Layout, trail: &Trail, side: Side, base: u128, v: 
     requires agrees { Agree layout.now trail.now.cells }
     requires fits { IsBase base layout.now }
     requires range { v < layout.now.points }
-    ensures exact { result ≡ weight_in base layout.now (position_of layout.now trail.now.cells) side v }
+    ensures exact { result
+        ≡ weight_in base layout.now (position_of layout.now trail.now.cells) side v }
     ensures few { result ≤ 2 ^ 115 }
 {
     let mut weight = 0;
@@ -72,7 +78,9 @@ fn free_weight(layout: &Layout, trail: &Trail, side: Side, base: u128, v: u16) -
     requires agrees { Agree layout.now trail.now.cells }
     requires fits { IsBase base layout.now }
     requires range { v < layout.now.points }
-    ensures exact { result ≡ (if is_free (position_of layout.now trail.now.cells) v then weight_in base layout.now (position_of layout.now trail.now.cells) side v else 0) }
+    ensures exact { result ≡ (if is_free (position_of layout.now trail.now.cells) v
+        then weight_in base layout.now (position_of layout.now trail.now.cells) side v
+        else 0) }
     ensures few { result ≤ 2 ^ 115 }
 {
     if is_unmarked(layout, trail, v) {
@@ -86,7 +94,8 @@ fn free_weight(layout: &Layout, trail: &Trail, side: Side, base: u128, v: u16) -
 pub(crate) fn greatest_weight(layout: &Layout, trail: &Trail, side: Side, base: u128) -> u128
     requires agrees { Agree layout.now trail.now.cells }
     requires fits { IsBase base layout.now }
-    ensures exact { result ≡ greatest_in base layout.now (position_of layout.now trail.now.cells) side }
+    ensures exact { result
+        ≡ greatest_in base layout.now (position_of layout.now trail.now.cells) side }
     ensures few { result ≤ 2 ^ 115 }
 {
     let mut greatest = 0;

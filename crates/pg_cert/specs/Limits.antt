@@ -75,7 +75,8 @@ IsOfVersion version claim = All (λ node. has_body version node.body ≡ true) c
 abbrev pub node_count : List Claim → ℕ
 node_count claims = sum_by (λ claim. length claim.nodes) claims
 
--- a certificate within the limits: 1 to 8 claims, at most 200,000 nodes together, and the bodies of its version
+-- a certificate within the limits: 1 to 8 claims, at most 200,000 nodes together, and the bodies of
+-- its version
 pub record IsWithinLimits (c : Cert) : Type 0 where
   pub some : 0 < length c.claims
   pub few : length c.claims ≤ MAX_CLAIMS

@@ -81,7 +81,8 @@ turn_word side left = side_word side ++ (if nat_lt 1 left then decimal left else
 
 -- a node line with its line feed
 unfoldable pub node_text : Node → Bytes
-node_text n = spaced (set_words n.x) ++ BAR ∷ (spaced (set_words n.y) ++ BAR ∷ (turn_word n.turn n.left ++ BAR ∷ (body_text n.body ++ LINE_FEED ∷ [])))
+node_text n = spaced (set_words n.x) ++ BAR ∷ (spaced (set_words n.y) ++ BAR
+    ∷ (turn_word n.turn n.left ++ BAR ∷ (body_text n.body ++ LINE_FEED ∷ [])))
 
 -- the words of a claim line
 abbrev pub claim_words : Claim → List Bytes
@@ -93,7 +94,8 @@ count_words n = codes "nodes" ∷ decimal n ∷ []
 
 -- a claim line, its `nodes` line and its node lines
 unfoldable pub claim_text : Claim → Bytes
-claim_text c = spaced (claim_words c) ++ LINE_FEED ∷ (spaced (count_words (length c.nodes)) ++ LINE_FEED ∷ flat_map node_text c.nodes)
+claim_text c = spaced (claim_words c) ++ LINE_FEED
+    ∷ (spaced (count_words (length c.nodes)) ++ LINE_FEED ∷ flat_map node_text c.nodes)
 
 -- the first line, which names the version
 abbrev pub header : Version → Bytes

@@ -34,7 +34,8 @@ use Rattle.pg_cert.specs.declared.node_fault.NodeFault.TheVariants as faults
 
 -- ---- which body is allowed where
 
--- whether a pairing or a potential can show this goal: Breaker's and Avoider's any, and in Maker-Maker either side's draw
+-- whether a pairing or a potential can show this goal: Breaker's and Avoider's any, and in
+-- Maker-Maker either side's draw
 abbrev pub shows_defence : Kind → Side → Goal → Bool
 shows_defence MakerBreaker X goal = false
 shows_defence MakerBreaker Y goal = true
@@ -53,7 +54,8 @@ abbrev pub shows_cuts : Kind → Side → Bool
 shows_cuts Switching Y = true
 shows_cuts _ _ = false
 
--- whether pairs are a means where Y claims so many points a turn: in Avoider-Enforcer only where it claims one
+-- whether pairs are a means where Y claims so many points a turn: in Avoider-Enforcer only where it
+-- claims one
 abbrev pub pairs_fit : Kind → ℕ → Bool
 pairs_fit AvoiderEnforcer bias = bias == 1
 pairs_fit _ bias = true
@@ -148,11 +150,13 @@ HasPotential g side p Potential = PotentialFits g.kind g p side
 HasPotential g side p _ = Unit {0}
 
 abbrev pub HasTrees : Game → Position → Body → Type 0
-HasTrees g p (Trees with_e first second) = AreEdgeSets g first second × TreesHold g p (with_e_named g with_e first) second
+HasTrees g p (Trees with_e first second) =
+    AreEdgeSets g first second × TreesHold g p (with_e_named g with_e first) second
 HasTrees g p _ = Unit {0}
 
 abbrev pub HasCuts : Game → Position → Body → Type 0
-HasCuts g p (Cuts with_e first second) = AreEdgeSets g first second × CutsHold g p (with_e_named g with_e first) second
+HasCuts g p (Cuts with_e first second) =
+    AreEdgeSets g first second × CutsHold g p (with_e_named g with_e first) second
 HasCuts g p _ = Unit {0}
 
 abbrev pub HasThreat : Game → Side → Position → Body → Type 0
@@ -160,7 +164,8 @@ HasThreat g side p (Threat points) = IsThreatLine g p side points
 HasThreat g side p _ = Unit {0}
 
 -- the position is no worse for the side than that of the node with that number
-pub record IsNoWorseThanNode (nodes : List Node) (side : Side) (p : Position) (child : ℕ) : Type 0 where
+pub record IsNoWorseThanNode (nodes : List Node) (side : Side) (p : Position)
+    (child : ℕ) : Type 0 where
   pub node : Node
   pub at : slice_get nodes child ≡ Some node
   pub no_worse : IsNoWorse side (position_of node) p
@@ -173,7 +178,8 @@ HasWeaker nodes side p _ = Unit {0}
 abbrev pub IsRoot : Game → Claim → ℕ → Node → Type 0
 IsRoot g c k n = k + 1 ≡ length c.nodes → position_of n ≡ with_turn g c.turn
 
--- more than its marks, its children and its place is asked of a node only where its body is allowed and it stands in the game
+-- more than its marks, its children and its place is asked of a node only where its body is allowed
+-- and it stands in the game
 pub record IsOwed (g : Game) (c : Claim) (n : Node) : Type 0 where
   pub allowed : is_allowed g.kind g.bias c.side c.goal n.body ≡ true
   pub in_game : IsInGame g n
@@ -181,9 +187,12 @@ pub record IsOwed (g : Game) (c : Claim) (n : Node) : Type 0 where
 abbrev pub Owes : Game → Claim → Node → Type 0 → Type 0
 Owes g c n P = IsOwed g c n → P
 
--- THE TABLE: what node number k of the claim owes under each fault's name; numbers of children are asked for where the body is allowed, and a child of `weaker` is looked at where its number is below k
+-- THE TABLE: what node number k of the claim owes under each fault's name; numbers of children are
+-- asked for where the body is allowed, and a child of `weaker` is looked at where its number is
+-- below k
 abbrev pub Passes : Game → Claim → ℕ → Node → NodeFault → Type 0
-Passes g c k n faults.Child = is_allowed g.kind g.bias c.side c.goal n.body ≡ true → NamesEarlier k n.body
+Passes g c k n faults.Child =
+    is_allowed g.kind g.bias c.side c.goal n.body ≡ true → NamesEarlier k n.body
 Passes g c k n faults.Marks = IsInGame g n × FollowMoves g c.nodes (position_of n) n.body
 Passes g c k n faults.Turn = Owes g c n (HasTurn c.side (position_of n) n.body)
 Passes g c k n faults.Moves = Owes g c n (TakesFree g (position_of n) n.body)
@@ -195,7 +204,8 @@ Passes g c k n faults.Cuts = Owes g c n (HasCuts g (position_of n) n.body)
 Passes g c k n faults.Threat = Owes g c n (HasThreat g c.side (position_of n) n.body)
 Passes g c k n faults.Root = IsRoot g c k n
 Passes g c k n faults.Body = is_allowed g.kind g.bias c.side c.goal n.body ≡ true
-Passes g c k n faults.Weaker = Owes g c n (NamesEarlier k n.body → HasWeaker c.nodes c.side (position_of n) n.body)
+Passes g c k n faults.Weaker =
+    Owes g c n (NamesEarlier k n.body → HasWeaker c.nodes c.side (position_of n) n.body)
 
 -- ---- nodes, claims, certificates
 
@@ -206,7 +216,9 @@ IsSound g c k n = (fault : NodeFault) → Passes g c k n fault
 -- the fault of least number that the node has
 pub record IsLeastFault (g : Game) (c : Claim) (k : ℕ) (n : Node) (fault : NodeFault) : Type 0 where
   pub fails : Passes g c k n fault → ⊥
-  pub lesser : (before : NodeFault) → fault_number before < fault_number fault → Passes g c k n before
+  pub lesser : (before : NodeFault)
+      → fault_number before < fault_number fault
+      → Passes g c k n before
 
 -- every node of the claim before number k is sound
 abbrev pub AreSoundBefore : Game → Claim → ℕ → Type 0
@@ -222,7 +234,10 @@ IsValid g cert = (i : ℕ) (c : Claim) → slice_get cert.claims i ≡ Some c �
 
 -- the first faulty claim, in it the first faulty node, and the least number of its faults
 pub record IsFirstFault (g : Game) (cert : Cert) (claim node why : ℕ) : Type 0 where
-  pub claims_before : (i : ℕ) (c : Claim) → i < claim → slice_get cert.claims i ≡ Some c → IsValidClaim g c
+  pub claims_before : (i : ℕ) (c : Claim)
+      → i < claim
+      → slice_get cert.claims i ≡ Some c
+      → IsValidClaim g c
   pub faulty : Claim
   pub claim_at : slice_get cert.claims claim ≡ Some faulty
   pub nodes_before : AreSoundBefore g faulty node

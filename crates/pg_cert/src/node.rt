@@ -45,9 +45,11 @@ pub enum Body {
         /// The edges of the second set.
         second: EdgeSet,
     },
-    /// The claimer's moves of a line of threats, each with the answer that it forces; the last fills a line.
+    /// The claimer's moves of a line of threats, each with the answer that it forces; the last
+    /// fills a line.
     Threat(Points),
-    /// The position is no worse for the claimer than that of another node. It stands in version 2 alone.
+    /// The position is no worse for the claimer than that of another node. It stands in version 2
+    /// alone.
     Weaker {
         /// The number of that node: 0 to 99,999.
         child: u32,
@@ -83,8 +85,8 @@ impl Node {
     }
 }
 
-/// The first set of edges that a node names, with the further edge between the terminals where it says so. That edge's
-/// number is the number of the game's edges.
+/// The first set of edges that a node names, with the further edge between the terminals where it
+/// says so. That edge's number is the number of the game's edges.
 pub fn with_e_named(g: &Game, with_e: bool, first: &PointSet) -> PointSet
     ensures { result ≡ with_e_named g.now with_e first.now }
 {

@@ -2,19 +2,21 @@
 ghost use Rattle.std.specs.Prelude.{◌≡◌};
 ghost use Rattle.pg_cert.specs.NodeFault.{fault_number};
 
-/// What can be wrong with a node of a claim, the least first. The number of each is its code, J1 to J13.
+/// What can be wrong with a node of a claim, the least first. The number of each is its code, J1 to
+/// J13.
 #[derive(Clone, Copy, Debug, PartialEq, Eq, PartialOrd, Ord, Hash)]
 pub enum NodeFault {
     /// J1: the body names a child whose number isn't below the node's own.
     Child,
-    /// J2: a mark isn't a point of the game, or the turn claims more points than its side may, or the child of a move isn't the
-    /// position after it.
+    /// J2: a mark isn't a point of the game, or the turn claims more points than its side may, or
+    /// the child of a move isn't the position after it.
     Marks,
     /// J3: the wrong side is to move for the body.
     Turn,
     /// J4: a move of a point that isn't free, or replies that aren't exactly the free points.
     Moves,
-    /// J5: the game isn't over or its outcome doesn't reach the goal; or it is over and the body moves on.
+    /// J5: the game isn't over or its outcome doesn't reach the goal; or it is over and the body
+    /// moves on.
     End,
     /// J6: the pairs don't meet their condition.
     Pairs,

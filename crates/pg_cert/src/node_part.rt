@@ -6,7 +6,8 @@ use pg_base::Memory;
 use std::alloc::Global;
 use std::marker::Model;
 
-/// A node as a part of a certificate. It lies in a place of its own, so that a part is handed on without its sets.
+/// A node as a part of a certificate. It lies in a place of its own, so that a part is handed on
+/// without its sets.
 #[derive(Debug, Drop)]
 pub struct NodePart {
     node: Box<Node>,

@@ -18,10 +18,13 @@ use pg_base::{MAX_MEMBERS, Memory, Pair, PointSet, Side};
 use std::alloc::{AllocError, Global};
 use std::fmt::Write;
 
-/// Puts a point where it is in the set, behind a space unless it is the first; tells whether a point was put.
+/// Puts a point where it is in the set, behind a space unless it is the first; tells whether a
+/// point was put.
 fn put_next(out: &mut String, set: &PointSet, p: u16, begun: bool) -> Result<bool, AllocError>
     requires { p < MAX_MEMBERS }
-    ensures text { OnOk result (string_bytes out.new ≡ string_bytes out.old ++ separated begun (one_where (contains set.now p) p)) }
+    ensures text { OnOk result
+        (string_bytes out.new
+        ≡ string_bytes out.old ++ separated begun (one_where (contains set.now p) p)) }
     ensures begun { IfOk result (λ now. now ≡ (begun || contains set.now p)) }
 {
     if !set.has(p) {
@@ -37,7 +40,8 @@ fn put_next(out: &mut String, set: &PointSet, p: u16, begun: bool) -> Result<boo
 
 /// Puts the points of a set, with a space between each two.
 fn put_field(out: &mut String, set: &PointSet) -> Result<(), AllocError>
-    ensures { OnOk result (string_bytes out.new ≡ string_bytes out.old ++ spaced (set_words set.now)) }
+    ensures { OnOk result
+        (string_bytes out.new ≡ string_bytes out.old ++ spaced (set_words set.now)) }
 {
     let mut begun = false;
     for p in 0..MAX_MEMBERS {
@@ -49,7 +53,9 @@ fn put_field(out: &mut String, set: &PointSet) -> Result<(), AllocError>
 /// Puts a point behind a space where it is in the set.
 fn put_member(out: &mut String, set: &PointSet, p: u16) -> Result<(), AllocError>
     requires { p < MAX_MEMBERS }
-    ensures { OnOk result (string_bytes out.new ≡ string_bytes out.old ++ separated true (one_where (contains set.now p) p)) }
+    ensures { OnOk result
+        (string_bytes out.new
+        ≡ string_bytes out.old ++ separated true (one_where (contains set.now p) p)) }
 {
     if !set.has(p) {
         return Ok(());
@@ -60,7 +66,8 @@ fn put_member(out: &mut String, set: &PointSet, p: u16) -> Result<(), AllocError
 
 /// Puts the points of a set, each behind a space.
 fn put_set(out: &mut String, set: &PointSet) -> Result<(), AllocError>
-    ensures { OnOk result (string_bytes out.new ≡ string_bytes out.old ++ behind_spaces (set_words set.now)) }
+    ensures { OnOk result
+        (string_bytes out.new ≡ string_bytes out.old ++ behind_spaces (set_words set.now)) }
 {
     for p in 0..MAX_MEMBERS {
         put_member(out, set, p)?;
@@ -70,7 +77,8 @@ fn put_set(out: &mut String, set: &PointSet) -> Result<(), AllocError>
 
 /// Puts points, each behind a space.
 fn put_points(out: &mut String, points: &[u16]) -> Result<(), AllocError>
-    ensures { OnOk result (string_bytes out.new ≡ string_bytes out.old ++ behind_spaces (map decimal points.now)) }
+    ensures { OnOk result
+        (string_bytes out.new ≡ string_bytes out.old ++ behind_spaces (map decimal points.now)) }
 {
     for p in points {
         write!(out, " {p}")?;
@@ -80,7 +88,9 @@ fn put_points(out: &mut String, points: &[u16]) -> Result<(), AllocError>
 
 /// Puts replies, each behind a space.
 fn put_replies(out: &mut String, replies: &[Reply]) -> Result<(), AllocError>
-    ensures { OnOk result (string_bytes out.new ≡ string_bytes out.old ++ behind_spaces (map reply_word replies.now)) }
+    ensures { OnOk result
+        (string_bytes out.new
+        ≡ string_bytes out.old ++ behind_spaces (map reply_word replies.now)) }
 {
     for reply in replies {
         let point = reply.point;
@@ -92,7 +102,8 @@ fn put_replies(out: &mut String, replies: &[Reply]) -> Result<(), AllocError>
 
 /// Puts pairs, each behind a space.
 fn put_pairs(out: &mut String, pairs: &[Pair]) -> Result<(), AllocError>
-    ensures { OnOk result (string_bytes out.new ≡ string_bytes out.old ++ behind_spaces (map pair_word pairs.now)) }
+    ensures { OnOk result
+        (string_bytes out.new ≡ string_bytes out.old ++ behind_spaces (map pair_word pairs.now)) }
 {
     for pair in pairs {
         let a = pair.a;
@@ -104,7 +115,8 @@ fn put_pairs(out: &mut String, pairs: &[Pair]) -> Result<(), AllocError>
 
 /// Puts the word that says that the first set holds the further edge.
 fn put_e(out: &mut String, with_e: bool) -> Result<(), AllocError>
-    ensures { OnOk result (string_bytes out.new ≡ string_bytes out.old ++ behind_spaces (e_words with_e)) }
+    ensures { OnOk result
+        (string_bytes out.new ≡ string_bytes out.old ++ behind_spaces (e_words with_e)) }
 {
     if with_e {
         out.push_str(" e")?;
@@ -119,7 +131,9 @@ fn put_edges(
     first: &PointSet,
     second: &PointSet,
 ) -> Result<(), AllocError>
-    ensures { OnOk result (string_bytes out.new ≡ string_bytes out.old ++ behind_spaces (edge_words with_e first.now second.now)) }
+    ensures { OnOk result
+        (string_bytes out.new
+        ≡ string_bytes out.old ++ behind_spaces (edge_words with_e first.now second.now)) }
 {
     put_e(out, with_e)?;
     put_set(out, first)?;
@@ -146,7 +160,8 @@ fn body_name(body: &Body) -> &'static str
 
 /// Puts the words of a body behind the first.
 fn put_words(out: &mut String, body: &Body) -> Result<(), AllocError>
-    ensures { OnOk result (string_bytes out.new ≡ string_bytes out.old ++ behind_spaces (body_words body.now)) }
+    ensures { OnOk result
+        (string_bytes out.new ≡ string_bytes out.old ++ behind_spaces (body_words body.now)) }
 {
     match body {
         Body::Over | Body::Potential => Ok(()),
@@ -170,7 +185,8 @@ fn put_words(out: &mut String, body: &Body) -> Result<(), AllocError>
 
 /// Puts a child behind a space.
 fn put_child(out: &mut String, child: u32) -> Result<(), AllocError>
-    ensures { OnOk result (string_bytes out.new ≡ string_bytes out.old ++ behind_spaces (decimal child ∷ [])) }
+    ensures { OnOk result
+        (string_bytes out.new ≡ string_bytes out.old ++ behind_spaces (decimal child ∷ [])) }
 {
     write!(out, " {child}")?;
     Ok(())
@@ -178,7 +194,9 @@ fn put_child(out: &mut String, child: u32) -> Result<(), AllocError>
 
 /// Puts a point and a child, each behind a space.
 fn put_move(out: &mut String, point: u16, child: u32) -> Result<(), AllocError>
-    ensures { OnOk result (string_bytes out.new ≡ string_bytes out.old ++ behind_spaces (decimal point ∷ decimal child ∷ [])) }
+    ensures { OnOk result
+        (string_bytes out.new
+        ≡ string_bytes out.old ++ behind_spaces (decimal point ∷ decimal child ∷ [])) }
 {
     write!(out, " {point} {child}")?;
     Ok(())
@@ -207,7 +225,9 @@ fn put_body(out: &mut String, body: &Body) -> Result<(), AllocError>
 
 /// Puts the points of both sides, with a bar between them.
 fn put_sides(out: &mut String, x: &PointSet, y: &PointSet) -> Result<(), AllocError>
-    ensures { OnOk result (string_bytes out.new ≡ string_bytes out.old ++ (spaced (set_words x.now) ++ BAR ∷ spaced (set_words y.now))) }
+    ensures { OnOk result
+        (string_bytes out.new
+        ≡ string_bytes out.old ++ (spaced (set_words x.now) ++ BAR ∷ spaced (set_words y.now))) }
 {
     put_field(out, x)?;
     out.push_str("|")?;
@@ -230,7 +250,8 @@ fn put_node(out: &mut String, n: &Node) -> Result<(), AllocError>
 
 /// Puts node lines.
 fn put_nodes(out: &mut String, nodes: &[Node]) -> Result<(), AllocError>
-    ensures { OnOk result (string_bytes out.new ≡ string_bytes out.old ++ flat_map node_text nodes.now) }
+    ensures { OnOk result
+        (string_bytes out.new ≡ string_bytes out.old ++ flat_map node_text nodes.now) }
 {
     for node in nodes {
         put_node(out, node)?;
@@ -254,7 +275,8 @@ fn put_claim(out: &mut String, claim: &Claim) -> Result<(), AllocError>
 
 /// Puts claims with their nodes.
 fn put_claims(out: &mut String, claims: &[Claim]) -> Result<(), AllocError>
-    ensures { OnOk result (string_bytes out.new ≡ string_bytes out.old ++ flat_map claim_text claims.now) }
+    ensures { OnOk result
+        (string_bytes out.new ≡ string_bytes out.old ++ flat_map claim_text claims.now) }
 {
     for claim in claims {
         put_claim(out, claim)?;

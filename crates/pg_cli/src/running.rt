@@ -111,17 +111,17 @@ fn end_early<C: Console>(console: &mut C, halt: Halt) -> u8
 
 /// Does what the words of the command line ask for, and gives the status.
 ///
-/// - 0: done. The game is made and stored, the game is solved (that of a family: its class is found)
-///   and its certificate stored, each claim of the certificate is accepted, the game that was played
-///   is over, the report of a valid certificate is said, the record of a session is stored, or a
-///   recorded game is reviewed.
+/// - 0: done. The game is made and stored, the game is solved (that of a family: its class is
+///   found) and its certificate stored, each claim of the certificate is accepted, the game that
+///   was played is over, the report of a valid certificate is said, the record of a session is
+///   stored, or a recorded game is reviewed.
 /// - 1: the question that was asked last of a game on lines, or of a position of a recorded one, is
 ///   open after as many positions as the budget allows.
 /// - 2: the words have no meaning, or the certificate has no claim of the side to play with the
 ///   game's turn.
 /// - 3: the game file has a fault; for a review also where Y claims several points in a turn.
-/// - 4: the certificate file has a fault, or the certificate isn't valid for the game, or has images
-///   and stands for none of plain nodes; a report says all but the first as JSON.
+/// - 4: the certificate file has a fault, or the certificate isn't valid for the game, or has
+///   images and stands for none of plain nodes; a report says all but the first as JSON.
 /// - 5: a call that reads has failed, or a name isn't held; nothing is said of it.
 /// - 6: a call that writes has failed; nothing is said of it.
 /// - 7: memory is wanting; nothing is said of it.

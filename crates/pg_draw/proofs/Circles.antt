@@ -17,9 +17,13 @@ use Rattle.pg_draw.proofs.Apart.{cells_apart}
 abbrev sine : ℕ → ℕ
 sine k = slice_index SINES k
 
--- from one entry to the next the sine grows, and by how much the sine grows and the cosine falls is at least 123
+-- from one entry to the next the sine grows, and by how much the sine grows and the cosine falls is
+-- at least 123
 abbrev grows : ℕ → Bool
-grows k = (nat_le (sine k) (sine (k + 1)) && nat_le (sine k + sine (127 - k) + 123) (sine (k + 1) + sine (128 - k))) && (nat_le 123 (sine (k + 1)) && nat_le (sine (k + 1)) 10000)
+grows k =
+    (nat_le (sine k) (sine (k + 1))
+    && nat_le (sine k + sine (127 - k) + 123) (sine (k + 1) + sine (128 - k)))
+    && (nat_le 123 (sine (k + 1)) && nat_le (sine (k + 1)) 10000)
 
 unfoldable grow : ℕ → Bool
 grow zero = true
@@ -35,7 +39,9 @@ grows_at zero k all lt = absurd (omega arith)
 grows_at (suc n) k all lt =
     elim (cases_lt k n) [
       | inl below ↦ grows_at n k (and_parts (grows n) (grow n) all).1 below
-      | inr above ↦ let last : n ≡ k = omega arith in subst (λ (j : ℕ). grows j ≡ true) last (and_parts (grows n) (grow n) all).0
+      | inr above ↦
+          let last : n ≡ k = omega arith in
+          subst (λ (j : ℕ). grows j ≡ true) last (and_parts (grows n) (grow n) all).0
     ]
 
 record Grows (k : ℕ) : Type 0 where
@@ -46,8 +52,11 @@ record Grows (k : ℕ) : Type 0 where
 
 table : (k : ℕ) → k < 128 → Grows k
 table k lt =
-    let all = and_parts (nat_le (sine k) (sine (k + 1)) && nat_le (sine k + sine (127 - k) + 123) (sine (k + 1) + sine (128 - k))) (nat_le 123 (sine (k + 1)) && nat_le (sine (k + 1)) 10000) (grows_at 128 k all_grow lt) in
-    let first = and_parts (nat_le (sine k) (sine (k + 1))) (nat_le (sine k + sine (127 - k) + 123) (sine (k + 1) + sine (128 - k))) all.0 in
+    let all = and_parts (nat_le (sine k) (sine (k + 1))
+    && nat_le (sine k + sine (127 - k) + 123) (sine (k + 1) + sine (128 - k)))
+    (nat_le 123 (sine (k + 1)) && nat_le (sine (k + 1)) 10000) (grows_at 128 k all_grow lt) in
+    let first = and_parts (nat_le (sine k) (sine (k + 1)))
+    (nat_le (sine k + sine (127 - k) + 123) (sine (k + 1) + sine (128 - k))) all.0 in
     let second = and_parts (nat_le 123 (sine (k + 1))) (nat_le (sine (k + 1)) 10000) all.1 in
     record {
       rises = grind (arith, nat_tests, first.0);
@@ -57,7 +66,9 @@ table k lt =
     }
 
 -- from one entry to one d further
-turned : (a d : ℕ) → a + d ≤ 128 → sine a + sine (128 - (a + d)) + 123 * d ≤ sine (a + d) + sine (128 - a)
+turned : (a d : ℕ)
+    → a + d ≤ 128
+    → sine a + sine (128 - (a + d)) + 123 * d ≤ sine (a + d) + sine (128 - a)
 turned a zero le =
     let same : a + 0 ≡ a = omega arith in
     rw same (omega arith)
@@ -79,7 +90,12 @@ near r a b same =
     omega arith
 
 -- no two places of one quarter are one that are far enough apart
-apart_within : (r a d : ℕ) → a + d ≤ 128 → 163 ≤ r * d → part_of r a ≡ part_of r (a + d) → part_of r (128 - a) ≡ part_of r (128 - (a + d)) → ⊥
+apart_within : (r a d : ℕ)
+    → a + d ≤ 128
+    → 163 ≤ r * d
+    → part_of r a ≡ part_of r (a + d)
+    → part_of r (128 - a) ≡ part_of r (128 - (a + d))
+    → ⊥
 apart_within r a d le far sines cosines =
     let first = near r a (a + d) sines in
     let second = near r (128 - (a + d)) (128 - a) (sym cosines) in
@@ -92,11 +108,17 @@ apart_within r a d le far sines cosines =
 
 few_sines : (k : ℕ) → k ≤ 128 → sine k ≤ 10000
 few_sines zero le = omega arith
-few_sines (suc k) le = let few = (table k (omega arith)).few in let same : k + 1 ≡ suc k = omega arith in subst (λ (j : ℕ). sine j ≤ 10000) same few
+few_sines (suc k) le =
+    let few = (table k (omega arith)).few in
+    let same : k + 1 ≡ suc k = omega arith in
+    subst (λ (j : ℕ). sine j ≤ 10000) same few
 
 some_sines : (k : ℕ) → 1 ≤ k → k ≤ 128 → 123 ≤ sine k
 some_sines zero some le = absurd (omega arith)
-some_sines (suc k) some le = let least = (table k (omega arith)).some in let same : k + 1 ≡ suc k = omega arith in subst (λ (j : ℕ). 123 ≤ sine j) same least
+some_sines (suc k) some le =
+    let least = (table k (omega arith)).some in
+    let same : k + 1 ≡ suc k = omega arith in
+    subst (λ (j : ℕ). 123 ≤ sine j) same least
 
 pub part_fits : (r k : ℕ) → k ≤ 128 → part_of r k ≤ r
 part_fits r k le =
@@ -118,7 +140,17 @@ place_in r q s c =
     else if q == 2 then at (48 + r - s) (72 + r + c)
     else at (48 + r - c) (72 + r - s)
 
-same_quarter : (r q s c p t d : ℕ) → q < 4 → p < 4 → s ≤ r → t ≤ r → 1 ≤ c → c ≤ r → 1 ≤ d → d ≤ r → place_in r q s c ≡ place_in r p t d → (q ≡ p) × (s ≡ t) × (c ≡ d)
+same_quarter : (r q s c p t d : ℕ)
+    → q < 4
+    → p < 4
+    → s ≤ r
+    → t ≤ r
+    → 1 ≤ c
+    → c ≤ r
+    → 1 ≤ d
+    → d ≤ r
+    → place_in r q s c ≡ place_in r p t d
+    → (q ≡ p) × (s ≡ t) × (c ≡ d)
 same_quarter r zero s c zero t d qs ps sr tr c1 cr d1 dr same =
     let across = ap (λ (p : Place). p.across) same in
     let down = ap (λ (p : Place). p.down) same in
@@ -183,16 +215,27 @@ same_quarter r (suc (suc (suc zero))) s c (suc (suc (suc zero))) t d qs ps sr tr
     let across = ap (λ (p : Place). p.across) same in
     let down = ap (λ (p : Place). p.down) same in
     (refl, omega (arith, across, down), omega (arith, across, down))
-same_quarter r (suc (suc (suc (suc q)))) s c p t d qs ps sr tr c1 cr d1 dr same = absurd (omega arith)
-same_quarter r zero s c (suc (suc (suc (suc p)))) t d qs ps sr tr c1 cr d1 dr same = absurd (omega arith)
-same_quarter r (suc zero) s c (suc (suc (suc (suc p)))) t d qs ps sr tr c1 cr d1 dr same = absurd (omega arith)
-same_quarter r (suc (suc zero)) s c (suc (suc (suc (suc p)))) t d qs ps sr tr c1 cr d1 dr same = absurd (omega arith)
-same_quarter r (suc (suc (suc zero))) s c (suc (suc (suc (suc p)))) t d qs ps sr tr c1 cr d1 dr same = absurd (omega arith)
+same_quarter r (suc (suc (suc (suc q)))) s c p t d qs ps sr tr c1 cr d1 dr same =
+    absurd (omega arith)
+same_quarter r zero s c (suc (suc (suc (suc p)))) t d qs ps sr tr c1 cr d1 dr same =
+    absurd (omega arith)
+same_quarter r (suc zero) s c (suc (suc (suc (suc p)))) t d qs ps sr tr c1 cr d1 dr same =
+    absurd (omega arith)
+same_quarter r (suc (suc zero)) s c (suc (suc (suc (suc p)))) t d qs ps sr tr c1 cr d1 dr same =
+    absurd (omega arith)
+same_quarter r (suc (suc (suc zero))) s c
+    (suc (suc (suc (suc p)))) t d qs ps sr tr c1 cr d1 dr same = absurd (omega arith)
 
 -- ---- members of a circle
 
 -- two steps of the circle at which the same place lies
-steps_apart : (r a b : ℕ) → 100 ≤ r → a < b → b < 512 → 163 ≤ r * (b - a) → place_after r a ≡ place_after r b → ⊥
+steps_apart : (r a b : ℕ)
+    → 100 ≤ r
+    → a < b
+    → b < 512
+    → 163 ≤ r * (b - a)
+    → place_after r a ≡ place_after r b
+    → ⊥
 steps_apart r a b large lt within far same =
     let x = a % 128 in
     let y = b % 128 in
@@ -202,41 +245,73 @@ steps_apart r a b large lt within far same =
     let entire = div-add-mod' b 128 in
     let quarter : a / 128 < 4 = omega arith in
     let other : b / 128 < 4 = omega arith in
-    let parts = same_quarter r (a / 128) (part_of r x) (part_of r (128 - x)) (b / 128) (part_of r y) (part_of r (128 - y)) quarter other (part_fits r x (omega arith)) (part_fits r y (omega arith)) (part_some r (128 - x) large (omega arith) (omega arith)) (part_fits r (128 - x) (omega arith)) (part_some r (128 - y) large (omega arith) (omega arith)) (part_fits r (128 - y) (omega arith)) same in
+    let parts = same_quarter r (a / 128) (part_of r x) (part_of r (128 - x)) (b / 128) (part_of r y)
+    (part_of r (128 - y)) quarter other (part_fits r x (omega arith)) (part_fits r y (omega arith))
+    (part_some r (128 - x) large (omega arith) (omega arith)) (part_fits r (128 - x) (omega arith))
+    (part_some r (128 - y) large (omega arith) (omega arith))
+    (part_fits r (128 - y) (omega arith)) same in
     let further : y ≡ x + (b - a) = omega (arith, parts.0) in
     let few : x + (b - a) ≤ 128 = omega arith in
-    apart_within r x (b - a) few far (parts.1 ∙ ap (part_of r) further) (parts.2 ∙ ap (λ k. part_of r (128 - k)) further)
+    apart_within r x (b - a) few far (parts.1 ∙ ap (part_of r) further)
+    (parts.2 ∙ ap (λ k. part_of r (128 - k)) further)
 
 -- how far apart the steps of two members are
-steps_between : (count u v k : ℕ) → 0 < count → k * count ≤ 512 → u < v → u * 512 / count + k ≤ v * 512 / count
+steps_between : (count u v k : ℕ)
+    → 0 < count
+    → k * count ≤ 512
+    → u < v
+    → u * 512 / count + k ≤ v * 512 / count
 steps_between count u v k some few lt =
-    let more : u * 512 / count + k ≡ (u * 512 + k * count) / count = sym (add-mul-div_right (u * 512) k some) in
+    let more : u * 512 / count + k ≡ (u * 512 + k * count) / count =
+    sym (add-mul-div_right (u * 512) k some) in
     let below : u * 512 + k * count ≤ v * 512 = omega arith in
-    rw more (le-div ((u * 512 + k * count) / count) (v * 512) count some (let low = div-mul-le_self (u * 512 + k * count) count in omega arith))
+    rw more
+    (le-div ((u * 512 + k * count) / count) (v * 512) count some
+    (let low = div-mul-le_self (u * 512 + k * count) count in omega arith))
 
-far_enough : (count u v : ℕ) → 0 < count → count ≤ MAX_VERTICES → u < v → (u * 512 / count < v * 512 / count) × (163 ≤ radius_of count * (v * 512 / count - u * 512 / count))
+far_enough : (count u v : ℕ)
+    → 0 < count
+    → count ≤ MAX_VERTICES
+    → u < v
+    → (u * 512 / count < v * 512 / count)
+    × (163 ≤ radius_of count * (v * 512 / count - u * 512 / count))
 far_enough count u v some few lt =
     elim (cases_lt count 21) [
       | inl low ↦
           let steps = steps_between count u v 2 some (omega arith) lt in
-          let product = mul-le 100 2 (radius_of count) (v * 512 / count - u * 512 / count) (omega arith) (omega arith) in
+          let product = mul-le 100 2 (radius_of count) (v * 512 / count - u * 512 / count)
+          (omega arith) (omega arith) in
           (omega arith, omega arith)
       | inr high ↦
           let steps = steps_between count u v 1 some (omega arith) lt in
-          let product = mul-le 168 1 (radius_of count) (v * 512 / count - u * 512 / count) (omega arith) (omega arith) in
+          let product = mul-le 168 1 (radius_of count) (v * 512 / count - u * 512 / count)
+          (omega arith) (omega arith) in
           (omega arith, omega arith)
     ]
 
-apart_below : (count u v : ℕ) → count ≤ MAX_VERTICES → u < v → v < count → place_on_circle count u ≡ place_on_circle count v → ⊥
+apart_below : (count u v : ℕ)
+    → count ≤ MAX_VERTICES
+    → u < v
+    → v < count
+    → place_on_circle count u ≡ place_on_circle count v
+    → ⊥
 unfolding place_on_circle
 apart_below count u v few lt within same =
     let some : 0 < count = omega arith in
     let whole : max count 1 ≡ count = omega arith in
     let far = far_enough count u v some few lt in
-    let last : v * 512 / count < 512 = (div-lt_iff_lt-mul {k = count} {x = v * 512} {y = 512} some).1 (omega arith) in
-    steps_apart (radius_of count) (u * 512 / count) (v * 512 / count) (omega arith) far.0 last far.1 (subst (λ (n : ℕ). place_after (radius_of count) (u * 512 / n) ≡ place_after (radius_of count) (v * 512 / n)) whole same)
+    let last : v * 512 / count < 512 =
+    (div-lt_iff_lt-mul {k = count} {x = v * 512} {y = 512} some).1 (omega arith) in
+    steps_apart (radius_of count) (u * 512 / count) (v * 512 / count) (omega arith) far.0 last far.1
+    (subst (λ (n : ℕ). place_after (radius_of count) (u * 512 / n)
+    ≡ place_after (radius_of count) (v * 512 / n)) whole same)
 
-pub members_apart : (count u v : ℕ) → count ≤ MAX_VERTICES → u < count → v < count → place_on_circle count u ≡ place_on_circle count v → u ≡ v
+pub members_apart : (count u v : ℕ)
+    → count ≤ MAX_VERTICES
+    → u < count
+    → v < count
+    → place_on_circle count u ≡ place_on_circle count v
+    → u ≡ v
 members_apart count u v few low within same =
     elim (cases_lt u v) [
       | inl lt ↦ absurd (apart_below count u v few lt within same)
@@ -246,9 +321,16 @@ members_apart count u v few low within same =
       ]
     ]
 
-pub ring_apart : (points u v : ℕ) → u < points → v < points → place_on_ring points u ≡ place_on_ring points v → u ≡ v
+pub ring_apart : (points u v : ℕ)
+    → u < points
+    → v < points
+    → place_on_ring points u ≡ place_on_ring points v
+    → u ≡ v
 ring_apart points u v low within same =
     elim (cases_Bool (nat_le points MAX_ON_RING)) [
-      | inl few ↦ members_apart points u v (let most : points ≤ 48 = grind (arith, nat_tests) in omega arith) low within (rw few at same)
+      | inl few ↦ members_apart points u v (let most : points ≤ 48 = grind (
+        arith,
+        nat_tests,
+      ) in omega arith) low within (rw few at same)
       | inr many ↦ cells_apart ROW u v (rw many at same)
     ]

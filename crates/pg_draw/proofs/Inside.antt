@@ -21,22 +21,32 @@ use Rattle.pg_draw.proofs.Circles.{part_fits, place_in}
 
 -- ---- cells
 
-cell_inside : (width height v : ℕ) → 0 < width → v / width < height → IsUpTo (row_reach width height) (place_on_grid width v)
+cell_inside : (width height v : ℕ)
+    → 0 < width
+    → v / width < height
+    → IsUpTo (row_reach width height) (place_on_grid width v)
 unfolding place_on_grid row_reach
 cell_inside width height v some low =
     let whole : max width 1 ≡ width = omega arith in
     let few = mod_below v width some in
     rw whole (omega arith, omega arith)
 
-grid_inside : (width height v : ℕ) → v < width * height → IsUpTo (row_reach width height) (place_on_grid width v)
+grid_inside : (width height v : ℕ)
+    → v < width * height
+    → IsUpTo (row_reach width height) (place_on_grid width v)
 grid_inside zero height v lt = absurd (omega arith)
 grid_inside (suc width) height v lt =
     let some : 0 < suc width = omega arith in
-    cell_inside (suc width) height v some ((div-lt_iff_lt-mul {k = suc width} {x = v} {y = height} some).1 (let same = mul_comm (suc width) height in omega arith))
+    cell_inside (suc width) height v some
+    ((div-lt_iff_lt-mul {k = suc width} {x = v} {y = height} some).1
+    (let same = mul_comm (suc width) height in omega arith))
 
 -- ---- circles
 
-quarter_inside : (r q s c : ℕ) → s ≤ r → c ≤ r → ((place_in r q s c).across ≤ 48 + 2 * r) × ((place_in r q s c).down ≤ 72 + 2 * r)
+quarter_inside : (r q s c : ℕ)
+    → s ≤ r
+    → c ≤ r
+    → ((place_in r q s c).across ≤ 48 + 2 * r) × ((place_in r q s c).down ≤ 72 + 2 * r)
 quarter_inside r q s c sr cr =
     elim (cases_Bool (q == 0)) [
       | inl e ↦ rw e (omega arith, omega arith)
@@ -55,7 +65,9 @@ circle_inside count u =
     let r = radius_of count in
     let step = u * 512 / max count 1 in
     let low = mod_below step 128 (omega arith) in
-    let inside = quarter_inside r (step / 128) (part_of r (step % 128)) (part_of r (128 - step % 128)) (part_fits r (step % 128) (omega arith)) (part_fits r (128 - step % 128) (omega arith)) in
+    let inside =
+    quarter_inside r (step / 128) (part_of r (step % 128)) (part_of r (128 - step % 128))
+    (part_fits r (step % 128) (omega arith)) (part_fits r (128 - step % 128) (omega arith)) in
     let across = inside.0 in
     let down = inside.1 in
     (omega (arith, across), omega (arith, down))
@@ -71,8 +83,10 @@ ring_inside points v lt =
 
 -- the middle of an edge, where others reach so far
 edge_inside : (courses : List Course) (far : Place) (v : ℕ)
-    → ((place_of_edge courses v).across ≤ max MARGIN (fold farther far courses).across) × ((place_of_edge courses v).down ≤ max TOP (fold farther far courses).down)
-    × (far.across ≤ (fold farther far courses).across) × (far.down ≤ (fold farther far courses).down)
+    → ((place_of_edge courses v).across ≤ max MARGIN (fold farther far courses).across)
+    × ((place_of_edge courses v).down ≤ max TOP (fold farther far courses).down)
+    × (far.across ≤ (fold farther far courses).across)
+    × (far.down ≤ (fold farther far courses).down)
 edge_inside [] far v = (omega arith, omega arith, omega arith, omega arith)
 edge_inside (course ∷ courses) far zero =
     let rest = edge_inside courses (farther far course) zero in
@@ -86,7 +100,9 @@ edge_inside (course ∷ courses) far (suc v) =
     (rest.0, rest.1, omega (arith, across), omega (arith, down))
 
 -- a graph's vertices reach further than a corner
-reach_some : (vertices : ℕ) (bridge : Option ℕ) → (MARGIN + HALF ≤ (reach_by vertices bridge).across) × (TOP + HALF ≤ (reach_by vertices bridge).down)
+reach_some : (vertices : ℕ) (bridge : Option ℕ)
+    → (MARGIN + HALF ≤ (reach_by vertices bridge).across)
+    × (TOP + HALF ≤ (reach_by vertices bridge).down)
 unfolding circle_reach bridge_reach
 reach_some vertices None = (omega arith, omega arith)
 reach_some vertices (Some rows) = (omega arith, omega arith)
@@ -114,11 +130,14 @@ row_low : (rows u : ℕ) → u < rows * (rows - 1) + 2 → row_of rows u u ≤ r
 row_low rows zero lt = omega arith
 row_low rows (suc zero) lt = omega arith
 row_low rows (suc (suc k)) lt =
-    let is : row_of rows (suc (suc k)) (suc (suc k)) ≡ k / columns_of rows = grind (arith, nat_tests) in
+    let is : row_of rows (suc (suc k)) (suc (suc k)) ≡ k / columns_of rows =
+    grind (arith, nat_tests) in
     let low = inner_row rows k (omega arith) in
     omega arith
 
-bridge_inside : (rows u : ℕ) → u < rows * (rows - 1) + 2 → IsUpTo (bridge_reach rows) (place_on_bridge rows u u)
+bridge_inside : (rows u : ℕ)
+    → u < rows * (rows - 1) + 2
+    → IsUpTo (bridge_reach rows) (place_on_bridge rows u u)
 unfolding place_on_bridge bridge_reach
 bridge_inside rows u lt =
     let column = column_low rows u in
@@ -128,15 +147,21 @@ bridge_inside rows u lt =
 -- ---- boards
 
 -- what is up to the reach of a board is up to its corner
-further : (board : Board) (courses : List Course) (place : Place) → IsUpTo (reach_of board) place → IsUpTo (far_corner board courses) place
+further : (board : Board) (courses : List Course) (place : Place)
+    → IsUpTo (reach_of board) place
+    → IsUpTo (far_corner board courses) place
 further board courses place up =
     let across = up.0 in
     let down = up.1 in
     (omega (arith, across), omega (arith, down))
 
-point_inside : (board : Board) (courses : List Course) (v : ℕ) → v < points_on board → IsUpTo (far_corner board courses) (place_of board courses v)
-point_inside (Grid width height) courses v lt = further (Grid width height) courses (place_on_grid width v) (grid_inside width height v lt)
-point_inside (Ring points) courses v lt = further (Ring points) courses (place_on_ring points v) (ring_inside points v lt)
+point_inside : (board : Board) (courses : List Course) (v : ℕ)
+    → v < points_on board
+    → IsUpTo (far_corner board courses) (place_of board courses v)
+point_inside (Grid width height) courses v lt =
+    further (Grid width height) courses (place_on_grid width v) (grid_inside width height v lt)
+point_inside (Ring points) courses v lt =
+    further (Ring points) courses (place_on_ring points v) (ring_inside points v lt)
 point_inside (Graph vertices ends terminals bridge) courses v lt =
     let edge = edge_inside courses (at 0 0) v in
     let some = reach_some vertices bridge in
@@ -146,27 +171,45 @@ point_inside (Graph vertices ends terminals bridge) courses v lt =
     let top = some.1 in
     (omega (arith, across, left), omega (arith, down, top))
 
-by_inside : (vertices : ℕ) (ends : List (ℕ × ℕ)) (terminals : List ℕ) (bridge : Option ℕ) (u : ℕ) → IsBoard (Graph vertices ends terminals bridge) → u < vertices → IsUpTo (reach_by vertices bridge) (place_by vertices bridge u u)
+by_inside : (vertices : ℕ) (ends : List (ℕ × ℕ)) (terminals : List ℕ) (bridge : Option ℕ) (u : ℕ)
+    → IsBoard (Graph vertices ends terminals bridge)
+    → u < vertices
+    → IsUpTo (reach_by vertices bridge) (place_by vertices bridge u u)
 by_inside vertices ends terminals None u fits lt = circle_inside vertices u
-by_inside vertices ends terminals (Some rows) u fits lt = let same = fits.is_bridge.same_vertices in bridge_inside rows u (omega (arith, same))
+by_inside vertices ends terminals (Some rows) u fits lt =
+    let same = fits.is_bridge.same_vertices in
+    bridge_inside rows u (omega (arith, same))
 
-vertex_up : (board : Board) (courses : List Course) (u : ℕ) → IsBoard board → u < vertices_on board → IsUpTo (far_corner board courses) (vertex_place board u)
+vertex_up : (board : Board) (courses : List Course) (u : ℕ)
+    → IsBoard board
+    → u < vertices_on board
+    → IsUpTo (far_corner board courses) (vertex_place board u)
 vertex_up (Grid width height) courses u fits lt = absurd (omega arith)
 vertex_up (Ring points) courses u fits lt = absurd (omega arith)
 vertex_up (Graph vertices ends terminals bridge) courses u fits lt =
-    further (Graph vertices ends terminals bridge) courses (place_by vertices bridge u u) (by_inside vertices ends terminals bridge u fits lt)
+    further (Graph vertices ends terminals bridge) courses (place_by vertices bridge u u)
+    (by_inside vertices ends terminals bridge u fits lt)
 
 -- ---- pictures
 
-in_picture : (scene : Scene) (place : Place) → IsUpTo (far_corner scene.board (courses_of scene.board)) place → IsInside (picture_of scene) place
+in_picture : (scene : Scene) (place : Place)
+    → IsUpTo (far_corner scene.board (courses_of scene.board)) place
+    → IsInside (picture_of scene) place
 unfolding picture_of
 in_picture scene place up =
     let across = up.0 in
     let down = up.1 in
     (omega (arith, across), omega (arith, down))
 
-pub point_in_picture : (scene : Scene) (v : ℕ) → v < points_on scene.board → IsInside (picture_of scene) (place_of scene.board (courses_of scene.board) v)
-point_in_picture scene v lt = in_picture scene (place_of scene.board (courses_of scene.board) v) (point_inside scene.board (courses_of scene.board) v lt)
+pub point_in_picture : (scene : Scene) (v : ℕ)
+    → v < points_on scene.board
+    → IsInside (picture_of scene) (place_of scene.board (courses_of scene.board) v)
+point_in_picture scene v lt = in_picture scene (place_of scene.board (courses_of scene.board) v)
+    (point_inside scene.board (courses_of scene.board) v lt)
 
-pub vertex_in_picture : (scene : Scene) (u : ℕ) → IsBoard scene.board → u < vertices_on scene.board → IsInside (picture_of scene) (vertex_place scene.board u)
-vertex_in_picture scene u fits lt = in_picture scene (vertex_place scene.board u) (vertex_up scene.board (courses_of scene.board) u fits lt)
+pub vertex_in_picture : (scene : Scene) (u : ℕ)
+    → IsBoard scene.board
+    → u < vertices_on scene.board
+    → IsInside (picture_of scene) (vertex_place scene.board u)
+vertex_in_picture scene u fits lt = in_picture scene (vertex_place scene.board u)
+    (vertex_up scene.board (courses_of scene.board) u fits lt)

@@ -27,18 +27,21 @@ HasNearMiddle course = IsWithin MAX_MIDDLE_REACH (middle_of course)
 abbrev pub have_same_ends : ℕ × ℕ → ℕ × ℕ → Bool
 have_same_ends a b = (a.0 == b.0 && a.1 == b.1) || (a.0 == b.1 && a.1 == b.0)
 
--- the place towards which an edge is bent: down from its middle where it leads rather across, else to the right
+-- the place towards which an edge is bent: down from its middle where it leads rather across, else
+-- to the right
 unfoldable pub bend_of : Place → Place → ℕ → Place
 bend_of from to steps =
     let middle = midway from to in
-    if nat_le (abs_diff from.down to.down) (abs_diff from.across to.across) then at middle.across (middle.down + BEND * steps)
+    if nat_le (abs_diff from.down to.down) (abs_diff from.across to.across)
+    then at middle.across (middle.down + BEND * steps)
     else at (middle.across + BEND * steps) middle.down
 
 -- the middle of a loop at a place, where so many lie nearer
 unfoldable pub beside : Place → ℕ → Place
 beside place steps = at (place.across + LOOP * (steps + 1)) place.down
 
--- how an edge runs, where so many before it have the same ends: the first straight, each further one bent further
+-- how an edge runs, where so many before it have the same ends: the first straight, each further
+-- one bent further
 unfoldable pub course_of : Plan → ℕ → ℕ × ℕ → Course
 course_of plan steps edge =
     let from = place_of_end plan edge.0 edge.1 in
@@ -50,7 +53,8 @@ course_of plan steps edge =
 -- how edges run behind the first ones
 abbrev pub courses_behind : Plan → List (ℕ × ℕ) → List (ℕ × ℕ) → List Course
 courses_behind plan before [] = []
-courses_behind plan before (edge ∷ edges) = course_of plan (count_by (have_same_ends edge) before) edge ∷ courses_behind plan (before ++ edge ∷ []) edges
+courses_behind plan before (edge ∷ edges) = course_of plan
+    (count_by (have_same_ends edge) before) edge ∷ courses_behind plan (before ++ edge ∷ []) edges
 
 -- the middle of an edge, and the corner of the board for what is no edge
 abbrev pub middle_or_corner : Option Course → Place
@@ -63,7 +67,8 @@ place_of_edge courses edge = middle_or_corner (slice_get courses edge)
 
 -- the farther of both, in either direction
 abbrev pub farther : Place → Course → Place
-farther far course = at (max far.across (middle_of course).across) (max far.down (middle_of course).down)
+farther far course =
+    at (max far.across (middle_of course).across) (max far.down (middle_of course).down)
 
 -- how far the middles of edges reach
 abbrev pub farthest : List Course → Place

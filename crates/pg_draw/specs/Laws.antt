@@ -21,12 +21,16 @@ shapes_on scene items = flat_map (item_shapes scene.board (courses_of scene.boar
 
 -- what stands behind all items
 abbrev pub last_shapes : Scene → List Shape
-last_shapes scene = vertices_shapes scene.board ++ legend_shapes (far_corner scene.board (courses_of scene.board)).down scene.legend
+last_shapes scene = vertices_shapes scene.board
+    ++ legend_shapes (far_corner scene.board (courses_of scene.board)).down scene.legend
 
--- the item's shapes stand between those of the items before and after it, which stand between the heading and the rest
+-- the item's shapes stand between those of the items before and after it, which stand between the
+-- heading and the rest
 abbrev pub IsDrawnBetween : Scene → List Item → Item → List Item → Type 0
 IsDrawnBetween scene before item after =
-    (picture_of scene).shapes ≡ Words (at MARGIN HEADING_DOWN) scene.title paints.Heading ∷ shapes_on scene before ++ (item_shapes scene.board (courses_of scene.board) item ++ (shapes_on scene after ++ last_shapes scene))
+    (picture_of scene).shapes ≡ Words (at MARGIN HEADING_DOWN) scene.title paints.Heading
+    ∷ shapes_on scene before ++ (item_shapes scene.board (courses_of scene.board) item
+    ++ (shapes_on scene after ++ last_shapes scene))
 
 -- a place is so far from the corner that half a cell is left in both directions
 abbrev pub IsUpTo : Place → Place → Type 0
@@ -40,4 +44,5 @@ IsInside picture place = IsUpTo (at picture.width picture.height) place
 abbrev pub vertex_place : Board → ℕ → Place
 vertex_place (Grid width height) vertex = at MARGIN TOP
 vertex_place (Ring points) vertex = at MARGIN TOP
-vertex_place (Graph vertices ends terminals bridge) vertex = place_of_end (plan_of vertices bridge) vertex vertex
+vertex_place (Graph vertices ends terminals bridge) vertex =
+    place_of_end (plan_of vertices bridge) vertex vertex

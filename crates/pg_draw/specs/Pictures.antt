@@ -42,12 +42,14 @@ row_reach width height = at (MARGIN + CELL * width) (TOP + CELL * height)
 -- the cells, discs or vertices of a board
 abbrev pub reach_of : Board → Place
 reach_of (Grid width height) = row_reach width height
-reach_of (Ring points) = if nat_le points MAX_ON_RING then circle_reach points else row_reach ROW (points / ROW + 1)
+reach_of (Ring points) =
+    if nat_le points MAX_ON_RING then circle_reach points else row_reach ROW (points / ROW + 1)
 reach_of (Graph vertices ends terminals bridge) = plan_reach (plan_of vertices bridge)
 
 -- a board with its edges
 abbrev pub far_corner : Board → List Course → Place
-far_corner board courses = at (max (reach_of board).across ((farthest courses).across + HALF)) (max (reach_of board).down ((farthest courses).down + HALF))
+far_corner board courses = at (max (reach_of board).across ((farthest courses).across + HALF))
+    (max (reach_of board).down ((farthest courses).down + HALF))
 
 -- ---- words
 
@@ -62,18 +64,22 @@ widest texts = fold (λ width words. max width (text_width LEGEND_LETTER words))
 -- the lines of a legend below a place
 abbrev pub legend_shapes : ℕ → List (List ℕ) → List Shape
 legend_shapes down [] = []
-legend_shapes down (line ∷ lines) = Words (at MARGIN (down + LEADING)) line paints.Legend ∷ legend_shapes (down + LEADING) lines
+legend_shapes down (line ∷ lines) =
+    Words (at MARGIN (down + LEADING)) line paints.Legend ∷ legend_shapes (down + LEADING) lines
 
 -- ---- scenes
 
--- the heading, the shapes of each item in the order of the items, the vertices, and the legend below that place
+-- the heading, the shapes of each item in the order of the items, the vertices, and the legend
+-- below that place
 abbrev pub shapes_of : Scene → List Course → ℕ → List Shape
-shapes_of scene courses bottom =
-    Words (at MARGIN HEADING_DOWN) scene.title paints.Heading ∷ flat_map (item_shapes scene.board courses) scene.items ++ (vertices_shapes scene.board ++ legend_shapes bottom scene.legend)
+shapes_of scene courses bottom = Words (at MARGIN HEADING_DOWN) scene.title paints.Heading
+    ∷ flat_map (item_shapes scene.board courses) scene.items
+    ++ (vertices_shapes scene.board ++ legend_shapes bottom scene.legend)
 
 -- how wide a picture is whose board reaches so far: no less than its title and its legend
 abbrev pub width_of : Scene → ℕ → ℕ
-width_of scene across = MARGIN + max (max across (text_width HEADING_LETTER scene.title)) (widest scene.legend)
+width_of scene across =
+    MARGIN + max (max across (text_width HEADING_LETTER scene.title)) (widest scene.legend)
 
 -- the picture of a scene
 unfoldable pub picture_of : Scene → Picture

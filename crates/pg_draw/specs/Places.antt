@@ -29,7 +29,8 @@ lower place down = at place.across (place.down + down)
 
 -- the middle of the cell of a point on a board of squares so wide: row after row, from the left
 unfoldable pub place_on_grid : ℕ → ℕ → Place
-place_on_grid width point = at (MARGIN + HALF + CELL * (point % max width 1)) (TOP + HALF + CELL * (point / max width 1))
+place_on_grid width point =
+    at (MARGIN + HALF + CELL * (point % max width 1)) (TOP + HALF + CELL * (point / max width 1))
 
 -- ---- circles
 
@@ -57,9 +58,11 @@ radius_of count = max (SPREAD * count) MIN_RADIUS
 unfoldable pub place_on_circle : ℕ → ℕ → Place
 place_on_circle count index = place_after (radius_of count) (index * TURN / max count 1)
 
--- the place of one of so many points that have no place of their own: on a circle, and in rows where there are more
+-- the place of one of so many points that have no place of their own: on a circle, and in rows
+-- where there are more
 abbrev pub place_on_ring : ℕ → ℕ → Place
-place_on_ring points point = if nat_le points MAX_ON_RING then place_on_circle points point else place_on_grid ROW point
+place_on_ring points point =
+    if nat_le points MAX_ON_RING then place_on_circle points point else place_on_grid ROW point
 
 -- ---- boards of Bridg-It
 
@@ -67,19 +70,31 @@ place_on_ring points point = if nat_le points MAX_ON_RING then place_on_circle p
 abbrev pub columns_of : ℕ → ℕ
 columns_of rows = max (rows - 1) 1
 
--- the column of a vertex: terminal 0 is left of the inner vertices, which are numbered from 2 row after row, and terminal 1 right of them
+-- the column of a vertex: terminal 0 is left of the inner vertices, which are numbered from 2 row
+-- after row, and terminal 1 right of them
 abbrev pub column_of : ℕ → ℕ → ℕ
-column_of rows vertex = if vertex == 0 then 0 else if vertex == 1 then columns_of rows + 1 else (vertex - 2) % columns_of rows + 1
+column_of rows vertex = if vertex == 0
+    then 0
+    else if vertex == 1
+    then columns_of rows + 1
+    else (vertex - 2) % columns_of rows + 1
 
--- the row in which an edge leaves a vertex: a terminal is left in the row of the edge's other end, and below all rows for the other terminal
+-- the row in which an edge leaves a vertex: a terminal is left in the row of the edge's other end,
+-- and below all rows for the other terminal
 abbrev pub row_of : ℕ → ℕ → ℕ → ℕ
-row_of rows vertex other = if nat_le 2 vertex then (vertex - 2) / columns_of rows else if nat_le 2 other then (other - 2) / columns_of rows else rows
+row_of rows vertex other = if nat_le 2 vertex
+    then (vertex - 2) / columns_of rows
+    else if nat_le 2 other
+    then (other - 2) / columns_of rows
+    else rows
 
 -- the place at which an edge leaves a vertex
 unfoldable pub place_on_bridge : ℕ → ℕ → ℕ → Place
-place_on_bridge rows vertex other = at (MARGIN + HALF + APART * column_of rows vertex) (TOP + HALF + APART * row_of rows vertex other)
+place_on_bridge rows vertex other = at (MARGIN + HALF + APART * column_of rows vertex)
+    (TOP + HALF + APART * row_of rows vertex other)
 
--- where a vertex lies from which an edge leads to the other: on a circle of so many vertices, or on the board of Bridg-It of so many rows
+-- where a vertex lies from which an edge leads to the other: on a circle of so many vertices, or on
+-- the board of Bridg-It of so many rows
 abbrev pub place_by : ℕ → Option ℕ → ℕ → ℕ → Place
 place_by vertices None vertex other = place_on_circle vertices vertex
 place_by vertices (Some rows) vertex other = place_on_bridge rows vertex other

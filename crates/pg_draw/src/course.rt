@@ -78,7 +78,8 @@ pub(crate) fn parallels(ends: &[(u16, u16)], edge: (u16, u16)) -> u32
     count
 }
 
-/// The place towards which an edge is bent: down from its middle where it leads rather across, else to the right.
+/// The place towards which an edge is bent: down from its middle where it leads rather across, else
+/// to the right.
 #[tactic(auto, unfolding(crate::specs::Courses::bend_of))]
 pub(crate) fn bend_of(from: Place, to: Place, steps: u32) -> Place
     requires from { IsWithin MAX_END_REACH from }

@@ -60,7 +60,8 @@ fn push_vertex(
     vertex: u16,
 ) -> Result<(), Memory>
     requires { IsPlan plan }
-    ensures { OnOk result (shapes.new.items ≡ shapes.old.items ++ vertex_shapes plan terminals.now vertex) }
+    ensures { OnOk result
+        (shapes.new.items ≡ shapes.old.items ++ vertex_shapes plan terminals.now vertex) }
 {
     push_bar(shapes, plan, vertex)?;
     let centre = plan.place_of_end(vertex, vertex);
@@ -82,7 +83,9 @@ fn push_each_vertex(
     count: u16,
 ) -> Result<(), Memory>
     requires { IsPlan plan }
-    ensures { OnOk result (shapes.new.items ≡ shapes.old.items ++ flat_map (vertex_shapes plan terminals.now) (range_with_len 0 count)) }
+    ensures { OnOk result
+        (shapes.new.items ≡ shapes.old.items
+        ++ flat_map (vertex_shapes plan terminals.now) (range_with_len 0 count)) }
 {
     for vertex in 0..count {
         push_vertex(alloc, shapes, plan, terminals, vertex)?;
@@ -174,8 +177,9 @@ fn width_of(scene: &Scene, across: u32) -> u32
     MARGIN + across.max(title).max(legend)
 }
 
-/// The picture of a scene: its title, the shapes of each item in the order of the items, the vertices of a graph, and the
-/// legend. The board is within the limits of games, and the legend has at most `MAX_LEGEND_LINES` lines. A unit is a pixel.
+/// The picture of a scene: its title, the shapes of each item in the order of the items, the
+/// vertices of a graph, and the legend. The board is within the limits of games, and the legend has
+/// at most `MAX_LEGEND_LINES` lines. A unit is a pixel.
 ///
 /// # Errors
 ///

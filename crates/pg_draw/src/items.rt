@@ -29,7 +29,9 @@ fn push_line(
     courses: &Courses,
     points: &[u16],
 ) -> Result<(), Memory>
-    ensures { OnOk result (shapes.new.items ≡ shapes.old.items ++ line_shapes (place_of board.now courses.now) points.now) }
+    ensures { OnOk result
+        (shapes.new.items
+        ≡ shapes.old.items ++ line_shapes (place_of board.now courses.now) points.now) }
 {
     let Some((first, others)) = points.split_first() else {
         return Ok(());
@@ -94,7 +96,8 @@ fn push_member(
     point: u16,
     set: Set,
 ) -> Result<(), Memory>
-    ensures { OnOk result (shapes.new.items ≡ shapes.old.items ++ member_shapes board.now courses.now point set) }
+    ensures { OnOk result
+        (shapes.new.items ≡ shapes.old.items ++ member_shapes board.now courses.now point set) }
 {
     let paint = set_paint(set);
     if let Board::Graph { .. } = board {
@@ -121,7 +124,8 @@ fn push_further_edge(
 ) -> Result<(), Memory>
     requires plan { IsPlan plan }
     requires few { length ends.now ≤ MAX_EDGES }
-    ensures { OnOk result (shapes.new.items ≡ shapes.old.items ++ further_edge_shapes plan ends.now terminals set) }
+    ensures { OnOk result
+        (shapes.new.items ≡ shapes.old.items ++ further_edge_shapes plan ends.now terminals set) }
 {
     let from = plan.place_of_end(terminals.0, terminals.1);
     let to = plan.place_of_end(terminals.1, terminals.0);
@@ -205,7 +209,8 @@ fn push_part(
     part: u16,
 ) -> Result<(), Memory>
     requires { IsBoard board.now }
-    ensures { OnOk result (shapes.new.items ≡ shapes.old.items ++ part_shapes board.now vertex part) }
+    ensures { OnOk result
+        (shapes.new.items ≡ shapes.old.items ++ part_shapes board.now vertex part) }
 {
     let Board::Graph {
         vertices,
@@ -239,7 +244,8 @@ fn push_reached(
     paint: Paint,
 ) -> Result<(), Memory>
     requires { IsWithin MAX_MIDDLE_REACH place }
-    ensures { OnOk result (shapes.new.items ≡ shapes.old.items ++ reached_shapes place child paint) }
+    ensures { OnOk result
+        (shapes.new.items ≡ shapes.old.items ++ reached_shapes place child paint) }
 {
     shapes.push(Shape::Disc {
         centre: place,
@@ -288,7 +294,8 @@ fn push_item(
     item: &Item,
 ) -> Result<(), Memory>
     requires { IsBoard board.now }
-    ensures { OnOk result (shapes.new.items ≡ shapes.old.items ++ item_shapes board.now courses.now item.now) }
+    ensures { OnOk result
+        (shapes.new.items ≡ shapes.old.items ++ item_shapes board.now courses.now item.now) }
 {
     let place = |point: &u16| place_of(board, courses, *point);
     match item {
@@ -325,7 +332,9 @@ pub(crate) fn push_items(
     items: &[Item],
 ) -> Result<(), Memory>
     requires { IsBoard board.now }
-    ensures { OnOk result (shapes.new.items ≡ shapes.old.items ++ flat_map (item_shapes board.now courses.now) items.now) }
+    ensures { OnOk result
+        (shapes.new.items
+        ≡ shapes.old.items ++ flat_map (item_shapes board.now courses.now) items.now) }
 {
     for item in items {
         push_item(alloc, shapes, board, courses, item)?;

@@ -11,7 +11,9 @@ ghost use Rattle.pg_game.specs.declared.bounds.TheConstants.{MAX_VERTICES};
 
 /// Each item has its shapes once, behind those of the items before it.
 pub fn items_are_drawn_in_order()
-    ensures { (scene : Scene) → (before after : List Item) → (item : Item) → scene.items ≡ before ++ item ∷ after → IsDrawnBetween scene before item after }
+    ensures { (scene : Scene) → (before after : List Item) → (item : Item)
+        → scene.items ≡ before ++ item ∷ after
+        → IsDrawnBetween scene before item after }
 {}
 
 /// Different points of a board of squares lie at different places.
@@ -26,20 +28,31 @@ pub fn bridge_vertices_lie_apart()
 
 /// Different members of a circle lie at different places.
 pub fn members_of_circles_lie_apart()
-    ensures { (count u v : ℕ) → count ≤ MAX_VERTICES → u < count → v < count → place_on_circle count u ≡ place_on_circle count v → u ≡ v }
+    ensures { (count u v : ℕ) → count ≤ MAX_VERTICES
+        → u < count
+        → v < count
+        → place_on_circle count u ≡ place_on_circle count v
+        → u ≡ v }
 {}
 
 /// Different points that have no place of their own lie at different places.
 pub fn points_of_rings_lie_apart()
-    ensures { (points u v : ℕ) → u < points → v < points → place_on_ring points u ≡ place_on_ring points v → u ≡ v }
+    ensures { (points u v : ℕ) → u < points
+        → v < points
+        → place_on_ring points u ≡ place_on_ring points v
+        → u ≡ v }
 {}
 
 /// Each point of a board lies in the picture, with half a cell to its right and below it.
 pub fn points_lie_in_the_picture()
-    ensures { (scene : Scene) → (v : ℕ) → v < points_on scene.board → IsInside (picture_of scene) (place_of scene.board (courses_of scene.board) v) }
+    ensures { (scene : Scene) → (v : ℕ) → v < points_on scene.board → IsInside (picture_of scene)
+        (place_of scene.board (courses_of scene.board) v) }
 {}
 
-/// Each vertex of a board within the limits lies in the picture, with half a cell to its right and below it.
+/// Each vertex of a board within the limits lies in the picture, with half a cell to its right and
+/// below it.
 pub fn vertices_lie_in_the_picture()
-    ensures { (scene : Scene) → (u : ℕ) → IsBoard scene.board → u < vertices_on scene.board → IsInside (picture_of scene) (vertex_place scene.board u) }
+    ensures { (scene : Scene) → (u : ℕ) → IsBoard scene.board
+        → u < vertices_on scene.board
+        → IsInside (picture_of scene) (vertex_place scene.board u) }
 {}

@@ -1,4 +1,5 @@
-//! Scenes laid out as pictures: where points, edges and vertices lie, and the shapes of what is to be seen on them.
+//! Scenes laid out as pictures: where points, edges and vertices lie, and the shapes of what is to
+//! be seen on them.
 #![tactic(auto)]
 
 mod boards;

@@ -109,7 +109,8 @@ pub(crate) fn push_edge(
     edge: u16,
     paint: Paint,
 ) -> Result<(), Memory>
-    ensures { OnOk result (shapes.new.items ≡ shapes.old.items ++ edge_shapes courses.now edge paint) }
+    ensures { OnOk result
+        (shapes.new.items ≡ shapes.old.items ++ edge_shapes courses.now edge paint) }
 {
     if let Some(course) = courses.at(edge) {
         shapes.push(course_shape(course, paint))?;
@@ -127,7 +128,8 @@ pub(crate) fn push_point(
     point: u16,
     mark: Option<Side>,
 ) -> Result<(), Memory>
-    ensures { OnOk result (shapes.new.items ≡ shapes.old.items ++ point_shapes board.now courses.now point mark) }
+    ensures { OnOk result
+        (shapes.new.items ≡ shapes.old.items ++ point_shapes board.now courses.now point mark) }
 {
     let place = place_of(board, courses, point);
     match board {

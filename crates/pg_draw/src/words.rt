@@ -39,7 +39,8 @@ pub(crate) fn push_number(
     number: usize,
     paint: Paint,
 ) -> Result<(), Memory>
-    ensures { OnOk result (shapes.new.items ≡ shapes.old.items ++ Words at (decimal number) paint ∷ []) }
+    ensures { OnOk result
+        (shapes.new.items ≡ shapes.old.items ++ Words at (decimal number) paint ∷ []) }
 {
     let words = Text::from_string(format!(in alloc; "{number}")?);
     shapes.push(Shape::Words { at, words, paint })?;
@@ -54,7 +55,8 @@ pub(crate) fn push_child(
     child: u32,
     paint: Paint,
 ) -> Result<(), Memory>
-    ensures { OnOk result (shapes.new.items ≡ shapes.old.items ++ Words at (child_text child) paint ∷ []) }
+    ensures { OnOk result
+        (shapes.new.items ≡ shapes.old.items ++ Words at (child_text child) paint ∷ []) }
 {
     let words = Text::from_string(format!(in alloc; "-> {child}")?);
     shapes.push(Shape::Words { at, words, paint })?;

@@ -9,7 +9,9 @@ use Rattle.pg_exchange.specs.Path.{HasEnds, IsStep, IsPath, IsTrail, IsClimbed}
 use Rattle.pg_exchange.proofs.PathLemmas.{IsTrail-begin, IsTrail-step, stays}
 
 module _ (a b : ℕ → ℕ) (base : ℕ → Bool) (depth above via : ℕ → ℕ) where
-  pub IsClimbed-begin : (from to : ℕ) (found : ℕ → Bool) → ((z : ℕ) → found z ≡ false) → IsClimbed a b base depth above via from to from to found
+  pub IsClimbed-begin : (from to : ℕ) (found : ℕ → Bool)
+      → ((z : ℕ) → found z ≡ false)
+      → IsClimbed a b base depth above via from to from to found
   IsClimbed-begin from to found none = record {
     first = found;
     second = found;
@@ -28,7 +30,9 @@ module _ (a b : ℕ → ℕ) (base : ℕ → Bool) (depth above via : ℕ → �
   }
 
   -- seen from the other end
-  pub IsClimbed-turned : (from to p q : ℕ) (found : ℕ → Bool) → IsClimbed a b base depth above via from to p q found → IsClimbed a b base depth above via to from q p found
+  pub IsClimbed-turned : (from to p q : ℕ) (found : ℕ → Bool)
+      → IsClimbed a b base depth above via from to p q found
+      → IsClimbed a b base depth above via to from q p found
   IsClimbed-turned from to p q found t = record {
     first = t.second;
     second = t.first;
@@ -46,9 +50,14 @@ module _ (a b : ℕ → ℕ) (base : ℕ → Bool) (depth above via : ℕ → �
     clear_second = t.clear_first;
   }
 
-  module _ (from to p q : ℕ) (found : ℕ → Bool) (t : IsClimbed a b base depth above via from to p q found) where
+  module _ (from to p q : ℕ) (found : ℕ → Bool)
+      (t : IsClimbed a b base depth above via from to p q found) where
     -- one step up from the deeper label
-    pub IsClimbed-step : (reached : ℕ → Bool) → p ≢ q → depth q ≤ depth p → IsStep a b base reached above via depth p → IsClimbed a b base depth above via from to (above p) q (plus found (via p))
+    pub IsClimbed-step : (reached : ℕ → Bool)
+        → p ≢ q
+        → depth q ≤ depth p
+        → IsStep a b base reached above via depth p
+        → IsClimbed a b base depth above via from to (above p) q (plus found (via p))
     IsClimbed-step reached d deep s = record {
       first = plus t.first (via p);
       second = t.second;
@@ -60,13 +69,30 @@ module _ (a b : ℕ → ℕ) (base : ℕ → Bool) (depth above via : ℕ → �
         | inl g ↦ elim (t.parts k g) [ inl f ↦ inl (plus_old t.first (via p) k f) | inr s ↦ inr s ]
         | inr e ↦ inl (plus_new t.first (via p) k e)
       ];
-      holds_first = λ k h. elim (plus_cases t.first (via p) k h) [ inl f ↦ plus_old found (via p) k (t.holds_first k f) | inr e ↦ plus_new found (via p) k e ];
+      holds_first = λ k h. elim (plus_cases t.first (via p) k h) [
+        | inl f ↦ plus_old found (via p) k (t.holds_first k f)
+        | inr e ↦ plus_new found (via p) k e
+      ];
       holds_second = λ k h. plus_old found (via p) k (t.holds_second k h);
-      apart = λ c h. elim (plus_cases t.gone_first p c h) [ inl g ↦ t.apart c g | inr e ↦ subst (λ (z : ℕ). t.gone_second z ≡ false) e t.clear_second ];
-      low_first = λ c h. elim (plus_cases t.gone_first p c h) [ inl g ↦ t.low_first c g | inr e ↦ subst (λ (z : ℕ). depth q ≤ depth z) e deep ];
-      low_second = λ c h. let l : depth p ≤ depth c = t.low_second c h in let m : depth (above p) < depth p = s.lower in omega arith;
-      clear_first = false_from_ne_true _ (λ h. elim (plus_cases t.gone_first p q h) [ inl g ↦ both_ways _ t.clear_first g | inr e ↦ d e ]);
-      clear_second = false_from_ne_true _ (λ h. let l : depth p ≤ depth (above p) = t.low_second (above p) h in let m : depth (above p) < depth p = s.lower in omega arith);
+      apart = λ c h. elim (plus_cases t.gone_first p c h) [
+        | inl g ↦ t.apart c g
+        | inr e ↦ subst (λ (z : ℕ). t.gone_second z ≡ false) e t.clear_second
+      ];
+      low_first = λ c h. elim (plus_cases t.gone_first p c h) [
+        | inl g ↦ t.low_first c g
+        | inr e ↦ subst (λ (z : ℕ). depth q ≤ depth z) e deep
+      ];
+      low_second = λ c h.
+          let l : depth p ≤ depth c = t.low_second c h in
+          let m : depth (above p) < depth p = s.lower in
+          omega arith;
+      clear_first = false_from_ne_true _ (λ h. elim (plus_cases t.gone_first p q h) [
+        | inl g ↦ both_ways _ t.clear_first g
+        | inr e ↦ d e
+      ]);
+      clear_second = false_from_ne_true _ (λ h.
+          let l : depth p ≤ depth (above p) = t.low_second (above p) h in
+          let m : depth (above p) < depth p = s.lower in omega arith);
     }
 
     -- a member found from one end has both its ends away from what is gone from the other
@@ -74,13 +100,15 @@ module _ (a b : ℕ → ℕ) (base : ℕ → Bool) (depth above via : ℕ → �
     away k h =
         let w = t.other.only k h in
         let c : ℕ = w.0 in
-        let here : t.gone_first c ≡ false = false_from_ne_true _ (λ g. both_ways _ (t.apart c g) w.1) in
+        let here : t.gone_first c ≡ false =
+        false_from_ne_true _ (λ g. both_ways _ (t.apart c g) w.1) in
         let up : t.gone_first (above c) ≡ false = false_from_ne_true _ (λ g.
         elim (t.other.next c w.1) [
           | inl i ↦ both_ways _ (t.apart (above c) g) i
           | inr e ↦ both_ways _ t.clear_first (subst (λ (z : ℕ). t.gone_first z ≡ true) e g)
         ]) in
-        let ends : HasEnds a b k c (above c) = subst (λ (z : ℕ). HasEnds a b z c (above c)) w.2 (t.other.ends c w.1) in
+        let ends : HasEnds a b k c (above c) =
+        subst (λ (z : ℕ). HasEnds a b z c (above c)) w.2 (t.other.ends c w.1) in
         elim ends [
           | inl e ↦ (ap t.gone_first e.0 ∙ here, ap t.gone_first e.1 ∙ up)
           | inr e ↦ (ap t.gone_first e.0 ∙ up, ap t.gone_first e.1 ∙ here)
@@ -90,14 +118,16 @@ module _ (a b : ℕ → ℕ) (base : ℕ → Bool) (depth above via : ℕ → �
     parted : (y : ℕ) → t.first y ≡ true → IsJoined a b (minus found y) from to → ⊥
     parted y h j =
         let s = t.one.sides y h in
-        let off : (z : ℕ) → t.gone_first z ≡ false → s.side z ≡ false = λ z n. false_from_ne_true _ (λ on. both_ways _ n (s.only z on)) in
+        let off : (z : ℕ) → t.gone_first z ≡ false → s.side z ≡ false =
+        λ z n. false_from_ne_true _ (λ on. both_ways _ n (s.only z on)) in
         let closed : (k : ℕ) → minus found y k ≡ true → s.side (a k) ≡ s.side (b k) = λ k m.
         let r = minus_parts found y k m in
         elim (t.parts k r.0) [
           | inl f ↦ s.closed k f r.1
           | inr g ↦ let w = away k g in off (a k) w.0 ∙ sym (off (b k) w.1)
         ] in
-        let same : s.side from ≡ s.side to = stays a b (minus found y) s.side closed j.edges from to j.walk in
+        let same : s.side from ≡ s.side to =
+        stays a b (minus found y) s.side closed j.edges from to j.walk in
         let gone : t.gone_first to ≡ true = s.only to (sym same ∙ s.begins) in
         elim t.other.begins [
           | inl g ↦ both_ways _ (t.apart to gone) g
@@ -105,14 +135,20 @@ module _ (a b : ℕ → ℕ) (base : ℕ → Bool) (depth above via : ℕ → �
         ]
 
   -- where the two ways meet, the members found are a path
-  pub IsPath-climbed : (from to p q : ℕ) (found : ℕ → Bool) → p ≡ q → IsClimbed a b base depth above via from to p q found → IsPath a b base from to found
+  pub IsPath-climbed : (from to p q : ℕ) (found : ℕ → Bool)
+      → p ≡ q
+      → IsClimbed a b base depth above via from to p q found
+      → IsPath a b base from to found
   unfolding IsClimbed-turned
   IsPath-climbed from to p q found e t = record {
     within = λ k h. elim (t.parts k h) [ inl f ↦ t.one.within k f | inr s ↦ t.other.within k s ];
-    joined = joined_on a b found from p to (joined_more a b t.first found from p t.holds_first t.one.joined)
-        (joined_back a b found to p (subst (λ (z : ℕ). IsJoined a b found to z) (sym e) (joined_more a b t.second found to q t.holds_second t.other.joined)));
+    joined = joined_on a b found from p to
+        (joined_more a b t.first found from p t.holds_first t.one.joined)
+        (joined_back a b found to p (subst (λ (z : ℕ). IsJoined a b found to z) (sym e)
+        (joined_more a b t.second found to q t.holds_second t.other.joined)));
     apart = λ y h j. elim (t.parts y h) [
       | inl f ↦ parted from to p q found t y f j
-      | inr s ↦ parted to from q p found (IsClimbed-turned from to p q found t) y s (joined_back a b (minus found y) from to j)
+      | inr s ↦ parted to from q p found (IsClimbed-turned from to p q found t) y s
+          (joined_back a b (minus found y) from to j)
     ];
   }

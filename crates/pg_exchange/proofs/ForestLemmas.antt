@@ -20,25 +20,36 @@ or_false : (p : Bool) → p ≡ (p || false)
 or_false true = refl
 or_false false = refl
 
-pub elements-without : (g : Graph) (x y : ℕ → Bool) → below (λ f. not (either x y f)) (edge_count g) ≡ elements_of g x y false
+pub elements-without : (g : Graph) (x y : ℕ → Bool)
+    → below (λ f. not (either x y f)) (edge_count g) ≡ elements_of g x y false
 unfolding elements_of
 elements-without g x y = fun_ext (λ z. or_false _)
 
-pub elements-with : (g : Graph) (x y : ℕ → Bool) → plus (below (λ f. not (either x y f)) (edge_count g)) (edge_count g) ≡ elements_of g x y true
+pub elements-with : (g : Graph) (x y : ℕ → Bool)
+    → plus (below (λ f. not (either x y f)) (edge_count g)) (edge_count g) ≡ elements_of g x y true
 unfolding elements_of plus
 elements-with g x y = fun_ext (λ z. refl)
 
-pub elements-edges : (g : Graph) (x y : ℕ → Bool) (with_e : Bool) → AreEdges g (elements_of g x y with_e)
+pub elements-edges : (g : Graph) (x y : ℕ → Bool) (with_e : Bool)
+    → AreEdges g (elements_of g x y with_e)
 unfolding elements_of
 elements-edges g x y with_e z h = elim (or_cases _ _ h) [
-  | inl k ↦ let low : z < edge_count g = (below_parts (λ f. not (either x y f)) (edge_count g) z k).1 in omega arith
-  | inr k ↦ let at : edge_count g ≡ z = eqb-true (edge_count g) z (and_parts with_e (eqb (edge_count g) z) k).1 in omega arith
+  | inl k ↦
+      let low : z < edge_count g = (below_parts (λ f. not (either x y f)) (edge_count g) z k).1 in
+      omega arith
+  | inr k ↦
+      let at : edge_count g ≡ z =
+      eqb-true (edge_count g) z (and_parts with_e (eqb (edge_count g) z) k).1 in
+      omega arith
 ]
 
 -- ---- growing
 
 module _ (spans : (ℕ → Bool) → ℕ → Bool) (law : IsSpan spans) (base candidates : ℕ → Bool) where
-  pub IsGrown-begin : (n : ℕ) → n ≡ 0 → IsFree spans base → IsGrown spans base (below candidates n) base
+  pub IsGrown-begin : (n : ℕ)
+      → n ≡ 0
+      → IsFree spans base
+      → IsGrown spans base (below candidates n) base
   IsGrown-begin n e free = record {
     holds = λ z h. h;
     within = λ z h. either_left base (below candidates n) z h;
@@ -46,68 +57,108 @@ module _ (spans : (ℕ → Bool) → ℕ → Bool) (law : IsSpan spans) (base ca
     spanning = λ f h. let p : f < n = (below_parts candidates n f h).1 in absurd (omega arith);
   }
 
-  wider : (n z : ℕ) → either base (below candidates n) z ≡ true → either base (below candidates (n + 1)) z ≡ true
+  wider : (n z : ℕ)
+      → either base (below candidates n) z ≡ true
+      → either base (below candidates (n + 1)) z ≡ true
   wider n z h = elim (either_cases base (below candidates n) z h) [
     | inl k ↦ either_left base (below candidates (n + 1)) z k
-    | inr k ↦ let p : (candidates z ≡ true) × (z < n) = below_parts candidates n z k in either_right base (below candidates (n + 1)) z (below_from candidates (n + 1) z p.0 (omega arith))
+    | inr k ↦
+        let p : (candidates z ≡ true) × (z < n) = below_parts candidates n z k in
+        either_right base (below candidates (n + 1)) z
+        (below_from candidates (n + 1) z p.0 (omega arith))
   ]
 
   -- what is spanned, or is no candidate, stays out
-  pub IsGrown-skip : (set : ℕ → Bool) (n : ℕ) → (candidates n ≡ true → spans set n ≡ true) → IsGrown spans base (below candidates n) set → IsGrown spans base (below candidates (n + 1)) set
+  pub IsGrown-skip : (set : ℕ → Bool) (n : ℕ)
+      → (candidates n ≡ true → spans set n ≡ true)
+      → IsGrown spans base (below candidates n) set
+      → IsGrown spans base (below candidates (n + 1)) set
   IsGrown-skip set n out i = record {
     holds = i.holds;
     within = λ z h. wider n z (i.within z h);
     free = i.free;
-    spanning = λ f h. let p : (candidates f ≡ true) × (f < n + 1) = below_parts candidates (n + 1) f h in elim (cases_eq f n) [
-      | inl e ↦ subst (λ (k : ℕ). spans set k ≡ true) (sym e) (out (subst (λ (k : ℕ). candidates k ≡ true) e p.0))
-      | inr d ↦ i.spanning f (below_from candidates n f p.0 (omega arith))
-    ];
+    spanning = λ f h.
+        let p : (candidates f ≡ true) × (f < n + 1) = below_parts candidates (n + 1) f h in
+        elim (cases_eq f n) [
+          | inl e ↦ subst (λ (k : ℕ). spans set k ≡ true) (sym e)
+              (out (subst (λ (k : ℕ). candidates k ≡ true) e p.0))
+          | inr d ↦ i.spanning f (below_from candidates n f p.0 (omega arith))
+        ];
   }
 
   -- a candidate that isn't spanned comes in
-  pub IsGrown-add : (set : ℕ → Bool) (n : ℕ) → candidates n ≡ true → spans set n ≡ false → IsGrown spans base (below candidates n) set → IsGrown spans base (below candidates (n + 1)) (plus set n)
+  pub IsGrown-add : (set : ℕ → Bool) (n : ℕ)
+      → candidates n ≡ true
+      → spans set n ≡ false
+      → IsGrown spans base (below candidates n) set
+      → IsGrown spans base (below candidates (n + 1)) (plus set n)
   IsGrown-add set n on out i = record {
     holds = λ z h. plus_old set n z (i.holds z h);
     within = λ z h. elim (plus_cases set n z h) [
       | inl k ↦ wider n z (i.within z k)
-      | inr e ↦ either_right base (below candidates (n + 1)) z (subst (λ (k : ℕ). below candidates (n + 1) k ≡ true) e (below_from candidates (n + 1) n on (omega arith)))
+      | inr e ↦ either_right base (below candidates (n + 1)) z
+          (subst (λ (k : ℕ). below candidates (n + 1) k ≡ true) e
+          (below_from candidates (n + 1) n on (omega arith)))
     ];
     free = free_plus spans law set n i.free out;
-    spanning = λ f h. let p : (candidates f ≡ true) × (f < n + 1) = below_parts candidates (n + 1) f h in elim (cases_eq n f) [
-      | inl e ↦ law.holds (plus set n) f (plus_new set n f e)
-      | inr d ↦ spans_mono spans law set (plus set n) f (λ z k. plus_old set n z k) (i.spanning f (below_from candidates n f p.0 (omega arith)))
-    ];
+    spanning = λ f h.
+        let p : (candidates f ≡ true) × (f < n + 1) = below_parts candidates (n + 1) f h in
+        elim (cases_eq n f) [
+          | inl e ↦ law.holds (plus set n) f (plus_new set n f e)
+          | inr d ↦ spans_mono spans law set (plus set n) f (λ z k. plus_old set n z k)
+              (i.spanning f (below_from candidates n f p.0 (omega arith)))
+        ];
   }
 
 -- a free set grown by the elements that aren't avoided, and then by those that are, is a base
-module _ (spans : (ℕ → Bool) → ℕ → Bool) (law : IsSpan spans) (elements avoided none others base : ℕ → Bool) (n : ℕ) (small : IsBelow elements n) (empty : (z : ℕ) → none z ≡ false)
-    (first : IsGrown spans none (below (outside elements avoided) n) others) (second : IsGrown spans others (below (both elements avoided) n) base) where
+module _ (spans : (ℕ → Bool) → ℕ → Bool) (law : IsSpan spans)
+    (elements avoided none others base : ℕ → Bool) (n : ℕ) (small : IsBelow elements n)
+    (empty : (z : ℕ) → none z ≡ false)
+    (first : IsGrown spans none (below (outside elements avoided) n) others)
+    (second : IsGrown spans others (below (both elements avoided) n) base) where
   others-outside : IsWithin others (outside elements avoided)
-  others-outside z h = elim (either_cases none (below (outside elements avoided) n) z (first.within z h)) [
-    | inl k ↦ absurd (both_ways _ (empty z) k)
-    | inr k ↦ (below_parts (outside elements avoided) n z k).0
-  ]
+  others-outside z h =
+      elim (either_cases none (below (outside elements avoided) n) z (first.within z h)) [
+        | inl k ↦ absurd (both_ways _ (empty z) k)
+        | inr k ↦ (below_parts (outside elements avoided) n z k).0
+      ]
 
   pub IsBase-apart : IsBase spans elements base
   IsBase-apart = record {
-    within = λ z h. elim (either_cases others (below (both elements avoided) n) z (second.within z h)) [
-      | inl k ↦ (outside_parts elements avoided z (others-outside z k)).0
-      | inr k ↦ (both_parts elements avoided z (below_parts (both elements avoided) n z k).0).0
-    ];
+    within =
+        λ z h. elim (either_cases others (below (both elements avoided) n) z (second.within z h)) [
+          | inl k ↦ (outside_parts elements avoided z (others-outside z k)).0
+          | inr k ↦ (both_parts elements avoided z (below_parts (both elements avoided) n z k).0).0
+        ];
     spanning = λ f h. elim (cases_Bool (avoided f)) [
-      | inl t ↦ second.spanning f (below_from (both elements avoided) n f (both_from elements avoided f h t) (small f h))
-      | inr o ↦ spans_mono spans law others base f second.holds (first.spanning f (below_from (outside elements avoided) n f (outside_from elements avoided f h o) (small f h)))
+      | inl t ↦ second.spanning f
+          (below_from (both elements avoided) n f (both_from elements avoided f h t) (small f h))
+      | inr o ↦ spans_mono spans law others base f second.holds
+          (first.spanning f (below_from (outside elements avoided) n f
+          (outside_from elements avoided f h o) (small f h)))
     ];
     free = second.free;
   }
 
   -- and has no avoided element that it doesn't need
-  pub spanned-apart : (f : ℕ) → elements f ≡ true → avoided f ≡ false → spans (outside base avoided) f ≡ true
-  spanned-apart f h o =
-      spans_mono spans law others (outside base avoided) f (λ z k. outside_from base avoided z (second.holds z k) (outside_parts elements avoided z (others-outside z k)).1)
-      (first.spanning f (below_from (outside elements avoided) n f (outside_from elements avoided f h o) (small f h)))
+  pub spanned-apart : (f : ℕ)
+      → elements f ≡ true
+      → avoided f ≡ false
+      → spans (outside base avoided) f ≡ true
+  spanned-apart f h o = spans_mono spans law others (outside base avoided) f
+      (λ z k. outside_from base avoided z (second.holds z k)
+      (outside_parts elements avoided z (others-outside z k)).1)
+      (first.spanning f
+      (below_from (outside elements avoided) n f (outside_from elements avoided f h o) (small f h)))
 
 -- the same at equal matroids and sets
-pub IsApart-at : (m m' : Matroid) (base base' avoided avoided' : ℕ → Bool) → m' ≡ m → base' ≡ base → avoided' ≡ avoided → IsApart m base avoided → IsApart m' base' avoided'
+pub IsApart-at : (m m' : Matroid) (base base' avoided avoided' : ℕ → Bool)
+    → m' ≡ m
+    → base' ≡ base
+    → avoided' ≡ avoided
+    → IsApart m base avoided
+    → IsApart m' base' avoided'
 IsApart-at m m' base base' avoided avoided' same at off h =
-    subst (λ (n : Matroid). IsApart n base' avoided') (sym same) (subst (λ (b : ℕ → Bool). IsApart m b avoided') (sym at) (subst (λ (b : ℕ → Bool). IsApart m base b) (sym off) h))
+    subst (λ (n : Matroid). IsApart n base' avoided') (sym same)
+    (subst (λ (b : ℕ → Bool). IsApart m b avoided') (sym at)
+    (subst (λ (b : ℕ → Bool). IsApart m base b) (sym off) h))

@@ -22,14 +22,16 @@ abbrev pub IsReachedBoth : (ℕ → Bool) → ℕ → ℕ → Type 0
 IsReachedBoth reached p q = (reached p ≡ true) × (reached q ≡ true)
 
 -- a member leads from c to what was reached before it
-pub record IsStep (a b : ℕ → ℕ) (base reached : ℕ → Bool) (above via order : ℕ → ℕ) (c : ℕ) : Type 0 where
+pub record IsStep (a b : ℕ → ℕ) (base reached : ℕ → Bool) (above via order : ℕ → ℕ)
+    (c : ℕ) : Type 0 where
   pub member : base (via c) ≡ true
   pub ends : HasEnds a b (via c) c (above c)
   pub onward : reached (above c) ≡ true
   pub lower : order (above c) < order c
 
 -- from all that is reached steps lead back to the beginning
-pub record IsSpread (a b : ℕ → ℕ) (base : ℕ → Bool) (from : ℕ) (reached : ℕ → Bool) (above via : ℕ → ℕ) : Type 0 where
+pub record IsSpread (a b : ℕ → ℕ) (base : ℕ → Bool) (from : ℕ) (reached : ℕ → Bool)
+    (above via : ℕ → ℕ) : Type 0 where
   pub order : ℕ → ℕ
   pub last : ℕ
   pub begins : reached from ≡ true
@@ -37,7 +39,8 @@ pub record IsSpread (a b : ℕ → ℕ) (base : ℕ → Bool) (from : ℕ) (reac
   pub step : (c : ℕ) → reached c ≡ true → c ≢ from → IsStep a b base reached above via order c
 
 -- the same, where to is reached
-pub record IsFound (a b : ℕ → ℕ) (base : ℕ → Bool) (from to n : ℕ) (above via : ℕ → ℕ) : Type 0 where
+pub record IsFound (a b : ℕ → ℕ) (base : ℕ → Bool) (from to n : ℕ)
+    (above via : ℕ → ℕ) : Type 0 where
   pub reached : ℕ → Bool
   pub small : IsBelow reached n
   pub spread : IsSpread a b base from reached above via
@@ -60,8 +63,10 @@ pub record IsSide (a b : ℕ → ℕ) (found gone : ℕ → Bool) (to y : ℕ) :
 abbrev pub any : ℕ → Bool
 any _ = true
 
--- steps were followed upwards from a beginning, past the gone labels, and the members found on the way
-pub record IsTrail (a b : ℕ → ℕ) (base : ℕ → Bool) (order above via : ℕ → ℕ) (begin here : ℕ) (found gone : ℕ → Bool) : Type 0 where
+-- steps were followed upwards from a beginning, past the gone labels, and the members found on the
+-- way
+pub record IsTrail (a b : ℕ → ℕ) (base : ℕ → Bool) (order above via : ℕ → ℕ) (begin here : ℕ)
+    (found gone : ℕ → Bool) : Type 0 where
   pub later : (c : ℕ) → gone c ≡ true → order here < order c
   pub ends : (c : ℕ) → gone c ≡ true → HasEnds a b (via c) c (above c)
   pub next : (c : ℕ) → gone c ≡ true → (gone (above c) ≡ true) ⊎ (above c ≡ here)
@@ -72,7 +77,8 @@ pub record IsTrail (a b : ℕ → ℕ) (base : ℕ → Bool) (order above via : 
   pub sides : (y : ℕ) → found y ≡ true → IsSide a b found gone begin y
 
 -- steps were followed back from to, in what was reached from the beginning
-pub record IsTraced (a b : ℕ → ℕ) (base : ℕ → Bool) (from to n here : ℕ) (found : ℕ → Bool) (above via : ℕ → ℕ) : Type 0 where
+pub record IsTraced (a b : ℕ → ℕ) (base : ℕ → Bool) (from to n here : ℕ) (found : ℕ → Bool)
+    (above via : ℕ → ℕ) : Type 0 where
   pub reached : ℕ → Bool
   pub small : IsBelow reached n
   pub spread : IsSpread a b base from reached above via
@@ -81,7 +87,8 @@ pub record IsTraced (a b : ℕ → ℕ) (base : ℕ → Bool) (from to n here : 
   pub trail : IsTrail a b base spread.order above via to here found gone
 
 -- steps were followed from both ends, each time from the deeper label, and the two ways haven't met
-pub record IsClimbed (a b : ℕ → ℕ) (base : ℕ → Bool) (depth above via : ℕ → ℕ) (from to p q : ℕ) (found : ℕ → Bool) : Type 0 where
+pub record IsClimbed (a b : ℕ → ℕ) (base : ℕ → Bool) (depth above via : ℕ → ℕ) (from to p q : ℕ)
+    (found : ℕ → Bool) : Type 0 where
   pub first : ℕ → Bool
   pub second : ℕ → Bool
   pub gone_first : ℕ → Bool

@@ -1,7 +1,8 @@
 //! Two bases, exchanged along chains of links.
 //!
-//! An element that isn't in a base links to the members of its circuit. A chain is a row of links by either base, each from
-//! where the one before it ended; the empty row leads from every element to itself.
+//! An element that isn't in a base links to the members of its circuit. A chain is a row of links
+//! by either base, each from where the one before it ended; the empty row leads from every element
+//! to itself.
 ghost use Rattle.std.specs.Prelude.{◌≡◌, ◌<◌, ◌↔◌, ◌⊎◌, ◌==◌, ℕ, true, false, IfSome, IfNone, length};
 ghost use Rattle.std.specs.FinSet.{contains};
 ghost use Rattle.pg_base.specs.Sets.{IsWithin, both, outside};
@@ -46,7 +47,8 @@ impl<G: Ground> Exchange<G> {
         requires which { (i ≡ 1) ⊎ (i ≡ 2) }
         requires element { (G.matroid self.old.first).elements f ≡ true }
         requires outside { base_of i (G.base self.old.first) (G.base self.old.second) f ≡ false }
-        ensures value { contains result ≡ circuit (G.matroid self.old.first).spans (base_of i (G.base self.old.first) (G.base self.old.second)) f }
+        ensures value { contains result ≡ circuit (G.matroid self.old.first).spans
+            (base_of i (G.base self.old.first) (G.base self.old.second)) f }
         ensures kept { G.matroid self.new.first ≡ G.matroid self.old.first }
         ensures kept_second { G.matroid self.new.second ≡ G.matroid self.old.second }
         ensures kept_base { G.base self.new.first ≡ G.base self.old.first }
@@ -64,9 +66,12 @@ impl<G: Ground> Exchange<G> {
         requires which { (i ≡ 1) ⊎ (i ≡ 2) }
         requires element { (G.matroid self.old.first).elements into ≡ true }
         requires outside { base_of i (G.base self.old.first) (G.base self.old.second) into ≡ false }
-        requires exchanges { circuit (G.matroid self.old.first).spans (base_of i (G.base self.old.first) (G.base self.old.second)) into out ≡ true }
-        ensures exchanged { base_of i (G.base self.new.first) (G.base self.new.second) ≡ swapped (base_of i (G.base self.old.first) (G.base self.old.second)) out into }
-        ensures other { base_of i (G.base self.new.second) (G.base self.new.first) ≡ base_of i (G.base self.old.second) (G.base self.old.first) }
+        requires exchanges { circuit (G.matroid self.old.first).spans
+            (base_of i (G.base self.old.first) (G.base self.old.second)) into out ≡ true }
+        ensures exchanged { base_of i (G.base self.new.first) (G.base self.new.second)
+            ≡ swapped (base_of i (G.base self.old.first) (G.base self.old.second)) out into }
+        ensures other { base_of i (G.base self.new.second) (G.base self.new.first)
+            ≡ base_of i (G.base self.old.second) (G.base self.old.first) }
         ensures kept { G.matroid self.new.first ≡ G.matroid self.old.first }
         ensures kept_second { G.matroid self.new.second ≡ G.matroid self.old.second }
     {
@@ -99,7 +104,9 @@ impl<G: Ground> Exchange<G> {
     /// The elements to which a chain of links leads from a member of `from`, the members included.
     pub fn reach(&mut self, from: &PointSet) -> PointSet
         requires { IsWithin (contains from.now) (G.matroid self.old.first).elements }
-        ensures value { (y : ℕ) → (contains result y ≡ true) ↔ LeadsFrom (G.matroid self.old.first) (G.base self.old.first) (G.base self.old.second) (contains from.now) y }
+        ensures value { (y : ℕ) → (contains result y ≡ true)
+            ↔ LeadsFrom (G.matroid self.old.first) (G.base self.old.first) (G.base self.old.second)
+            (contains from.now) y }
         ensures kept { G.matroid self.new.first ≡ G.matroid self.old.first }
         ensures kept_second { G.matroid self.new.second ≡ G.matroid self.old.second }
         ensures kept_base { G.base self.new.first ≡ G.base self.old.first }
@@ -117,14 +124,18 @@ impl<G: Ground> Exchange<G> {
 
     /// Swaps along the chain that ends in y, from its end, and gives its beginning.
     fn exchange(&mut self, from: &PointSet, up: &[u16], second: &[bool], y: u16) -> u16
-        requires tree { SomeTree (G.matroid self.old.first) (G.base self.old.first) (G.base self.old.second) (contains from.now) (reads_up up.now) (reads_test second.now) y }
+        requires tree { SomeTree (G.matroid self.old.first) (G.base self.old.first)
+            (G.base self.old.second) (contains from.now) (reads_up up.now)
+            (reads_test second.now) y }
         requires up { length up.now ≡ MAX_MEMBERS }
         requires second { length second.now ≡ MAX_MEMBERS }
         ensures begins { contains from.now result ≡ true }
         ensures kept { G.matroid self.new.first ≡ G.matroid self.old.first }
         ensures kept_second { G.matroid self.new.second ≡ G.matroid self.old.second }
-        ensures nearest { IsNearest (G.matroid self.old.first) (G.base self.old.first) (G.base self.old.second) (contains from.now) result y }
-        ensures members { IsMoved (G.base self.old.first) (G.base self.old.second) (G.base self.new.first) (G.base self.new.second) result y }
+        ensures nearest { IsNearest (G.matroid self.old.first) (G.base self.old.first)
+            (G.base self.old.second) (contains from.now) result y }
+        ensures members { IsMoved (G.base self.old.first) (G.base self.old.second)
+            (G.base self.new.first) (G.base self.new.second) result y }
     {
         let mut at = y;
         for _i in 0..MAX_MEMBERS {
@@ -142,22 +153,34 @@ impl<G: Ground> Exchange<G> {
         at
     }
 
-    /// Where a chain leads from a member of `from` to a member of `to`, puts the beginning x of a shortest one into a base
-    /// and takes its end y out of one, by a swap for each link from the end on, and gives (x, y). None comes exactly where
-    /// no chain leads there, and then nothing changes.
+    /// Where a chain leads from a member of `from` to a member of `to`, puts the beginning x of a
+    /// shortest one into a base and takes its end y out of one, by a swap for each link from the
+    /// end on, and gives (x, y). None comes exactly where no chain leads there, and then nothing
+    /// changes.
     ///
-    /// A shortest chain has no shortcuts, so each swap leaves a base (Edmonds, Minimum partition of a matroid into
-    /// independent subsets, 1965).
+    /// A shortest chain has no shortcuts, so each swap leaves a base (Edmonds, Minimum partition of
+    /// a matroid into independent subsets, 1965).
     pub fn shift(&mut self, from: &PointSet, to: &PointSet) -> Option<(u16, u16)>
         requires { IsWithin (contains from.now) (G.matroid self.old.first).elements }
         ensures kept { G.matroid self.new.first ≡ G.matroid self.old.first }
         ensures kept_second { G.matroid self.new.second ≡ G.matroid self.old.second }
-        ensures some { IfSome result (λ p. IsShift (G.base self.old.first) (G.base self.old.second) (G.base self.new.first) (G.base self.new.second) (contains from.now) (contains to.now) p.0 p.1) }
-        ensures leads { IfSome result (λ p. LeadsFrom (G.matroid self.old.first) (G.base self.old.first) (G.base self.old.second) (contains from.now) p.1) }
-        ensures shortest { IfSome result (λ p. IsShortest (G.matroid self.old.first) (G.base self.old.first) (G.base self.old.second) (contains from.now) (contains to.now) p.0 p.1) }
-        ensures none { IfNone result ((y : ℕ) → LeadsFrom (G.matroid self.old.first) (G.base self.old.first) (G.base self.old.second) (contains from.now) y → contains to.now y ≡ false) }
-        ensures closed { IfNone result (IsClosed (G.matroid self.old.first) (G.base self.old.first) (G.base self.old.second) (contains from.now) (contains to.now)) }
-        ensures unchanged { IfNone result ((G.base self.new.first ≡ G.base self.old.first) × (G.base self.new.second ≡ G.base self.old.second)) }
+        ensures some { IfSome result
+            (λ p. IsShift (G.base self.old.first) (G.base self.old.second) (G.base self.new.first)
+            (G.base self.new.second) (contains from.now) (contains to.now) p.0 p.1) }
+        ensures leads { IfSome result (λ p. LeadsFrom (G.matroid self.old.first)
+            (G.base self.old.first) (G.base self.old.second) (contains from.now) p.1) }
+        ensures shortest { IfSome result
+            (λ p. IsShortest (G.matroid self.old.first) (G.base self.old.first)
+            (G.base self.old.second) (contains from.now) (contains to.now) p.0 p.1) }
+        ensures none { IfNone result
+            ((y : ℕ) → LeadsFrom (G.matroid self.old.first) (G.base self.old.first)
+            (G.base self.old.second) (contains from.now) y
+            → contains to.now y ≡ false) }
+        ensures closed { IfNone result
+            (IsClosed (G.matroid self.old.first) (G.base self.old.first) (G.base self.old.second)
+            (contains from.now) (contains to.now)) }
+        ensures unchanged { IfNone result ((G.base self.new.first ≡ G.base self.old.first)
+            × (G.base self.new.second ≡ G.base self.old.second)) }
     {
         let mut up = [0u16; MAX_MEMBERS as usize];
         let mut second = [false; MAX_MEMBERS as usize];
@@ -193,7 +216,9 @@ impl<G: Ground> Exchange<G> {
 
     /// The elements in neither base.
     pub fn neither(&self) -> PointSet
-        ensures { contains result ≡ outside (outside (G.matroid self.now.first).elements (G.base self.now.first)) (G.base self.now.second) }
+        ensures { contains result
+            ≡ outside (outside (G.matroid self.now.first).elements (G.base self.now.first))
+            (G.base self.now.second) }
     {
         let others = self.first.elements().without(&members(&self.first));
         others.without(&members(&self.second))
@@ -206,12 +231,19 @@ impl<G: Ground> Exchange<G> {
         shared(&members(&self.first), &members(&self.second))
     }
 
-    /// The elements to which a chain of links leads from an element in neither base. Where no chain leads from there to an
-    /// element in both, as `settle` leaves the bases, the members of either base among them span every one of them (Lehman
-    /// 1964; Bruno and Weinberg, A constructive graph-theoretic solution of the Shannon switching game, 1970).
+    /// The elements to which a chain of links leads from an element in neither base. Where no chain
+    /// leads from there to an element in both, as `settle` leaves the bases, the members of either
+    /// base among them span every one of them (Lehman 1964; Bruno and Weinberg, A constructive
+    /// graph-theoretic solution of the Shannon switching game, 1970).
     pub fn reached(&mut self) -> PointSet
-        ensures value { (y : ℕ) → (contains result y ≡ true) ↔ LeadsFrom (G.matroid self.old.first) (G.base self.old.first) (G.base self.old.second) (outside (outside (G.matroid self.old.first).elements (G.base self.old.first)) (G.base self.old.second)) y }
-        ensures reached { IsSettled (G.matroid self.old.first) (G.base self.old.first) (G.base self.old.second) → IsReached (G.matroid self.old.first).spans (G.matroid self.old.first).elements (G.base self.old.first) (G.base self.old.second) (contains result) }
+        ensures value { (y : ℕ) → (contains result y ≡ true)
+            ↔ LeadsFrom (G.matroid self.old.first) (G.base self.old.first) (G.base self.old.second)
+            (outside (outside (G.matroid self.old.first).elements (G.base self.old.first))
+            (G.base self.old.second)) y }
+        ensures reached { IsSettled (G.matroid self.old.first) (G.base self.old.first)
+            (G.base self.old.second)
+            → IsReached (G.matroid self.old.first).spans (G.matroid self.old.first).elements
+            (G.base self.old.first) (G.base self.old.second) (contains result) }
         ensures kept { G.matroid self.new.first ≡ G.matroid self.old.first }
         ensures kept_second { G.matroid self.new.second ≡ G.matroid self.old.second }
         ensures kept_base { G.base self.new.first ≡ G.base self.old.first }
@@ -221,12 +253,18 @@ impl<G: Ground> Exchange<G> {
         self.reach(&neither)
     }
 
-    /// Makes the common elements as few as those of any two bases: no chain leads from an element in neither base to
-    /// one in both (Edmonds 1965; Lehman 1964). Bases that share so few stay as they are.
+    /// Makes the common elements as few as those of any two bases: no chain leads from an element
+    /// in neither base to one in both (Edmonds 1965; Lehman 1964). Bases that share so few stay as
+    /// they are.
     pub fn settle(&mut self)
-        ensures least { IsLeast (G.matroid self.old.first) (G.base self.new.first) (G.base self.new.second) }
-        ensures none { IsSettled (G.matroid self.old.first) (G.base self.new.first) (G.base self.new.second) }
-        ensures idle { IsLeast (G.matroid self.old.first) (G.base self.old.first) (G.base self.old.second) → (G.base self.new.first ≡ G.base self.old.first) × (G.base self.new.second ≡ G.base self.old.second) }
+        ensures least { IsLeast (G.matroid self.old.first) (G.base self.new.first)
+            (G.base self.new.second) }
+        ensures none { IsSettled (G.matroid self.old.first) (G.base self.new.first)
+            (G.base self.new.second) }
+        ensures idle { IsLeast (G.matroid self.old.first) (G.base self.old.first)
+            (G.base self.old.second)
+            → (G.base self.new.first ≡ G.base self.old.first)
+            × (G.base self.new.second ≡ G.base self.old.second) }
         ensures kept { G.matroid self.new.first ≡ G.matroid self.old.first }
         ensures kept_second { G.matroid self.new.second ≡ G.matroid self.old.second }
     {

@@ -17,8 +17,9 @@ use pg_base::{MAX_MEMBERS, Memory, PointSet};
 use pg_graph::{Ends, Graph, Joiner, labels};
 use std::alloc::Global;
 
-/// A spanning forest of the edges that two sets leave, over the edges of the first: the base. The graph with the edges
-/// of the first set contracted and those of the second deleted is what it spans.
+/// A spanning forest of the edges that two sets leave, over the edges of the first: the base. The
+/// graph with the edges of the first set contracted and those of the second deleted is what it
+/// spans.
 #[derive(Drop)]
 pub struct GraphGround {
     graph: Graph,
@@ -37,7 +38,8 @@ pub struct GraphGround {
     ghost depth_size: { vec_len depth ≡ graph.vertices },
     ghost x_edges: { AreEdges graph (contains x) },
     ghost element_edges: { AreEdges graph (contains elements) },
-    ghost is_forest: { IsBase (graph_matroid graph (contains x) (contains elements)).spans (contains elements) (contains base) },
+    ghost is_forest: { IsBase (graph_matroid graph (contains x) (contains elements)).spans
+        (contains elements) (contains base) },
 }
 
 impl GraphGround {
@@ -54,13 +56,15 @@ impl GraphGround {
         requires x { AreBelow x.now (edge_count g.now) }
         requires y { AreBelow y.now (edge_count g.now) }
         requires apart { ShareNone x.now y.now }
-        ensures { IfOk result (λ forest. ⟦<GraphGround as Ground>⟧.matroid forest ≡ graph_matroid g.now (contains x.now) (elements_of g.now (contains x.now) (contains y.now) with_e)) }
+        ensures { IfOk result
+            (λ forest. ⟦<GraphGround as Ground>⟧.matroid forest ≡ graph_matroid g.now
+            (contains x.now) (elements_of g.now (contains x.now) (contains y.now) with_e)) }
     {
         GraphGround::apart_from(alloc, g, x, y, with_e, &PointSet::empty())
     }
 
-    /// As `new`, a spanning forest with no more of the avoided elements than it needs: its other members span all that
-    /// isn't avoided, so none of that could come in for an avoided member.
+    /// As `new`, a spanning forest with no more of the avoided elements than it needs: its other
+    /// members span all that isn't avoided, so none of that could come in for an avoided member.
     ///
     /// The elements that aren't avoided are tried first (Kruskal 1956).
     pub fn apart_from(
@@ -76,8 +80,11 @@ impl GraphGround {
         requires x { AreBelow x.now (edge_count g.now) }
         requires y { AreBelow y.now (edge_count g.now) }
         requires apart { ShareNone x.now y.now }
-        ensures matroid { IfOk result (λ forest. ⟦<GraphGround as Ground>⟧.matroid forest ≡ graph_matroid g.now (contains x.now) (elements_of g.now (contains x.now) (contains y.now) with_e)) }
-        ensures apart { IfOk result (λ forest. IsApart (⟦<GraphGround as Ground>⟧.matroid forest) (⟦<GraphGround as Ground>⟧.base forest) (contains avoided.now)) }
+        ensures matroid { IfOk result
+            (λ forest. ⟦<GraphGround as Ground>⟧.matroid forest ≡ graph_matroid g.now
+            (contains x.now) (elements_of g.now (contains x.now) (contains y.now) with_e)) }
+        ensures apart { IfOk result (λ forest. IsApart (⟦<GraphGround as Ground>⟧.matroid forest)
+            (⟦<GraphGround as Ground>⟧.base forest) (contains avoided.now)) }
     {
         let elements = elements_of(g, x, y, with_e);
         let mut joiner = Joiner::new(alloc, g)?;
@@ -126,7 +133,8 @@ fn elements_of(g: &Graph, x: &PointSet, y: &PointSet, with_e: bool) -> PointSet
     elements
 }
 
-/// The base with each candidate, in ascending order, whose ends the edges of x and what is there don't join.
+/// The base with each candidate, in ascending order, whose ends the edges of x and what is there
+/// don't join.
 fn grown(
     joiner: &mut Joiner,
     g: &Graph,
@@ -139,8 +147,11 @@ fn grown(
     requires x { AreEdges g.now (contains x.now) }
     requires candidates { AreEdges g.now (contains candidates.now) }
     requires base { AreEdges g.now (contains base.now) }
-    requires free { IsFree (λ a k. spans_in g.now (either (contains x.now) a) k) (contains base.now) }
-    ensures grown { IsGrown (λ a k. spans_in g.now (either (contains x.now) a) k) (contains base.now) (below (contains candidates.now) (suc (edge_count g.now))) (contains result) }
+    requires free { IsFree (λ a k. spans_in g.now (either (contains x.now) a) k)
+        (contains base.now) }
+    ensures grown { IsGrown (λ a k. spans_in g.now (either (contains x.now) a) k)
+        (contains base.now) (below (contains candidates.now) (suc (edge_count g.now)))
+        (contains result) }
     ensures kept { joiner.new ≡ joiner.old }
 {
     let mut result = *base;

@@ -1,5 +1,6 @@
-//! Two bases of one ground, exchanged along chains of links until no two bases share fewer elements (Edmonds, Minimum
-//! partition of a matroid into independent subsets, 1965); and spanning forests as bases of a graph.
+//! Two bases of one ground, exchanged along chains of links until no two bases share fewer elements
+//! (Edmonds, Minimum partition of a matroid into independent subsets, 1965); and spanning forests
+//! as bases of a graph.
 #![tactic(auto)]
 
 mod exchange;

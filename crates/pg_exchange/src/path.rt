@@ -1,7 +1,8 @@
 //! Paths along the members of a base, between labels of vertices.
 //!
-//! The way from a label to the beginning of a search is kept in three slices: the label above it, the member that leads
-//! there, and how deep it lies. A later call follows these steps upwards as long as they fit the base at hand.
+//! The way from a label to the beginning of a search is kept in three slices: the label above it,
+//! the member that leads there, and how deep it lies. A later call follows these steps upwards as
+//! long as they fit the base at hand.
 ghost use Rattle.std.specs.Prelude.{◌≡◌, ◌⊎◌, ◌<◌, ◌≤◌, ℕ, Bool, true, false, IfSome, length, slice_index};
 ghost use Rattle.std.specs.FinSet.{contains};
 ghost use Rattle.pg_base.specs.Sets.{IsWithin, IsBelow};
@@ -14,7 +15,8 @@ ghost use Rattle.pg_exchange.specs.Path.{first_label, second_label, HasEnds, IsR
 use pg_base::{MAX_MEMBERS, PointSet};
 use pg_graph::Graph;
 
-/// The members of the base that lead from one label to another. Each edge joins the labels of its ends.
+/// The members of the base that lead from one label to another. Each edge joins the labels of its
+/// ends.
 ///
 /// The steps of an earlier search serve where they fit; else a new search replaces them.
 pub(crate) fn path(
@@ -37,8 +39,10 @@ pub(crate) fn path(
     requires base { AreEdges g.now (contains base.now) }
     requires from { from < g.now.vertices }
     requires to { to < g.now.vertices }
-    requires joined { IsJoined (first_label g.now names.now) (second_label g.now names.now) (contains base.now) from to }
-    ensures { IsPath (first_label g.now names.now) (second_label g.now names.now) (contains base.now) from to (contains result) }
+    requires joined { IsJoined (first_label g.now names.now) (second_label g.now names.now)
+        (contains base.now) from to }
+    ensures { IsPath (first_label g.now names.now) (second_label g.now names.now)
+        (contains base.now) from to (contains result) }
 {
     if let Some(known) = climb(above, via, depth, names, g, base, from, to) {
         return known;
@@ -53,7 +57,8 @@ pub(crate) fn path(
     found
 }
 
-/// The members on the steps from two labels up to where they meet; none where a step on the way doesn't fit the base.
+/// The members on the steps from two labels up to where they meet; none where a step on the way
+/// doesn't fit the base.
 fn climb(
     above: &[u16],
     via: &[u16],
@@ -73,7 +78,8 @@ fn climb(
     requires base { AreEdges g.now (contains base.now) }
     requires from { from < g.now.vertices }
     requires to { to < g.now.vertices }
-    ensures { IfSome result (λ found. IsPath (first_label g.now names.now) (second_label g.now names.now) (contains base.now) from to (contains found)) }
+    ensures { IfSome result (λ found. IsPath (first_label g.now names.now)
+        (second_label g.now names.now) (contains base.now) from to (contains found)) }
 {
     let mut found = PointSet::empty();
     let (mut p, mut q) = (from, to);
@@ -95,7 +101,8 @@ fn climb(
     Some(found)
 }
 
-/// Whether the step up from a label goes along a member of the base, to a label that lies less deep.
+/// Whether the step up from a label goes along a member of the base, to a label that lies less
+/// deep.
 fn fits(
     above: &[u16],
     via: &[u16],
@@ -113,8 +120,11 @@ fn fits(
     requires range { (v : ℕ) → v < g.now.vertices → slice_index names.now v < g.now.vertices }
     requires base { AreEdges g.now (contains base.now) }
     requires here { here < g.now.vertices }
-    ensures step { result ≡ true → IsStep (first_label g.now names.now) (second_label g.now names.now) (contains base.now) any (reads_up above.now) (reads_up via.now) (reads_up depth.now) here }
-    ensures range { result ≡ true → (slice_index above.now here < g.now.vertices) × (slice_index via.now here < MAX_MEMBERS) }
+    ensures step { result ≡ true
+        → IsStep (first_label g.now names.now) (second_label g.now names.now)
+        (contains base.now) any (reads_up above.now) (reads_up via.now) (reads_up depth.now) here }
+    ensures range { result ≡ true
+        → (slice_index above.now here < g.now.vertices) × (slice_index via.now here < MAX_MEMBERS) }
 {
     let (next, k) = (above[here as usize], via[here as usize]);
     if k >= MAX_MEMBERS || !base.has(k) {
@@ -132,8 +142,8 @@ fn are_ends(a: u16, b: u16, p: u16, q: u16) -> bool
     if a == p { b == q } else { a == q && b == p }
 }
 
-/// Goes from label to label along members, from `from` until nothing more is reached, `to` among the labels, and writes at
-/// each from where and by which member it was reached.
+/// Goes from label to label along members, from `from` until nothing more is reached, `to` among
+/// the labels, and writes at each from where and by which member it was reached.
 fn find(
     above: &mut [u16],
     via: &mut [u16],
@@ -154,8 +164,10 @@ fn find(
     requires base { AreEdges g.now (contains base.now) }
     requires from { from < g.now.vertices }
     requires to { to < g.now.vertices }
-    requires joined { IsJoined (first_label g.now names.now) (second_label g.now names.now) (contains base.now) from to }
-    ensures { IsFound (first_label g.now names.now) (second_label g.now names.now) (contains base.now) from to g.now.vertices (reads_up above.new) (reads_up via.new) }
+    requires joined { IsJoined (first_label g.now names.now) (second_label g.now names.now)
+        (contains base.now) from to }
+    ensures { IsFound (first_label g.now names.now) (second_label g.now names.now)
+        (contains base.now) from to g.now.vertices (reads_up above.new) (reads_up via.new) }
 {
     let mut left = *base;
     let mut reached = PointSet::empty();
@@ -185,7 +197,11 @@ fn finish(
     requires range { (v : ℕ) → v < g.now.vertices → slice_index names.now v < g.now.vertices }
     requires left { AreEdges g.now (contains left.old) }
     requires reached { IsBelow (contains reached.old) g.now.vertices }
-    ensures spread { (base : ℕ → Bool) → (from : ℕ) → IsWithin (contains left.old) base → IsSpread (first_label g.now names.now) (second_label g.now names.now) base from (contains reached.old) (reads_up above.old) (reads_up via.old) → IsSpread (first_label g.now names.now) (second_label g.now names.now) base from (contains reached.new) (reads_up above.new) (reads_up via.new) }
+    ensures spread { (base : ℕ → Bool) → (from : ℕ) → IsWithin (contains left.old) base
+        → IsSpread (first_label g.now names.now) (second_label g.now names.now) base from
+        (contains reached.old) (reads_up above.old) (reads_up via.old)
+        → IsSpread (first_label g.now names.now) (second_label g.now names.now) base from
+        (contains reached.new) (reads_up above.new) (reads_up via.new) }
     ensures more { IsWithin (contains reached.old) (contains reached.new) }
     ensures small { IsBelow (contains reached.new) g.now.vertices }
 {
@@ -196,8 +212,8 @@ fn finish(
     }
 }
 
-/// Goes once through the members that are left, reaches the other end of each of which one end is reached, and leaves
-/// those out.
+/// Goes once through the members that are left, reaches the other end of each of which one end is
+/// reached, and leaves those out.
 fn sweep(
     above: &mut [u16],
     via: &mut [u16],
@@ -216,12 +232,23 @@ fn sweep(
     requires range { (v : ℕ) → v < g.now.vertices → slice_index names.now v < g.now.vertices }
     requires left { AreEdges g.now (contains left.old) }
     requires reached { IsBelow (contains reached.old) g.now.vertices }
-    ensures spread { (base : ℕ → Bool) → (from : ℕ) → IsWithin (contains left.old) base → IsSpread (first_label g.now names.now) (second_label g.now names.now) base from (contains reached.old) (reads_up above.old) (reads_up via.old) → IsSpread (first_label g.now names.now) (second_label g.now names.now) base from (contains reached.new) (reads_up above.new) (reads_up via.new) }
+    ensures spread { (base : ℕ → Bool) → (from : ℕ) → IsWithin (contains left.old) base
+        → IsSpread (first_label g.now names.now) (second_label g.now names.now) base from
+        (contains reached.old) (reads_up above.old) (reads_up via.old)
+        → IsSpread (first_label g.now names.now) (second_label g.now names.now) base from
+        (contains reached.new) (reads_up above.new) (reads_up via.new) }
     ensures more { IsWithin (contains reached.old) (contains reached.new) }
     ensures small { IsBelow (contains reached.new) g.now.vertices }
     ensures fewer { IsWithin (contains left.new) (contains left.old) }
-    ensures done { (k : ℕ) → contains left.old k ≡ true → contains left.new k ≡ false → IsReachedBoth (contains reached.new) (first_label g.now names.now k) (second_label g.now names.now k) }
-    ensures across { (k : ℕ) → contains left.old k ≡ true → (contains reached.old (first_label g.now names.now k) ≡ true) ⊎ (contains reached.old (second_label g.now names.now k) ≡ true) → IsReachedBoth (contains reached.new) (first_label g.now names.now k) (second_label g.now names.now k) }
+    ensures done { (k : ℕ) → contains left.old k ≡ true
+        → contains left.new k ≡ false
+        → IsReachedBoth (contains reached.new) (first_label g.now names.now k)
+        (second_label g.now names.now k) }
+    ensures across { (k : ℕ) → contains left.old k ≡ true
+        → (contains reached.old (first_label g.now names.now k) ≡ true)
+        ⊎ (contains reached.old (second_label g.now names.now k) ≡ true)
+        → IsReachedBoth (contains reached.new) (first_label g.now names.now k)
+        (second_label g.now names.now k) }
 {
     let mut next = 0;
     while let Some(k) = left.first_from(next) {
@@ -257,11 +284,15 @@ fn cross(
     requires p { p < length above.old }
     requires q { q < length above.old }
     requires reached { IsBelow (contains reached.old) (length above.old) }
-    ensures spread { (a b : ℕ → ℕ) → (base : ℕ → Bool) → (from : ℕ) → base k ≡ true → HasEnds a b k p q → IsSpread a b base from (contains reached.old) (reads_up above.old) (reads_up via.old) → IsSpread a b base from (contains reached.new) (reads_up above.new) (reads_up via.new) }
+    ensures spread { (a b : ℕ → ℕ) → (base : ℕ → Bool) → (from : ℕ) → base k ≡ true
+        → HasEnds a b k p q
+        → IsSpread a b base from (contains reached.old) (reads_up above.old) (reads_up via.old)
+        → IsSpread a b base from (contains reached.new) (reads_up above.new) (reads_up via.new) }
     ensures more { IsWithin (contains reached.old) (contains reached.new) }
     ensures small { IsBelow (contains reached.new) (length above.old) }
     ensures both { result ≡ true → IsReachedBoth (contains reached.new) p q }
-    ensures neither { result ≡ false → (contains reached.old p ≡ false) × (contains reached.old q ≡ false) }
+    ensures neither { result ≡ false
+        → (contains reached.old p ≡ false) × (contains reached.old q ≡ false) }
 {
     if reached.has(p) {
         if !reached.has(q) {
@@ -294,7 +325,10 @@ fn attach(
     requires reached { IsBelow (contains reached.old) (length above.old) }
     requires begun { contains reached.old p ≡ true }
     requires fresh { contains reached.old q ≡ false }
-    ensures spread { (a b : ℕ → ℕ) → (base : ℕ → Bool) → (from : ℕ) → base k ≡ true → HasEnds a b k p q → IsSpread a b base from (contains reached.old) (reads_up above.old) (reads_up via.old) → IsSpread a b base from (contains reached.new) (reads_up above.new) (reads_up via.new) }
+    ensures spread { (a b : ℕ → ℕ) → (base : ℕ → Bool) → (from : ℕ) → base k ≡ true
+        → HasEnds a b k p q
+        → IsSpread a b base from (contains reached.old) (reads_up above.old) (reads_up via.old)
+        → IsSpread a b base from (contains reached.new) (reads_up above.new) (reads_up via.new) }
     ensures more { IsWithin (contains reached.old) (contains reached.new) }
     ensures small { IsBelow (contains reached.new) (length above.old) }
     ensures now { contains reached.new q ≡ true }

@@ -10,8 +10,10 @@ use pg_base::{MAX_MEMBERS, PointSet};
 /// Adds what f links to by one base, and to those left to follow what is new of it.
 pub(crate) fn follow<G: Ground>(ground: &mut G, f: u16, seen: &mut PointSet, todo: &mut PointSet)
     requires { (G.matroid ground.old).elements f ≡ true }
-    ensures seen { contains seen.new ≡ either (contains seen.old) (links (G.matroid ground.old) (G.base ground.old) f) }
-    ensures todo { contains todo.new ≡ either (contains todo.old) (outside (links (G.matroid ground.old) (G.base ground.old) f) (contains seen.old)) }
+    ensures seen { contains seen.new
+        ≡ either (contains seen.old) (links (G.matroid ground.old) (G.base ground.old) f) }
+    ensures todo { contains todo.new ≡ either (contains todo.old)
+        (outside (links (G.matroid ground.old) (G.base ground.old) f) (contains seen.old)) }
     ensures kept { G.matroid ground.new ≡ G.matroid ground.old }
     ensures kept_base { G.base ground.new ≡ G.base ground.old }
 {
@@ -27,8 +29,11 @@ pub(crate) fn follow<G: Ground>(ground: &mut G, f: u16, seen: &mut PointSet, tod
 fn note(up: &mut [u16], second: &mut [bool], fresh: &PointSet, f: u16, by_second: bool)
     requires up { length up.old ≡ MAX_MEMBERS }
     requires second { length second.old ≡ MAX_MEMBERS }
-    ensures noted { (z : ℕ) → contains fresh.now z ≡ true → (reads_up up.new z ≡ f) × (reads_test second.new z ≡ by_second) }
-    ensures others { (z : ℕ) → contains fresh.now z ≡ false → (reads_up up.new z ≡ reads_up up.old z) × (reads_test second.new z ≡ reads_test second.old z) }
+    ensures noted { (z : ℕ) → contains fresh.now z ≡ true
+        → (reads_up up.new z ≡ f) × (reads_test second.new z ≡ by_second) }
+    ensures others { (z : ℕ) → contains fresh.now z ≡ false
+        → (reads_up up.new z ≡ reads_up up.old z)
+        × (reads_test second.new z ≡ reads_test second.old z) }
 {
     let mut next = 0;
     while let Some(i) = fresh.first_from(next) {
@@ -51,12 +56,18 @@ pub(crate) fn explore<G: Ground>(
     requires element { (G.matroid ground.old).elements f ≡ true }
     requires up { length up.old ≡ MAX_MEMBERS }
     requires second { length second.old ≡ MAX_MEMBERS }
-    ensures seen { contains seen.new ≡ either (contains seen.old) (links (G.matroid ground.old) (G.base ground.old) f) }
-    ensures todo { contains todo.new ≡ either (contains todo.old) (outside (links (G.matroid ground.old) (G.base ground.old) f) (contains seen.old)) }
+    ensures seen { contains seen.new
+        ≡ either (contains seen.old) (links (G.matroid ground.old) (G.base ground.old) f) }
+    ensures todo { contains todo.new ≡ either (contains todo.old)
+        (outside (links (G.matroid ground.old) (G.base ground.old) f) (contains seen.old)) }
     ensures kept { G.matroid ground.new ≡ G.matroid ground.old }
     ensures kept_base { G.base ground.new ≡ G.base ground.old }
-    ensures noted { (z : ℕ) → links (G.matroid ground.old) (G.base ground.old) f z ≡ true → contains seen.old z ≡ false → (reads_up up.new z ≡ f) × (reads_test second.new z ≡ by_second) }
-    ensures others { (z : ℕ) → contains seen.old z ≡ true → (reads_up up.new z ≡ reads_up up.old z) × (reads_test second.new z ≡ reads_test second.old z) }
+    ensures noted { (z : ℕ) → links (G.matroid ground.old) (G.base ground.old) f z ≡ true
+        → contains seen.old z ≡ false
+        → (reads_up up.new z ≡ f) × (reads_test second.new z ≡ by_second) }
+    ensures others { (z : ℕ) → contains seen.old z ≡ true
+        → (reads_up up.new z ≡ reads_up up.old z)
+        × (reads_test second.new z ≡ reads_test second.old z) }
 {
     if !ground.member(f) {
         let found = ground.circuit(f);
@@ -74,13 +85,17 @@ pub(crate) fn shared(a: &PointSet, b: &PointSet) -> PointSet
     a.without(&a.without(b))
 }
 
-/// Takes the least element of the level that is being followed, and goes to the next level where this one is done.
+/// Takes the least element of the level that is being followed, and goes to the next level where
+/// this one is done.
 pub(crate) fn take_next(level: &mut PointSet, later: &mut PointSet) -> Option<u16>
     ensures range { IfSome result (λ f. f < MAX_MEMBERS) }
     ensures found { IfSome result (λ f. either (contains level.old) (contains later.old) f ≡ true) }
-    ensures levels { IfSome result (λ f. IsNext (contains level.old) (contains later.old) (contains level.new) (contains later.new) f) }
-    ensures taken { IfSome result (λ f. either (contains level.new) (contains later.new) ≡ minus (either (contains level.old) (contains later.old)) f) }
-    ensures none { IfNone result ((f : ℕ) → either (contains level.old) (contains later.old) f ≡ false) }
+    ensures levels { IfSome result (λ f. IsNext (contains level.old) (contains later.old)
+        (contains level.new) (contains later.new) f) }
+    ensures taken { IfSome result (λ f. either (contains level.new) (contains later.new)
+        ≡ minus (either (contains level.old) (contains later.old)) f) }
+    ensures none { IfNone result
+        ((f : ℕ) → either (contains level.old) (contains later.old) f ≡ false) }
 {
     go_on(level, later);
     if let Some(f) = level.first_from(0) {
@@ -94,9 +109,12 @@ pub(crate) fn take_next(level: &mut PointSet, later: &mut PointSet) -> Option<u1
 
 /// Goes to the next level where this one is done.
 fn go_on(level: &mut PointSet, later: &mut PointSet)
-    ensures same { either (contains level.new) (contains later.new) ≡ either (contains level.old) (contains later.old) }
-    ensures empty { ((f : ℕ) → contains level.new f ≡ false) → (f : ℕ) → contains later.new f ≡ false }
-    ensures rolled { IsRolled (contains level.old) (contains later.old) (contains level.new) (contains later.new) }
+    ensures same { either (contains level.new) (contains later.new)
+        ≡ either (contains level.old) (contains later.old) }
+    ensures empty { ((f : ℕ) → contains level.new f ≡ false) → (f : ℕ)
+        → contains later.new f ≡ false }
+    ensures rolled { IsRolled (contains level.old) (contains later.old) (contains level.new)
+        (contains later.new) }
 {
     if level.is_below(0) {
         *level = *later;

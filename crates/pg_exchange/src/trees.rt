@@ -17,8 +17,9 @@ use std::alloc::Global;
 pub type Trees = Exchange<GraphGround>;
 
 impl Exchange<GraphGround> {
-    /// Two spanning forests of the graph with the edges of x contracted, those of y deleted and, where it is wanted, `e` added. The second has
-    /// an edge of the first only where the edges outside the first don't span as much.
+    /// Two spanning forests of the graph with the edges of x contracted, those of y deleted and,
+    /// where it is wanted, `e` added. The second has an edge of the first only where the edges
+    /// outside the first don't span as much.
     pub fn new(
         alloc: Global,
         g: &Graph,
@@ -31,8 +32,13 @@ impl Exchange<GraphGround> {
         requires x { AreBelow x.now (edge_count g.now) }
         requires y { AreBelow y.now (edge_count g.now) }
         requires apart { ShareNone x.now y.now }
-        ensures matroid { IfOk result (λ trees. ⟦<GraphGround as Ground>⟧.matroid trees.first ≡ graph_matroid g.now (contains x.now) (elements_of g.now (contains x.now) (contains y.now) with_e)) }
-        ensures apart { IfOk result (λ trees. IsApart (⟦<GraphGround as Ground>⟧.matroid trees.first) (⟦<GraphGround as Ground>⟧.base trees.second) (⟦<GraphGround as Ground>⟧.base trees.first)) }
+        ensures matroid { IfOk result
+            (λ trees. ⟦<GraphGround as Ground>⟧.matroid trees.first ≡ graph_matroid g.now
+            (contains x.now) (elements_of g.now (contains x.now) (contains y.now) with_e)) }
+        ensures apart { IfOk result
+            (λ trees. IsApart (⟦<GraphGround as Ground>⟧.matroid trees.first)
+            (⟦<GraphGround as Ground>⟧.base trees.second)
+            (⟦<GraphGround as Ground>⟧.base trees.first)) }
     {
         let first = GraphGround::new(alloc, g, x, y, with_e)?;
         let second = GraphGround::apart_from(alloc, g, x, y, with_e, &members(&first))?;

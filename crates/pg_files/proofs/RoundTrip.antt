@@ -27,7 +27,10 @@ use Rattle.pg_files.proofs.Words.{is_word, words_again, numbers_decimals, spaced
 -- ---- names
 
 -- a line that is printed is its words
-pub after_words : (d : Draft) (w : Bytes) (ws : List Bytes) → list_all is_word (w ∷ ws) ≡ true → begins_comment (spaced (w ∷ ws)) ≡ false → after d (spaced (w ∷ ws)) ≡ significant d (w ∷ ws)
+pub after_words : (d : Draft) (w : Bytes) (ws : List Bytes)
+    → list_all is_word (w ∷ ws) ≡ true
+    → begins_comment (spaced (w ∷ ws)) ≡ false
+    → after d (spaced (w ∷ ws)) ≡ significant d (w ∷ ws)
 unfolding after
 after_words d w ws e plain =
     let longer : (length (w ∷ ws) == 0) ≡ false = grind (arith, nat_tests) in
@@ -71,7 +74,8 @@ key_is_word keys.X = refl
 key_is_word keys.Y = refl
 key_is_word keys.Turn = refl
 
-key_is_plain : (key : Key) (arguments : List Bytes) → begins_comment (spaced (key_name key ∷ arguments)) ≡ false
+key_is_plain : (key : Key) (arguments : List Bytes)
+    → begins_comment (spaced (key_name key ∷ arguments)) ≡ false
 key_is_plain keys.Kind arguments = refl
 key_is_plain keys.Points arguments = refl
 key_is_plain keys.Grid arguments = refl
@@ -96,10 +100,14 @@ side_is_word sides.X = refl
 side_is_word sides.Y = refl
 
 -- a line with a key
-pub after_keyed : (d : Draft) (key : Key) (arguments : List Bytes) → d.begun ≡ true → list_all is_word arguments ≡ true → after d (spaced (key_name key ∷ arguments)) ≡ keyed d key arguments
+pub after_keyed : (d : Draft) (key : Key) (arguments : List Bytes)
+    → d.begun ≡ true
+    → list_all is_word arguments ≡ true
+    → after d (spaced (key_name key ∷ arguments)) ≡ keyed d key arguments
 unfolding significant
-after_keyed d key arguments begun e =
-    after_words d (key_name key) arguments (rw (key_is_word key, e) refl) (key_is_plain key arguments) ∙ rw (begun, key_again key) refl
+after_keyed d key arguments begun e = after_words d (key_name key) arguments
+    (rw (key_is_word key, e) refl) (key_is_plain key arguments)
+    ∙ rw (begun, key_again key) refl
 
 -- ---- numbers
 
@@ -107,7 +115,10 @@ after_keyed d key arguments begun e =
 abbrev pub AreSmall : List ℕ → Type 0
 AreSmall ns = list_all (λ n. nat_lt n 1000) ns ≡ true
 
-pub smaller : (limit : ℕ) (ns : List ℕ) → limit ≤ 1000 → list_all (λ n. nat_lt n limit) ns ≡ true → AreSmall ns
+pub smaller : (limit : ℕ) (ns : List ℕ)
+    → limit ≤ 1000
+    → list_all (λ n. nat_lt n limit) ns ≡ true
+    → AreSmall ns
 smaller limit [] few e = refl
 smaller limit (n ∷ ns) few e =
     let both = and_parts (nat_lt n limit) (list_all (λ n. nat_lt n limit) ns) e in
@@ -120,9 +131,13 @@ one_small n lt = rw (lt-ltb n 1000 lt) refl
 pub two_small : (a b : ℕ) → a < 1000 → b < 1000 → AreSmall (a ∷ b ∷ [])
 two_small a b first second = rw (lt-ltb a 1000 first, lt-ltb b 1000 second) refl
 
-pub all_below : (limit : ℕ) (ns : List ℕ) → All (λ n. n < limit) ns → list_all (λ n. nat_lt n limit) ns ≡ true
+pub all_below : (limit : ℕ) (ns : List ℕ)
+    → All (λ n. n < limit) ns
+    → list_all (λ n. nat_lt n limit) ns ≡ true
 all_below limit [] all = refl
-all_below limit (n ∷ ns) all = let here : n < limit = all 0 0 (omega arith) in rw (lt-ltb n limit here) (all_below limit ns (All-tail (λ n. n < limit) n ns all))
+all_below limit (n ∷ ns) all =
+    let here : n < limit = all 0 0 (omega arith) in
+    rw (lt-ltb n limit here) (all_below limit ns (All-tail (λ n. n < limit) n ns all))
 
 pub inside : (low high n : ℕ) → low ≤ n → n ≤ high → is_outside low high n ≡ false
 inside low high n least most =
@@ -132,28 +147,50 @@ inside low high n least most =
 
 pub factors : (w h n : ℕ) → w * h ≡ n → 1 ≤ n → (w ≤ n) × (h ≤ n)
 factors w h n is some =
-    let wide : 0 < w = elim (cases_lt 0 w) [ inl lt ↦ lt | inr le ↦ let z : w ≡ 0 = omega arith in absurd (omega (arith, ap (λ k. k * h) z)) ] in
-    let high : 0 < h = elim (cases_lt 0 h) [ inl lt ↦ lt | inr le ↦ let z : h ≡ 0 = omega arith in absurd (omega (arith, ap (λ k. w * k) z)) ] in
-    (omega (arith, le-mul_of_pos_right {m = h} w high), omega (arith, le-mul_of_pos_right {m = w} h wide, mul_comm h w))
+    let wide : 0 < w = elim (cases_lt 0 w) [
+      | inl lt ↦ lt
+      | inr le ↦ let z : w ≡ 0 = omega arith in absurd (omega (arith, ap (λ k. k * h) z))
+    ] in
+    let high : 0 < h = elim (cases_lt 0 h) [
+      | inl lt ↦ lt
+      | inr le ↦ let z : h ≡ 0 = omega arith in absurd (omega (arith, ap (λ k. w * k) z))
+    ] in (
+      omega (arith, le-mul_of_pos_right {m = h} w high),
+      omega (arith, le-mul_of_pos_right {m = w} h wide, mul_comm h w),
+    )
 
 -- ---- where keys stand
 
 -- a key whose rank is above the greatest
-pub in_place : (kind : Kind) (d : Draft) (key : Key) → belongs kind key ≡ true → d.rank < rank_of key → needed_rank kind key ≤ d.rank → lacks_grid d key ≡ false → is_misplaced (Some kind) d key ≡ false
+pub in_place : (kind : Kind) (d : Draft) (key : Key)
+    → belongs kind key ≡ true
+    → d.rank < rank_of key
+    → needed_rank kind key ≤ d.rank
+    → lacks_grid d key ≡ false
+    → is_misplaced (Some kind) d key ≡ false
 in_place kind d key fits below needed grid =
     let a : nat_lt (rank_of key) d.rank ≡ false = grind (arith, nat_tests) in
     let b : (rank_of key == d.rank) ≡ false = grind (arith, nat_tests) in
     let c : nat_lt d.rank (needed_rank kind key) ≡ false = grind (arith, nat_tests) in
     rw (fits, a, b, c, grid) refl
 
-pub line_in_place : (kind : Kind) (d : Draft) → is_switching kind ≡ false → d.kind ≡ Some kind → 2 ≤ d.rank → d.rank ≤ 4 → is_out_of_place d keys.Line ≡ false
+pub line_in_place : (kind : Kind) (d : Draft)
+    → is_switching kind ≡ false
+    → d.kind ≡ Some kind
+    → 2 ≤ d.rank
+    → d.rank ≤ 4
+    → is_out_of_place d keys.Line ≡ false
 line_in_place kind d lines is two four =
     let a : nat_lt 4 d.rank ≡ false = grind (arith, nat_tests) in
     let b : ((4 == d.rank) && false) ≡ false = and_right (4 == d.rank) false refl in
     let c : nat_lt d.rank 2 ≡ false = grind (arith, nat_tests) in
     rw (is, lines, a, b, c) refl
 
-pub edge_in_place : (d : Draft) → d.kind ≡ Some kinds.Switching → 3 ≤ d.rank → d.rank ≤ 4 → is_out_of_place d keys.Edge ≡ false
+pub edge_in_place : (d : Draft)
+    → d.kind ≡ Some kinds.Switching
+    → 3 ≤ d.rank
+    → d.rank ≤ 4
+    → is_out_of_place d keys.Edge ≡ false
 edge_in_place d is three four =
     let a : nat_lt 4 d.rank ≡ false = grind (arith, nat_tests) in
     let b : ((4 == d.rank) && false) ≡ false = and_right (4 == d.rank) false refl in
@@ -162,8 +199,17 @@ edge_in_place d is three four =
 
 -- ---- lines with keys
 
-pub keyed_line : (d : Draft) (l : List ℕ) → is_out_of_place d keys.Line ≡ false → list_all (λ n. nat_lt n (points_so_far d)) l ≡ true → AreSmall l → repeats empty l ≡ false → 0 < length l → length l ≤ longest d.bias → length d.lines < 20000 → sum_by length d.lines + length l ≤ 400000
-    → keyed d keys.Line (map decimal l) ≡ Ok (record d { rank = 4; lines = d.lines ++ ascending l ∷ [] })
+pub keyed_line : (d : Draft) (l : List ℕ)
+    → is_out_of_place d keys.Line ≡ false
+    → list_all (λ n. nat_lt n (points_so_far d)) l ≡ true
+    → AreSmall l
+    → repeats empty l ≡ false
+    → 0 < length l
+    → length l ≤ longest d.bias
+    → length d.lines < 20000
+    → sum_by length d.lines + length l ≤ 400000
+    → keyed d keys.Line (map decimal l)
+    ≡ Ok (record d { rank = 4; lines = d.lines ++ ascending l ∷ [] })
 unfolding keyed
 keyed_line d l place below small different some short room total =
     let again = numbers_decimals l small in
@@ -173,23 +219,45 @@ keyed_line d l place below small different some short room total =
     let e : nat_lt 400000 (sum_by length d.lines + length l) ≡ false = grind (arith, nat_tests) in
     rw (place, again, below, different, a, b, c, e) refl
 
-pub keyed_edge : (d : Draft) (a b : ℕ) → is_out_of_place d keys.Edge ≡ false → a < d.vertices → b < d.vertices → d.vertices ≤ 500 → length d.ends < 1000
-    → keyed d keys.Edge (map decimal (a ∷ b ∷ [])) ≡ Ok (record d { rank = 4; ends = d.ends ++ (a, b) ∷ [] })
+pub keyed_edge : (d : Draft) (a b : ℕ)
+    → is_out_of_place d keys.Edge ≡ false
+    → a < d.vertices
+    → b < d.vertices
+    → d.vertices ≤ 500
+    → length d.ends < 1000
+    → keyed d keys.Edge (map decimal (a ∷ b ∷ []))
+    ≡ Ok (record d { rank = 4; ends = d.ends ++ (a, b) ∷ [] })
 unfolding keyed
 keyed_edge d a b place first second few room =
     let again = numbers_decimals (a ∷ b ∷ []) (two_small a b (omega arith) (omega arith)) in
     let c : nat_le 1000 (length d.ends) ≡ false = grind (arith, nat_tests) in
     rw (place, again, lt-ltb a d.vertices first, lt-ltb b d.vertices second, c) refl
 
-pub keyed_x : (d : Draft) (ns : List ℕ) → is_out_of_place d keys.X ≡ false → list_all (λ n. nat_lt n (points_so_far d)) ns ≡ true → AreSmall ns → repeats empty ns ≡ false → keyed d keys.X (map decimal ns) ≡ Ok (record d { rank = 5; x = set_of ns })
+pub keyed_x : (d : Draft) (ns : List ℕ)
+    → is_out_of_place d keys.X ≡ false
+    → list_all (λ n. nat_lt n (points_so_far d)) ns ≡ true
+    → AreSmall ns
+    → repeats empty ns ≡ false
+    → keyed d keys.X (map decimal ns) ≡ Ok (record d { rank = 5; x = set_of ns })
 unfolding keyed
-keyed_x d ns place below small different = let again = numbers_decimals ns small in rw (place, again, below, different) refl
+keyed_x d ns place below small different =
+    let again = numbers_decimals ns small in
+    rw (place, again, below, different) refl
 
-pub keyed_y : (d : Draft) (ns : List ℕ) → is_out_of_place d keys.Y ≡ false → list_all (λ n. nat_lt n (points_so_far d)) ns ≡ true → AreSmall ns → repeats d.x ns ≡ false → keyed d keys.Y (map decimal ns) ≡ Ok (record d { rank = 6; y = set_of ns })
+pub keyed_y : (d : Draft) (ns : List ℕ)
+    → is_out_of_place d keys.Y ≡ false
+    → list_all (λ n. nat_lt n (points_so_far d)) ns ≡ true
+    → AreSmall ns
+    → repeats d.x ns ≡ false
+    → keyed d keys.Y (map decimal ns) ≡ Ok (record d { rank = 6; y = set_of ns })
 unfolding keyed
-keyed_y d ns place below small different = let again = numbers_decimals ns small in rw (place, again, below, different) refl
+keyed_y d ns place below small different =
+    let again = numbers_decimals ns small in
+    rw (place, again, below, different) refl
 
-pub keyed_turn : (d : Draft) (turn : Side) → is_out_of_place d keys.Turn ≡ false → keyed d keys.Turn (side_word turn ∷ []) ≡ Ok (record d { rank = 7; turn = Some turn })
+pub keyed_turn : (d : Draft) (turn : Side)
+    → is_out_of_place d keys.Turn ≡ false
+    → keyed d keys.Turn (side_word turn ∷ []) ≡ Ok (record d { rank = 7; turn = Some turn })
 unfolding keyed
 keyed_turn d turn place = rw (place, side_again turn) refl
 
@@ -197,41 +265,86 @@ keyed_turn d turn place = rw (place, side_again turn) refl
 abbrev pub of_kind : Kind → Draft
 of_kind kind = record nothing { begun = true; rank = 1; kind = Some kind }
 
-pub keyed_kind : (kind : Kind) → keyed (record nothing { begun = true }) keys.Kind (kind_word kind ∷ []) ≡ Ok (of_kind kind)
+pub keyed_kind : (kind : Kind)
+    → keyed (record nothing { begun = true }) keys.Kind (kind_word kind ∷ []) ≡ Ok (of_kind kind)
 unfolding keyed
 keyed_kind kind = rw (kind_again kind) refl
 
-pub keyed_points : (kind : Kind) (n : ℕ) → is_switching kind ≡ false → 1 ≤ n → n ≤ 256 → keyed (of_kind kind) keys.Points (map decimal (n ∷ [])) ≡ Ok (record (of_kind kind) { rank = 2; points = n; grid = None })
+pub keyed_points : (kind : Kind) (n : ℕ)
+    → is_switching kind ≡ false
+    → 1 ≤ n
+    → n ≤ 256
+    → keyed (of_kind kind) keys.Points (map decimal (n ∷ [])) ≡ Ok (record (of_kind kind) {
+      rank = 2;
+      points = n;
+      grid = None;
+    })
 unfolding keyed
 keyed_points kind n lines some few =
     let again = numbers_decimals (n ∷ []) (one_small n (omega arith)) in
     rw (lines, again, inside 1 256 n some few) refl
 
-pub keyed_grid : (kind : Kind) (w h : ℕ) → is_switching kind ≡ false → 1 ≤ w * h → w * h ≤ 256
-    → keyed (of_kind kind) keys.Grid (map decimal (w ∷ h ∷ [])) ≡ Ok (record (of_kind kind) { rank = 2; points = w * h; grid = Some (record { width = w; height = h }) })
+pub keyed_grid : (kind : Kind) (w h : ℕ)
+    → is_switching kind ≡ false
+    → 1 ≤ w * h
+    → w * h ≤ 256
+    → keyed (of_kind kind) keys.Grid (map decimal (w ∷ h ∷ [])) ≡ Ok (record (of_kind kind) {
+      rank = 2;
+      points = w * h;
+      grid = Some (record { width = w; height = h });
+    })
 unfolding keyed
 keyed_grid kind w h lines some few =
     let sides = factors w h (w * h) refl some in
-    let again = numbers_decimals (w ∷ h ∷ []) (two_small w h (omega (arith, sides.0)) (omega (arith, sides.1))) in
+    let again = numbers_decimals (w ∷ h ∷ [])
+    (two_small w h (omega (arith, sides.0)) (omega (arith, sides.1))) in
     rw (lines, again, inside 1 256 (w * h) some few) refl
 
 -- after the number of points or the grid
-pub keyed_bias : (kind : Kind) (points : ℕ) (grid : Option Grid) (bias : ℕ) → 1 < bias → bias ≤ 7 → bias ≤ greatest_bias kind
-    → keyed (record (of_kind kind) { rank = 2; points = points; grid = grid }) keys.Bias (map decimal (bias ∷ [])) ≡ Ok (record (of_kind kind) { rank = 3; points = points; grid = grid; bias = bias })
+pub keyed_bias : (kind : Kind) (points : ℕ) (grid : Option Grid) (bias : ℕ)
+    → 1 < bias
+    → bias ≤ 7
+    → bias ≤ greatest_bias kind
+    → keyed (record (of_kind kind) {
+      rank = 2;
+      points = points;
+      grid = grid;
+    }) keys.Bias (map decimal (bias ∷ [])) ≡ Ok (record (of_kind kind) {
+      rank = 3;
+      points = points;
+      grid = grid;
+      bias = bias;
+    })
 unfolding keyed
 keyed_bias kind points grid bias more few fits =
     let again = numbers_decimals (bias ∷ []) (one_small bias (omega arith)) in
     let has : nat_lt 1 (greatest_bias kind) ≡ true = lt-ltb 1 (greatest_bias kind) (omega arith) in
     rw (has, again, inside 1 7 bias (omega arith) few) refl
 
-pub keyed_vertices : (n : ℕ) → 2 ≤ n → n ≤ 500 → keyed (of_kind kinds.Switching) keys.Vertices (map decimal (n ∷ [])) ≡ Ok (record (of_kind kinds.Switching) { rank = 2; vertices = n })
+pub keyed_vertices : (n : ℕ)
+    → 2 ≤ n
+    → n ≤ 500
+    → keyed (of_kind kinds.Switching) keys.Vertices (map decimal (n ∷ []))
+    ≡ Ok (record (of_kind kinds.Switching) { rank = 2; vertices = n })
 unfolding keyed
 keyed_vertices n some few =
     let again = numbers_decimals (n ∷ []) (one_small n (omega arith)) in
     rw (again, inside 2 500 n some few) refl
 
-pub keyed_terminals : (n s t : ℕ) → n ≤ 500 → s < n → t < n → (s ≡ t → ⊥)
-    → keyed (record (of_kind kinds.Switching) { rank = 2; vertices = n }) keys.Terminals (map decimal (s ∷ t ∷ [])) ≡ Ok (record (of_kind kinds.Switching) { rank = 3; vertices = n; s = s; t = t })
+pub keyed_terminals : (n s t : ℕ)
+    → n ≤ 500
+    → s < n
+    → t < n
+    → (s ≡ t → ⊥)
+    → keyed (record (of_kind kinds.Switching) {
+      rank = 2;
+      vertices = n;
+    }) keys.Terminals (map decimal (s ∷ t ∷ [])) ≡ Ok (record (of_kind kinds.Switching) {
+      rank = 3;
+      vertices = n;
+      s = s;
+      t = t;
+    })
 unfolding keyed
 keyed_terminals n s t few first second apart =
     let again = numbers_decimals (s ∷ t ∷ []) (two_small s t (omega arith) (omega arith)) in

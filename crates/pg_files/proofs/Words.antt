@@ -41,23 +41,33 @@ no_feeds ws e = quiet_lacks_feed (spaced ws) (spaced_quiet ws (plain_words ws e)
 quiet_printable : (b : ℕ) → IsQuiet b → is_printable b ≡ true
 quiet_printable b h = grind (arith, nat_tests, h.0, h.1)
 
-pub spaced_printable : (ws : List Bytes) → list_all is_word ws ≡ true → list_all is_printable (spaced ws) ≡ true
-spaced_printable ws e = all_pass IsQuiet is_printable quiet_printable (spaced ws) (spaced_quiet ws (plain_words ws e))
+pub spaced_printable : (ws : List Bytes)
+    → list_all is_word ws ≡ true
+    → list_all is_printable (spaced ws) ≡ true
+spaced_printable ws e =
+    all_pass IsQuiet is_printable quiet_printable (spaced ws) (spaced_quiet ws (plain_words ws e))
 
 some_stay : (ws : List Bytes) → list_all is_word ws ≡ true → filter some ws ≡ ws
 some_stay [] e = refl
 some_stay (w ∷ ws) e =
     let both = and_parts (is_word w) (list_all is_word ws) e in
-    rw (and_parts (some w) (list_all is_plain w) both.0).0 (ap (λ (x : List Bytes). w ∷ x) (some_stay ws both.1))
+    rw (and_parts (some w) (list_all is_plain w) both.0).0
+    (ap (λ (x : List Bytes). w ∷ x) (some_stay ws both.1))
 
-pub words_again : (w : Bytes) (ws : List Bytes) → list_all is_word (w ∷ ws) ≡ true → words (spaced (w ∷ ws)) ≡ w ∷ ws
+pub words_again : (w : Bytes) (ws : List Bytes)
+    → list_all is_word (w ∷ ws) ≡ true
+    → words (spaced (w ∷ ws)) ≡ w ∷ ws
 unfolding words
-words_again w ws e = let plain = plain_words (w ∷ ws) e in ap (filter some) (words_spaced w ws plain.0 plain.1) ∙ some_stay (w ∷ ws) e
+words_again w ws e =
+    let plain = plain_words (w ∷ ws) e in
+    ap (filter some) (words_spaced w ws plain.0 plain.1) ∙ some_stay (w ∷ ws) e
 
 pub small_number : (n : ℕ) → nat_lt n 1000 ≡ true → n < 10 ^ 9
 small_number n e = omega (arith, ltb-true n 1000 e)
 
-pub numbers_decimals : (ns : List ℕ) → list_all (λ n. nat_lt n 1000) ns ≡ true → numbers (map decimal ns) ≡ Some ns
+pub numbers_decimals : (ns : List ℕ)
+    → list_all (λ n. nat_lt n 1000) ns ≡ true
+    → numbers (map decimal ns) ≡ Some ns
 unfolding numbers
 numbers_decimals [] e = refl
 numbers_decimals (n ∷ ns) e =
@@ -65,23 +75,31 @@ numbers_decimals (n ∷ ns) e =
     rw (number_decimal n (small_number n both.0), numbers_decimals ns both.1) refl
 
 -- a text of printed lines
-pub lines_spelled : (wss : List (List Bytes)) → AllByRecursion (λ ws. list_all is_word ws ≡ true) wss → lines (flat_map spelled wss) ≡ map spaced wss
+pub lines_spelled : (wss : List (List Bytes))
+    → AllByRecursion (λ ws. list_all is_word ws ≡ true) wss
+    → lines (flat_map spelled wss) ≡ map spaced wss
 unfolding lines
 lines_spelled [] h = refl
 lines_spelled (ws ∷ wss) h =
     let text = flat_map spelled wss in
-    let regrouped : flat_map spelled (ws ∷ wss) ≡ spaced ws ++ 10 ∷ text = append_assoc (spaced ws) (10 ∷ []) text in
-    ap lines regrouped ∙ lines_feed (spaced ws) text (no_feeds ws h.0) ∙ ap (λ (x : List Bytes). spaced ws ∷ x) (lines_spelled wss h.1)
+    let regrouped : flat_map spelled (ws ∷ wss) ≡ spaced ws ++ 10 ∷ text =
+    append_assoc (spaced ws) (10 ∷ []) text in
+    ap lines regrouped
+    ∙ lines_feed (spaced ws) text (no_feeds ws h.0)
+    ∙ ap (λ (x : List Bytes). spaced ws ∷ x) (lines_spelled wss h.1)
 
 is_plain_if : (b : ℕ) → IsPlain b → is_plain b ≡ true
 is_plain_if b h = grind (arith, nat_tests, h.0, h.1)
 
 decimal_passes : (n : ℕ) → n < 2 ^ 64 → is_word (decimal n) ≡ true
 decimal_passes n wide =
-    let longer : (length (decimal n) == 0) ≡ false = grind (arith, nat_tests, (decimal_is_IsNumeral n wide).0.0) in
+    let longer : (length (decimal n) == 0) ≡ false =
+    grind (arith, nat_tests, (decimal_is_IsNumeral n wide).0.0) in
     rw longer (all_pass IsPlain is_plain is_plain_if (decimal n) (decimal_is_word n wide))
 
-pub decimals_are_words : (ns : List ℕ) → list_all (λ n. nat_lt n 1000) ns ≡ true → list_all is_word (map decimal ns) ≡ true
+pub decimals_are_words : (ns : List ℕ)
+    → list_all (λ n. nat_lt n 1000) ns ≡ true
+    → list_all is_word (map decimal ns) ≡ true
 decimals_are_words [] e = refl
 decimals_are_words (n ∷ ns) e =
     let both = and_parts (nat_lt n 1000) (list_all (λ n. nat_lt n 1000) ns) e in

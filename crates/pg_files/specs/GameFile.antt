@@ -55,10 +55,25 @@ pub record Draft : Type 0 where
 
 -- the draft before the first line
 abbrev pub nothing : Draft
-nothing = record { begun = false; rank = 0; kind = None; points = 0; grid = None; vertices = 0; s = 0; t = 0; bias = 1; lines = []; ends = []; x = empty; y = empty; turn = None }
+nothing = record {
+  begun = false;
+  rank = 0;
+  kind = None;
+  points = 0;
+  grid = None;
+  vertices = 0;
+  s = 0;
+  t = 0;
+  bias = 1;
+  lines = [];
+  ends = [];
+  x = empty;
+  y = empty;
+  turn = None;
+}
 
--- how many points a game of the kind has, by the number of points said and that of its edges: the points of a switching
--- game are its edges
+-- how many points a game of the kind has, by the number of points said and that of its edges: the
+-- points of a switching game are its edges
 abbrev pub points_for : Option Kind → ℕ → ℕ → ℕ
 points_for (Some kinds.Switching) points edges = edges
 points_for _ points edges = points
@@ -104,11 +119,15 @@ abbrev pub lacks_grid : Draft → Key → Bool
 lacks_grid d keys.Shape = is_none d.grid
 lacks_grid d _ = false
 
--- Before the kind has stood only that may come. Then: a key of another kind, a rank that is below the greatest so far
--- or repeats one other than 4, the lack of a needed key of lower rank, or of a grid.
+-- Before the kind has stood only that may come. Then: a key of another kind, a rank that is below
+-- the greatest so far or repeats one other than 4, the lack of a needed key of lower rank, or of a
+-- grid.
 abbrev pub is_misplaced : Option Kind → Draft → Key → Bool
 is_misplaced None d key = nat_lt 1 (rank_of key)
-is_misplaced (Some kind) d key = not (belongs kind key) || (nat_lt (rank_of key) d.rank || ((rank_of key == d.rank && not (rank_of key == 4)) || (nat_lt d.rank (needed_rank kind key) || lacks_grid d key)))
+is_misplaced (Some kind) d key = not (belongs kind key)
+    || (nat_lt (rank_of key) d.rank
+    || ((rank_of key == d.rank && not (rank_of key == 4))
+    || (nat_lt d.rank (needed_rank kind key) || lacks_grid d key)))
 
 -- a key that may not stand here
 abbrev pub is_out_of_place : Draft → Key → Bool
@@ -127,7 +146,8 @@ is_ill_formed keys.Terminals arguments = not (length arguments == 2) || is_none 
 is_ill_formed keys.Edge arguments = not (length arguments == 2) || is_none (numbers arguments)
 is_ill_formed _ arguments = is_none (numbers arguments)
 
--- a point that isn't below the number of points, or a vertex that isn't below the number of vertices
+-- a point that isn't below the number of points, or a vertex that isn't below the number of
+-- vertices
 abbrev pub is_out_of_range : Draft → Key → List ℕ → Bool
 is_out_of_range d keys.Line ns = not (list_all (λ n. nat_lt n (points_so_far d)) ns)
 is_out_of_range d keys.X ns = not (list_all (λ n. nat_lt n (points_so_far d)) ns)
@@ -158,13 +178,16 @@ exceeds d keys.Points ns = is_outside 1 MAX_POINTS (first_number ns)
 exceeds d keys.Grid ns = is_outside 1 MAX_POINTS (first_number ns * second_number ns)
 exceeds d keys.Vertices ns = is_outside 2 MAX_VERTICES (first_number ns)
 exceeds d keys.Bias ns = is_outside 1 MAX_BIAS (first_number ns)
-exceeds d keys.Line ns = nat_le MAX_LINES (length d.lines) || nat_lt MAX_SUMMED_POINTS (sum_by length d.lines + length ns)
+exceeds d keys.Line ns = nat_le MAX_LINES (length d.lines)
+    || nat_lt MAX_SUMMED_POINTS (sum_by length d.lines + length ns)
 exceeds d keys.Edge ns = nat_le MAX_EDGES (length d.ends)
 exceeds _ _ _ = false
 
 -- the grid with these sides, where it has 1 to 256 cells
 abbrev pub grid_of : ℕ → ℕ → Option Grid
-grid_of width height = if is_outside 1 MAX_POINTS (width * height) then None else Some (record { width = width; height = height })
+grid_of width height = if is_outside 1 MAX_POINTS (width * height)
+    then None
+    else Some (record { width = width; height = height })
 
 -- a key of a line of marks
 abbrev pub IsMarks : Key → Type 0
@@ -193,7 +216,8 @@ placed_in (Some grid) cells = placements_of grid cells
 
 -- lines that are too many with those before, or have too many points with them
 abbrev pub exceeds_with : Draft → List (List ℕ) → Bool
-exceeds_with d more = nat_lt MAX_LINES (length d.lines + length more) || nat_lt MAX_SUMMED_POINTS (sum_by length d.lines + sum_by length more)
+exceeds_with d more = nat_lt MAX_LINES (length d.lines + length more)
+    || nat_lt MAX_SUMMED_POINTS (sum_by length d.lines + sum_by length more)
 
 -- the faults that are told from the word of a shape
 abbrev pub shape_faults : Draft → Bytes → List (Fault × Bool)
@@ -224,12 +248,17 @@ keyed_fault d key arguments = least (keyed_faults d key arguments)
 -- the draft after a line of numbers without a fault
 abbrev pub with_numbers : Draft → Key → List ℕ → Draft
 with_numbers d keys.Points ns = record d { rank = 2; points = first_number ns }
-with_numbers d keys.Grid ns = record d { rank = 2; points = first_number ns * second_number ns; grid = Some (record { width = first_number ns; height = second_number ns }) }
+with_numbers d keys.Grid ns = record d {
+  rank = 2;
+  points = first_number ns * second_number ns;
+  grid = Some (record { width = first_number ns; height = second_number ns });
+}
 with_numbers d keys.Vertices ns = record d { rank = 2; vertices = first_number ns }
 with_numbers d keys.Terminals ns = record d { rank = 3; s = first_number ns; t = second_number ns }
 with_numbers d keys.Bias ns = record d { rank = 3; bias = first_number ns }
 with_numbers d keys.Line ns = record d { rank = 4; lines = d.lines ++ ascending ns ∷ [] }
-with_numbers d keys.Edge ns = record d { rank = 4; ends = d.ends ++ (first_number ns, second_number ns) ∷ [] }
+with_numbers d keys.Edge ns =
+    record d { rank = 4; ends = d.ends ++ (first_number ns, second_number ns) ∷ [] }
 with_numbers d keys.X ns = record d { rank = 5; x = set_of ns }
 with_numbers d keys.Y ns = record d { rank = 6; y = set_of ns }
 with_numbers d _ ns = d
@@ -238,7 +267,8 @@ with_numbers d _ ns = d
 abbrev pub said : Draft → Key → List Bytes → Draft
 said d keys.Kind arguments = record d { rank = 1; kind = kind_of (first arguments) }
 said d keys.Turn arguments = record d { rank = 7; turn = side_of (first arguments) }
-said d keys.Shape arguments = record d { rank = 4; lines = d.lines ++ placed_in d.grid (cells_of (first arguments)) }
+said d keys.Shape arguments =
+    record d { rank = 4; lines = d.lines ++ placed_in d.grid (cells_of (first arguments)) }
 said d key arguments = with_numbers d key (numbers_of arguments)
 
 -- The draft after a line with this key, or the line's fault.
@@ -268,11 +298,19 @@ begins_comment (b ∷ bs) = b == 35
 
 -- The draft after a significant line, or its fault.
 unfoldable pub significant : Draft → List Bytes → Result Draft Fault
-significant d ws = if d.begun then named d (key_of (first ws)) (rest ws) else if is_header ws then Ok (record d { begun = true }) else Err faults.Header
+significant d ws = if d.begun
+    then named d (key_of (first ws)) (rest ws)
+    else if is_header ws
+    then Ok (record d { begun = true })
+    else Err faults.Header
 
 -- The draft after a line, or the line's fault.
 unfoldable pub after : Draft → Bytes → Result Draft Fault
-after d line = if not (list_all is_printable line) then Err faults.Bytes else if begins_comment line || length (words line) == 0 then Ok d else significant d (words line)
+after d line = if not (list_all is_printable line)
+    then Err faults.Bytes
+    else if begins_comment line || length (words line) == 0
+    then Ok d
+    else significant d (words line)
 
 -- ---- the whole file
 
@@ -293,12 +331,25 @@ pub record IsSaid (d : Draft) : Type 0 where
 
 -- what a game of the kind is played on
 abbrev pub field_of : Kind → Draft → Field
-field_of kinds.Switching d = fields.Graph (record { vertices = d.vertices; s = d.s; t = d.t; ends = d.ends })
+field_of kinds.Switching d = fields.Graph (record {
+  vertices = d.vertices;
+  s = d.s;
+  t = d.t;
+  ends = d.ends;
+})
 field_of _ d = fields.Lines (record { points = d.points; grid = d.grid; lines = d.lines })
 
--- The game of a file without a faulty line. At the end of the file it lacks its header or its last line.
+-- The game of a file without a faulty line. At the end of the file it lacks its header or its last
+-- line.
 abbrev pub game_of : Draft → Option Kind → Option Side → Result Entry (Fault × ℕ)
-game_of d (Some kind) (Some turn) = Ok (record { kind = kind; field = field_of kind d; x = d.x; y = d.y; turn = turn; bias = d.bias })
+game_of d (Some kind) (Some turn) = Ok (record {
+  kind = kind;
+  field = field_of kind d;
+  x = d.x;
+  y = d.y;
+  turn = turn;
+  bias = d.bias;
+})
 game_of d _ _ = Err (faults.Ends, 0)
 
 -- the game after the last line
@@ -308,4 +359,6 @@ ended (Ok d) = if d.begun then game_of d d.kind d.turn else Err (faults.Header, 
 
 -- The game that a text says, or its fault with the number of the line.
 unfoldable pub game : Bytes → Result Entry (Fault × ℕ)
-game text = if nat_lt MAX_GAME_BYTES (length text) then Err (faults.Size, 0) else ended (reading after 1 nothing (lines text))
+game text = if nat_lt MAX_GAME_BYTES (length text)
+    then Err (faults.Size, 0)
+    else ended (reading after 1 nothing (lines text))

@@ -24,7 +24,8 @@ key_name keys.Turn = codes "turn"
 
 -- all keys
 abbrev pub all_keys : List Key
-all_keys = keys.Kind ∷ keys.Points ∷ keys.Grid ∷ keys.Vertices ∷ keys.Terminals ∷ keys.Bias ∷ keys.Line ∷ keys.Shape ∷ keys.Edge ∷ keys.X ∷ keys.Y ∷ keys.Turn ∷ []
+all_keys = keys.Kind ∷ keys.Points ∷ keys.Grid ∷ keys.Vertices ∷ keys.Terminals ∷ keys.Bias
+    ∷ keys.Line ∷ keys.Shape ∷ keys.Edge ∷ keys.X ∷ keys.Y ∷ keys.Turn ∷ []
 
 -- the key that a word stands for
 abbrev pub key_of : Bytes → Option Key

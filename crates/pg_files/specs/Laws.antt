@@ -17,11 +17,14 @@ named_faults d (Some key) arguments = keyed_faults d key arguments
 
 -- the faults that a line of these words can have
 abbrev pub words_faults : Draft → List Bytes → List (Fault × Bool)
-words_faults d ws = if d.begun then (faults.Key, is_none (key_of (first ws))) ∷ named_faults d (key_of (first ws)) (rest ws) else (faults.Header, not (is_header ws)) ∷ []
+words_faults d ws = if d.begun
+    then (faults.Key, is_none (key_of (first ws))) ∷ named_faults d (key_of (first ws)) (rest ws)
+    else (faults.Header, not (is_header ws)) ∷ []
 
 -- the faults that a line can have, in ascending order, each with whether it applies
 abbrev pub line_faults : Draft → Bytes → List (Fault × Bool)
-line_faults d line = (faults.Bytes, not (list_all is_printable line)) ∷ (if begins_comment line || length (words line) == 0 then [] else words_faults d (words line))
+line_faults d line = (faults.Bytes, not (list_all is_printable line))
+    ∷ (if begins_comment line || length (words line) == 0 then [] else words_faults d (words line))
 
 -- the lines before this one have no fault, and it has this one as its least
 pub record IsFirstFault (text : Bytes) (fault : Fault) (number : ℕ) : Type 0 where
@@ -34,9 +37,11 @@ pub record IsFirstFault (text : Bytes) (fault : Fault) (number : ℕ) : Type 0 w
   pub least : IsLeast fault (line_faults draft line)
   pub counted : number ≡ length before + 1
 
--- what is told where no line has a fault: that there is no significant line, or else that the turn lacks
+-- what is told where no line has a fault: that there is no significant line, or else that the turn
+-- lacks
 abbrev pub Lacks : Draft → Fault → Type 0
-Lacks draft fault = ((draft.begun ≡ false) × (fault ≡ faults.Header)) ⊎ ((draft.begun ≡ true) × (draft.turn ≡ None) × (fault ≡ faults.Ends))
+Lacks draft fault = ((draft.begun ≡ false) × (fault ≡ faults.Header))
+    ⊎ ((draft.begun ≡ true) × (draft.turn ≡ None) × (fault ≡ faults.Ends))
 
 -- no line has a fault, and at the end something lacks
 pub record IsFaultOfEnd (text : Bytes) (fault : Fault) : Type 0 where

@@ -53,16 +53,20 @@ edge_words ends = numbered keys.Edge (ends.0 ∷ ends.1 ∷ [])
 
 -- the lines that say the bias and what a game is played on; on a graph the bias is 1
 abbrev pub field_words : ℕ → Field → List (List Bytes)
-field_words bias (fields.Lines f) = size_words f.points f.grid ∷ (bias_words bias ++ map (numbered keys.Line) f.lines)
-field_words bias (fields.Graph h) = numbered keys.Vertices (h.vertices ∷ []) ∷ numbered keys.Terminals (h.s ∷ h.t ∷ []) ∷ map edge_words h.ends
+field_words bias (fields.Lines f) =
+    size_words f.points f.grid ∷ (bias_words bias ++ map (numbered keys.Line) f.lines)
+field_words bias (fields.Graph h) = numbered keys.Vertices (h.vertices ∷ [])
+    ∷ numbered keys.Terminals (h.s ∷ h.t ∷ []) ∷ map edge_words h.ends
 
 -- the lines of the marks of both sides and of the turn
 abbrev pub last_lines : FinSet nat_cmp → FinSet nat_cmp → Side → List (List Bytes)
-last_lines x y turn = marked keys.X (members x) ++ (marked keys.Y (members y) ++ worded keys.Turn (side_word turn) ∷ [])
+last_lines x y turn = marked keys.X (members x)
+    ++ (marked keys.Y (members y) ++ worded keys.Turn (side_word turn) ∷ [])
 
 -- the lines of a game, each as its words
 abbrev pub printed_lines : Entry → List (List Bytes)
-printed_lines g = header ∷ worded keys.Kind (kind_word g.kind) ∷ (field_words g.bias g.field ++ last_lines g.x g.y g.turn)
+printed_lines g = header ∷ worded keys.Kind (kind_word g.kind)
+    ∷ (field_words g.bias g.field ++ last_lines g.x g.y g.turn)
 
 -- The printed text of a game.
 unfoldable pub printed : Entry → Bytes

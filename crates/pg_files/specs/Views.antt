@@ -10,7 +10,22 @@ use Rattle.pg_files.specs.declared.fault.Fault.{Fault}
 
 -- what a draft in memory says
 abbrev pub view : Kept → Draft
-view d = record { begun = d.begun; rank = d.rank; kind = d.kind; points = d.points; grid = d.grid; vertices = d.vertices; s = d.s; t = d.t; bias = d.bias; lines = d.lines.items; ends = d.ends.items; x = d.x; y = d.y; turn = d.turn }
+view d = record {
+  begun = d.begun;
+  rank = d.rank;
+  kind = d.kind;
+  points = d.points;
+  grid = d.grid;
+  vertices = d.vertices;
+  s = d.s;
+  t = d.t;
+  bias = d.bias;
+  lines = d.lines.items;
+  ends = d.ends.items;
+  x = d.x;
+  y = d.y;
+  turn = d.turn;
+}
 
 -- a game as a file says it
 abbrev pub entry : Game → Entry

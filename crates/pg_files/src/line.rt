@@ -80,7 +80,8 @@ impl Draft {
 
     #[tactic(auto, unfolding(crate::specs::GameFile::keyed))]
     fn add_kind(&mut self, arguments: &[&[u8]]) -> Result<(), LineError<Fault>>
-        ensures { Becomes result (view self.new) (keyed (view self.old) keys.Kind (map (λ w. w.now) arguments.now)) }
+        ensures { Becomes result (view self.new)
+            (keyed (view self.old) keys.Kind (map (λ w. w.now) arguments.now)) }
     {
         let Some(word) = arguments.first() else {
             if self.is_out_of_place(Key::Kind) {
@@ -104,7 +105,8 @@ impl Draft {
 
     #[tactic(auto, unfolding(crate::specs::GameFile::keyed, pg_text::specs::Text::numbers))]
     fn add_points(&mut self, arguments: &[&[u8]]) -> Result<(), LineError<Fault>>
-        ensures { Becomes result (view self.new) (keyed (view self.old) keys.Points (map (λ w. w.now) arguments.now)) }
+        ensures { Becomes result (view self.new)
+            (keyed (view self.old) keys.Points (map (λ w. w.now) arguments.now)) }
     {
         if self.is_out_of_place(Key::Points) {
             return Err(LineError::Fault(Fault::Order));
@@ -125,7 +127,8 @@ impl Draft {
 
     #[tactic(auto, unfolding(crate::specs::GameFile::keyed, pg_text::specs::Text::numbers))]
     fn add_grid(&mut self, arguments: &[&[u8]]) -> Result<(), LineError<Fault>>
-        ensures { Becomes result (view self.new) (keyed (view self.old) keys.Grid (map (λ w. w.now) arguments.now)) }
+        ensures { Becomes result (view self.new)
+            (keyed (view self.old) keys.Grid (map (λ w. w.now) arguments.now)) }
     {
         if self.is_out_of_place(Key::Grid) {
             return Err(LineError::Fault(Fault::Order));
@@ -144,7 +147,8 @@ impl Draft {
 
     #[tactic(auto, unfolding(crate::specs::GameFile::keyed, pg_text::specs::Text::numbers))]
     fn add_vertices(&mut self, arguments: &[&[u8]]) -> Result<(), LineError<Fault>>
-        ensures { Becomes result (view self.new) (keyed (view self.old) keys.Vertices (map (λ w. w.now) arguments.now)) }
+        ensures { Becomes result (view self.new)
+            (keyed (view self.old) keys.Vertices (map (λ w. w.now) arguments.now)) }
     {
         if self.is_out_of_place(Key::Vertices) {
             return Err(LineError::Fault(Fault::Order));
@@ -165,7 +169,8 @@ impl Draft {
 
     #[tactic(auto, unfolding(crate::specs::GameFile::keyed, pg_text::specs::Text::numbers))]
     fn add_terminals(&mut self, arguments: &[&[u8]]) -> Result<(), LineError<Fault>>
-        ensures { Becomes result (view self.new) (keyed (view self.old) keys.Terminals (map (λ w. w.now) arguments.now)) }
+        ensures { Becomes result (view self.new)
+            (keyed (view self.old) keys.Terminals (map (λ w. w.now) arguments.now)) }
     {
         if self.is_out_of_place(Key::Terminals) {
             return Err(LineError::Fault(Fault::Order));
@@ -188,7 +193,8 @@ impl Draft {
 
     #[tactic(auto, unfolding(crate::specs::GameFile::keyed, pg_text::specs::Text::numbers))]
     fn add_bias(&mut self, arguments: &[&[u8]]) -> Result<(), LineError<Fault>>
-        ensures { Becomes result (view self.new) (keyed (view self.old) keys.Bias (map (λ w. w.now) arguments.now)) }
+        ensures { Becomes result (view self.new)
+            (keyed (view self.old) keys.Bias (map (λ w. w.now) arguments.now)) }
     {
         if self.is_out_of_place(Key::Bias) {
             return Err(LineError::Fault(Fault::Order));
@@ -242,7 +248,8 @@ impl Draft {
 
     #[tactic(auto, unfolding(crate::specs::GameFile::keyed))]
     fn add_line(&mut self, alloc: Global, arguments: &[&[u8]]) -> Result<(), LineError<Fault>>
-        ensures { Becomes result (view self.new) (keyed (view self.old) keys.Line (map (λ w. w.now) arguments.now)) }
+        ensures { Becomes result (view self.new)
+            (keyed (view self.old) keys.Line (map (λ w. w.now) arguments.now)) }
     {
         if self.is_out_of_place(Key::Line) {
             return Err(LineError::Fault(Fault::Order));
@@ -264,7 +271,8 @@ impl Draft {
     /// Whether as many further lines, with as many points each, are too many.
     fn exceeds_with(&self, lines: usize, points: usize) -> bool
         requires { points ≤ MAX_LINE_POINTS }
-        ensures limit { result ≡ (nat_lt MAX_LINES (length self.now.lines.items + lines) || nat_lt MAX_SUMMED_POINTS (self.now.total + lines * points)) }
+        ensures limit { result ≡ (nat_lt MAX_LINES (length self.now.lines.items + lines)
+            || nat_lt MAX_SUMMED_POINTS (self.now.total + lines * points)) }
     {
         lines > MAX_LINES
             || self.lines.len() + lines > MAX_LINES
@@ -273,7 +281,8 @@ impl Draft {
 
     #[tactic(auto, unfolding(crate::specs::GameFile::keyed))]
     fn add_shape(&mut self, alloc: Global, arguments: &[&[u8]]) -> Result<(), LineError<Fault>>
-        ensures { Becomes result (view self.new) (keyed (view self.old) keys.Shape (map (λ w. w.now) arguments.now)) }
+        ensures { Becomes result (view self.new)
+            (keyed (view self.old) keys.Shape (map (λ w. w.now) arguments.now)) }
     {
         if self.is_out_of_place(Key::Shape) {
             return Err(LineError::Fault(Fault::Order));
@@ -307,7 +316,8 @@ impl Draft {
 
     #[tactic(auto, unfolding(crate::specs::GameFile::keyed, pg_text::specs::Text::numbers))]
     fn add_edge(&mut self, arguments: &[&[u8]]) -> Result<(), LineError<Fault>>
-        ensures { Becomes result (view self.new) (keyed (view self.old) keys.Edge (map (λ w. w.now) arguments.now)) }
+        ensures { Becomes result (view self.new)
+            (keyed (view self.old) keys.Edge (map (λ w. w.now) arguments.now)) }
     {
         if self.is_out_of_place(Key::Edge) {
             return Err(LineError::Fault(Fault::Order));
@@ -349,7 +359,8 @@ impl Draft {
 
     #[tactic(auto, unfolding(crate::specs::GameFile::keyed))]
     fn add_x(&mut self, alloc: Global, arguments: &[&[u8]]) -> Result<(), LineError<Fault>>
-        ensures { Becomes result (view self.new) (keyed (view self.old) keys.X (map (λ w. w.now) arguments.now)) }
+        ensures { Becomes result (view self.new)
+            (keyed (view self.old) keys.X (map (λ w. w.now) arguments.now)) }
     {
         if self.is_out_of_place(Key::X) {
             return Err(LineError::Fault(Fault::Order));
@@ -368,7 +379,8 @@ impl Draft {
 
     #[tactic(auto, unfolding(crate::specs::GameFile::keyed))]
     fn add_y(&mut self, alloc: Global, arguments: &[&[u8]]) -> Result<(), LineError<Fault>>
-        ensures { Becomes result (view self.new) (keyed (view self.old) keys.Y (map (λ w. w.now) arguments.now)) }
+        ensures { Becomes result (view self.new)
+            (keyed (view self.old) keys.Y (map (λ w. w.now) arguments.now)) }
     {
         if self.is_out_of_place(Key::Y) {
             return Err(LineError::Fault(Fault::Order));
@@ -387,7 +399,8 @@ impl Draft {
 
     #[tactic(auto, unfolding(crate::specs::GameFile::keyed))]
     fn add_turn(&mut self, arguments: &[&[u8]]) -> Result<(), LineError<Fault>>
-        ensures { Becomes result (view self.new) (keyed (view self.old) keys.Turn (map (λ w. w.now) arguments.now)) }
+        ensures { Becomes result (view self.new)
+            (keyed (view self.old) keys.Turn (map (λ w. w.now) arguments.now)) }
     {
         let Some(word) = arguments.first() else {
             if self.is_out_of_place(Key::Turn) {
@@ -410,7 +423,8 @@ impl Draft {
     }
 
     fn add(&mut self, alloc: Global, key: Key, arguments: &[&[u8]]) -> Result<(), LineError<Fault>>
-        ensures { Becomes result (view self.new) (keyed (view self.old) key (map (λ w. w.now) arguments.now)) }
+        ensures { Becomes result (view self.new)
+            (keyed (view self.old) key (map (λ w. w.now) arguments.now)) }
     {
         match key {
             Key::Kind => self.add_kind(arguments),
@@ -430,7 +444,8 @@ impl Draft {
 
     #[tactic(auto, unfolding(crate::specs::GameFile::significant))]
     fn read_words(&mut self, alloc: Global, words: &[&[u8]]) -> Result<(), LineError<Fault>>
-        ensures { Becomes result (view self.new) (significant (view self.old) (map (λ w. w.now) words.now)) }
+        ensures { Becomes result (view self.new)
+            (significant (view self.old) (map (λ w. w.now) words.now)) }
     {
         if !self.begun {
             if !is_header(words) {
@@ -485,8 +500,10 @@ fn grid_of(width: u32, height: u32) -> Option<Grid>
 /// The two numbers that the words spell, if there are two and each spells one.
 #[tactic(auto, unfolding(pg_text::specs::Text::numbers))]
 pub fn two_numbers(words: &[&[u8]]) -> Option<(u32, u32)>
-    ensures two { IfSome result (λ p. (length words.now ≡ 2) × (numbers (map (λ w. w.now) words.now) ≡ Some (p.0 ∷ p.1 ∷ []))) }
-    ensures other { IfNone result ((not (length words.now == 2) || is_none (numbers (map (λ w. w.now) words.now))) ≡ true) }
+    ensures two { IfSome result (λ p. (length words.now ≡ 2)
+        × (numbers (map (λ w. w.now) words.now) ≡ Some (p.0 ∷ p.1 ∷ []))) }
+    ensures other { IfNone result
+        ((not (length words.now == 2) || is_none (numbers (map (λ w. w.now) words.now))) ≡ true) }
 {
     let [first, second] = words else {
         return None;

@@ -17,7 +17,9 @@ use std::fmt::Write;
 
 /// A line of a word and numbers.
 pub fn put_numbers(out: &mut String, word: &str, numbers: &[u16]) -> Result<(), AllocError>
-    ensures { OnOk result (string_bytes out.new ≡ string_bytes out.old ++ spelled (number_words word.now numbers.now)) }
+    ensures { OnOk result
+        (string_bytes out.new
+        ≡ string_bytes out.old ++ spelled (number_words word.now numbers.now)) }
 {
     out.push_str(word)?;
     for n in numbers {
@@ -29,7 +31,8 @@ pub fn put_numbers(out: &mut String, word: &str, numbers: &[u16]) -> Result<(), 
 
 /// A line of a key and marks, where there are any.
 fn put_marks(out: &mut String, key: Key, marks: &[u16]) -> Result<(), AllocError>
-    ensures { OnOk result (string_bytes out.new ≡ string_bytes out.old ++ flat_map spelled (marked key marks.now)) }
+    ensures { OnOk result
+        (string_bytes out.new ≡ string_bytes out.old ++ flat_map spelled (marked key marks.now)) }
 {
     if marks.is_empty() {
         return Ok(());
@@ -39,7 +42,8 @@ fn put_marks(out: &mut String, key: Key, marks: &[u16]) -> Result<(), AllocError
 
 /// A line of a key and a word.
 fn put_word(out: &mut String, key: Key, word: &str) -> Result<(), AllocError>
-    ensures { OnOk result (string_bytes out.new ≡ string_bytes out.old ++ spelled (worded key word.now)) }
+    ensures { OnOk result
+        (string_bytes out.new ≡ string_bytes out.old ++ spelled (worded key word.now)) }
 {
     let name = key.name();
     write!(out, "{name} {word}\n")?;
@@ -48,7 +52,8 @@ fn put_word(out: &mut String, key: Key, word: &str) -> Result<(), AllocError>
 
 /// The grid where there is one, else the number of points.
 fn put_size(out: &mut String, points: u16, grid: Option<Grid>) -> Result<(), AllocError>
-    ensures { OnOk result (string_bytes out.new ≡ string_bytes out.old ++ spelled (size_words points grid)) }
+    ensures { OnOk result
+        (string_bytes out.new ≡ string_bytes out.old ++ spelled (size_words points grid)) }
 {
     match grid {
         Some(grid) => put_numbers(out, Key::Grid.name(), &[grid.width, grid.height]),
@@ -58,7 +63,8 @@ fn put_size(out: &mut String, points: u16, grid: Option<Grid>) -> Result<(), All
 
 /// A line of the bias, where it is above 1.
 fn put_bias(out: &mut String, bias: u8) -> Result<(), AllocError>
-    ensures { OnOk result (string_bytes out.new ≡ string_bytes out.old ++ flat_map spelled (bias_words bias)) }
+    ensures { OnOk result
+        (string_bytes out.new ≡ string_bytes out.old ++ flat_map spelled (bias_words bias)) }
 {
     if bias <= 1 {
         return Ok(());
@@ -68,7 +74,9 @@ fn put_bias(out: &mut String, bias: u8) -> Result<(), AllocError>
 
 /// The lines of a game.
 fn put_lines(out: &mut String, lines: &[Line]) -> Result<(), AllocError>
-    ensures { OnOk result (string_bytes out.new ≡ string_bytes out.old ++ flat_map (λ line. spelled (numbered keys.Line line)) lines.now) }
+    ensures { OnOk result
+        (string_bytes out.new
+        ≡ string_bytes out.old ++ flat_map (λ line. spelled (numbered keys.Line line)) lines.now) }
 {
     for line in lines {
         put_numbers(out, Key::Line.name(), line.as_slice())?;
@@ -78,7 +86,9 @@ fn put_lines(out: &mut String, lines: &[Line]) -> Result<(), AllocError>
 
 /// The edges of a game.
 pub fn put_edges(out: &mut String, edges: &[(u16, u16)]) -> Result<(), AllocError>
-    ensures { OnOk result (string_bytes out.new ≡ string_bytes out.old ++ flat_map (λ ends. spelled (edge_words ends)) edges.now) }
+    ensures { OnOk result
+        (string_bytes out.new
+        ≡ string_bytes out.old ++ flat_map (λ ends. spelled (edge_words ends)) edges.now) }
 {
     for ends in edges {
         put_numbers(out, Key::Edge.name(), &[ends.0, ends.1])?;
@@ -88,7 +98,9 @@ pub fn put_edges(out: &mut String, edges: &[(u16, u16)]) -> Result<(), AllocErro
 
 /// Lines, what their points are, and the bias.
 fn put_line_field(out: &mut String, bias: u8, field: &LineField) -> Result<(), AllocError>
-    ensures { OnOk result (string_bytes out.new ≡ string_bytes out.old ++ flat_map spelled (field_words bias (fields.Lines field.now))) }
+    ensures { OnOk result
+        (string_bytes out.new
+        ≡ string_bytes out.old ++ flat_map spelled (field_words bias (fields.Lines field.now))) }
 {
     put_size(out, field.points, field.grid)?;
     put_bias(out, bias)?;
@@ -98,7 +110,9 @@ fn put_line_field(out: &mut String, bias: u8, field: &LineField) -> Result<(), A
 
 /// A graph with its terminals.
 fn put_graph(out: &mut String, graph: &Graph) -> Result<(), AllocError>
-    ensures { OnOk result (string_bytes out.new ≡ string_bytes out.old ++ flat_map spelled (field_words 1 (fields.Graph graph.now))) }
+    ensures { OnOk result
+        (string_bytes out.new
+        ≡ string_bytes out.old ++ flat_map spelled (field_words 1 (fields.Graph graph.now))) }
 {
     put_numbers(out, Key::Vertices.name(), &[graph.vertices])?;
     put_numbers(out, Key::Terminals.name(), &[graph.s, graph.t])?;
@@ -108,7 +122,9 @@ fn put_graph(out: &mut String, graph: &Graph) -> Result<(), AllocError>
 
 /// What a game is played on, and the bias.
 fn put_field(out: &mut String, bias: u8, field: &Field) -> Result<(), AllocError>
-    ensures { OnOk result (string_bytes out.new ≡ string_bytes out.old ++ flat_map spelled (field_words bias field.now)) }
+    ensures { OnOk result
+        (string_bytes out.new
+        ≡ string_bytes out.old ++ flat_map spelled (field_words bias field.now)) }
 {
     match field {
         Field::Lines(field) => put_line_field(out, bias, field),
@@ -124,7 +140,9 @@ pub fn put_last(
     y: &PointSet,
     turn: Side,
 ) -> Result<(), AllocError>
-    ensures { OnOk result (string_bytes out.new ≡ string_bytes out.old ++ flat_map spelled (last_lines x.now y.now turn)) }
+    ensures { OnOk result
+        (string_bytes out.new
+        ≡ string_bytes out.old ++ flat_map spelled (last_lines x.now y.now turn)) }
 {
     let x = members(alloc, x)?;
     let y = members(alloc, y)?;
@@ -135,7 +153,8 @@ pub fn put_last(
 
 /// The text of a game: reading it gives the game back.
 ///
-/// The marks of each side stand in ascending order, and a side without marks has no line. A bias of 1 isn't said.
+/// The marks of each side stand in ascending order, and a side without marks has no line. A bias of
+/// 1 isn't said.
 #[tactic(auto, unfolding(crate::specs::Print::printed))]
 pub fn print_game(alloc: Global, g: &Game) -> Result<Vec<u8>, Memory>
     ensures { IfOk result (λ text. text.items ≡ printed (entry g.now)) }

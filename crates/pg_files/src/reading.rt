@@ -77,9 +77,9 @@ fn field_of(kind: Kind, draft: Draft) -> Field
 
 /// The game that the text says, or the first fault with the number of its line.
 ///
-/// A file with several faults has that of its first faulty line, and of that line's the one with the least number.
-/// The fault of the whole file, such as a missing last line, comes only where no line is faulty, with line 0.
-/// The text is read once, and no copy of it is made.
+/// A file with several faults has that of its first faulty line, and of that line's the one with
+/// the least number. The fault of the whole file, such as a missing last line, comes only where no
+/// line is faulty, with line 0. The text is read once, and no copy of it is made.
 #[tactic(auto, unfolding(crate::specs::GameFile::game))]
 pub fn read_game(alloc: Global, bytes: &[u8]) -> Result<Game, FileError>
     ensures { IsReadAs entry result (game bytes.now) }

@@ -13,7 +13,8 @@ use std::alloc::{AllocError, Global};
 pub fn are_below(numbers: &[u32], limit: u32) -> bool
     requires { limit ≤ MAX_MEMBERS }
     ensures below { result ≡ list_all (λ n. nat_lt n limit) numbers.now }
-    ensures small { IsTrue (list_all (λ n. nat_lt n limit) numbers.now) → IsTrue (list_all (λ n. nat_lt n MAX_MEMBERS) numbers.now) }
+    ensures small { IsTrue (list_all (λ n. nat_lt n limit) numbers.now)
+        → IsTrue (list_all (λ n. nat_lt n MAX_MEMBERS) numbers.now) }
 {
     numbers.iter().all(|n| *n < limit)
 }

@@ -29,14 +29,22 @@ one-more t n k is = elim (cases_Bool (t n)) [
 pub count-passed : (t : ℕ → Bool) (n : ℕ) → count t n ≡ passed t n
 unfolding count
 count-passed t zero = sym (passed-none t)
-count-passed t (suc n) = let next : n + 1 ≡ suc n = omega arith in one-more t n (count t n) (count-passed t n) ∙ ap (passed t) next
+count-passed t (suc n) =
+    let next : n + 1 ≡ suc n = omega arith in
+    one-more t n (count t n) (count-passed t n) ∙ ap (passed t) next
 
 -- a set of the free points has as many members as the list
-pub len-free_points : (g : Game) (p : Position) (s : FinSet nat_cmp) → ((v : ℕ) → contains s v ≡ (ltb v (point_count g) && is_free p v)) → len s ≡ length (free_points g p)
+pub len-free_points : (g : Game) (p : Position) (s : FinSet nat_cmp)
+    → ((v : ℕ) → contains s v ≡ (ltb v (point_count g) && is_free p v))
+    → len s ≡ length (free_points g p)
 len-free_points g p s each =
-    let below : AreBelow s (point_count g) = λ v on. ltb-true v (point_count g) (and_parts _ _ (sym (each v) ∙ on)).0 in
-    len-count s (point_count g) below ∙ count_same (contains s) (is_free p) (point_count g) (λ v lt. each v ∙ ap (λ b. b && is_free p v) (lt-ltb v (point_count g) lt))
-    ∙ count-passed (is_free p) (point_count g) ∙ passed-all g p (point_count g) refl
+    let below : AreBelow s (point_count g) =
+    λ v on. ltb-true v (point_count g) (and_parts _ _ (sym (each v) ∙ on)).0 in
+    len-count s (point_count g) below
+    ∙ count_same (contains s) (is_free p) (point_count g)
+    (λ v lt. each v ∙ ap (λ b. b && is_free p v) (lt-ltb v (point_count g) lt))
+    ∙ count-passed (is_free p) (point_count g)
+    ∙ passed-all g p (point_count g) refl
 
 -- the first of a list is none where the list is empty
 pub none-empty : (qs : List ℕ) → is_none (find (λ v. true) qs) ≡ is_empty qs

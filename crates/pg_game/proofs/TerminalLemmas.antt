@@ -16,7 +16,10 @@ use Rattle.pg_game.specs.Field.{terminals_joined}
 use Rattle.pg_game.specs.Walked.{AreConnected}
 
 -- only the ends of the edges below n count
-joins_ends : (a b c d : ℕ → ℕ) (set : ℕ → Bool) (n u v : ℕ) → ((k : ℕ) → k < n → a k ≡ c k) → ((k : ℕ) → k < n → b k ≡ d k) → joins a b set n u v ≡ joins c d set n u v
+joins_ends : (a b c d : ℕ → ℕ) (set : ℕ → Bool) (n u v : ℕ)
+    → ((k : ℕ) → k < n → a k ≡ c k)
+    → ((k : ℕ) → k < n → b k ≡ d k)
+    → joins a b set n u v ≡ joins c d set n u v
 unfolding joins
 joins_ends a b c d set zero u v first second = refl
 joins_ends a b c d set (suc n) u v first second =
@@ -33,24 +36,39 @@ joins_ends a b c d set (suc n) u v first second =
     )
 
 -- the edges of the list are enough for a set of them
-terminals-joins_in : (h : Graph) (set : ℕ → Bool) → IsBelow set (edge_count h) → terminals_joined h set ≡ joins_in h set h.s h.t
+terminals-joins_in : (h : Graph) (set : ℕ → Bool)
+    → IsBelow set (edge_count h)
+    → terminals_joined h set ≡ joins_in h set h.s h.t
 terminals-joins_in h set small =
-    let out : set (edge_count h) ≡ false = false_from_ne_true _ (λ on. let low = small (edge_count h) on in absurd (omega arith)) in
+    let out : set (edge_count h) ≡ false =
+    false_from_ne_true _ (λ on. let low = small (edge_count h) on in absurd (omega arith)) in
     sym (joins_in-edges h set h.s h.t out
-    ∙ joins_ends (first_end_of h) (second_end_of h) (first_end h.ends) (second_end h.ends) set (edge_count h) h.s h.t (first_end_of-edge h) (second_end_of-edge h))
+    ∙ joins_ends (first_end_of h) (second_end_of h) (first_end h.ends) (second_end h.ends) set
+    (edge_count h) h.s h.t (first_end_of-edge h) (second_end_of-edge h))
 
 -- what a joiner answers of a set of edges
-pub terminals-from_joined : (h : Graph) (set : ℕ → Bool) (r : Bool) → IsBelow set (edge_count h) → (IsTrue r ↔ IsJoinedIn h set h.s h.t) → r ≡ terminals_joined h set
+pub terminals-from_joined : (h : Graph) (set : ℕ → Bool) (r : Bool)
+    → IsBelow set (edge_count h)
+    → (IsTrue r ↔ IsJoinedIn h set h.s h.t)
+    → r ≡ terminals_joined h set
 terminals-from_joined h set r small joined =
     let same = terminals-joins_in h set small in
     elim (cases_Bool r) [
-      | inl on ↦ on ∙ sym (same ∙ joins_in-complete h set h.s h.t (λ k in_set. let low = small k in_set in omega arith) (joined.0 on))
-      | inr off ↦ off ∙ sym (false_from_ne_true _ (λ on. both_ways _ off (joined.1 (joins_in-sound h set h.s h.t (sym same ∙ on)))))
+      | inl on ↦ on
+          ∙ sym (same
+          ∙ joins_in-complete h set h.s h.t (λ k in_set. let low = small k in_set in omega arith)
+          (joined.0 on))
+      | inr off ↦ off
+          ∙ sym (false_from_ne_true _
+          (λ on. both_ways _ off (joined.1 (joins_in-sound h set h.s h.t (sym same ∙ on)))))
     ]
 
 -- two sets of the same edges join the same
-pub terminals-same : (h : Graph) (x y : ℕ → Bool) → ((k : ℕ) → k < edge_count h → x k ≡ y k) → terminals_joined h x ≡ terminals_joined h y
-terminals-same h x y same = joins_same (first_end h.ends) (second_end h.ends) x y (edge_count h) h.s h.t same
+pub terminals-same : (h : Graph) (x y : ℕ → Bool)
+    → ((k : ℕ) → k < edge_count h → x k ≡ y k)
+    → terminals_joined h x ≡ terminals_joined h y
+terminals-same h x y same =
+    joins_same (first_end h.ends) (second_end h.ends) x y (edge_count h) h.s h.t same
 
 -- ---- the points outside a set, collected in ascending order
 
@@ -61,18 +79,23 @@ ltb-passed q v apart = elim (cases_lt q v) [
 ]
 
 -- a point outside is put in
-pub outside-added : (s : FinSet nat_cmp) (points : ℕ → Bool) (v : ℕ) → ((q : ℕ) → contains s q ≡ (ltb q v && not (points q))) → points v ≡ false
+pub outside-added : (s : FinSet nat_cmp) (points : ℕ → Bool) (v : ℕ)
+    → ((q : ℕ) → contains s q ≡ (ltb q v && not (points q)))
+    → points v ≡ false
     → (q : ℕ) → contains (insert s v) q ≡ (ltb q (v + 1) && not (points q))
 outside-added s points v before out q = in_insert s v q ∙ elim (cases_eq q v) [
   | inl e ↦
       let at : not (points q) ≡ true = not_from_false _ (ap points e ∙ out) in
       or_left (eqb q v) _ (eq-eqb q v e) ∙ sym (and_from _ _ (lt-ltb q (v + 1) (omega arith)) at)
-  | inr apart ↦
-      ap (λ b. b || contains s q) (ne_eqb q v apart) ∙ before q ∙ ap (λ b. b && not (points q)) (sym (ltb-passed q v apart))
+  | inr apart ↦ ap (λ b. b || contains s q) (ne_eqb q v apart)
+      ∙ before q
+      ∙ ap (λ b. b && not (points q)) (sym (ltb-passed q v apart))
 ]
 
 -- a point of the set is passed over
-pub outside-passed : (s : FinSet nat_cmp) (points : ℕ → Bool) (v : ℕ) → ((q : ℕ) → contains s q ≡ (ltb q v && not (points q))) → points v ≡ true
+pub outside-passed : (s : FinSet nat_cmp) (points : ℕ → Bool) (v : ℕ)
+    → ((q : ℕ) → contains s q ≡ (ltb q v && not (points q)))
+    → points v ≡ true
     → (q : ℕ) → contains s q ≡ (ltb q (v + 1) && not (points q))
 outside-passed s points v before in_set q = before q ∙ elim (cases_eq q v) [
   | inl e ↦
@@ -89,8 +112,10 @@ outside-passed s points v before in_set q = before q ∙ elim (cases_eq q v) [
 -- ---- walks
 
 -- the terminals are joined exactly where a walk of edges of the set leads from one to the other
-pub terminals-decides : (h : Graph) (set : ℕ → Bool) → Decides (terminals_joined h set) (AreConnected h set)
+pub terminals-decides : (h : Graph) (set : ℕ → Bool)
+    → Decides (terminals_joined h set) (AreConnected h set)
 terminals-decides h set = (
-  λ on. joins_sound (first_end h.ends) (second_end h.ends) (below set (edge_count h)) (edge_count h) h.s h.t (joins-below (first_end h.ends) (second_end h.ends) set (edge_count h) h.s h.t ∙ on),
+  λ on. joins_sound (first_end h.ends) (second_end h.ends) (below set (edge_count h)) (edge_count h)
+      h.s h.t (joins-below (first_end h.ends) (second_end h.ends) set (edge_count h) h.s h.t ∙ on),
   λ walk. joins_complete (first_end h.ends) (second_end h.ends) set (edge_count h) h.s h.t walk,
 )

@@ -12,13 +12,21 @@ use Rattle.pg_game.specs.Fit.{greatest_bias}
 use Rattle.pg_game.specs.Game.{bias_of, has_filled, outcome, outcome_by, short_joins}
 use Rattle.pg_game.specs.Value.{reaches}
 
-pub unfilled-breaker : (g : Game) (p : Position) → g.kind ≡ MakerBreaker → has_filled g p X ≡ false → reaches Y Win (outcome g p) ≡ true
+pub unfilled-breaker : (g : Game) (p : Position)
+    → g.kind ≡ MakerBreaker
+    → has_filled g p X ≡ false
+    → reaches Y Win (outcome g p) ≡ true
 unfolding outcome
-unfilled-breaker g p kind none = ap₂ (λ (k : Kind) (x : Bool). reaches Y Win (outcome_by k x (has_filled g p Y) (short_joins g p))) kind none
+unfilled-breaker g p kind none = ap₂ (λ (k : Kind) (x : Bool).
+    reaches Y Win (outcome_by k x (has_filled g p Y) (short_joins g p))) kind none
 
-pub unfilled-avoider : (g : Game) (p : Position) → g.kind ≡ AvoiderEnforcer → has_filled g p X ≡ false → reaches X Win (outcome g p) ≡ true
+pub unfilled-avoider : (g : Game) (p : Position)
+    → g.kind ≡ AvoiderEnforcer
+    → has_filled g p X ≡ false
+    → reaches X Win (outcome g p) ≡ true
 unfolding outcome
-unfilled-avoider g p kind none = ap₂ (λ (k : Kind) (x : Bool). reaches X Win (outcome_by k x (has_filled g p Y) (short_joins g p))) kind none
+unfilled-avoider g p kind none = ap₂ (λ (k : Kind) (x : Bool).
+    reaches X Win (outcome_by k x (has_filled g p Y) (short_joins g p))) kind none
 
 drawn-x : (x joined : Bool) → reaches X AtLeastDraw (outcome_by MakerMaker x false joined) ≡ true
 drawn-x true joined = refl
@@ -28,10 +36,17 @@ drawn-y : (y joined : Bool) → reaches Y AtLeastDraw (outcome_by MakerMaker fal
 drawn-y true joined = refl
 drawn-y false joined = refl
 
-pub unfilled-draw : (g : Game) (side : Side) (p : Position) → g.kind ≡ MakerMaker → has_filled g p (other side) ≡ false → reaches side AtLeastDraw (outcome g p) ≡ true
+pub unfilled-draw : (g : Game) (side : Side) (p : Position)
+    → g.kind ≡ MakerMaker
+    → has_filled g p (other side) ≡ false
+    → reaches side AtLeastDraw (outcome g p) ≡ true
 unfolding outcome
-unfilled-draw g X p kind none = ap₂ (λ (k : Kind) (y : Bool). reaches X AtLeastDraw (outcome_by k (has_filled g p X) y (short_joins g p))) kind none ∙ drawn-x (has_filled g p X) (short_joins g p)
-unfilled-draw g Y p kind none = ap₂ (λ (k : Kind) (x : Bool). reaches Y AtLeastDraw (outcome_by k x (has_filled g p Y) (short_joins g p))) kind none ∙ drawn-y (has_filled g p Y) (short_joins g p)
+unfilled-draw g X p kind none = ap₂ (λ (k : Kind) (y : Bool).
+    reaches X AtLeastDraw (outcome_by k (has_filled g p X) y (short_joins g p))) kind none
+    ∙ drawn-x (has_filled g p X) (short_joins g p)
+unfilled-draw g Y p kind none = ap₂ (λ (k : Kind) (x : Bool).
+    reaches Y AtLeastDraw (outcome_by k x (has_filled g p Y) (short_joins g p))) kind none
+    ∙ drawn-y (has_filled g p Y) (short_joins g p)
 
 -- ---- each side claims one point a turn in Maker-Maker
 

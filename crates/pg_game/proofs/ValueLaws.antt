@@ -20,48 +20,84 @@ pub value-over : (g : Game) (p : Position) → is_over g p ≡ true → value g 
 value-over g p over = value_by-over (rules_of g) p over
 
 -- otherwise it is the mover's best among the values after a move
-pub value-step : (g : Game) (p : Position) → is_over g p ≡ false → value g p ≡ best p.turn (map (λ v. value g (after g p v)) (free_points g p))
+pub value-step : (g : Game) (p : Position)
+    → is_over g p ≡ false
+    → value g p ≡ best p.turn (map (λ v. value g (after g p v)) (free_points g p))
 unfolding free_points free_below
 value-step g p going = value_by-step (rules_of g) (IsEnding-game g) p going
 
 -- ---- what a side forces by one step
 
 -- whether the value is good for the mover: some move's is
-pub reaches-own : (g : Game) (p : Position) (side : Side) (goal : Goal) → is_over g p ≡ false → p.turn ≡ side
-    → reaches side goal (value g p) ≡ list_any (λ v. reaches side goal (value g (after g p v))) (free_points g p)
+pub reaches-own : (g : Game) (p : Position) (side : Side) (goal : Goal)
+    → is_over g p ≡ false
+    → p.turn ≡ side
+    → reaches side goal (value g p)
+    ≡ list_any (λ v. reaches side goal (value g (after g p v))) (free_points g p)
 unfolding free_points free_below
-reaches-own g p side goal going mine = reaches_by-own (rules_of g) (IsEnding-game g) p side goal going mine
+reaches-own g p side goal going mine =
+    reaches_by-own (rules_of g) (IsEnding-game g) p side goal going mine
 
 -- whether the value is good for the side that waits: every move's is
-pub reaches-theirs : (g : Game) (p : Position) (side : Side) (goal : Goal) → is_over g p ≡ false → p.turn ≡ other side
-    → reaches side goal (value g p) ≡ list_all (λ v. reaches side goal (value g (after g p v))) (free_points g p)
+pub reaches-theirs : (g : Game) (p : Position) (side : Side) (goal : Goal)
+    → is_over g p ≡ false
+    → p.turn ≡ other side
+    → reaches side goal (value g p)
+    ≡ list_all (λ v. reaches side goal (value g (after g p v))) (free_points g p)
 unfolding free_points free_below
-reaches-theirs g p side goal going yours = reaches_by-theirs (rules_of g) (IsEnding-game g) p side goal going yours
+reaches-theirs g p side goal going yours =
+    reaches_by-theirs (rules_of g) (IsEnding-game g) p side goal going yours
 
 -- where the game is over and the outcome is good
-pub Forces-over : (g : Game) (p : Position) (side : Side) (goal : Goal) → is_over g p ≡ true → reaches side goal (outcome g p) ≡ true → Forces g p side goal
-Forces-over g p side goal over good = ForcesBy-over (rules_of g) (IsEnding-game g) p side goal over good
+pub Forces-over : (g : Game) (p : Position) (side : Side) (goal : Goal)
+    → is_over g p ≡ true
+    → reaches side goal (outcome g p) ≡ true
+    → Forces g p side goal
+Forces-over g p side goal over good =
+    ForcesBy-over (rules_of g) (IsEnding-game g) p side goal over good
 
 -- by a move of its own
-pub Forces-move : (g : Game) (p : Position) (side : Side) (goal : Goal) → is_over g p ≡ false → p.turn ≡ side
-    → (v : ℕ) → v < point_count g → is_free p v ≡ true → Forces g (after g p v) side goal → Forces g p side goal
-Forces-move g p side goal going mine v range free child = ForcesBy-move (rules_of g) (IsEnding-game g) p side goal going mine v range free child
+pub Forces-move : (g : Game) (p : Position) (side : Side) (goal : Goal)
+    → is_over g p ≡ false
+    → p.turn ≡ side
+    → (v : ℕ) → v < point_count g
+    → is_free p v ≡ true
+    → Forces g (after g p v) side goal
+    → Forces g p side goal
+Forces-move g p side goal going mine v range free child =
+    ForcesBy-move (rules_of g) (IsEnding-game g) p side goal going mine v range free child
 
 -- whatever the other side moves
-pub Forces-all : (g : Game) (p : Position) (side : Side) (goal : Goal) → is_over g p ≡ false → p.turn ≡ other side
-    → ((v : ℕ) → v < point_count g → is_free p v ≡ true → Forces g (after g p v) side goal) → Forces g p side goal
-Forces-all g p side goal going yours children = ForcesBy-all (rules_of g) (IsEnding-game g) p side goal going yours children
+pub Forces-all : (g : Game) (p : Position) (side : Side) (goal : Goal)
+    → is_over g p ≡ false
+    → p.turn ≡ other side
+    → ((v : ℕ) → v < point_count g → is_free p v ≡ true → Forces g (after g p v) side goal)
+    → Forces g p side goal
+Forces-all g p side goal going yours children =
+    ForcesBy-all (rules_of g) (IsEnding-game g) p side goal going yours children
 
 -- where the mover forces the goal some move does
-pub Forces-move-from : (g : Game) (p : Position) (side : Side) (goal : Goal) → is_over g p ≡ false → p.turn ≡ side → Forces g p side goal
+pub Forces-move-from : (g : Game) (p : Position) (side : Side) (goal : Goal)
+    → is_over g p ≡ false
+    → p.turn ≡ side
+    → Forces g p side goal
     → (v : ℕ) × (v < point_count g) × (is_free p v ≡ true) × Forces g (after g p v) side goal
-Forces-move-from g p side goal going mine forced = ForcesBy-move-from (rules_of g) (IsEnding-game g) p side goal going mine forced
+Forces-move-from g p side goal going mine forced =
+    ForcesBy-move-from (rules_of g) (IsEnding-game g) p side goal going mine forced
 
 -- where the side that waits forces the goal every move keeps it
-pub Forces-all-from : (g : Game) (p : Position) (side : Side) (goal : Goal) → is_over g p ≡ false → p.turn ≡ other side → Forces g p side goal
-    → (v : ℕ) → v < point_count g → is_free p v ≡ true → Forces g (after g p v) side goal
-Forces-all-from g p side goal going yours forced = ForcesBy-all-from (rules_of g) (IsEnding-game g) p side goal going yours forced
+pub Forces-all-from : (g : Game) (p : Position) (side : Side) (goal : Goal)
+    → is_over g p ≡ false
+    → p.turn ≡ other side
+    → Forces g p side goal
+    → (v : ℕ) → v < point_count g
+    → is_free p v ≡ true
+    → Forces g (after g p v) side goal
+Forces-all-from g p side goal going yours forced =
+    ForcesBy-all-from (rules_of g) (IsEnding-game g) p side goal going yours forced
 
 -- a forced win serves any goal
-pub Forces-any : (g : Game) (p : Position) (side : Side) (goal : Goal) → Forces g p side Win → Forces g p side goal
+pub Forces-any : (g : Game) (p : Position) (side : Side) (goal : Goal)
+    → Forces g p side Win
+    → Forces g p side goal
 Forces-any g p side goal h = reaches-any side goal (value g p) h

@@ -1,5 +1,6 @@
--- Avoider's potential, where Enforcer claims q points a turn. The condition is this project's own: it rests on two facts. A point that Enforcer
--- takes after Avoider's point of least weight weighs at least as much as Avoider's did, so that Enforcer's first point brings the total back to what
+-- Avoider's potential, where Enforcer claims q points a turn. The condition is this project's own:
+-- it rests on two facts. A point that Enforcer takes after Avoider's point of least weight weighs
+-- at least as much as Avoider's did, so that Enforcer's first point brings the total back to what
 -- it was or below; and where Avoider takes the last point the total at most doubles.
 use Rattle.std.specs.Prelude.{ℕ, ◌+◌, ◌-◌, ◌*◌, ◌%◌, ◌<◌, min, Bool, ◌&&◌, List, [], ◌∷◌, length, map, ◌==◌, nat_lt, find, unwrap_or, if◌then◌else◌}
 use Rattle.pg_base.specs.declared.side.Side.{Side}
@@ -9,7 +10,8 @@ use Rattle.pg_game.specs.declared.position.Position.{Position}
 use Rattle.pg_game.specs.Game.{free_points}
 use Rattle.pg_game.specs.Potential.{total_weight, point_weight, full_weight}
 
--- whether X takes the last of so many free points, where a side is to move and still claims so many points in its turn
+-- whether X takes the last of so many free points, where a side is to move and still claims so many
+-- points in its turn
 unfoldable pub x_takes_last : ℕ → Side → ℕ → ℕ → Bool
 x_takes_last bias X left free = nat_lt 0 free && (free - 1) % (bias + 1) == 0
 x_takes_last bias Y left free = nat_lt left free && (free - left - 1) % (bias + 1) == 0
@@ -50,4 +52,6 @@ least (n ∷ (m ∷ ns)) = min n (least (m ∷ ns))
 
 -- the lowest free point of least weight
 unfoldable pub avoider_answer : Game → Position → ℕ
-avoider_answer g p = unwrap_or (find (λ v. avoider_weight g p v == least (map (avoider_weight g p) (free_points g p))) (free_points g p)) 0
+avoider_answer g p = unwrap_or
+    (find (λ v. avoider_weight g p v == least (map (avoider_weight g p) (free_points g p)))
+    (free_points g p)) 0

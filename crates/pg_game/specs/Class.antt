@@ -13,7 +13,8 @@ pub data Class : Type 0 where
   Cut : Class
   First : Class
 
--- the class by the values with X and with Y to move; there is none where the side to move would lose both
+-- the class by the values with X and with Y to move; there is none where the side to move would
+-- lose both
 abbrev pub class_by : Score → Score → Option Class
 class_by XWins XWins = Some Short
 class_by YWins YWins = Some Cut

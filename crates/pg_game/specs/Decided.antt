@@ -40,7 +40,8 @@ abbrev pub claimer : Bool → Side
 claimer true = X
 claimer false = Y
 
--- what that side claims: a win, but in Maker-Maker a draw where it denies X the win, or where X asked for a draw
+-- what that side claims: a win, but in Maker-Maker a draw where it denies X the win, or where X
+-- asked for a draw
 abbrev pub claimed_goal : Kind → Score → Bool → Goal
 claimed_goal MakerMaker XWins false = AtLeastDraw
 claimed_goal MakerMaker Draw true = AtLeastDraw
@@ -48,7 +49,8 @@ claimed_goal _ _ _ = Win
 
 -- ---- the criteria
 
--- the side whose potential and private pairs speak to the question: Breaker, Avoider, and in Maker-Maker the side that wants no less than a draw
+-- the side whose potential and private pairs speak to the question: Breaker, Avoider, and in
+-- Maker-Maker the side that wants no less than a draw
 abbrev pub defender : Kind → Score → Side
 defender MakerBreaker t = Y
 defender AvoiderEnforcer t = X
@@ -83,13 +85,17 @@ attack_wins g p = may_attack g.kind p.turn && has_threat_line greatest_depth g p
 -- whether each of the lists can have two different points of its own, of those that pass
 unfoldable pub has_private_pairs : List (List ℕ) → (ℕ → Bool) → Bool
 has_private_pairs [] test = true
-has_private_pairs (line ∷ lines) test = list_any (λ a. list_any (λ b. nat_lt a b && has_private_pairs lines (minus (minus test a) b)) (filter test line)) (filter test line)
+has_private_pairs (line ∷ lines) test = list_any
+    (λ a. list_any (λ b. nat_lt a b && has_private_pairs lines (minus (minus test a) b))
+    (filter test line)) (filter test line)
 
 -- the lines without a point of the side that makes lines harmless to the claimer
 abbrev pub lines_meant : Game → Position → Side → List (List ℕ)
-lines_meant g p side = filter (λ line. not (is_touched (points_of p (breaker_of g.kind side)) line)) (lines_of g)
+lines_meant g p side =
+    filter (λ line. not (is_touched (points_of p (breaker_of g.kind side)) line)) (lines_of g)
 
--- whether so many free points can all be paired but as Avoider may leave out: an even number with Enforcer to move, an odd one with Avoider to move
+-- whether so many free points can all be paired but as Avoider may leave out: an even number with
+-- Enforcer to move, an odd one with Avoider to move
 abbrev pub is_pairable : Side → ℕ → Bool
 is_pairable X free = free % 2 == 1
 is_pairable Y free = free % 2 == 0
@@ -106,7 +112,8 @@ has_lines _ = true
 
 -- whether each line meant can have two free points of its own, all different
 unfoldable pub pairs_exist : Game → Position → Side → Bool
-pairs_exist g p side = has_lines g.kind && (avoider_can_pair g.kind g p && has_private_pairs (lines_meant g p side) (is_free p))
+pairs_exist g p side = has_lines g.kind
+    && (avoider_can_pair g.kind g p && has_private_pairs (lines_meant g p side) (is_free p))
 
 -- ---- the first that applies
 
@@ -117,7 +124,8 @@ pub data Criterion : Type 0 where
   ByThreat : Criterion
   ByPairs : Criterion
 
--- the first criterion that applies: the game is over, a potential holds, the side to move has a short threat line, or private pairs exist
+-- the first criterion that applies: the game is over, a potential holds, the side to move has a
+-- short threat line, or private pairs exist
 unfoldable pub first_criterion : Game → Score → Position → Option Criterion
 first_criterion g t p =
     if is_over g p then Some ByEnd
@@ -125,7 +133,8 @@ first_criterion g t p =
     else (if attack_wins g p then Some ByThreat
     else (if pairs_exist g p (defender g.kind t) then Some ByPairs else None)))
 
--- what a criterion answers where it applies: the outcome's answer, or yes for the side whose criterion it is where that is X
+-- what a criterion answers where it applies: the outcome's answer, or yes for the side whose
+-- criterion it is where that is X
 abbrev pub answer_by : Game → Score → Position → Criterion → Bool
 answer_by g t p ByEnd = at_least t (outcome g p)
 answer_by g t p ByPotential = answer_for (defender g.kind t)

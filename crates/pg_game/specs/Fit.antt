@@ -16,7 +16,8 @@ use Rattle.pg_game.specs.declared.field.Field.{Field}
 use Rattle.pg_game.specs.declared.field.Field.TheVariants.{Lines, Graph as OnGraph}
 use Rattle.pg_game.specs.declared.field.LineField.{LineField}
 
--- how long a line may be: shorter where Y claims several points a turn, so that sums of weights stay small
+-- how long a line may be: shorter where Y claims several points a turn, so that sums of weights
+-- stay small
 abbrev pub longest : ℕ → ℕ
 longest bias = if bias == 1 then MAX_LINE_POINTS else MAX_BIASED_LINE_POINTS
 

@@ -31,7 +31,8 @@ abbrev pub bias_of : Game → Side → ℕ
 bias_of g side = claims_in_turn g.bias side
 
 -- the game has these parts
-pub record IsGameOf (g : Game) (kind : Kind) (field : Field) (x y : FinSet nat_cmp) (turn : Side) (bias : ℕ) : Type 0 where
+pub record IsGameOf (g : Game) (kind : Kind) (field : Field) (x y : FinSet nat_cmp) (turn : Side)
+    (bias : ℕ) : Type 0 where
   pub same_kind : g.kind ≡ kind
   pub same_field : g.field ≡ field
   pub same_x : g.x ≡ x
@@ -49,7 +50,8 @@ start g = with_turn g g.turn
 
 -- ---- positions and moves
 
--- the sides have different points of the game, and the side to move claims at least one more and no more than in a whole turn
+-- the sides have different points of the game, and the side to move claims at least one more and no
+-- more than in a whole turn
 pub record IsPosition (g : Game) (p : Position) : Type 0 where
   pub x_range : AreBelow p.x (point_count g)
   pub y_range : AreBelow p.y (point_count g)
@@ -106,22 +108,30 @@ can_join g p = field_joins g.field (λ e. not (contains p.y e))
 
 -- ---- the end
 
--- whether a game of the kind is over, by what X and Y have filled, whether Y has a point of every line, whether no point is free, whether X's edges join the terminals, and whether those that aren't Y's do
+-- whether a game of the kind is over, by what X and Y have filled, whether Y has a point of every
+-- line, whether no point is free, whether X's edges join the terminals, and whether those that
+-- aren't Y's do
 abbrev pub is_over_by : Kind → Bool → Bool → Bool → Bool → Bool → Bool → Bool
-is_over_by MakerBreaker x_filled y_filled touched full joined joinable = x_filled || (touched || full)
-is_over_by AvoiderEnforcer x_filled y_filled touched full joined joinable = x_filled || (touched || full)
-is_over_by MakerMaker x_filled y_filled touched full joined joinable = x_filled || (y_filled || full)
+is_over_by MakerBreaker x_filled y_filled touched full joined joinable =
+    x_filled || (touched || full)
+is_over_by AvoiderEnforcer x_filled y_filled touched full joined joinable =
+    x_filled || (touched || full)
+is_over_by MakerMaker x_filled y_filled touched full joined joinable =
+    x_filled || (y_filled || full)
 is_over_by Switching x_filled y_filled touched full joined joinable = joined || not joinable
 
 -- whether the game is over
 unfoldable pub is_over : Game → Position → Bool
-is_over g p = is_over_by g.kind (has_filled g p X) (has_filled g p Y) (all_touched g p) (is_full g p) (short_joins g p) (can_join g p)
+is_over g p = is_over_by g.kind (has_filled g p X) (has_filled g p Y) (all_touched g p)
+    (is_full g p) (short_joins g p) (can_join g p)
 
--- the outcome of a game of the kind that is over, by what X and Y have filled and whether X's edges join the terminals
+-- the outcome of a game of the kind that is over, by what X and Y have filled and whether X's edges
+-- join the terminals
 abbrev pub outcome_by : Kind → Bool → Bool → Bool → Score
 outcome_by MakerBreaker x_filled y_filled joined = if x_filled then XWins else YWins
 outcome_by AvoiderEnforcer x_filled y_filled joined = if x_filled then YWins else XWins
-outcome_by MakerMaker x_filled y_filled joined = if x_filled then XWins else (if y_filled then YWins else Draw)
+outcome_by MakerMaker x_filled y_filled joined =
+    if x_filled then XWins else (if y_filled then YWins else Draw)
 outcome_by Switching x_filled y_filled joined = if joined then XWins else YWins
 
 -- the outcome of a position that is over

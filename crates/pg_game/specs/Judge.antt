@@ -1,4 +1,5 @@
--- What a judge answers: which moves are legal and what follows them; and the games for which it is made.
+-- What a judge answers: which moves are legal and what follows them; and the games for which it is
+-- made.
 use Rattle.std.specs.Prelude.{◌≡◌, ◌≢◌, ℕ, Bool, ◌||◌, Option, Some, None, Result, Ok, Err, if◌then◌else◌, nat_lt}
 use Rattle.pg_base.specs.declared.kind.Kind.TheVariants.{Switching}
 use Rattle.pg_base.specs.declared.score.Score.{Score}
@@ -13,7 +14,8 @@ use Rattle.pg_game.specs.declared.position.Illegal.TheVariants.{Range, Taken, Ov
 use Rattle.pg_game.specs.Position.{is_free}
 use Rattle.pg_game.specs.Game.{point_count, is_over, after}
 
--- the position after the side to move takes the point, or why it may not: there is no such point, or the game is over, or the point isn't free
+-- the position after the side to move takes the point, or why it may not: there is no such point,
+-- or the game is over, or the point isn't free
 abbrev pub judged_move : Game → Position → ℕ → Result Position Illegal
 judged_move g p v =
     if nat_lt v (point_count g)
@@ -39,16 +41,19 @@ abbrev pub HasJoiner : Option Room → Game → Type 0
 HasJoiner (Some room) g = IsMadeForGame room g
 HasJoiner None g = g.kind ≢ Switching
 
--- the result where it is X's line that counts, by the scores where X has filled one and where it can't any more
+-- the result where it is X's line that counts, by the scores where X has filled one and where it
+-- can't any more
 abbrev pub filling_result : Score → Score → Bool → Bool → Bool → Option Score
 filling_result filled unfilled x_filled touched full =
     if x_filled then Some filled else (if touched || full then Some unfilled else None)
 
 -- the result where the first side to fill a line wins
 abbrev pub race_result : Bool → Bool → Bool → Option Score
-race_result x_filled y_filled full =
-    if x_filled then Some XWins else (if y_filled then Some YWins else (if full then Some Draw else None))
+race_result x_filled y_filled full = if x_filled
+    then Some XWins
+    else (if y_filled then Some YWins else (if full then Some Draw else None))
 
 -- the result where X joins the terminals and Y parts them
 abbrev pub joining_result : Bool → Bool → Option Score
-joining_result joined joinable = if joined then Some XWins else (if joinable then None else Some YWins)
+joining_result joined joinable =
+    if joined then Some XWins else (if joinable then None else Some YWins)

@@ -11,7 +11,8 @@ use Rattle.pg_game.specs.Rules.{Rules, moved}
 abbrev pub ending_by : Rules → Position → Option Score
 ending_by r p = if r.over p then Some (r.outcome p) else None
 
--- the position after the side to move takes the point, or why it may not: there is no such point, or the game is over, or the point isn't free
+-- the position after the side to move takes the point, or why it may not: there is no such point,
+-- or the game is over, or the point isn't free
 abbrev pub judged_by : Rules → Position → ℕ → Result Position Illegal
 judged_by r p v =
     if nat_lt v r.points

@@ -1,4 +1,5 @@
--- Pairs of free points of which the claimer needs one each (Hales and Jewett's pairing, at any position).
+-- Pairs of free points of which the claimer needs one each (Hales and Jewett's pairing, at any
+-- position).
 use Rattle.std.specs.Prelude.{◌≡◌, ◌≢◌, ℕ, ◌<◌, Bool, true, false, not, ◌&&◌, ◌||◌, ◌==◌, List, [], ◌∷◌, length, Option, Some, None, find, filter, unwrap_or, if◌then◌else◌}
 use Rattle.std.specs.List.{All, Any, AllPairs, Contains, list_any}
 use Rattle.std.specs.Option.{option_or}
@@ -52,7 +53,8 @@ pub record AreOpenPairs (g : Game) (p : Position) (pairs : List Pair) : Type 0 w
 
 -- ---- the condition
 
--- the side whose points make a line harmless to the claimer: the claimer itself, but Enforcer where Avoider claims
+-- the side whose points make a line harmless to the claimer: the claimer itself, but Enforcer where
+-- Avoider claims
 abbrev pub breaker_of : Kind → Side → Side
 breaker_of AvoiderEnforcer side = Y
 breaker_of _ side = side
@@ -61,7 +63,8 @@ breaker_of _ side = side
 abbrev pub IsSafe : FinSet nat_cmp → List Pair → List ℕ → Type 0
 IsSafe own pairs line = is_touched own line ≡ false → Any (HoldsPair line) pairs
 
--- every line meant, that is one without a point of the side that makes lines harmless, holds both points of some pair
+-- every line meant, that is one without a point of the side that makes lines harmless, holds both
+-- points of some pair
 abbrev pub HoldLines : Game → Position → Side → List Pair → Type 0
 HoldLines g p side pairs = All (IsSafe (points_of p (breaker_of g.kind side)) pairs) (lines_of g)
 
@@ -69,17 +72,20 @@ HoldLines g p side pairs = All (IsSafe (points_of p (breaker_of g.kind side)) pa
 abbrev pub unpaired : Game → Position → List Pair → List ℕ
 unpaired g p pairs = filter (λ v. not (is_paired pairs v)) (free_points g p)
 
--- how many free points Avoider may leave in no pair: one where Avoider is to move, none where Enforcer is
+-- how many free points Avoider may leave in no pair: one where Avoider is to move, none where
+-- Enforcer is
 abbrev pub unpaired_due : Side → ℕ
 unpaired_due X = 1
 unpaired_due Y = 0
 
--- in Avoider-Enforcer Enforcer claims one point a turn, and all free points are in pairs, but one where Avoider is to move
+-- in Avoider-Enforcer Enforcer claims one point a turn, and all free points are in pairs, but one
+-- where Avoider is to move
 pub record PairsLeaveNone (g : Game) (p : Position) (pairs : List Pair) : Type 0 where
   pub single : g.bias ≡ 1
   pub left_out : length (unpaired g p pairs) ≡ unpaired_due p.turn
 
--- The pairs are of free points, all different, every line meant holds both points of some pair, and in Avoider-Enforcer they leave no point out but as due.
+-- The pairs are of free points, all different, every line meant holds both points of some pair, and
+-- in Avoider-Enforcer they leave no point out but as due.
 pub record PairsHold (g : Game) (p : Position) (side : Side) (pairs : List Pair) : Type 0 where
   pub apart : AreOpenPairs g p pairs
   pub held : HoldLines g p side pairs
@@ -110,6 +116,8 @@ free_partner p pairs (Some v) = if_free p (partner pairs v)
 abbrev pub is_loose : Position → List Pair → ℕ → Bool
 is_loose p pairs v = not (list_any (λ s. is_open p s && has_point v s) pairs)
 
--- the free partner of the last reply, else the lowest free point in no open pair, else the lowest free point
+-- the free partner of the last reply, else the lowest free point in no open pair, else the lowest
+-- free point
 unfoldable pub pairs_answer : Game → Position → List Pair → Option ℕ → ℕ
-pairs_answer g p pairs last = unwrap_or (option_or (free_partner p pairs last) (option_or (find (is_loose p pairs) (free_points g p)) (lowest_free g p))) 0
+pairs_answer g p pairs last = unwrap_or (option_or (free_partner p pairs last)
+    (option_or (find (is_loose p pairs) (free_points g p)) (lowest_free g p))) 0

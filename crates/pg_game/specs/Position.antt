@@ -1,4 +1,5 @@
--- Positions: the points of the two sides, the side to move, and how many points it still claims in this turn.
+-- Positions: the points of the two sides, the side to move, and how many points it still claims in
+-- this turn.
 use Rattle.std.specs.Prelude.{◌≡◌, ℕ, ◌-◌, Bool, true, false, not, ◌&&◌, nat_lt, if◌then◌else◌}
 use Rattle.std.specs.FinSet.{FinSet, contains, insert}
 use Rattle.std.specs.Ordering.{nat_cmp}
@@ -31,7 +32,8 @@ abbrev pub y_after : Side → FinSet nat_cmp → ℕ → FinSet nat_cmp
 y_after X y v = y
 y_after Y y v = insert y v
 
--- who is to move once the side to move has taken a point: the same side while it claims more, else the other
+-- who is to move once the side to move has taken a point: the same side while it claims more, else
+-- the other
 abbrev pub turn_after : Position → Side
 turn_after p = if nat_lt 1 p.left then p.turn else other p.turn
 
@@ -41,4 +43,9 @@ left_after bias p = if nat_lt 1 p.left then p.left - 1 else claims_in_turn bias 
 
 -- the position after the side to move takes the point, where Y claims so many points a turn
 abbrev pub after_with : ℕ → Position → ℕ → Position
-after_with bias p v = record { x = x_after p.turn p.x v; y = y_after p.turn p.y v; turn = turn_after p; left = left_after bias p }
+after_with bias p v = record {
+  x = x_after p.turn p.x v;
+  y = y_after p.turn p.y v;
+  turn = turn_after p;
+  left = left_after bias p;
+}

@@ -15,7 +15,8 @@ same_side_itself Y = refl
 
 -- what `==` of two positions answers
 abbrev pub equal_positions : Position → Position → Bool
-equal_positions p q = equal p.x q.x && (equal p.y q.y && (sameb the_type p.turn q.turn && eqb p.left q.left))
+equal_positions p q =
+    equal p.x q.x && (equal p.y q.y && (sameb the_type p.turn q.turn && eqb p.left q.left))
 
 -- positions are equal exactly where they are the same
 pub equal_positions-decides : (p q : Position) → Decides (equal_positions p q) (p ≡ q)
@@ -30,5 +31,7 @@ equal_positions-decides p q = (
       let left = eqb-true p.left q.left third.1 in
       λ i. record { x = x i; y = y i; turn = turn i; left = left i },
   λ same. subst (λ (r : Position). equal_positions p r ≡ true) same
-      (and_from _ _ ((equal-decides p.x p.x).1 refl) (and_from _ _ ((equal-decides p.y p.y).1 refl) (and_from _ _ (same_side_itself p.turn) (eq-eqb p.left p.left refl)))),
+      (and_from _ _ ((equal-decides p.x p.x).1 refl)
+      (and_from _ _ ((equal-decides p.y p.y).1 refl)
+      (and_from _ _ (same_side_itself p.turn) (eq-eqb p.left p.left refl)))),
 )

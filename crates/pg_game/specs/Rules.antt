@@ -1,4 +1,5 @@
--- Games in which two sides take points in turn, by their rules alone: values, what a side forces, and invariants that it keeps.
+-- Games in which two sides take points in turn, by their rules alone: values, what a side forces,
+-- and invariants that it keeps.
 use Rattle.std.specs.Prelude.{◌≡◌, ◌<◌, ℕ, zero, suc, Bool, true, false, List, [], ◌∷◌, map, length, if◌then◌else◌, IsTrue}
 use Rattle.std.specs.List.{range_with_len, filter}
 use Rattle.pg_base.specs.declared.goal.Goal.{Goal}
@@ -11,7 +12,8 @@ use Rattle.pg_base.specs.Side.{other}
 use Rattle.pg_game.specs.declared.position.Position.{Position}
 use Rattle.pg_game.specs.Position.{is_free, after_with}
 
--- how many points there are, how many of them Y takes in a turn, when the game is over, and the outcome where it is
+-- how many points there are, how many of them Y takes in a turn, when the game is over, and the
+-- outcome where it is
 pub record Rules : Type 0 where
   pub points : ℕ
   pub bias : ℕ
@@ -47,8 +49,9 @@ best Y (s ∷ ss) = better Y s (best Y ss)
 -- the value where at most so many points are free
 unfoldable pub value_within : ℕ → Rules → Position → Score
 value_within zero r p = r.outcome p
-value_within (suc moves) r p =
-    if r.over p then r.outcome p else best p.turn (map (λ v. value_within moves r (moved r p v)) (free_below r.points p))
+value_within (suc moves) r p = if r.over p
+    then r.outcome p
+    else best p.turn (map (λ v. value_within moves r (moved r p v)) (free_below r.points p))
 
 -- the value: best play by both sides, as deep as there are free points
 unfoldable pub value_by : Rules → Position → Score
@@ -72,7 +75,8 @@ ForcesBy r p side goal = IsTrue (reaches side goal (value_by r p))
 -- each point is one of the game and free where it is played, and the game isn't over before it
 abbrev pub IsPlayBy : Rules → Position → List ℕ → Type 0
 IsPlayBy r p [] = Unit {0}
-IsPlayBy r p (v ∷ others) = (r.over p ≡ false) × (v < r.points) × (is_free p v ≡ true) × IsPlayBy r (moved r p v) others
+IsPlayBy r p (v ∷ others) =
+    (r.over p ≡ false) × (v < r.points) × (is_free p v ≡ true) × IsPlayBy r (moved r p v) others
 
 -- the position after the points are played
 abbrev pub played_by : Rules → Position → List ℕ → Position
@@ -83,8 +87,19 @@ played_by r p (v ∷ others) = played_by r (moved r p v) others
 pub record IsEnding (r : Rules) : Type 0 where
   pub full : (p : Position) → ((v : ℕ) → v < r.points → is_free p v ≡ false) → r.over p ≡ true
 
--- where the game is over the goal is reached; where the side is to move some free point keeps the invariant; and every point that the other side takes keeps it
+-- where the game is over the goal is reached; where the side is to move some free point keeps the
+-- invariant; and every point that the other side takes keeps it
 pub record KeepsBy (r : Rules) (side : Side) (goal : Goal) (I : Position → Type 0) : Type 0 where
   pub ends : (p : Position) → I p → r.over p ≡ true → reaches side goal (r.outcome p) ≡ true
-  pub own : (p : Position) → I p → r.over p ≡ false → p.turn ≡ side → (v : ℕ) × (v < r.points) × (is_free p v ≡ true) × I (moved r p v)
-  pub theirs : (p : Position) → I p → r.over p ≡ false → p.turn ≡ other side → (v : ℕ) → v < r.points → is_free p v ≡ true → I (moved r p v)
+  pub own : (p : Position)
+      → I p
+      → r.over p ≡ false
+      → p.turn ≡ side
+      → (v : ℕ) × (v < r.points) × (is_free p v ≡ true) × I (moved r p v)
+  pub theirs : (p : Position)
+      → I p
+      → r.over p ≡ false
+      → p.turn ≡ other side
+      → (v : ℕ) → v < r.points
+      → is_free p v ≡ true
+      → I (moved r p v)

@@ -6,6 +6,7 @@ use Rattle.pg_game.specs.declared.position.Position.{Position}
 use Rattle.pg_game.specs.Rules.{KeepsBy}
 use Rattle.pg_game.specs.Value.{rules_of}
 
--- where the game is over the goal is reached; where the side is to move some free point keeps the invariant; and every point that the other side takes keeps it
+-- where the game is over the goal is reached; where the side is to move some free point keeps the
+-- invariant; and every point that the other side takes keeps it
 abbrev pub Keeps : Game → Side → Goal → (Position → Type 0) → Type 0
 Keeps g side goal I = KeepsBy (rules_of g) side goal I

@@ -9,7 +9,8 @@ pub const MAX_LINES: usize = 20_000;
 /// The most points of a line.
 pub const MAX_LINE_POINTS: usize = 100;
 
-/// The most points of a line where Y claims several points a turn, so that sums of weights stay small.
+/// The most points of a line where Y claims several points a turn, so that sums of weights stay
+/// small.
 pub const MAX_BIASED_LINE_POINTS: usize = 33;
 
 /// The most points of all lines together, each counted as often as it stands.

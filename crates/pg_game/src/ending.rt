@@ -10,10 +10,11 @@ ghost use Rattle.pg_game.specs.Threat.{may_attack};
 use crate::bounds::MAX_BIAS;
 use pg_base::{Kind, Score, Side};
 
-/// Whether a game on lines is over, by what X and Y have filled, whether Y has a point of every line, and whether no
-/// point is free.
+/// Whether a game on lines is over, by what X and Y have filled, whether Y has a point of every
+/// line, and whether no point is free.
 pub fn is_over_by(kind: Kind, x_filled: bool, y_filled: bool, touched: bool, full: bool) -> bool
-    ensures { (joined joinable : Bool) → kind ≢ Switching → result ≡ is_over_by kind x_filled y_filled touched full joined joinable }
+    ensures { (joined joinable : Bool) → kind ≢ Switching
+        → result ≡ is_over_by kind x_filled y_filled touched full joined joinable }
 {
     match kind {
         Kind::MakerMaker => x_filled || y_filled || full,
@@ -23,7 +24,8 @@ pub fn is_over_by(kind: Kind, x_filled: bool, y_filled: bool, touched: bool, ful
 
 /// The outcome of a game on lines that is over, by what X and Y have filled.
 pub fn outcome_by(kind: Kind, x_filled: bool, y_filled: bool) -> Score
-    ensures { (joined : Bool) → kind ≢ Switching → result ≡ outcome_by kind x_filled y_filled joined }
+    ensures { (joined : Bool) → kind ≢ Switching
+        → result ≡ outcome_by kind x_filled y_filled joined }
 {
     match kind {
         Kind::MakerBreaker if x_filled => Score::XWins,
@@ -68,8 +70,8 @@ pub fn may_attack(kind: Kind, side: Side) -> bool
     }
 }
 
-/// The side whose points make a line harmless to the claimer: Y's in Avoider-Enforcer, where X avoids lines, and else the
-/// claimer's own.
+/// The side whose points make a line harmless to the claimer: Y's in Avoider-Enforcer, where X
+/// avoids lines, and else the claimer's own.
 pub fn breaker_of(kind: Kind, side: Side) -> Side
     ensures { result ≡ breaker_of kind side }
 {
@@ -79,8 +81,8 @@ pub fn breaker_of(kind: Kind, side: Side) -> Side
     }
 }
 
-/// Whether X takes the last of so many free points, where Y claims `bias` points a turn and a side is to move and still
-/// claims so many in its turn.
+/// Whether X takes the last of so many free points, where Y claims `bias` points a turn and a side
+/// is to move and still claims so many in its turn.
 pub fn x_takes_last(bias: u16, turn: Side, left: u16, free: u16) -> bool
     requires { bias ≤ MAX_BIAS }
     ensures { result ≡ x_takes_last bias turn left free }

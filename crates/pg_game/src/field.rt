@@ -31,16 +31,20 @@ pub enum Field {
 impl LineField {
     /// So many points, without a grid, and for each row, in order, the line of its points.
     ///
-    /// The points of a row may come in any order. Whether the field is within the limits is for `Game::new` to say.
+    /// The points of a row may come in any order. Whether the field is within the limits is for
+    /// `Game::new` to say.
     ///
     /// # Errors
     ///
-    /// `Repeated` exactly where a point stands twice in some row, and `Memory` where no memory is found.
+    /// `Repeated` exactly where a point stands twice in some row, and `Memory` where no memory is
+    /// found.
     pub fn from_rows(alloc: Global, points: u16, rows: &[&[u16]]) -> Result<LineField, LineFault>
         ensures points { IfOk result (λ field. field.points ≡ points) }
         ensures grid { IfOk result (λ field. field.grid ≡ None) }
-        ensures lines { IfOk result (λ field. AllZip (λ row line. IsLineOfRow row.now line) rows.now field.lines) }
-        ensures repeated { result ≡ Err LineFault.Repeated → Any (λ row. StandsTwice row.now) rows.now }
+        ensures lines { IfOk result
+            (λ field. AllZip (λ row line. IsLineOfRow row.now line) rows.now field.lines) }
+        ensures repeated { result ≡ Err LineFault.Repeated
+            → Any (λ row. StandsTwice row.now) rows.now }
     {
         let mut lines = Vec::new(alloc);
         for row in rows {

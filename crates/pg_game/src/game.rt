@@ -11,8 +11,9 @@ use crate::fit::is_fit;
 use crate::position::{Position, claims_in_turn};
 use pg_base::{Kind, Line, MAX_EDGES, MAX_MEMBERS, PointSet, Side};
 
-/// A game with its marks and the side to move. Its type keeps that it is within the limits, that what it is played on
-/// fits its kind, that all points are in range, and that the marks of the two sides are disjoint.
+/// A game with its marks and the side to move. Its type keeps that it is within the limits, that
+/// what it is played on fits its kind, that all points are in range, and that the marks of the two
+/// sides are disjoint.
 #[derive(Debug, Drop)]
 pub struct Game {
     /// The kind.
@@ -25,7 +26,8 @@ pub struct Game {
     pub y: PointSet,
     /// The side to move.
     pub turn: Side,
-    /// How many points Y claims in a turn, where X claims one: 1 to 7, and 1 in Maker-Maker and switching.
+    /// How many points Y claims in a turn, where X claims one: 1 to 7, and 1 in Maker-Maker and
+    /// switching.
     pub bias: u8,
     pub ghost fits: { IsFit kind field x y bias },
 }
@@ -41,11 +43,13 @@ impl Game {
     ///
     /// # Errors
     ///
-    /// `Misfit` exactly where the parts don't fit together or are beyond the limits (`MAX_POINTS` and its siblings): a field
-    /// of lines has 1 to 256 points, and cells as many as its grid, at most 20,000 lines of at least one point each, none
-    /// longer than 100 points, or 33 where the bias is above 1, and at most 400,000 points in all lines; a graph has 2 to
-    /// 500 vertices, at most 1,000 edges, and two different terminals; marks are points of the game and no mark is both sides'; the
-    /// bias is 1 to 7, and 1 in Maker-Maker and switching. The field is then dropped.
+    /// `Misfit` exactly where the parts don't fit together or are beyond the limits (`MAX_POINTS`
+    /// and its siblings): a field of lines has 1 to 256 points, and cells as many as its grid, at
+    /// most 20,000 lines of at least one point each, none longer than 100 points, or 33 where the
+    /// bias is above 1, and at most 400,000 points in all lines; a graph has 2 to 500 vertices, at
+    /// most 1,000 edges, and two different terminals; marks are points of the game and no mark is
+    /// both sides'; the bias is 1 to 7, and 1 in Maker-Maker and switching. The field is then
+    /// dropped.
     pub fn new(
         kind: Kind,
         field: Field,
@@ -98,7 +102,8 @@ impl Game {
 
     /// The free points.
     pub fn free_points(&self, p: &Position) -> PointSet
-        ensures members { (v : ℕ) → contains result v ≡ (nat_lt v (point_count self.now) && is_free p.now v) }
+        ensures members { (v : ℕ)
+            → contains result v ≡ (nat_lt v (point_count self.now) && is_free p.now v) }
         ensures count { len result ≡ length (free_points self.now p.now) }
     {
         PointSet::all_below(self.points())

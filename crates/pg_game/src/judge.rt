@@ -34,7 +34,8 @@ pub fn joiner_for(alloc: Global, g: &Game) -> Result<Option<Joiner>, Memory>
     }
 }
 
-/// Judges positions and moves, with room to work in for games on graphs with a certain number of vertices and edges.
+/// Judges positions and moves, with room to work in for games on graphs with a certain number of
+/// vertices and edges.
 #[derive(Debug, Drop)]
 pub struct Judge {
     joiner: Option<Joiner>,
@@ -51,11 +52,13 @@ impl Model for Judge {
 }
 
 impl Judge {
-    /// A judge for this game, and for all games on lines or on graphs with as many vertices and edges.
+    /// A judge for this game, and for all games on lines or on graphs with as many vertices and
+    /// edges.
     ///
     /// # Errors
     ///
-    /// `Memory` where no memory is found; a game on lines needs none. No other call of a judge takes memory.
+    /// `Memory` where no memory is found; a game on lines needs none. No other call of a judge
+    /// takes memory.
     pub fn new(alloc: Global, g: &Game) -> Result<Judge, Memory>
         ensures made { IfOk result (λ judge. IsMadeForGame judge g.now) }
         ensures lines { g.now.kind ≢ Switching → IsOk result }
@@ -71,7 +74,8 @@ impl Judge {
     pub fn over(&mut self, g: &Game, p: &Position) -> Option<Score>
         requires made { IsMadeForGame self.old g.now }
         requires range { AreBelow p.now.x (point_count g.now) }
-        ensures result { result ≡ (if is_over g.now p.now then Some (outcome g.now p.now) else None) }
+        ensures result { result
+            ≡ (if is_over g.now p.now then Some (outcome g.now p.now) else None) }
         ensures kept { self.new ≡ self.old }
     {
         match &g.field {
@@ -89,7 +93,8 @@ impl Judge {
     ///
     /// # Errors
     ///
-    /// `Range` where the game has no such point, else `Over` where it is over, else `Taken` where the point isn't free.
+    /// `Range` where the game has no such point, else `Over` where it is over, else `Taken` where
+    /// the point isn't free.
     pub fn play(&mut self, g: &Game, p: &Position, v: u16) -> Result<Position, Illegal>
         requires made { IsMadeForGame self.old g.now }
         requires range { AreBelow p.now.x (point_count g.now) }

@@ -5,8 +5,8 @@ ghost use Rattle.pg_game.specs.Weaker.{IsNoWorse};
 use crate::position::Position;
 use pg_base::Side;
 
-/// Whether p is no worse for the side than `weaker`: the side has all its points of `weaker`, the other side no others
-/// than there, and the same side is to move and claims as many points.
+/// Whether p is no worse for the side than `weaker`: the side has all its points of `weaker`, the
+/// other side no others than there, and the same side is to move and claims as many points.
 pub fn is_no_worse(side: Side, weaker: &Position, p: &Position) -> bool
     ensures { IsTrue result ↔ IsNoWorse side weaker.now p.now }
 {

@@ -38,7 +38,8 @@ impl Position {
         !self.x.has(v) && !self.y.has(v)
     }
 
-    /// The lowest point below `n` that neither side has, and None exactly where each of them is taken.
+    /// The lowest point below `n` that neither side has, and None exactly where each of them is
+    /// taken.
     pub fn lowest_free_below(&self, n: u16) -> Option<u16>
         requires { n ≤ MAX_MEMBERS }
         ensures { result ≡ find (is_free self.now) (range_with_len 0 n) }
@@ -68,7 +69,8 @@ impl Position {
         *self == *other
     }
 
-    /// The position after the side to move takes the point, in a game in which Y claims `bias` points a turn.
+    /// The position after the side to move takes the point, in a game in which Y claims `bias`
+    /// points a turn.
     pub fn after(&self, bias: u8, v: u16) -> Position
         requires { v < MAX_MEMBERS }
         ensures { result ≡ after_with bias self.now v }

@@ -24,15 +24,17 @@ fn touches_all(points: &PointSet, lines: &[Line]) -> bool
     lines.iter().all(|line| points.meets(line.as_slice()))
 }
 
-/// The result where X's line counts: `filled` where X has filled one, and `unfilled` where it has filled none and can't
-/// any more, because each line has a point of Y or no point is free.
+/// The result where X's line counts: `filled` where X has filled one, and `unfilled` where it has
+/// filled none and can't any more, because each line has a point of Y or no point is free.
 pub(crate) fn filling_result(
     g: &Game,
     p: &Position,
     filled: Score,
     unfilled: Score,
 ) -> Option<Score>
-    ensures { result ≡ filling_result filled unfilled (list_any (is_filled p.now.x) (lines_of g.now)) (list_all (is_touched p.now.y) (lines_of g.now)) (is_full g.now p.now) }
+    ensures { result
+        ≡ filling_result filled unfilled (list_any (is_filled p.now.x) (lines_of g.now))
+        (list_all (is_touched p.now.y) (lines_of g.now)) (is_full g.now p.now) }
 {
     let lines = g.lines();
     if fills_some(&p.x, lines) {
@@ -44,9 +46,11 @@ pub(crate) fn filling_result(
     }
 }
 
-/// The result where the side that fills a line first wins. Where both have, X's line is looked at first.
+/// The result where the side that fills a line first wins. Where both have, X's line is looked at
+/// first.
 pub(crate) fn race_result(g: &Game, p: &Position) -> Option<Score>
-    ensures { result ≡ race_result (list_any (is_filled p.now.x) (lines_of g.now)) (list_any (is_filled p.now.y) (lines_of g.now)) (is_full g.now p.now) }
+    ensures { result ≡ race_result (list_any (is_filled p.now.x) (lines_of g.now))
+        (list_any (is_filled p.now.y) (lines_of g.now)) (is_full g.now p.now) }
 {
     let lines = g.lines();
     if fills_some(&p.x, lines) {

@@ -34,7 +34,8 @@ pub(crate) fn joining_result(joiner: &mut Joiner, graph: &Graph, p: &Position) -
     requires board { IsBoard graph.now }
     requires made { IsMadeFor joiner.old graph.now }
     requires x_range { AreBelow p.now.x (length graph.now.ends) }
-    ensures result { result ≡ joining_result (terminals_joined graph.now (contains p.now.x)) (terminals_joined graph.now (λ e. not (contains p.now.y e))) }
+    ensures result { result ≡ joining_result (terminals_joined graph.now (contains p.now.x))
+        (terminals_joined graph.now (λ e. not (contains p.now.y e))) }
     ensures kept { joiner.new ≡ joiner.old }
 {
     if joined(joiner, graph, &p.x) {

@@ -18,7 +18,8 @@ use pg_base::{Line, PointSet};
 pub struct Weights {
     /// The sum of the weights of all lines.
     pub total: u128,
-    /// For each point the sum of the weights of the lines through it, and 0 beyond the points of the game.
+    /// For each point the sum of the weights of the lines through it, and 0 beyond the points of
+    /// the game.
     pub points: [u128; MAX_POINTS],
 }
 
@@ -50,8 +51,8 @@ fn power(base: u128, exponent: usize) -> u128
     }
 }
 
-/// The weight of a line: 0 where it has one of the points, else the base to the power of `longest` less its free points.
-/// It takes one walk over the line, up to the first of the points.
+/// The weight of a line: 0 where it has one of the points, else the base to the power of `longest`
+/// less its free points. It takes one walk over the line, up to the first of the points.
 fn line_weight(base: u128, longest: usize, own: &PointSet, p: &Position, line: &Line) -> u128
     requires range { All (λ v. v < MAX_POINTS) line.now }
     requires some { 1 ≤ base }
@@ -79,7 +80,8 @@ fn add_weight(points: &mut [u128; MAX_POINTS], line: &Line, weight: u128)
     requires count { length points.old ≡ MAX_POINTS }
     requires fits { (v : ℕ) → v < MAX_POINTS → get_or points.old v 0 + weight < 2 ^ 128 }
     ensures count { length points.new ≡ MAX_POINTS }
-    ensures added { (v : ℕ) → v < MAX_POINTS → get_or points.new v 0 ≡ get_or points.old v 0 + (if is_on v line.now then weight else 0) }
+    ensures added { (v : ℕ) → v < MAX_POINTS
+        → get_or points.new v 0 ≡ get_or points.old v 0 + (if is_on v line.now then weight else 0) }
 {
     for v in line.as_slice() {
         points[usize::from(*v)] += weight;
@@ -105,7 +107,8 @@ pub fn weigh(g: &Game, base: u128, own: &PointSet, p: &Position) -> Weights
     Weights { total, points }
 }
 
-/// The sum of the weights of all lines at a position to the given base, where a line with one of the points weighs nothing.
+/// The sum of the weights of all lines at a position to the given base, where a line with one of
+/// the points weighs nothing.
 ///
 /// One walk over the lines: the time is linear in the points of all lines. It takes no memory.
 pub fn total_weight(g: &Game, base: u128, own: &PointSet, p: &Position) -> u128
@@ -143,7 +146,8 @@ fn has_weight(p: &Position, points: &[u128; MAX_POINTS], weight: u128, v: u16) -
 pub fn lowest_with(g: &Game, p: &Position, points: &[u128; MAX_POINTS], weight: u128) -> u16
     requires lines { g.now.kind ≢ Switching }
     requires count { length points.now ≡ MAX_POINTS }
-    ensures { result ≡ unwrap_or (find (λ v. get_or points.now v 0 == weight) (free_points g.now p.now)) 0 }
+    ensures { result
+        ≡ unwrap_or (find (λ v. get_or points.now v 0 == weight) (free_points g.now p.now)) 0 }
 {
     for v in 0..g.points() {
         if has_weight(p, points, weight, v) {

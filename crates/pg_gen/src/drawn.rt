@@ -40,7 +40,10 @@ fn first_points(alloc: Global, n: u16) -> Result<Vec<u16>, Memory>
 fn mix(points: &mut [u16], k: usize, state: u32) -> u32
     requires few { k ≤ length points.old }
     requires small { state < 2 ^ 31 }
-    ensures mixed { fold (mixed (length points.old)) (record { points = points.old; state = state }) (below k) ≡ record { points = points.new; state = result } }
+    ensures mixed { fold (mixed (length points.old)) (record {
+      points = points.old;
+      state = state;
+    }) (below k) ≡ record { points = points.new; state = result } }
     ensures moved { IsPermutation points.old points.new }
     ensures small { result < 2 ^ 31 }
 {
@@ -108,12 +111,14 @@ fn has_scatter(seed: u32, n: u32, m: u32, k: u32) -> bool
         && m * k <= MAX_SUMMED_POINTS as u32
 }
 
-/// Maker-Breaker on n points and m lines of k points each, which are drawn by the seed, with X to move.
+/// Maker-Breaker on n points and m lines of k points each, which are drawn by the seed, with X to
+/// move.
 ///
 /// # Errors
 ///
-/// `Range` exactly where the seed isn't below 2^31, n isn't 1 to 256, m isn't 0 to 20,000, k isn't 1 to the lesser of n and 100,
-/// or the lines have more than 400,000 points together; and `Memory` where no memory is found.
+/// `Range` exactly where the seed isn't below 2^31, n isn't 1 to 256, m isn't 0 to 20,000, k isn't
+/// 1 to the lesser of n and 100, or the lines have more than 400,000 points together; and `Memory`
+/// where no memory is found.
 pub fn scatter(alloc: Global, seed: u32, n: u32, m: u32, k: u32) -> Result<Game, GenFault>
     ensures game { IfOk result (λ g. IsScatterGame seed n m k g) }
     ensures range { (result ≡ Err GenFault.Range) ↔ (has_scatter seed n m k ≡ false) }

@@ -17,14 +17,25 @@ use Rattle.pg_gf2.specs.Classes.{with_target, at_turn, VectorSetsHold, vector_cl
 
 module _ (g : VecGame) where
   pub place : (turn : Side) → IsPlace (length g.vectors) (at_turn g turn)
-  place turn = record { x_range = g.fits.x_range; y_range = g.fits.y_range; disjoint = g.fits.disjoint; one_left = refl }
+  place turn = record {
+    x_range = g.fits.x_range;
+    y_range = g.fits.y_range;
+    disjoint = g.fits.disjoint;
+    one_left = refl;
+  }
 
   -- as the calls tell it
-  pub VectorSetsHold-decided : (m : Matroid) (e : ℕ) (c : Class) → m ≡ vector_matroid (with_target g) (contains g.x) (free_with_e (contains g.x) (contains g.y) (length g.vectors)) → e ≡ length g.vectors
-      → IsTaken m e c → VectorSetsHold g c
+  pub VectorSetsHold-decided : (m : Matroid) (e : ℕ) (c : Class)
+      → m ≡ vector_matroid (with_target g) (contains g.x)
+      (free_with_e (contains g.x) (contains g.y) (length g.vectors))
+      → e ≡ length g.vectors
+      → IsTaken m e c
+      → VectorSetsHold g c
   VectorSetsHold-decided m e c same last t =
-      SpanSetsHold-decided (vector_spans (with_target g)) (IsSpan-vectors (with_target g)) (length g.vectors) g.x g.y 1 1 g.fits.x_range g.fits.y_range g.fits.disjoint m e c same last t
+      SpanSetsHold-decided (vector_spans (with_target g)) (IsSpan-vectors (with_target g))
+      (length g.vectors) g.x g.y 1 1 g.fits.x_range g.fits.y_range g.fits.disjoint m e c same last t
 
   pub vector_class-sets : (c : Class) → VectorSetsHold g c → vector_class g ≡ Some (named c)
   unfolding vector_class
-  vector_class-sets c s = SpanSetsHold-class (vector_spans (with_target g)) (IsSpan-vectors (with_target g)) (length g.vectors) g.x g.y 1 1 c (place X) (place Y) s
+  vector_class-sets c s = SpanSetsHold-class (vector_spans (with_target g))
+      (IsSpan-vectors (with_target g)) (length g.vectors) g.x g.y 1 1 c (place X) (place Y) s

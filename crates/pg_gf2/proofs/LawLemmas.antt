@@ -30,20 +30,37 @@ none_there [] one none = absurd (let o : 0 ≡ 1 = one in omega (arith, o))
 none_there (node ∷ rest) one none = both_ways _ (ap is_some none) refl
 
 module _ (g : VecGame) where
-  pub trees_force : (turn : Side) (a1 a2 : FinSet nat_cmp) → TreesAt g turn a1 a2 → ForcesBy (vector_rules g) (at_turn g turn) X Win
+  pub trees_force : (turn : Side) (a1 a2 : FinSet nat_cmp)
+      → TreesAt g turn a1 a2
+      → ForcesBy (vector_rules g) (at_turn g turn) X Win
   trees_force turn a1 a2 t =
-      ForcesBy-trees (vector_spans (with_target g)) (IsSpan-vectors (with_target g)) (length g.vectors) (λ set. vector_spans (with_target g) set (length g.vectors))
-      (λ a b w h. spans_mono (vector_spans (with_target g)) (IsSpan-vectors (with_target g)) a b (length g.vectors) w h) (λ set small. refl) (at_turn g turn) a1 a2 (place g turn) t
+      ForcesBy-trees (vector_spans (with_target g)) (IsSpan-vectors (with_target g))
+      (length g.vectors) (λ set. vector_spans (with_target g) set (length g.vectors))
+      (λ a b w h. spans_mono (vector_spans (with_target g)) (IsSpan-vectors (with_target g)) a b
+      (length g.vectors) w h) (λ set small. refl) (at_turn g turn) a1 a2 (place g turn) t
 
-  pub cuts_force : (turn : Side) (d1 d2 : FinSet nat_cmp) → CutsAt g turn d1 d2 → ForcesBy (vector_rules g) (at_turn g turn) Y Win
+  pub cuts_force : (turn : Side) (d1 d2 : FinSet nat_cmp)
+      → CutsAt g turn d1 d2
+      → ForcesBy (vector_rules g) (at_turn g turn) Y Win
   cuts_force turn d1 d2 t =
-      ForcesBy-cuts (vector_spans (with_target g)) (IsSpan-vectors (with_target g)) (length g.vectors) (λ set. vector_spans (with_target g) set (length g.vectors))
-      (λ a b w h. spans_mono (vector_spans (with_target g)) (IsSpan-vectors (with_target g)) a b (length g.vectors) w h) (λ set small. refl) (at_turn g turn) d1 d2 (place g turn) t
+      ForcesBy-cuts (vector_spans (with_target g)) (IsSpan-vectors (with_target g))
+      (length g.vectors) (λ set. vector_spans (with_target g) set (length g.vectors))
+      (λ a b w h. spans_mono (vector_spans (with_target g)) (IsSpan-vectors (with_target g)) a b
+      (length g.vectors) w h) (λ set small. refl) (at_turn g turn) d1 d2 (place g turn) t
 
   -- the sets of a body force its side's win
-  body_forces : (turn side : Side) (body : Body) → names_sets body ≡ true → IsOfSide side body → HasTrees g turn body → HasCuts g turn body → ForcesBy (vector_rules g) (at_turn g turn) side Win
-  body_forces turn side (bodies.Trees with_e first second) names own has cuts = subst (λ (s : Side). ForcesBy (vector_rules g) (at_turn g turn) s Win) (sym own) (trees_force turn _ second has.1)
-  body_forces turn side (bodies.Cuts with_e first second) names own trees has = subst (λ (s : Side). ForcesBy (vector_rules g) (at_turn g turn) s Win) (sym own) (cuts_force turn _ second has.1)
+  body_forces : (turn side : Side) (body : Body)
+      → names_sets body ≡ true
+      → IsOfSide side body
+      → HasTrees g turn body
+      → HasCuts g turn body
+      → ForcesBy (vector_rules g) (at_turn g turn) side Win
+  body_forces turn side (bodies.Trees with_e first second) names own has cuts =
+      subst (λ (s : Side). ForcesBy (vector_rules g) (at_turn g turn) s Win) (sym own)
+      (trees_force turn _ second has.1)
+  body_forces turn side (bodies.Cuts with_e first second) names own trees has =
+      subst (λ (s : Side). ForcesBy (vector_rules g) (at_turn g turn) s Win) (sym own)
+      (cuts_force turn _ second has.1)
   body_forces turn side bodies.Over names own trees cuts = absurd (both_ways _ refl names)
   body_forces turn side (bodies.Move v j) names own trees cuts = absurd (both_ways _ refl names)
   body_forces turn side (bodies.All rs) names own trees cuts = absurd (both_ways _ refl names)
@@ -52,20 +69,31 @@ module _ (g : VecGame) where
   body_forces turn side (bodies.Threat ps) names own trees cuts = absurd (both_ways _ refl names)
   body_forces turn side (bodies.Weaker j) names own trees cuts = absurd (both_ways _ refl names)
 
-  pub claim_forces : (version : Version) (claim : Claim) → IsVecClaimValid g version claim → ForcesBy (vector_rules g) (at_turn g claim.turn) claim.side Win
+  pub claim_forces : (version : Version) (claim : Claim)
+      → IsVecClaimValid g version claim
+      → ForcesBy (vector_rules g) (at_turn g claim.turn) claim.side Win
   claim_forces version claim valid = by_first (slice_get claim.nodes 0) refl
     where
-      by_first : (o : Option Node) → slice_get claim.nodes 0 ≡ o → ForcesBy (vector_rules g) (at_turn g claim.turn) claim.side Win
+      by_first : (o : Option Node)
+          → slice_get claim.nodes 0 ≡ o
+          → ForcesBy (vector_rules g) (at_turn g claim.turn) claim.side Win
       by_first (Some node) at =
           let sound = valid.sound node at in
           let own : IsOfSide claim.side node.body = (sound flaws.Claimer).0 in
-          body_forces claim.turn claim.side node.body (sound flaws.Form) own (sound flaws.Trees) (sound flaws.Cuts)
+          body_forces claim.turn claim.side node.body (sound flaws.Form) own (sound flaws.Trees)
+          (sound flaws.Cuts)
       by_first None at = absurd (none_there claim.nodes valid.one_node at)
 
   -- ---- faults
 
-  valid_none : (version : Version) (claim : Claim) (flaw : VecFlaw) → IsVecClaimValid g version claim → IsClaimFlaw g version claim flaw → ⊥
-  valid_none version claim flaw valid f = elim f [ inl i ↦ i.1 (valid.version_one, valid.one_node) | inr i ↦ i.4.fails (valid.sound i.2 i.3 flaw) ]
+  valid_none : (version : Version) (claim : Claim) (flaw : VecFlaw)
+      → IsVecClaimValid g version claim
+      → IsClaimFlaw g version claim flaw
+      → ⊥
+  valid_none version claim flaw valid f = elim f [
+    | inl i ↦ i.1 (valid.version_one, valid.one_node)
+    | inr i ↦ i.4.fails (valid.sound i.2 i.3 flaw)
+  ]
 
   of_number : ℕ → VecFlaw
   of_number (suc zero) = flaws.Form
@@ -82,36 +110,61 @@ module _ (g : VecGame) where
   of_its_number flaws.Trees = refl
   of_its_number flaws.Cuts = refl
 
-  one_node_flaw : (claim : Claim) (node : Node) (f h : VecFlaw) → IsNodeFlaw g claim node f → IsNodeFlaw g claim node h → f ≡ h
+  one_node_flaw : (claim : Claim) (node : Node) (f h : VecFlaw)
+      → IsNodeFlaw g claim node f
+      → IsNodeFlaw g claim node h
+      → f ≡ h
   one_node_flaw claim node f h i j = elim (cases_lt (flaw_number f) (flaw_number h)) [
     | inl l ↦ absurd (i.fails (j.lesser f l))
     | inr n ↦ elim (cases_lt (flaw_number h) (flaw_number f)) [
       | inl l ↦ absurd (j.fails (i.lesser h l))
-      | inr m ↦ let same : flaw_number f ≡ flaw_number h = omega (arith, n, m) in sym (of_its_number f) ∙ (ap of_number same ∙ of_its_number h)
+      | inr m ↦
+          let same : flaw_number f ≡ flaw_number h = omega (arith, n, m) in
+          sym (of_its_number f) ∙ (ap of_number same ∙ of_its_number h)
     ]
   ]
 
-  one_flaw : (version : Version) (claim : Claim) (f h : VecFlaw) → IsClaimFlaw g version claim f → IsClaimFlaw g version claim h → f ≡ h
+  one_flaw : (version : Version) (claim : Claim) (f h : VecFlaw)
+      → IsClaimFlaw g version claim f
+      → IsClaimFlaw g version claim h
+      → f ≡ h
   one_flaw version claim f h i j = elim i [
     | inl p ↦ elim j [ inl q ↦ p.0 ∙ sym q.0 | inr q ↦ absurd (p.1 (q.0, q.1)) ]
     | inr p ↦ elim j [
       | inl q ↦ absurd (q.1 (p.0, p.1))
-      | inr q ↦ one_node_flaw claim p.2 f h p.4 (subst (λ (n : Node). IsNodeFlaw g claim n h) (ap (λ (o : Option Node). unwrap_or o p.2) (sym q.3 ∙ p.3)) q.4)
+      | inr q ↦ one_node_flaw claim p.2 f h p.4
+          (subst (λ (n : Node). IsNodeFlaw g claim n h)
+          (ap (λ (o : Option Node). unwrap_or o p.2) (sym q.3 ∙ p.3)) q.4)
     ]
   ]
 
-  pub no_fault : (c : Cert) → IsVecValid g c → (claim node : ℕ) (why : VecFlaw) → IsFirstVecFault g c claim node why → ⊥
-  no_fault c valid claim node why f = valid_none c.version f.faulty why (valid claim f.faulty f.claim_at) f.has_flaw
+  pub no_fault : (c : Cert)
+      → IsVecValid g c
+      → (claim node : ℕ) (why : VecFlaw) → IsFirstVecFault g c claim node why
+      → ⊥
+  no_fault c valid claim node why f =
+      valid_none c.version f.faulty why (valid claim f.faulty f.claim_at) f.has_flaw
 
-  pub one_fault : (c : Cert) (i k : ℕ) (w : VecFlaw) (claim node : ℕ) (why : VecFlaw) → IsFirstVecFault g c i k w → IsFirstVecFault g c claim node why → (i ≡ claim) × (k ≡ node) × (w ≡ why)
+  pub one_fault : (c : Cert) (i k : ℕ) (w : VecFlaw) (claim node : ℕ) (why : VecFlaw)
+      → IsFirstVecFault g c i k w
+      → IsFirstVecFault g c claim node why
+      → (i ≡ claim) × (k ≡ node) × (w ≡ why)
   one_fault c i k w claim node why f h = elim (cases_lt i claim) [
-    | inl l ↦ absurd (valid_none c.version f.faulty w (h.claims_before i f.faulty l f.claim_at) f.has_flaw)
+    | inl l ↦ absurd
+        (valid_none c.version f.faulty w (h.claims_before i f.faulty l f.claim_at) f.has_flaw)
     | inr n ↦ elim (cases_lt claim i) [
-      | inl l ↦ absurd (valid_none c.version h.faulty why (f.claims_before claim h.faulty l h.claim_at) h.has_flaw)
+      | inl l ↦ absurd (valid_none c.version h.faulty why
+          (f.claims_before claim h.faulty l h.claim_at) h.has_flaw)
       | inr m ↦
           let same : i ≡ claim = omega (arith, n, m) in
-          let at : slice_get c.claims claim ≡ Some f.faulty = subst (λ (q : ℕ). slice_get c.claims q ≡ Some f.faulty) same f.claim_at in
-          let here : h.faulty ≡ f.faulty = ap (λ (o : Option Claim). unwrap_or o f.faulty) (sym h.claim_at ∙ at) in
-          (same, f.node_first ∙ sym h.node_first, one_flaw c.version f.faulty w why f.has_flaw (subst (λ (q : Claim). IsClaimFlaw g c.version q why) here h.has_flaw))
+          let at : slice_get c.claims claim ≡ Some f.faulty =
+          subst (λ (q : ℕ). slice_get c.claims q ≡ Some f.faulty) same f.claim_at in
+          let here : h.faulty ≡ f.faulty =
+          ap (λ (o : Option Claim). unwrap_or o f.faulty) (sym h.claim_at ∙ at) in (
+            same,
+            f.node_first ∙ sym h.node_first,
+            one_flaw c.version f.faulty w why f.has_flaw
+                (subst (λ (q : Claim). IsClaimFlaw g c.version q why) here h.has_flaw),
+          )
     ]
   ]

@@ -1,4 +1,5 @@
--- Certificates of games on vectors: what a valid claim has, and the first flaw of one that isn't valid.
+-- Certificates of games on vectors: what a valid claim has, and the first flaw of one that isn't
+-- valid.
 use Rattle.std.specs.Prelude.{◌≡◌, ◌<◌, ◌⊎◌, ℕ, Bool, true, false, if◌then◌else◌, length, slice_get, Option, None, Some}
 use Rattle.std.specs.FinSet.{FinSet, insert}
 use Rattle.std.specs.Ordering.{nat_cmp}
@@ -54,16 +55,19 @@ with_e_named g with_e first = if with_e then insert first (length g.vectors) els
 
 -- the members that a body names by number are vectors
 abbrev pub AreVectorSets : VecGame → FinSet nat_cmp → FinSet nat_cmp → Type 0
-AreVectorSets g first second = AreBelow first (length g.vectors) × AreBelow second (length g.vectors)
+AreVectorSets g first second =
+    AreBelow first (length g.vectors) × AreBelow second (length g.vectors)
 
 -- trees of the body hold
 abbrev pub HasTrees : VecGame → Side → Body → Type 0
-HasTrees g turn (Trees with_e first second) = AreVectorSets g first second × TreesAt g turn (with_e_named g with_e first) second
+HasTrees g turn (Trees with_e first second) =
+    AreVectorSets g first second × TreesAt g turn (with_e_named g with_e first) second
 HasTrees g turn _ = Unit {0}
 
 -- cuts of the body hold
 abbrev pub HasCuts : VecGame → Side → Body → Type 0
-HasCuts g turn (Cuts with_e first second) = AreVectorSets g first second × CutsAt g turn (with_e_named g with_e first) second
+HasCuts g turn (Cuts with_e first second) =
+    AreVectorSets g first second × CutsAt g turn (with_e_named g with_e first) second
 HasCuts g turn _ = Unit {0}
 
 -- ---- claims
@@ -80,22 +84,29 @@ NodePasses g claim node flaws.Cuts = HasCuts g claim.turn node.body
 pub record IsVecClaimValid (g : VecGame) (version : Version) (claim : Claim) : Type 0 where
   pub version_one : version ≡ One
   pub one_node : length claim.nodes ≡ 1
-  pub sound : (node : Node) → slice_get claim.nodes 0 ≡ Some node → (flaw : VecFlaw) → NodePasses g claim node flaw
+  pub sound : (node : Node)
+      → slice_get claim.nodes 0 ≡ Some node
+      → (flaw : VecFlaw) → NodePasses g claim node flaw
 
 -- every claim is valid
 abbrev pub IsVecValid : VecGame → Cert → Type 0
-IsVecValid g c = (i : ℕ) (claim : Claim) → slice_get c.claims i ≡ Some claim → IsVecClaimValid g c.version claim
+IsVecValid g c =
+    (i : ℕ) (claim : Claim) → slice_get c.claims i ≡ Some claim → IsVecClaimValid g c.version claim
 
 -- the node has the flaw and none with a lesser number
 pub record IsNodeFlaw (g : VecGame) (claim : Claim) (node : Node) (flaw : VecFlaw) : Type 0 where
   pub lesser : (f : VecFlaw) → flaw_number f < flaw_number flaw → NodePasses g claim node f
   pub fails : NodePasses g claim node flaw → ⊥
 
--- a claim of another version or with more or fewer nodes than one has the first flaw; else it's its node's
+-- a claim of another version or with more or fewer nodes than one has the first flaw; else it's its
+-- node's
 abbrev pub IsClaimFlaw : VecGame → Version → Claim → VecFlaw → Type 0
 IsClaimFlaw g version claim flaw =
     ((flaw ≡ flaws.Form) × ((version ≡ One) × (length claim.nodes ≡ 1) → ⊥))
-    ⊎ ((version ≡ One) × (length claim.nodes ≡ 1) × (node : Node) × (slice_get claim.nodes 0 ≡ Some node) × IsNodeFlaw g claim node flaw)
+    ⊎ ((version ≡ One)
+    × (length claim.nodes ≡ 1)
+    × (node : Node) × (slice_get claim.nodes 0 ≡ Some node)
+    × IsNodeFlaw g claim node flaw)
 
 -- nothing wrong with the node, or the least flaw
 abbrev pub IsNodeVerdict : VecGame → Claim → Node → Option VecFlaw → Type 0
@@ -109,7 +120,10 @@ IsClaimVerdict g version claim (Some flaw) = IsClaimFlaw g version claim flaw
 
 -- the first faulty claim with its least flaw, which is named at node 0
 pub record IsFirstVecFault (g : VecGame) (c : Cert) (claim node : ℕ) (flaw : VecFlaw) : Type 0 where
-  pub claims_before : (i : ℕ) (k : Claim) → i < claim → slice_get c.claims i ≡ Some k → IsVecClaimValid g c.version k
+  pub claims_before : (i : ℕ) (k : Claim)
+      → i < claim
+      → slice_get c.claims i ≡ Some k
+      → IsVecClaimValid g c.version k
   pub faulty : Claim
   pub claim_at : slice_get c.claims claim ≡ Some faulty
   pub node_first : node ≡ 0

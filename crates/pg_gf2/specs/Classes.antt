@@ -17,7 +17,8 @@ use Rattle.pg_gf2.specs.Vectors.{vector_spans}
 abbrev pub with_target : VecGame → List ℕ
 with_target g = g.vectors ++ (g.target ∷ [])
 
--- X wins where the target is the sum of some of X's vectors, and Y where it isn't that of some that aren't Y's
+-- X wins where the target is the sum of some of X's vectors, and Y where it isn't that of some that
+-- aren't Y's
 abbrev pub vector_rules : VecGame → Rules
 vector_rules g = span_rules (vector_spans (with_target g)) (length g.vectors)
 
@@ -26,15 +27,19 @@ abbrev pub at_turn : VecGame → Side → Position
 at_turn g turn = record { x = g.x; y = g.y; turn = turn; left = 1 }
 
 abbrev pub TreesAt : VecGame → Side → FinSet nat_cmp → FinSet nat_cmp → Type 0
-TreesAt g turn a1 a2 = AreSpanTrees (vector_spans (with_target g)) (length g.vectors) (at_turn g turn) a1 a2
+TreesAt g turn a1 a2 =
+    AreSpanTrees (vector_spans (with_target g)) (length g.vectors) (at_turn g turn) a1 a2
 
 abbrev pub CutsAt : VecGame → Side → FinSet nat_cmp → FinSet nat_cmp → Type 0
-CutsAt g turn d1 d2 = AreSpanCuts (vector_spans (with_target g)) (length g.vectors) (at_turn g turn) d1 d2
+CutsAt g turn d1 d2 =
+    AreSpanCuts (vector_spans (with_target g)) (length g.vectors) (at_turn g turn) d1 d2
 
 -- the sets of a class at the game's marks
 abbrev pub VectorSetsHold : VecGame → Class → Type 0
-VectorSetsHold g c = SpanSetsHold (vector_spans (with_target g)) (length g.vectors) (at_turn g X) (at_turn g Y) c
+VectorSetsHold g c =
+    SpanSetsHold (vector_spans (with_target g)) (length g.vectors) (at_turn g X) (at_turn g Y) c
 
 -- the class by the values with X and with Y to move
 unfoldable pub vector_class : VecGame → Option Named
-vector_class g = class_by (value_by (vector_rules g) (at_turn g X)) (value_by (vector_rules g) (at_turn g Y))
+vector_class g =
+    class_by (value_by (vector_rules g) (at_turn g X)) (value_by (vector_rules g) (at_turn g Y))

@@ -22,5 +22,8 @@ IsSpan-vectors vectors = IsSpan-sums (vector_at vectors) (length vectors) (vecto
 pub IsSpan-over_vectors : (vectors : List ℕ) (x : ℕ → Bool) → IsSpan (spans_over vectors x)
 IsSpan-over_vectors vectors x = IsSpan-over (vector_spans vectors) (IsSpan-vectors vectors) x
 
-pub small_vectors : (vectors : List ℕ) (set : ℕ → Bool) → length vectors ≤ MAX_VECTORS + 1 → IsBelow set (length vectors) → IsBelow set MAX_MEMBERS
+pub small_vectors : (vectors : List ℕ) (set : ℕ → Bool)
+    → length vectors ≤ MAX_VECTORS + 1
+    → IsBelow set (length vectors)
+    → IsBelow set MAX_MEMBERS
 small_vectors vectors set few small z k = let low : z < length vectors = small z k in omega arith

@@ -1,4 +1,5 @@
--- Rows of an elimination: what is left of a vector after them, and the members of a base that they are sums of.
+-- Rows of an elimination: what is left of a vector after them, and the members of a base that they
+-- are sums of.
 use Rattle.std.specs.Prelude.{◌≡◌, ℕ, ◌<◌, Bool, true, ◌==◌, if◌then◌else◌, List, [], ◌∷◌, ◌++◌, length, get_or, bit_xor}
 use Rattle.std.specs.List.{All}
 use Rattle.std.specs.Int.{bit_at}
@@ -26,12 +27,14 @@ abbrev pub AreRows : (ℕ → ℕ) → ℕ → (ℕ → Bool) → (ℕ → Bool)
 AreRows v n x base rows = All (IsRow v n x base) rows
 
 -- t less what is left of it is the sum of members of the base, but for vectors of x
-pub record IsTold (v : ℕ → ℕ) (n : ℕ) (x base : ℕ → Bool) (t left : ℕ) (members : ℕ → Bool) : Type 0 where
+pub record IsTold (v : ℕ → ℕ) (n : ℕ) (x base : ℕ → Bool) (t left : ℕ)
+    (members : ℕ → Bool) : Type 0 where
   pub within : IsWithin members base
   pub sums : is_sum v x n (bit_xor (bit_xor t left) (total v members n)) ≡ true
 
 -- the rows are sums of members of the base, and reduce the vectors of a set to nothing
-pub record IsEliminated (v : ℕ → ℕ) (n : ℕ) (x base done : ℕ → Bool) (rows : List Row) : Type 0 where
+pub record IsEliminated (v : ℕ → ℕ) (n : ℕ) (x base done : ℕ → Bool)
+    (rows : List Row) : Type 0 where
   pub told : AreRows v n x base rows
   pub gone : (g : ℕ) → done g ≡ true → reduced rows (v g) ≡ 0
 
@@ -47,8 +50,12 @@ pub record HasRow (rows more : List Row) (value : ℕ) (members : FinSet nat_cmp
 pub record IsTurned (out : ℕ) (changed : ℕ → Bool) (old new : Row) : Type 0 where
   pub bit : new.bit ≡ old.bit
   pub value : new.value ≡ old.value
-  pub members : contains new.members ≡ (if contains old.members out then differ (contains old.members) changed else contains old.members)
+  pub members : contains new.members ≡ (if contains old.members out
+      then differ (contains old.members) changed
+      else contains old.members)
 
 pub record AreTurned (out : ℕ) (changed : ℕ → Bool) (old new : List Row) : Type 0 where
   pub count : length new ≡ length old
-  pub each : (k : ℕ) (d : Row) → k < length old → IsTurned out changed (get_or old k d) (get_or new k d)
+  pub each : (k : ℕ) (d : Row)
+      → k < length old
+      → IsTurned out changed (get_or old k d) (get_or new k d)

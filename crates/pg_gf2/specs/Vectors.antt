@@ -1,4 +1,5 @@
--- Vectors over two elements, as numbers that are added bit by bit without carry, and what sets of them span.
+-- Vectors over two elements, as numbers that are added bit by bit without carry, and what sets of
+-- them span.
 use Rattle.std.specs.Prelude.{◌≡◌, ℕ, zero, suc, Bool, ◌&&◌, ◌||◌, ◌==◌, if◌then◌else◌, List, length, slice_index_or, bit_xor}
 use Rattle.pg_base.specs.Sets.{IsWithin, either, outside}
 use Rattle.pg_exchange.specs.Matroid.{Matroid}
@@ -33,7 +34,8 @@ vector_spans vectors set f = is_sum (vector_at vectors) set (length vectors) (ve
 
 -- what elements span together with the vectors of x
 abbrev pub vector_matroid : List ℕ → (ℕ → Bool) → (ℕ → Bool) → Matroid
-vector_matroid vectors x elements = record { elements = elements; spans = λ a f. vector_spans vectors (either x a) f }
+vector_matroid vectors x elements =
+    record { elements = elements; spans = λ a f. vector_spans vectors (either x a) f }
 
 -- whether vector f is the sum of some vectors of x and of the set
 abbrev pub spans_over : List ℕ → (ℕ → Bool) → (ℕ → Bool) → ℕ → Bool

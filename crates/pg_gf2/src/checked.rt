@@ -51,16 +51,19 @@ fn first_faulty(alloc: Global, g: &VecGame, c: &Cert) -> Result<Option<Faulty>, 
     Ok(None)
 }
 
-/// Checks a certificate against a game on vectors, claim by claim. It is accepted exactly where each claim is valid; then
-/// each is forced by its side.
+/// Checks a certificate against a game on vectors, claim by claim. It is accepted exactly where
+/// each claim is valid; then each is forced by its side.
 ///
-/// Trees and cuts are tried by eliminations, two for each node. `Memory` says that there is no room for their rows.
+/// Trees and cuts are tried by eliminations, two for each node. `Memory` says that there is no room
+/// for their rows.
 pub fn vec_check<'a>(alloc: Global, g: &'a VecGame, c: &'a Cert) -> Result<VecChecked<'a>, VecFault>
     requires { IsWithinLimits c.now }
     ensures game { IfOk result (λ checked. checked.game.now ≡ g.now) }
     ensures cert { IfOk result (λ checked. checked.cert.now ≡ c.now) }
     ensures valid { IfOk result (λ _. IsVecValid g.now c.now) }
-    ensures reject { (claim : ℕ) → (node : ℕ) → (why : VecFlaw) → result ≡ Err (VecFault.Reject claim node why) → IsFirstVecFault g.now c.now claim node why }
+    ensures reject { (claim : ℕ) → (node : ℕ) → (why : VecFlaw)
+        → result ≡ Err (VecFault.Reject claim node why)
+        → IsFirstVecFault g.now c.now claim node why }
 {
     let Ok(found) = first_faulty(alloc, g, c) else {
         return Err(VecFault::Memory);

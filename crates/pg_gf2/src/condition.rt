@@ -32,14 +32,16 @@ fn with_point(set: &PointSet, v: u16) -> PointSet
 
 /// The vectors that aren't Y's, and e.
 fn kept(g: &VecGame) -> PointSet
-    ensures { (turn : Side) → contains result ≡ kept (suc (length g.now.vectors)) (at_turn g.now turn) }
+    ensures { (turn : Side)
+        → contains result ≡ kept (suc (length g.now.vectors)) (at_turn g.now turn) }
 {
     PointSet::all_below(number_of_e(g) + 1).without(&g.y)
 }
 
 /// Whether the set has free vectors alone.
 fn are_free(g: &VecGame, set: &PointSet) -> bool
-    ensures { (turn : Side) → IsTrue result ↔ AreFree (length g.now.vectors) (at_turn g.now turn) set.now }
+    ensures { (turn : Side)
+        → IsTrue result ↔ AreFree (length g.now.vectors) (at_turn g.now turn) set.now }
 {
     set.is_below(number_of_e(g)) && set.shares_none(&g.x) && set.shares_none(&g.y)
 }
@@ -61,9 +63,13 @@ fn are_free_or_e(g: &VecGame, turn: Side, side: Side, set: &PointSet) -> bool
     are_free(g, &vectors) && (moves(turn, side) || !set.has(e))
 }
 
-/// Whether the sets are disjoint sets of free vectors, the first perhaps with e where the side is to move.
+/// Whether the sets are disjoint sets of free vectors, the first perhaps with e where the side is
+/// to move.
 fn are_apart(g: &VecGame, turn: Side, side: Side, first: &PointSet, second: &PointSet) -> bool
-    ensures { IsTrue result ↔ (AreFreeOrE (length g.now.vectors) (at_turn g.now turn) side first.now × AreFree (length g.now.vectors) (at_turn g.now turn) second.now × ShareNone first.now second.now) }
+    ensures { IsTrue result
+        ↔ (AreFreeOrE (length g.now.vectors) (at_turn g.now turn) side first.now
+        × AreFree (length g.now.vectors) (at_turn g.now turn) second.now
+        × ShareNone first.now second.now) }
 {
     are_free_or_e(g, turn, side, first) && are_free(g, second) && first.shares_none(second)
 }

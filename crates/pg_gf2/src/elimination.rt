@@ -37,7 +37,8 @@ fn add_row(rows: &mut Vec<Row>, value: u128, members: &PointSet) -> Result<(), M
 /// Rows of the vectors of x, with no members.
 pub(crate) fn rows_of(alloc: Global, vectors: &[u128], x: &PointSet) -> Result<Vec<Row>, Memory>
     requires { length vectors.now ≤ MAX_VECTORS + 1 }
-    ensures { IfOk result (λ rows. IsEliminated (vector_at vectors.now) (length vectors.now) (contains x.now) (λ _. false) (contains x.now) rows.items) }
+    ensures { IfOk result (λ rows. IsEliminated (vector_at vectors.now) (length vectors.now)
+        (contains x.now) (λ _. false) (contains x.now) rows.items) }
 {
     let mut rows = Vec::new(alloc);
     for k in 0..vectors.len() as u16 {
@@ -51,15 +52,25 @@ pub(crate) fn rows_of(alloc: Global, vectors: &[u128], x: &PointSet) -> Result<V
     Ok(rows)
 }
 
-/// Takes each candidate, in ascending order, that X's vectors and the base don't span into the base.
+/// Takes each candidate, in ascending order, that X's vectors and the base don't span into the
+/// base.
 pub(crate) fn grow(
     solved: &mut Elimination,
     vectors: &[u128],
     candidates: &PointSet,
 ) -> Result<(), Memory>
     requires few { length vectors.now ≤ MAX_VECTORS + 1 }
-    ensures grown { IfOk result (λ _. (x : ℕ → Bool) → IsEliminated (vector_at vectors.now) (length vectors.now) x (contains solved.old.base) (either x (contains solved.old.base)) solved.old.rows.items → IsFree (spans_over vectors.now x) (contains solved.old.base) → IsGrown (spans_over vectors.now x) (contains solved.old.base) (below (contains candidates.now) (length vectors.now)) (contains solved.new.base)) }
-    ensures eliminated { IfOk result (λ _. (x : ℕ → Bool) → IsEliminated (vector_at vectors.now) (length vectors.now) x (contains solved.old.base) (either x (contains solved.old.base)) solved.old.rows.items → IsEliminated (vector_at vectors.now) (length vectors.now) x (contains solved.new.base) (either x (contains solved.new.base)) solved.new.rows.items) }
+    ensures grown { IfOk result
+        (λ _. (x : ℕ → Bool) → IsEliminated (vector_at vectors.now) (length vectors.now) x
+        (contains solved.old.base) (either x (contains solved.old.base)) solved.old.rows.items
+        → IsFree (spans_over vectors.now x) (contains solved.old.base)
+        → IsGrown (spans_over vectors.now x) (contains solved.old.base)
+        (below (contains candidates.now) (length vectors.now)) (contains solved.new.base)) }
+    ensures eliminated { IfOk result
+        (λ _. (x : ℕ → Bool) → IsEliminated (vector_at vectors.now) (length vectors.now) x
+        (contains solved.old.base) (either x (contains solved.old.base)) solved.old.rows.items
+        → IsEliminated (vector_at vectors.now) (length vectors.now) x (contains solved.new.base)
+        (either x (contains solved.new.base)) solved.new.rows.items) }
 {
     for k in 0..vectors.len() as u16 {
         if candidates.has(k) {
@@ -88,12 +99,14 @@ fn turn(rows: &mut [Row], out: u16, changed: &PointSet)
 }
 
 impl Elimination {
-    /// Takes `out` out of the base and puts `into` into it, where `changed`, which has both, sums to a vector of X's.
+    /// Takes `out` out of the base and puts `into` into it, where `changed`, which has both, sums
+    /// to a vector of X's.
     pub(crate) fn swap(&mut self, out: u16, into: u16, changed: &PointSet)
         requires out { out < MAX_MEMBERS }
         requires into { into < MAX_MEMBERS }
         ensures base { contains self.new.base ≡ swapped (contains self.old.base) out into }
-        ensures rows { AreTurned out (contains changed.now) self.old.rows.items self.new.rows.items }
+        ensures rows { AreTurned out
+            (contains changed.now) self.old.rows.items self.new.rows.items }
     {
         self.base.take(out);
         self.base.put(into);

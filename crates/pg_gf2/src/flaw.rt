@@ -2,7 +2,8 @@
 ghost use Rattle.std.specs.Prelude.{◌≡◌};
 ghost use Rattle.pg_gf2.specs.Check.{flaw_number};
 
-/// What can be wrong with a claim of a game on vectors, the least first. The number of each is its code, V1 to V5.
+/// What can be wrong with a claim of a game on vectors, the least first. The number of each is its
+/// code, V1 to V5.
 #[derive(Clone, Copy, Debug, PartialEq, Eq, PartialOrd, Ord, Hash)]
 pub enum VecFlaw {
     /// V1: the version isn't 1, the claim hasn't exactly one node, or the body isn't trees or cuts.
@@ -39,7 +40,8 @@ pub enum VecFault {
     Reject {
         /// The first faulty claim, counted from 0.
         claim: u32,
-        /// The faulty node, counted from 0: always the first, since no other flaw is looked for in a claim of several.
+        /// The faulty node, counted from 0: always the first, since no other flaw is looked for in
+        /// a claim of several.
         node: u32,
         /// The least of the claim's flaws.
         why: VecFlaw,

@@ -42,7 +42,8 @@ impl Vectors {
     }
 }
 
-/// A switching game on vectors over two elements: X wins where the target is a sum of some of X's vectors.
+/// A switching game on vectors over two elements: X wins where the target is a sum of some of X's
+/// vectors.
 #[derive(Debug, Drop)]
 pub struct VecGame {
     /// How many signs a vector has.

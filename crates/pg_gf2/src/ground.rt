@@ -25,8 +25,10 @@ pub struct VecGround {
     solved: Elimination,
     ghost few: { length vectors.items ≤ MAX_VECTORS + 1 },
     ghost element_range: { IsBelow (contains elements) (length vectors.items) },
-    ghost is_base: { IsBase (spans_over vectors.items (contains x)) (contains elements) (contains solved.base) },
-    ghost eliminated: { IsEliminated (vector_at vectors.items) (length vectors.items) (contains x) (contains solved.base) (either (contains x) (contains solved.base)) solved.rows.items },
+    ghost is_base: { IsBase (spans_over vectors.items (contains x)) (contains elements)
+        (contains solved.base) },
+    ghost eliminated: { IsEliminated (vector_at vectors.items) (length vectors.items) (contains x)
+        (contains solved.base) (either (contains x) (contains solved.base)) solved.rows.items },
 }
 
 /// The vectors of the game, and the target.
@@ -40,7 +42,8 @@ pub(crate) fn with_target(alloc: Global, g: &VecGame) -> Result<Vec<u128>, Memor
 
 /// The vectors that are neither side's, and the target.
 fn elements_of(g: &VecGame) -> PointSet
-    ensures { contains result ≡ free_with_e (contains g.now.x) (contains g.now.y) (length g.now.vectors) }
+    ensures { contains result
+        ≡ free_with_e (contains g.now.x) (contains g.now.y) (length g.now.vectors) }
 {
     let count = g.vectors.as_slice().len() as u16;
     let marked = g.x.union(&g.y);
@@ -57,20 +60,27 @@ fn elements_of(g: &VecGame) -> PointSet
 impl VecGround {
     /// A base of the free vectors and the target.
     ///
-    /// `Memory` says that there is no room for the vectors and the rows of their elimination. No other call takes memory.
+    /// `Memory` says that there is no room for the vectors and the rows of their elimination. No
+    /// other call takes memory.
     pub fn new(alloc: Global, g: &VecGame) -> Result<VecGround, Memory>
-        ensures { IfOk result (λ made. ⟦<VecGround as Ground>⟧.matroid made ≡ vector_matroid (g.now.vectors ++ (g.now.target ∷ [])) (contains g.now.x) (free_with_e (contains g.now.x) (contains g.now.y) (length g.now.vectors))) }
+        ensures { IfOk result (λ made. ⟦<VecGround as Ground>⟧.matroid made
+            ≡ vector_matroid (g.now.vectors ++ (g.now.target ∷ [])) (contains g.now.x)
+            (free_with_e (contains g.now.x) (contains g.now.y) (length g.now.vectors))) }
     {
         VecGround::apart_from(alloc, g, &PointSet::empty())
     }
 
-    /// As `new`, a base with no more of the avoided elements than it needs: its other members span all that isn't avoided, so
-    /// none of that could come in for an avoided member.
+    /// As `new`, a base with no more of the avoided elements than it needs: its other members span
+    /// all that isn't avoided, so none of that could come in for an avoided member.
     ///
-    /// The elements that aren't avoided are tried first, as by Kruskal (On the shortest spanning subtree of a graph, 1956).
+    /// The elements that aren't avoided are tried first, as by Kruskal (On the shortest spanning
+    /// subtree of a graph, 1956).
     pub fn apart_from(alloc: Global, g: &VecGame, avoided: &PointSet) -> Result<VecGround, Memory>
-        ensures apart { IfOk result (λ made. IsApart (⟦<VecGround as Ground>⟧.matroid made) (⟦<VecGround as Ground>⟧.base made) (contains avoided.now)) }
-        ensures matroid { IfOk result (λ made. ⟦<VecGround as Ground>⟧.matroid made ≡ vector_matroid (g.now.vectors ++ (g.now.target ∷ [])) (contains g.now.x) (free_with_e (contains g.now.x) (contains g.now.y) (length g.now.vectors))) }
+        ensures apart { IfOk result (λ made. IsApart (⟦<VecGround as Ground>⟧.matroid made)
+            (⟦<VecGround as Ground>⟧.base made) (contains avoided.now)) }
+        ensures matroid { IfOk result (λ made. ⟦<VecGround as Ground>⟧.matroid made
+            ≡ vector_matroid (g.now.vectors ++ (g.now.target ∷ [])) (contains g.now.x)
+            (free_with_e (contains g.now.x) (contains g.now.y) (length g.now.vectors))) }
     {
         let vectors = with_target(alloc, g)?;
         let elements = elements_of(g);
@@ -111,7 +121,8 @@ impl Ground for VecGround {
 
     ghost is_base = { λ s. s.is_base };
 
-    ghost small = { λ s. small_vectors s.vectors.items (contains s.elements) s.few s.element_range };
+    ghost small = { λ s. small_vectors s.vectors.items
+        (contains s.elements) s.few s.element_range };
 
     fn elements(&self) -> PointSet {
         self.elements

@@ -31,11 +31,13 @@ fn put_row(rows: &mut Vec<Row>, value: u128)
     };
 }
 
-/// Writes rows of the vectors of the set over the earlier ones, and tells the vectors that gave a row.
+/// Writes rows of the vectors of the set over the earlier ones, and tells the vectors that gave a
+/// row.
 fn fill(rows: &mut Vec<Row>, vectors: &[u128], set: &PointSet) -> PointSet
     requires few { length vectors.now ≤ MAX_VECTORS + 1 }
     requires room { length vectors.now ≤ vec_capacity rows.old }
-    ensures eliminated { IsEliminated (vector_at vectors.now) (length vectors.now) (contains set.now) (λ _. false) (contains set.now) rows.new.items }
+    ensures eliminated { IsEliminated (vector_at vectors.now) (length vectors.now)
+        (contains set.now) (λ _. false) (contains set.now) rows.new.items }
     ensures within { IsWithin (contains result) (contains set.now) }
     ensures room { length vectors.now ≤ vec_capacity rows.new }
 {
@@ -77,7 +79,9 @@ pub fn lowest_unspanned(
     requires few { length vectors.now ≤ MAX_VECTORS + 1 }
     requires room { length vectors.now ≤ vec_capacity rows.old }
     requires vectors { n ≤ length vectors.now }
-    ensures lowest { result ≡ find (λ k. contains candidates.now k && not (vector_spans vectors.now (contains set.now) k)) (range_with_len 0 n) }
+    ensures lowest { result ≡ find
+        (λ k. contains candidates.now k && not (vector_spans vectors.now (contains set.now) k))
+        (range_with_len 0 n) }
     ensures room { length vectors.now ≤ vec_capacity rows.new }
 {
     fill(rows, vectors, set);
@@ -105,8 +109,11 @@ fn without(set: &PointSet, d: u16) -> PointSet
 /// The base, and the candidates of the set that aren't below the limit.
 fn with_above(base: &PointSet, set: &PointSet, candidates: &PointSet, limit: u16) -> PointSet
     requires limit { limit ≤ MAX_VECTORS + 1 }
-    requires base { IsWithin (contains base.now) (outside (contains set.now) (contains candidates.now)) }
-    ensures { (d : ℕ) → d < limit → contains candidates.now d ≡ true → IsWithin (contains result) (minus (contains set.now) d) }
+    requires base { IsWithin (contains base.now)
+        (outside (contains set.now) (contains candidates.now)) }
+    ensures { (d : ℕ) → d < limit
+        → contains candidates.now d ≡ true
+        → IsWithin (contains result) (minus (contains set.now) d) }
 {
     let shared = set.without(&set.without(candidates));
     base.union(&shared.without(&PointSet::all_below(limit)))
@@ -114,8 +121,8 @@ fn with_above(base: &PointSet, set: &PointSet, candidates: &PointSet, limit: u16
 
 /// A limit below which no candidate is needed: without all of those the set still spans x.
 ///
-/// It is found by halving, where a base stands for what of the set isn't a candidate. That the limit is the highest is
-/// what spares time, and nothing rests on it.
+/// It is found by halving, where a base stands for what of the set isn't a candidate. That the
+/// limit is the highest is what spares time, and nothing rests on it.
 fn unneeded_below(
     rows: &mut Vec<Row>,
     vectors: &[u128],
@@ -128,7 +135,9 @@ fn unneeded_below(
     requires room { length vectors.now ≤ vec_capacity rows.old }
     requires vectors { n ≤ length vectors.now }
     requires vector { x < length vectors.now }
-    ensures unneeded { (d : ℕ) → d < result → contains candidates.now d ≡ true → vector_spans vectors.now (minus (contains set.now) d) x ≡ true }
+    ensures unneeded { (d : ℕ) → d < result
+        → contains candidates.now d ≡ true
+        → vector_spans vectors.now (minus (contains set.now) d) x ≡ true }
     ensures room { length vectors.now ≤ vec_capacity rows.new }
 {
     let base = fill(rows, vectors, &set.without(candidates));
@@ -145,8 +154,8 @@ fn unneeded_below(
     low
 }
 
-/// The lowest candidate among the first n vectors without which the set doesn't span x, where each below `from` is such
-/// that it does.
+/// The lowest candidate among the first n vectors without which the set doesn't span x, where each
+/// below `from` is such that it does.
 fn lowest_parting(
     rows: &mut Vec<Row>,
     vectors: &[u128],
@@ -160,8 +169,11 @@ fn lowest_parting(
     requires room { length vectors.now ≤ vec_capacity rows.old }
     requires vectors { n ≤ length vectors.now }
     requires vector { x < length vectors.now }
-    requires unneeded { (d : ℕ) → d < from → contains candidates.now d ≡ true → vector_spans vectors.now (minus (contains set.now) d) x ≡ true }
-    ensures lowest { result ≡ find (λ d. contains candidates.now d && not (vector_spans vectors.now (minus (contains set.now) d) x)) (range_with_len 0 n) }
+    requires unneeded { (d : ℕ) → d < from
+        → contains candidates.now d ≡ true
+        → vector_spans vectors.now (minus (contains set.now) d) x ≡ true }
+    ensures lowest { result ≡ find (λ d. contains candidates.now d
+        && not (vector_spans vectors.now (minus (contains set.now) d) x)) (range_with_len 0 n) }
     ensures room { length vectors.now ≤ vec_capacity rows.new }
 {
     for d in from..n {
@@ -172,10 +184,12 @@ fn lowest_parting(
     None
 }
 
-/// The lowest candidate among the first n vectors without which the set doesn't span x, and None where it doesn't anyway.
+/// The lowest candidate among the first n vectors without which the set doesn't span x, and None
+/// where it doesn't anyway.
 ///
-/// Halving finds where to look. Where candidates bridge the set, as those of cuts do, the first from there on is the one
-/// that is sought. So there are three eliminations of the set, and at most ten of as many vectors as two bases have.
+/// Halving finds where to look. Where candidates bridge the set, as those of cuts do, the first
+/// from there on is the one that is sought. So there are three eliminations of the set, and at most
+/// ten of as many vectors as two bases have.
 pub fn lowest_needed(
     rows: &mut Vec<Row>,
     vectors: &[u128],
@@ -188,7 +202,8 @@ pub fn lowest_needed(
     requires room { length vectors.now ≤ vec_capacity rows.old }
     requires vectors { n ≤ length vectors.now }
     requires vector { x < length vectors.now }
-    ensures lowest { result ≡ lowest_needed (vector_spans vectors.now) n (contains set.now) x candidates.now }
+    ensures lowest { result
+        ≡ lowest_needed (vector_spans vectors.now) n (contains set.now) x candidates.now }
     ensures room { length vectors.now ≤ vec_capacity rows.new }
 {
     if spans(rows, vectors, set, x) {

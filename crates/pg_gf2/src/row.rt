@@ -4,7 +4,8 @@ ghost use Rattle.pg_gf2.specs.declared.game.TheConstants.{MAX_ROWS};
 
 use pg_base::PointSet;
 
-/// A row of an elimination: a vector that has the bit set, which is the sum of these members of a base, but for vectors of X's.
+/// A row of an elimination: a vector that has the bit set, which is the sum of these members of a
+/// base, but for vectors of X's.
 #[derive(Clone, Copy)]
 pub struct Row {
     pub(crate) bit: u32,

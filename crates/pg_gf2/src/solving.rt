@@ -27,8 +27,9 @@ fn at_turn(game: &VecGame, turn: Side) -> Position
     }
 }
 
-/// The class of a game on vectors by the values with X and with Y to move, told by the sets that show it, with a certificate
-/// of two claims that stand on these sets: one with X and one with Y to move.
+/// The class of a game on vectors by the values with X and with Y to move, told by the sets that
+/// show it, with a certificate of two claims that stand on these sets: one with X and one with Y to
+/// move.
 ///
 /// # Errors
 ///
@@ -37,7 +38,8 @@ pub fn vec_solve(alloc: Global, game: &VecGame) -> Result<(Class, Cert), Memory>
     ensures class { IfOk result (λ found. vector_class game.now ≡ Some (named found.0)) }
     ensures valid { IfOk result (λ found. IsVecValid game.now found.1) }
     ensures limits { IfOk result (λ found. IsWithinLimits found.1) }
-    ensures claims { IfOk result (λ found. found.1.claims ≡ class_claims (at_turn game.now X) (at_turn game.now Y) (length game.now.vectors) found.0) }
+    ensures claims { IfOk result (λ found. found.1.claims ≡ class_claims (at_turn game.now X)
+        (at_turn game.now Y) (length game.now.vectors) found.0) }
 {
     let sets = vec_classify(alloc, game)?;
     let (with_x, with_y) = (at_turn(game, Side::X), at_turn(game, Side::Y));

@@ -24,7 +24,8 @@ pub fn spanned(alloc: Global, vectors: &[u128], set: &PointSet, f: u16) -> Resul
     Ok(left == 0)
 }
 
-/// Whether each vector of the one set is the sum of some vectors of the other: by one elimination of the other.
+/// Whether each vector of the one set is the sum of some vectors of the other: by one elimination
+/// of the other.
 pub(crate) fn spans_all(
     alloc: Global,
     vectors: &[u128],
@@ -33,7 +34,9 @@ pub(crate) fn spans_all(
 ) -> Result<bool, Memory>
     requires few { length vectors.now ≤ MAX_VECTORS + 1 }
     requires wanted { AreBelow wanted.now (length vectors.now) }
-    ensures { IfOk result (λ b. IsTrue b ↔ ((f : ℕ) → contains wanted.now f ≡ true → vector_spans vectors.now (contains set.now) f ≡ true)) }
+    ensures { IfOk result (λ b. IsTrue b
+        ↔ ((f : ℕ) → contains wanted.now f ≡ true
+        → vector_spans vectors.now (contains set.now) f ≡ true)) }
 {
     let rows = rows_of(alloc, vectors, set)?;
     for k in 0..vectors.len() as u16 {
@@ -47,8 +50,9 @@ pub(crate) fn spans_all(
     Ok(true)
 }
 
-/// Whether no vector of the one set is the sum of other vectors of the other set, which holds it: so it is just where the
-/// former are independent over the rest of the latter, which one elimination tells.
+/// Whether no vector of the one set is the sum of other vectors of the other set, which holds it:
+/// so it is just where the former are independent over the rest of the latter, which one
+/// elimination tells.
 pub(crate) fn are_bridges(
     alloc: Global,
     vectors: &[u128],
@@ -58,7 +62,9 @@ pub(crate) fn are_bridges(
     requires few { length vectors.now ≤ MAX_VECTORS + 1 }
     requires bridges { AreBelow bridges.now (length vectors.now) }
     requires within { AreWithin bridges.now set.now }
-    ensures { IfOk result (λ b. IsTrue b ↔ ((f : ℕ) → contains bridges.now f ≡ true → IsSpanBridge (vector_spans vectors.now) (contains set.now) f)) }
+    ensures { IfOk result (λ b. IsTrue b
+        ↔ ((f : ℕ) → contains bridges.now f ≡ true
+        → IsSpanBridge (vector_spans vectors.now) (contains set.now) f)) }
 {
     let rest = set.without(bridges);
     let rows = rows_of(alloc, vectors, &rest)?;

@@ -28,15 +28,27 @@ module _ (set members : ℕ → Bool) where
   plus_either : (a b : ℕ → Bool) (k : ℕ) → plus (either a b) k ≡ either a (plus b k)
   plus_either a b k = same_sets _ _ (λ z h. grind (arith, sets)) (λ z h. grind (arith, sets))
 
-  pub united-in : (k : ℕ) → set k ≡ true → members k ≡ true → plus (united set members k) k ≡ united set members (k + 1)
-  united-in k s m = plus_either (outside set members) (below (both set members) k) k ∙ ap (either (outside set members)) (below_in (both set members) k (both_from set members k s m))
+  pub united-in : (k : ℕ)
+      → set k ≡ true
+      → members k ≡ true
+      → plus (united set members k) k ≡ united set members (k + 1)
+  united-in k s m = plus_either (outside set members) (below (both set members) k) k
+      ∙ ap (either (outside set members))
+      (below_in (both set members) k (both_from set members k s m))
 
-  pub united-out : (k : ℕ) → both set members k ≡ false → united set members k ≡ united set members (k + 1)
+  pub united-out : (k : ℕ)
+      → both set members k ≡ false
+      → united set members k ≡ united set members (k + 1)
   united-out k out = ap (either (outside set members)) (below_out (both set members) k out)
 
   -- members that have come
-  pub united-older : (k f : ℕ) → set f ≡ true → members f ≡ true → f < k → united set members k f ≡ true
-  united-older k f s m l = either_right (outside set members) (below (both set members) k) f (below_from (both set members) k f (both_from set members f s m) l)
+  pub united-older : (k f : ℕ)
+      → set f ≡ true
+      → members f ≡ true
+      → f < k
+      → united set members k f ≡ true
+  united-older k f s m l = either_right (outside set members) (below (both set members) k) f
+      (below_from (both set members) k f (both_from set members f s m) l)
 
   united-within : (k : ℕ) → IsWithin (united set members k) set
   united-within k z h = elim (either_cases (outside set members) (below (both set members) k) z h) [
@@ -47,8 +59,10 @@ module _ (set members : ℕ → Bool) where
   pub united-all : (k : ℕ) → IsBelow set k → united set members k ≡ set
   united-all k small = same_sets _ _ (united-within k)
       (λ z h. elim (cases_Bool (members z)) [
-        | inl m ↦ either_right (outside set members) (below (both set members) k) z (below_from (both set members) k z (both_from set members z h m) (small z h))
-        | inr m ↦ either_left (outside set members) (below (both set members) k) z (outside_from set members z h m)
+        | inl m ↦ either_right (outside set members) (below (both set members) k) z
+            (below_from (both set members) k z (both_from set members z h m) (small z h))
+        | inr m ↦ either_left (outside set members) (below (both set members) k) z
+            (outside_from set members z h m)
       ])
 
   -- what is labelled before a member doesn't hold it
@@ -64,26 +78,47 @@ module _ (set members : ℕ → Bool) where
 
 module _ (g : Graph) where
   -- where the ends of k aren't joined, a bridge stays one when k comes
-  pub bridge-stays : (set : ℕ → Bool) (k f : ℕ) → set f ≡ true → IsBridge g set f → (JoinsEndsOf g set k → ⊥) → IsBridge g (plus set k) f
-  bridge-stays set k f member bridge apart =
-      unspanned-apart g (minus (plus set k) f) f (false_from_ne_true _ (λ s. both_ways _ (unspanned-from g set k apart)
+  pub bridge-stays : (set : ℕ → Bool) (k f : ℕ)
+      → set f ≡ true
+      → IsBridge g set f
+      → (JoinsEndsOf g set k → ⊥)
+      → IsBridge g (plus set k) f
+  bridge-stays set k f member bridge apart = unspanned-apart g (minus (plus set k) f) f
+      (false_from_ne_true _ (λ s. both_ways _ (unspanned-from g set k apart)
       (spans_trade (spans_in g) (IsSpan-graph g) (minus set f) (minus (plus set k) f) set f k
-      (λ z h. grind (arith, sets))
-      (λ z h. elim (plus_cases (minus set f) f z h) [ inl m ↦ (minus_parts set f z m).0 | inr e ↦ subst (λ y. set y ≡ true) e member ])
-      (unspanned-from g (minus set f) f bridge) s)))
+      (λ z h. grind (arith, sets)) (λ z h. elim (plus_cases (minus set f) f z h) [
+        | inl m ↦ (minus_parts set f z m).0
+        | inr e ↦ subst (λ y. set y ≡ true) e member
+      ]) (unspanned-from g (minus set f) f bridge) s)))
 
   -- and k is then a bridge
-  pub bridge-comes : (set : ℕ → Bool) (k : ℕ) → (JoinsEndsOf g set k → ⊥) → IsBridge g (plus set k) k
-  bridge-comes set k apart j = apart (joined_more (first_end_of g) (second_end_of g) (minus (plus set k) k) set (first_end_of g k) (second_end_of g k) (λ z h. grind (arith, sets)) j)
+  pub bridge-comes : (set : ℕ → Bool) (k : ℕ)
+      → (JoinsEndsOf g set k → ⊥)
+      → IsBridge g (plus set k) k
+  bridge-comes set k apart j = apart
+      (joined_more (first_end_of g) (second_end_of g) (minus (plus set k) k) set (first_end_of g k)
+      (second_end_of g k) (λ z h. grind (arith, sets)) j)
 
   -- a member whose ends are joined before it comes is no bridge
-  pub no_bridge : (set members : ℕ → Bool) (k : ℕ) → members k ≡ true → JoinsEndsOf g (united set members k) k → IsBridge g set k → ⊥
-  no_bridge set members k m j bridge = bridge (joined_more (first_end_of g) (second_end_of g) (united set members k) (minus set k) (first_end_of g k) (second_end_of g k) (united-without set members k m) j)
+  pub no_bridge : (set members : ℕ → Bool) (k : ℕ)
+      → members k ≡ true
+      → JoinsEndsOf g (united set members k) k
+      → IsBridge g set k
+      → ⊥
+  no_bridge set members k m j bridge = bridge
+      (joined_more (first_end_of g) (second_end_of g) (united set members k) (minus set k)
+      (first_end_of g k) (second_end_of g k) (united-without set members k m) j)
 
   -- an edge outside the set is a bridge just where the set doesn't join its ends
   pub outside-bridge : (set : ℕ → Bool) (f : ℕ) → (JoinsEndsOf g set f → ⊥) → IsBridge g set f
-  outside-bridge set f apart j = apart (joined_more (first_end_of g) (second_end_of g) (minus set f) set (first_end_of g f) (second_end_of g f) (λ z h. (minus_parts set f z h).0) j)
+  outside-bridge set f apart j = apart (joined_more (first_end_of g) (second_end_of g)
+      (minus set f) set (first_end_of g f) (second_end_of g f) (λ z h. (minus_parts set f z h).0) j)
 
-  pub bridge-outside : (set : ℕ → Bool) (f : ℕ) → set f ≡ false → IsBridge g set f → JoinsEndsOf g set f → ⊥
-  bridge-outside set f out bridge j =
-      bridge (joined_more (first_end_of g) (second_end_of g) set (minus set f) (first_end_of g f) (second_end_of g f) (λ z h. minus_from set f z h (λ e. both_ways _ out (subst (λ y. set y ≡ true) (sym e) h))) j)
+  pub bridge-outside : (set : ℕ → Bool) (f : ℕ)
+      → set f ≡ false
+      → IsBridge g set f
+      → JoinsEndsOf g set f
+      → ⊥
+  bridge-outside set f out bridge j = bridge (joined_more (first_end_of g) (second_end_of g) set
+      (minus set f) (first_end_of g f) (second_end_of g f)
+      (λ z h. minus_from set f z h (λ e. both_ways _ out (subst (λ y. set y ≡ true) (sym e) h))) j)

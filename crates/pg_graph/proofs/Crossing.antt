@@ -6,8 +6,13 @@ use Rattle.pg_base.proofs.SetLemmas.{either_cases}
 use Rattle.pg_graph.specs.Walks.{IsWalk, IsJoined}
 
 module _ (a b : ℕ → ℕ) where
-  -- a walk that leaves the vertices that pass a test, which no edge of s leaves, has an edge of the other set that leaves them
-  crossing_walk : (s set : ℕ → Bool) (p : ℕ → Bool) → ((k : ℕ) → s k ≡ true → p (a k) ≡ p (b k)) → (ks : List ℕ) (u v : ℕ) → IsWalk a b (either s set) ks u v → p u ≡ true → p v ≡ false
+  -- a walk that leaves the vertices that pass a test, which no edge of s leaves, has an edge of the
+  -- other set that leaves them
+  crossing_walk : (s set : ℕ → Bool) (p : ℕ → Bool)
+      → ((k : ℕ) → s k ≡ true → p (a k) ≡ p (b k))
+      → (ks : List ℕ) (u v : ℕ) → IsWalk a b (either s set) ks u v
+      → p u ≡ true
+      → p v ≡ false
       → (k : ℕ) × (set k ≡ true) × (p (a k) ≢ p (b k))
   crossing_walk s set p same [] u v h pu pv = absurd (both_ways _ pv (subst (λ z. p z ≡ true) h pu))
   crossing_walk s set p same (k ∷ ks) u v h pu pv =
@@ -28,6 +33,10 @@ module _ (a b : ℕ → ℕ) where
         ]
       ]
 
-  pub find_crossing : (s set : ℕ → Bool) (p : ℕ → Bool) (u v : ℕ) → ((k : ℕ) → s k ≡ true → p (a k) ≡ p (b k)) → IsJoined a b (either s set) u v → p u ≡ true → p v ≡ false
+  pub find_crossing : (s set : ℕ → Bool) (p : ℕ → Bool) (u v : ℕ)
+      → ((k : ℕ) → s k ≡ true → p (a k) ≡ p (b k))
+      → IsJoined a b (either s set) u v
+      → p u ≡ true
+      → p v ≡ false
       → (k : ℕ) × (set k ≡ true) × (p (a k) ≢ p (b k))
   find_crossing s set p u v same j pu pv = crossing_walk s set p same j.edges u v j.walk pu pv

@@ -15,24 +15,38 @@ use Rattle.pg_graph.proofs.Cuts.{IsCuts-other, IsCuts-dropped, IsCuts-claimed, I
 -- ---- the sets of a graph
 
 -- x is lost, and an edge of the other set that parts its ends is claimed
-pub IsCuts-parted : (g : Graph) (r d1 d2 : ℕ → Bool) (x y : ℕ) → IsCuts (spans_in g) (edge_count g) r d1 d2 → d1 x ≡ true → d2 y ≡ true → y ≢ edge_count g
-    → Parts g (outside r d1) (first_end_of g x) (second_end_of g x) y → IsCuts (spans_in g) (edge_count g) (minus r y) (minus d1 x) (minus d2 y)
+pub IsCuts-parted : (g : Graph) (r d1 d2 : ℕ → Bool) (x y : ℕ)
+    → IsCuts (spans_in g) (edge_count g) r d1 d2
+    → d1 x ≡ true
+    → d2 y ≡ true
+    → y ≢ edge_count g
+    → Parts g (outside r d1) (first_end_of g x) (second_end_of g x) y
+    → IsCuts (spans_in g) (edge_count g) (minus r y) (minus d1 x) (minus d2 y)
 IsCuts-parted g r d1 d2 x y t dx dy ne p =
-    IsCuts-answered (spans_in g) (IsSpan-graph g) (edge_count g) r d1 d2 x y t dx dy ne (false_from_ne_true _ (λ s. p.parted (spans_in-sound g (minus (outside r d1) y) x s)))
+    IsCuts-answered (spans_in g) (IsSpan-graph g) (edge_count g) r d1 d2 x y t dx dy ne
+    (false_from_ne_true _ (λ s. p.parted (spans_in-sound g (minus (outside r d1) y) x s)))
 
 -- x is lost, and no edge of the other set parts its ends: they are apart
-pub IsCuts-unparted : (g : Graph) (r d1 d2 : ℕ → Bool) (x : ℕ) → IsCuts (spans_in g) (edge_count g) r d1 d2 → d1 x ≡ true → AreEdges g r
-    → ((y : ℕ) → d2 y ≡ true → Parts g (outside r d1) (first_end_of g x) (second_end_of g x) y → ⊥) → IsCuts (spans_in g) (edge_count g) r (minus d1 x) d2
+pub IsCuts-unparted : (g : Graph) (r d1 d2 : ℕ → Bool) (x : ℕ)
+    → IsCuts (spans_in g) (edge_count g) r d1 d2
+    → d1 x ≡ true
+    → AreEdges g r
+    → ((y : ℕ) → d2 y ≡ true → Parts g (outside r d1) (first_end_of g x) (second_end_of g x) y → ⊥)
+    → IsCuts (spans_in g) (edge_count g) r (minus d1 x) d2
 IsCuts-unparted g r d1 d2 x t dx small none =
     elim (cases_Bool (spans_in g (outside r d1) x)) [
       | inr o ↦ IsCuts-dropped (spans_in g) (IsSpan-graph g) (edge_count g) r d1 d2 x t o
       | inl s ↦
-          let y = find_parting (spans_in g) (IsSpan-graph g) (edge_count g) r d1 d2 x (suc (edge_count g)) small t dx s in
-          let member : outside r d1 y.0 ≡ true = outside_from r d1 y.0 (t.second_in y.0 y.1) (false_from_ne_true _ (λ h. both_ways _ (t.apart y.0 h) y.1)) in
+          let y = find_parting (spans_in g) (IsSpan-graph g) (edge_count g) r d1 d2 x
+          (suc (edge_count g)) small t dx s in
+          let member : outside r d1 y.0 ≡ true = outside_from r d1 y.0 (t.second_in y.0 y.1)
+          (false_from_ne_true _ (λ h. both_ways _ (t.apart y.0 h) y.1)) in
           absurd (none y.0 y.1 (record {
             member = member;
             joined = spans_in-sound g (outside r d1) x s;
-            parted = λ j. both_ways _ y.2 (spans_in-complete g (minus (outside r d1) y.0) x (λ z h. small z (outside_parts r d1 z (minus_parts (outside r d1) y.0 z h).0).0) j);
+            parted = λ j. both_ways _ y.2
+                (spans_in-complete g (minus (outside r d1) y.0) x
+                (λ z h. small z (outside_parts r d1 z (minus_parts (outside r d1) y.0 z h).0).0) j);
           }))
     ]
 
@@ -67,7 +81,9 @@ module _ (spans : (ℕ → Bool) → ℕ → Bool) (law : IsSpan spans) (e : ℕ
   }
 
   -- the other side takes a free element, which stays in r
-  pub CutsOwed-taken : (r free : ℕ → Bool) (v : ℕ) → CutsStand spans e r free → CutsOwed spans e r (minus free v)
+  pub CutsOwed-taken : (r free : ℕ → Bool) (v : ℕ)
+      → CutsStand spans e r free
+      → CutsOwed spans e r (minus free v)
   CutsOwed-taken r free v t =
       elim (cases_Bool (t.second v)) [
         | inl i ↦ record {
@@ -76,7 +92,8 @@ module _ (spans : (ℕ → Bool) → ℕ → Bool) (law : IsSpan spans) (e : ℕ
           lost = v;
           cuts = IsCuts-other spans e r t.first t.second t.cuts;
           first_free = still_free t.second free v t.second_free;
-          second_free = still_free_without t.first free v t.first_free (false_from_ne_true _ (λ h. both_ways _ (t.cuts.apart v h) i));
+          second_free = still_free_without t.first free v t.first_free
+              (false_from_ne_true _ (λ h. both_ways _ (t.cuts.apart v h) i));
         }
         | inr o ↦ record {
           first = t.first;
@@ -89,7 +106,12 @@ module _ (spans : (ℕ → Bool) → ℕ → Bool) (law : IsSpan spans) (e : ℕ
       ]
 
   -- some free element is an answer, where there is one
-  pub CutsStand-answer : (r free : ℕ → Bool) (n z : ℕ) → IsBelow r n → free e ≡ false → free z ≡ true → CutsOwed spans e r free → (v : ℕ) × (free v ≡ true) × CutsStand spans e (minus r v) (minus free v)
+  pub CutsStand-answer : (r free : ℕ → Bool) (n z : ℕ)
+      → IsBelow r n
+      → free e ≡ false
+      → free z ≡ true
+      → CutsOwed spans e r free
+      → (v : ℕ) × (free v ≡ true) × CutsStand spans e (minus r v) (minus free v)
   CutsStand-answer r free n z small e_taken fz t =
       let x = t.lost in
       let left = minus t.first x in
@@ -103,19 +125,29 @@ module _ (spans : (ℕ → Bool) → ℕ → Bool) (law : IsSpan spans) (e : ℕ
                 record {
                   first = left;
                   second = minus t.second q.0;
-                  cuts = IsCuts-answered spans law e r t.first t.second x q.0 t.cuts i q.1 (not_e q.0 (t.second_free q.0 q.1)) q.2;
-                  first_free = still_free_without left free q.0 t.first_free (false_from_ne_true _ (λ h. both_ways _ (t.cuts.apart q.0 (minus_parts t.first x q.0 h).0) q.1));
+                  cuts = IsCuts-answered spans law e r t.first t.second x q.0 t.cuts i q.1
+                      (not_e q.0 (t.second_free q.0 q.1)) q.2;
+                  first_free = still_free_without left free q.0 t.first_free
+                      (false_from_ne_true _
+                      (λ h. both_ways _ (t.cuts.apart q.0 (minus_parts t.first x q.0 h).0) q.1));
                   second_free = still_free t.second free q.0 t.second_free;
                 },
               )
-          | inr s ↦ (z, fz, claimed left (IsCuts-dropped spans law e r t.first t.second x t.cuts s) t.first_free)
+          | inr s ↦ (
+            z,
+            fz,
+            claimed left (IsCuts-dropped spans law e r t.first t.second x t.cuts s) t.first_free,
+          )
         ]
       ]
     where
       not_e : (v : ℕ) → free v ≡ true → v ≢ e
       not_e v h q = both_ways _ e_taken (subst (λ k. free k ≡ true) q h)
 
-      claimed : (a : ℕ → Bool) → IsCuts spans e r a t.second → IsWithin a free → CutsStand spans e (minus r z) (minus free z)
+      claimed : (a : ℕ → Bool)
+          → IsCuts spans e r a t.second
+          → IsWithin a free
+          → CutsStand spans e (minus r z) (minus free z)
       claimed a cuts w = record {
         first = minus a z;
         second = minus t.second z;
@@ -125,10 +157,16 @@ module _ (spans : (ℕ → Bool) → ℕ → Bool) (law : IsSpan spans) (e : ℕ
       }
 
   -- a part of r without e and free elements doesn't span e
-  pub CutsOwed-parts : (r free set : ℕ → Bool) → CutsOwed spans e r free → free e ≡ false → IsWithin set r → ((z : ℕ) → set z ≡ true → free z ≡ false) → set e ≡ false → spans set e ≡ false
+  pub CutsOwed-parts : (r free set : ℕ → Bool)
+      → CutsOwed spans e r free
+      → free e ≡ false
+      → IsWithin set r
+      → ((z : ℕ) → set z ≡ true → free z ≡ false)
+      → set e ≡ false
+      → spans set e ≡ false
   CutsOwed-parts r free set t e_taken w taken out =
       spans_less spans law set (minus (outside r t.second) e) e
-      (λ z h. minus_from (outside r t.second) e z
-      (outside_from r t.second z (w z h) (false_from_ne_true _ (λ k. both_ways _ (taken z h) (t.second_free z k))))
+      (λ z h. minus_from (outside r t.second) e z (outside_from r t.second z (w z h)
+      (false_from_ne_true _ (λ k. both_ways _ (taken z h) (t.second_free z k))))
       (λ q. both_ways _ out (subst (λ k. set k ≡ true) (sym q) h)))
       (t.cuts.second_parts (false_from_ne_true _ (λ k. both_ways _ e_taken (t.second_free e k))))

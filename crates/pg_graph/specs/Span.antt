@@ -1,12 +1,20 @@
--- What sets of elements span, bases, fundamental circuits, and pairs of sets that span or bridge each other's members.
+-- What sets of elements span, bases, fundamental circuits, and pairs of sets that span or bridge
+-- each other's members.
 use Rattle.std.specs.Prelude.{◌≡◌, ℕ, Bool, true, false, not, ◌&&◌}
 use Rattle.pg_base.specs.Sets.{plus, minus, either, outside, IsWithin}
 
--- A matroid by its closure: a set spans its members, spanning goes through spanned sets, and elements trade places (Oxley, Matroid Theory, section 1.4).
+-- A matroid by its closure: a set spans its members, spanning goes through spanned sets, and
+-- elements trade places (Oxley, Matroid Theory, section 1.4).
 pub record IsSpan (spans : (ℕ → Bool) → ℕ → Bool) : Type 0 where
   pub holds : (a : ℕ → Bool) (f : ℕ) → a f ≡ true → spans a f ≡ true
-  pub closed : (a b : ℕ → Bool) (f : ℕ) → ((g : ℕ) → b g ≡ true → spans a g ≡ true) → spans b f ≡ true → spans a f ≡ true
-  pub trades : (a : ℕ → Bool) (f g : ℕ) → spans a f ≡ false → spans (plus a g) f ≡ true → spans (plus a f) g ≡ true
+  pub closed : (a b : ℕ → Bool) (f : ℕ)
+      → ((g : ℕ) → b g ≡ true → spans a g ≡ true)
+      → spans b f ≡ true
+      → spans a f ≡ true
+  pub trades : (a : ℕ → Bool) (f g : ℕ)
+      → spans a f ≡ false
+      → spans (plus a g) f ≡ true
+      → spans (plus a f) g ≡ true
 
 -- a set of elements that spans every element, none of whose members is spanned by the others
 pub record IsBase (spans : (ℕ → Bool) → ℕ → Bool) (elements base : ℕ → Bool) : Type 0 where
@@ -18,11 +26,13 @@ pub record IsBase (spans : (ℕ → Bool) → ℕ → Bool) (elements base : ℕ
 unfoldable pub swapped : (ℕ → Bool) → ℕ → ℕ → ℕ → Bool
 swapped b y x = plus (minus b y) x
 
--- the fundamental circuit of f, but for f itself: the members without which the rest of the base doesn't span f
+-- the fundamental circuit of f, but for f itself: the members without which the rest of the base
+-- doesn't span f
 unfoldable pub circuit : ((ℕ → Bool) → ℕ → Bool) → (ℕ → Bool) → ℕ → ℕ → Bool
 circuit spans b f y = b y && not (spans (minus b y) f)
 
--- what is reached from the elements in neither base: their fundamental circuits stay inside, and no member is in both
+-- what is reached from the elements in neither base: their fundamental circuits stay inside, and no
+-- member is in both
 pub record IsReached (spans : (ℕ → Bool) → ℕ → Bool) (elements b c r : ℕ → Bool) : Type 0 where
   pub elements_only : IsWithin r elements
   pub begins : (f : ℕ) → elements f ≡ true → b f ≡ false → c f ≡ false → r f ≡ true
@@ -38,7 +48,8 @@ pub record IsTrees (spans : (ℕ → Bool) → ℕ → Bool) (e : ℕ) (s a1 a2 
   pub second : (f : ℕ) → a1 f ≡ true → spans (either s a2) f ≡ true
   pub second_joins : spans (either s a2) e ≡ true
 
--- the dual: where r loses one of two disjoint sets, nothing else spans a member of the other one, nor e
+-- the dual: where r loses one of two disjoint sets, nothing else spans a member of the other one,
+-- nor e
 pub record IsCuts (spans : (ℕ → Bool) → ℕ → Bool) (e : ℕ) (r d1 d2 : ℕ → Bool) : Type 0 where
   pub apart : (f : ℕ) → d1 f ≡ true → d2 f ≡ false
   pub first : (f : ℕ) → d2 f ≡ true → spans (minus (outside r d1) f) f ≡ false

@@ -1,5 +1,5 @@
-//! Labels for the vertices of a graph, by union and find with path halving (Tarjan and van Leeuwen 1984): a label is the
-//! root of a tree in which each vertex has a parent, and a root is its own.
+//! Labels for the vertices of a graph, by union and find with path halving (Tarjan and van Leeuwen
+//! 1984): a label is the root of a tree in which each vertex has a parent, and a root is its own.
 ghost use Rattle.std.specs.Prelude.{◌≡◌, ◌≢◌, ℕ, ◌^◌, ◌<◌, ◌≤◌, ◌↔◌, IsTrue, IfOk, length, slice_index};
 ghost use Rattle.std.specs.FinSet.{contains};
 ghost use Rattle.pg_graph.specs.Graph.{IsGraph, first_end_of, second_end_of};
@@ -11,8 +11,8 @@ use crate::graph::Graph;
 use pg_base::{Memory, PointSet};
 use std::alloc::Global;
 
-/// A label for each vertex: two vertices have the same one just where edges of the set join them. `Memory` says that
-/// there is no room for them.
+/// A label for each vertex: two vertices have the same one just where edges of the set join them.
+/// `Memory` says that there is no room for them.
 pub fn labels(alloc: Global, g: &Graph, set: &PointSet) -> Result<Vec<u16>, Memory>
     requires graph { IsGraph g.now }
     requires set { AreEdges g.now (contains set.now) }
@@ -30,7 +30,9 @@ fn read_roots(parents: &mut [u16], names: &mut [u16])
     requires upward { IsUpward parents.old }
     requires size { length names.old ≡ length parents.old }
     requires few { length parents.old ≤ 2 ^ 16 }
-    ensures { (v : ℕ) → v < length parents.old → (slice_index names.new v ≡ root_of parents.old v) × (slice_index names.new v < length parents.old) }
+    ensures { (v : ℕ) → v < length parents.old
+        → (slice_index names.new v ≡ root_of parents.old v)
+        × (slice_index names.new v < length parents.old) }
 {
     for v in 0..parents.len() {
         names[v] = find(parents, v as u16);
@@ -42,7 +44,8 @@ pub(crate) fn label(parents: &mut [u16], g: &Graph, set: &PointSet)
     requires graph { IsGraph g.now }
     requires size { length parents.old ≡ g.now.vertices }
     requires set { AreEdges g.now (contains set.now) }
-    ensures { IsLabelling (first_end_of g.now) (second_end_of g.now) (contains set.now) parents.new }
+    ensures { IsLabelling (first_end_of g.now) (second_end_of g.now)
+        (contains set.now) parents.new }
 {
     part_all(parents);
     for k in 0..g.edge_count() + 1 {
@@ -63,7 +66,8 @@ fn part_all(parents: &mut [u16])
     }
 }
 
-/// Gives the vertices below the roots of u and v one root, the lesser of these two. It answers whether they had two.
+/// Gives the vertices below the roots of u and v one root, the lesser of these two. It answers
+/// whether they had two.
 pub(crate) fn union(parents: &mut [u16], u: u16, v: u16) -> bool
     requires upward { IsUpward parents.old }
     requires u { u < length parents.old }

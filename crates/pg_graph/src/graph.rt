@@ -7,8 +7,8 @@ use std::marker::Model;
 
 /// A multigraph with two terminals. Loops and parallel edges are allowed.
 ///
-/// The edges are numbered from 0 in the order of `ends`. In every set of edges the number after the last one stands
-/// for `e`, a further edge between the terminals.
+/// The edges are numbered from 0 in the order of `ends`. In every set of edges the number after the
+/// last one stands for `e`, a further edge between the terminals.
 #[derive(Debug, Drop)]
 pub struct Graph {
     /// How many vertices there are. They are the numbers below it.

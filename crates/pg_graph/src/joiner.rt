@@ -12,7 +12,8 @@ use std::marker::Model;
 
 /// Room to work in for graphs with a certain number of vertices and of edges.
 ///
-/// Only `new` takes memory. The calls write their labels over the earlier ones and leave the two numbers as they are.
+/// Only `new` takes memory. The calls write their labels over the earlier ones and leave the two
+/// numbers as they are.
 #[derive(Debug, Drop)]
 pub struct Joiner {
     parents: Vec<u16>,
@@ -30,7 +31,8 @@ impl Model for Joiner {
 }
 
 impl Joiner {
-    /// A joiner for graphs with as many vertices and edges as this one. `Memory` says that there is no room for it.
+    /// A joiner for graphs with as many vertices and edges as this one. `Memory` says that there is
+    /// no room for it.
     pub fn new(alloc: Global, g: &Graph) -> Result<Joiner, Memory>
         requires graph { IsGraph g.now }
         ensures { IfOk result (λ joiner. IsMadeFor joiner g.now) }
@@ -55,7 +57,8 @@ impl Joiner {
         joins::joined(&mut self.parents, g, set, u, v)
     }
 
-    /// The lowest candidate with exactly one end joined to u in the set, and None exactly where there is none.
+    /// The lowest candidate with exactly one end joined to u in the set, and None exactly where
+    /// there is none.
     pub fn crossing(
         &mut self,
         g: &Graph,
@@ -68,17 +71,21 @@ impl Joiner {
         requires set { AreEdges g.now (contains set.now) }
         requires u { u < g.now.vertices }
         requires candidates { AreEdges g.now (contains candidates.now) }
-        ensures lowest { IfSome result (λ k. IsLowest (contains candidates.now) (Crosses g.now (contains set.now) u) k) }
-        ensures none { IfNone result ((k : ℕ) → contains candidates.now k ≡ true → Crosses g.now (contains set.now) u k → ⊥) }
+        ensures lowest { IfSome result
+            (λ k. IsLowest (contains candidates.now) (Crosses g.now (contains set.now) u) k) }
+        ensures none { IfNone result
+            ((k : ℕ) → contains candidates.now k ≡ true → Crosses g.now (contains set.now) u k
+            → ⊥) }
         ensures kept { self.new ≡ self.old }
     {
         joins::crossing(&mut self.parents, g, set, u, candidates)
     }
 
-    /// The lowest candidate in the set without which u and v aren't joined, where they are joined in the set.
+    /// The lowest candidate in the set without which u and v aren't joined, where they are joined
+    /// in the set.
     ///
-    /// None comes exactly where they aren't joined or no candidate parts them. Each candidate of the set is tried by
-    /// labels of its own.
+    /// None comes exactly where they aren't joined or no candidate parts them. Each candidate of
+    /// the set is tried by labels of its own.
     pub fn parting(
         &mut self,
         g: &Graph,
@@ -93,8 +100,11 @@ impl Joiner {
         requires u { u < g.now.vertices }
         requires v { v < g.now.vertices }
         requires candidates { AreEdges g.now (contains candidates.now) }
-        ensures lowest { IfSome result (λ k. IsLowest (contains candidates.now) (Parts g.now (contains set.now) u v) k) }
-        ensures none { IfNone result ((k : ℕ) → contains candidates.now k ≡ true → Parts g.now (contains set.now) u v k → ⊥) }
+        ensures lowest { IfSome result
+            (λ k. IsLowest (contains candidates.now) (Parts g.now (contains set.now) u v) k) }
+        ensures none { IfNone result
+            ((k : ℕ) → contains candidates.now k ≡ true → Parts g.now (contains set.now) u v k
+            → ⊥) }
         ensures kept { self.new ≡ self.old }
     {
         joins::parting(&mut self.parents, g, set, u, v, candidates)
@@ -102,32 +112,34 @@ impl Joiner {
 
     /// Whether edges of the set join the two ends of each member.
     ///
-    /// The set is labelled once, and then the labels of the two ends of each member are compared: a walk over the set and
-    /// one over the members, in nearly linear time.
+    /// The set is labelled once, and then the labels of the two ends of each member are compared: a
+    /// walk over the set and one over the members, in nearly linear time.
     pub fn joins_all(&mut self, g: &Graph, set: &PointSet, members: &PointSet) -> bool
         requires graph { IsGraph g.now }
         requires made { IsMadeFor self.old g.now }
         requires set { AreEdges g.now (contains set.now) }
         requires members { AreEdges g.now (contains members.now) }
-        ensures joins { IsTrue result ↔ ((f : ℕ) → contains members.now f ≡ true → JoinsEndsOf g.now (contains set.now) f) }
+        ensures joins { IsTrue result
+            ↔ ((f : ℕ) → contains members.now f ≡ true → JoinsEndsOf g.now (contains set.now) f) }
         ensures kept { self.new ≡ self.old }
     {
         joins::joins_all(&mut self.parents, g, set, members)
     }
 
-    /// Whether each member is a bridge of the set: its ends aren't joined in the set without it. A member needn't be in
-    /// the set.
+    /// Whether each member is a bridge of the set: its ends aren't joined in the set without it. A
+    /// member needn't be in the set.
     ///
-    /// Edges of a set are all bridges of it just where they are independent when the rest is contracted (Oxley, Matroid
-    /// Theory, section 3.1): they form a forest on the classes that the rest joins. So the rest is labelled once, and
-    /// each member must unite two classes that no earlier one did: a walk over the rest and one over the members, in
-    /// nearly linear time.
+    /// Edges of a set are all bridges of it just where they are independent when the rest is
+    /// contracted (Oxley, Matroid Theory, section 3.1): they form a forest on the classes that the
+    /// rest joins. So the rest is labelled once, and each member must unite two classes that no
+    /// earlier one did: a walk over the rest and one over the members, in nearly linear time.
     pub fn bridges_all(&mut self, g: &Graph, set: &PointSet, members: &PointSet) -> bool
         requires graph { IsGraph g.now }
         requires made { IsMadeFor self.old g.now }
         requires set { AreEdges g.now (contains set.now) }
         requires members { AreEdges g.now (contains members.now) }
-        ensures bridges { IsTrue result ↔ ((f : ℕ) → contains members.now f ≡ true → IsBridge g.now (contains set.now) f) }
+        ensures bridges { IsTrue result
+            ↔ ((f : ℕ) → contains members.now f ≡ true → IsBridge g.now (contains set.now) f) }
         ensures kept { self.new ≡ self.old }
     {
         joins::bridges_all(&mut self.parents, g, set, members)

@@ -52,8 +52,10 @@ pub(crate) fn crossing(
     requires set { AreEdges g.now (contains set.now) }
     requires u { u < g.now.vertices }
     requires candidates { AreEdges g.now (contains candidates.now) }
-    ensures lowest { IfSome result (λ k. IsLowest (contains candidates.now) (Crosses g.now (contains set.now) u) k) }
-    ensures none { IfNone result ((k : ℕ) → contains candidates.now k ≡ true → Crosses g.now (contains set.now) u k → ⊥) }
+    ensures lowest { IfSome result
+        (λ k. IsLowest (contains candidates.now) (Crosses g.now (contains set.now) u) k) }
+    ensures none { IfNone result
+        ((k : ℕ) → contains candidates.now k ≡ true → Crosses g.now (contains set.now) u k → ⊥) }
 {
     label(parents, g, set);
     let inside = find(parents, u);
@@ -73,7 +75,9 @@ fn is_split(parents: &mut [u16], g: &Graph, inside: u16, k: u16) -> bool
     requires size { length parents.old ≡ g.now.vertices }
     requires upward { IsUpward parents.old }
     requires edge { k ≤ edge_count g.now }
-    ensures split { IsTrue result ↔ IsSplit (root_of parents.old (first_end_of g.now k)) (root_of parents.old (second_end_of g.now k)) inside }
+    ensures split { IsTrue result
+        ↔ IsSplit (root_of parents.old (first_end_of g.now k))
+        (root_of parents.old (second_end_of g.now k)) inside }
     ensures upward { IsUpward parents.new }
     ensures same { SameRoots parents.old parents.new }
 {
@@ -98,8 +102,10 @@ pub(crate) fn parting(
     requires u { u < g.now.vertices }
     requires v { v < g.now.vertices }
     requires candidates { AreEdges g.now (contains candidates.now) }
-    ensures lowest { IfSome result (λ k. IsLowest (contains candidates.now) (Parts g.now (contains set.now) u v) k) }
-    ensures none { IfNone result ((k : ℕ) → contains candidates.now k ≡ true → Parts g.now (contains set.now) u v k → ⊥) }
+    ensures lowest { IfSome result
+        (λ k. IsLowest (contains candidates.now) (Parts g.now (contains set.now) u v) k) }
+    ensures none { IfNone result
+        ((k : ℕ) → contains candidates.now k ≡ true → Parts g.now (contains set.now) u v k → ⊥) }
 {
     if !joined(parents, g, set, u, v) {
         return None;
@@ -120,7 +126,8 @@ pub(crate) fn joins_all(parents: &mut [u16], g: &Graph, set: &PointSet, members:
     requires size { length parents.old ≡ g.now.vertices }
     requires set { AreEdges g.now (contains set.now) }
     requires members { AreEdges g.now (contains members.now) }
-    ensures { IsTrue result ↔ ((f : ℕ) → contains members.now f ≡ true → JoinsEndsOf g.now (contains set.now) f) }
+    ensures { IsTrue result
+        ↔ ((f : ℕ) → contains members.now f ≡ true → JoinsEndsOf g.now (contains set.now) f) }
 {
     label(parents, g, set);
     for k in 0..g.edge_count() + 1 {
@@ -153,7 +160,8 @@ fn are_apart(parents: &mut [u16], g: &Graph, members: &PointSet) -> bool
     requires size { length parents.old ≡ g.now.vertices }
     requires upward { IsUpward parents.old }
     requires members { AreEdges g.now (contains members.now) }
-    ensures { IsTrue result ↔ ((f : ℕ) → contains members.now f ≡ true → HaveOneRoot g.now parents.old f → ⊥) }
+    ensures { IsTrue result
+        ↔ ((f : ℕ) → contains members.now f ≡ true → HaveOneRoot g.now parents.old f → ⊥) }
 {
     for k in 0..g.edge_count() + 1 {
         if members.has(k) {
@@ -167,8 +175,8 @@ fn are_apart(parents: &mut [u16], g: &Graph, members: &PointSet) -> bool
 
 /// Whether the ends of each member f aren't joined in the set without f.
 ///
-/// The members in the set are united, one after the other, with what the rest of the set joins; each must join two
-/// classes. The others must then join two classes of the whole set.
+/// The members in the set are united, one after the other, with what the rest of the set joins;
+/// each must join two classes. The others must then join two classes of the whole set.
 pub(crate) fn bridges_all(
     parents: &mut [u16],
     g: &Graph,
@@ -179,7 +187,8 @@ pub(crate) fn bridges_all(
     requires size { length parents.old ≡ g.now.vertices }
     requires set { AreEdges g.now (contains set.now) }
     requires members { AreEdges g.now (contains members.now) }
-    ensures { IsTrue result ↔ ((f : ℕ) → contains members.now f ≡ true → IsBridge g.now (contains set.now) f) }
+    ensures { IsTrue result
+        ↔ ((f : ℕ) → contains members.now f ≡ true → IsBridge g.now (contains set.now) f) }
 {
     label(parents, g, &set.without(members));
     for k in 0..g.edge_count() + 1 {

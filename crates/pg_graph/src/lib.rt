@@ -1,4 +1,5 @@
-//! Multigraphs with two terminals: which vertices a set of edges joins, and which edges cross, part and bridge.
+//! Multigraphs with two terminals: which vertices a set of edges joins, and which edges cross, part
+//! and bridge.
 #![tactic(auto)]
 
 mod components;

@@ -11,7 +11,8 @@ use Rattle.pg_image.specs.declared.node.ImageNode.TheVariants.{Plain, Image}
 use Rattle.pg_image.specs.declared.cert.ImageClaim.{ImageClaim}
 use Rattle.pg_image.specs.declared.cert.ImageCert.{ImageCert}
 
--- marks and a turn that a line of a file can say: the points are in range and no point is both sides'
+-- marks and a turn that a line of a file can say: the points are in range and no point is both
+-- sides'
 pub record IsMarked (x y : FinSet nat_cmp) (turn : Side) (left : ℕ) : Type 0 where
   pub x_points : ArePoints x
   pub y_points : ArePoints y

@@ -7,4 +7,9 @@ use Rattle.pg_image.specs.declared.node.ImageNode.TheVariants.{Plain, Image}
 -- the position that a node speaks of
 abbrev pub image_node_position : ImageNode → Position
 image_node_position (Plain node) = position_of node
-image_node_position (Image x y turn left map child) = record { x = x; y = y; turn = turn; left = left }
+image_node_position (Image x y turn left map child) = record {
+  x = x;
+  y = y;
+  turn = turn;
+  left = left;
+}

@@ -23,11 +23,13 @@ image_words map child = codes "image" ∷ decimal (number_of map) ∷ decimal ch
 
 -- the three fields of a position, each with a bar behind it
 unfoldable pub position_fields : FinSet nat_cmp → FinSet nat_cmp → Side → ℕ → Bytes
-position_fields x y turn left = spaced (set_words x) ++ BAR ∷ (spaced (set_words y) ++ BAR ∷ (turn_word turn left ++ BAR ∷ []))
+position_fields x y turn left =
+    spaced (set_words x) ++ BAR ∷ (spaced (set_words y) ++ BAR ∷ (turn_word turn left ++ BAR ∷ []))
 
 -- the line of an image with its line feed
 abbrev pub image_text : FinSet nat_cmp → FinSet nat_cmp → Side → ℕ → GridMap → ℕ → Bytes
-image_text x y turn left map child = position_fields x y turn left ++ (spaced (image_words map child) ++ LINE_FEED ∷ [])
+image_text x y turn left map child =
+    position_fields x y turn left ++ (spaced (image_words map child) ++ LINE_FEED ∷ [])
 
 -- a node line with its line feed
 abbrev pub image_node_text : ImageNode → Bytes
@@ -40,7 +42,8 @@ image_claim_words c = codes "claim" ∷ side_word c.turn ∷ side_word c.side �
 
 -- a claim line, its `nodes` line and its node lines
 unfoldable pub image_claim_text : ImageClaim → Bytes
-image_claim_text c = spaced (image_claim_words c) ++ LINE_FEED ∷ (spaced (count_words (length c.nodes)) ++ LINE_FEED ∷ flat_map image_node_text c.nodes)
+image_claim_text c = spaced (image_claim_words c) ++ LINE_FEED
+    ∷ (spaced (count_words (length c.nodes)) ++ LINE_FEED ∷ flat_map image_node_text c.nodes)
 
 -- the first line, which names the version
 abbrev pub image_header : Bytes

@@ -5,7 +5,8 @@ use crate::node::ImageNodes;
 use pg_base::{Goal, Side};
 use std::marker::Model;
 
-/// That a side reaches a goal from a game's marks, and the nodes that show it, of which some may be images of others.
+/// That a side reaches a goal from a game's marks, and the nodes that show it, of which some may be
+/// images of others.
 #[derive(Debug, Drop)]
 pub struct ImageClaim {
     /// The side to move first.
@@ -54,7 +55,8 @@ impl ImageClaims {
     }
 }
 
-/// Claims of one game, in which nodes may be images of others: 1 to 8, with at most 200,000 nodes together.
+/// Claims of one game, in which nodes may be images of others: 1 to 8, with at most 200,000 nodes
+/// together.
 #[derive(Debug, Drop)]
 pub struct ImageCert {
     /// The claims.

@@ -17,7 +17,8 @@ use std::fmt::Write;
 
 /// Puts a point, behind a space unless it is the first.
 fn put_point(out: &mut String, p: u16, begun: bool) -> Result<(), AllocError>
-    ensures { OnOk result (string_bytes out.new ≡ string_bytes out.old ++ separated begun (p ∷ [])) }
+    ensures { OnOk result
+        (string_bytes out.new ≡ string_bytes out.old ++ separated begun (p ∷ [])) }
 {
     if begun {
         out.push_str(" ")?;
@@ -28,7 +29,8 @@ fn put_point(out: &mut String, p: u16, begun: bool) -> Result<(), AllocError>
 
 /// Puts the points of a set, with a space between each two.
 fn put_field(out: &mut String, set: &PointSet) -> Result<(), AllocError>
-    ensures { OnOk result (string_bytes out.new ≡ string_bytes out.old ++ spaced (set_words set.now)) }
+    ensures { OnOk result
+        (string_bytes out.new ≡ string_bytes out.old ++ spaced (set_words set.now)) }
 {
     let mut next = 0;
     while let Some(v) = set.first_from(next) {
@@ -58,7 +60,8 @@ fn put_fields(
     turn: Side,
     left: u8,
 ) -> Result<(), AllocError>
-    ensures { OnOk result (string_bytes out.new ≡ string_bytes out.old ++ position_fields x.now y.now turn left) }
+    ensures { OnOk result
+        (string_bytes out.new ≡ string_bytes out.old ++ position_fields x.now y.now turn left) }
 {
     put_field(out, x)?;
     out.push_str("|")?;
@@ -71,7 +74,9 @@ fn put_fields(
 
 /// Puts the body of an image with its line feed.
 fn put_body(out: &mut String, map: GridMap, child: u32) -> Result<(), AllocError>
-    ensures { OnOk result (string_bytes out.new ≡ string_bytes out.old ++ (spaced (image_words map child) ++ LINE_FEED ∷ [])) }
+    ensures { OnOk result
+        (string_bytes out.new
+        ≡ string_bytes out.old ++ (spaced (image_words map child) ++ LINE_FEED ∷ [])) }
 {
     let number = map.number();
     write!(out, "image {number} {child}\n")?;
@@ -124,7 +129,8 @@ fn put_nodes(alloc: Global, out: &mut Vec<u8>, nodes: &[ImageNode]) -> Result<()
 
 /// The claim line and the `nodes` line of a claim.
 fn claim_head(alloc: Global, claim: &ImageClaim) -> Result<String, AllocError>
-    ensures { IfOk result (λ text. string_bytes text ≡ spaced (image_claim_words claim.now) ++ LINE_FEED ∷ (spaced (count_words (length claim.now.nodes)) ++ LINE_FEED ∷ [])) }
+    ensures { IfOk result (λ text. string_bytes text ≡ spaced (image_claim_words claim.now)
+        ++ LINE_FEED ∷ (spaced (count_words (length claim.now.nodes)) ++ LINE_FEED ∷ [])) }
 {
     let mut out = String::new(alloc);
     let turn = claim.turn.word();

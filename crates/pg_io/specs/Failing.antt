@@ -9,4 +9,5 @@ FailsNext failing = Contains failing.numbers.items failing.made
 
 -- one call more was made, up to the last value of a counter of 64 bits; the list stays
 abbrev pub CountsOne : Failing → Failing → Type 0
-CountsOne before now = (now.numbers.items ≡ before.numbers.items) × (now.made ≡ min (before.made + 1) (2 ^ 64 - 1))
+CountsOne before now =
+    (now.numbers.items ≡ before.numbers.items) × (now.made ≡ min (before.made + 1) (2 ^ 64 - 1))

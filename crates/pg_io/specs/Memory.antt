@@ -39,4 +39,10 @@ making_of draft = option_map (λ d. (d.name, d.bytes.items)) draft
 
 -- all that is told of the files
 abbrev pub told_by : MemFiles → FilesTold
-told_by m = record { held = Some (held_in m); left = Some (left_in m); making = making_of m.draft; busy = is_some m.draft; faults = faults m.reads m.writes }
+told_by m = record {
+  held = Some (held_in m);
+  left = Some (left_in m);
+  making = making_of m.draft;
+  busy = is_some m.draft;
+  faults = faults m.reads m.writes;
+}

@@ -15,12 +15,21 @@ IsFile (Some held) name limit bytes = IsWhole (held name) limit bytes
 
 -- what took bytes on its way to one state has taken these behind them in another
 abbrev pub Goes : {S : Type 0} → (S → S → Bytes → Type 0) → S → S → Bytes → Type 0
-Goes {S} took before after text = (first : S) (bytes : Bytes) → took first before bytes → took first after (bytes ++ text)
+Goes {S} took before after text =
+    (first : S) (bytes : Bytes) → took first before bytes → took first after (bytes ++ text)
 
 -- it takes the bytes that the name holds, but at most one more than the limit
-abbrev pub Pours : {S : Type 0} → Option Holding → Bytes → ℕ → (S → S → Bytes → Type 0) → S → S → Type 0
+abbrev pub Pours : {S : Type 0}
+    → Option Holding
+    → Bytes
+    → ℕ
+    → (S → S → Bytes → Type 0)
+    → S
+    → S
+    → Type 0
 Pours None name limit took before after = ⊤
-Pours (Some held) name limit took before after = (text : Bytes) × IsWhole (held name) limit text × Goes took before after text
+Pours (Some held) name limit took before after =
+    (text : Bytes) × IsWhole (held name) limit text × Goes took before after text
 
 -- the file is stored where the work is done; where it ended before, it is stored or it isn't
 abbrev pub Stored : Option Holding → Option Holding → Making → Result (Unit {0}) Stop → Type 0

@@ -4,7 +4,8 @@ use Rattle.pg_io.specs.declared.stop.Stop.{Stop}
 use Rattle.pg_io.specs.declared.stop.Stop.TheVariants.{Read, Write, Memory}
 use Rattle.pg_io.specs.Causes.{Faults, Rose}
 
--- a failed read shows by its number, or has the other cause given; a failed write shows by its number; want of memory leaves both
+-- a failed read shows by its number, or has the other cause given; a failed write shows by its
+-- number; want of memory leaves both
 abbrev pub StopCauses : Type 0 → Faults → Faults → Stop → Type 0
 StopCauses absent before now Read = Rose before.reads now.reads ⊎ absent
 StopCauses absent before now Write = Rose before.writes now.writes

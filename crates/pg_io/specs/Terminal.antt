@@ -16,4 +16,8 @@ log_in m = m.log.items
 
 -- all that is told of the console
 abbrev pub told_by : MemConsole → ConsoleTold
-told_by m = record { left = Some (left_in m); log = Some (log_in m); faults = faults m.reads m.writes }
+told_by m = record {
+  left = Some (left_in m);
+  log = Some (log_in m);
+  faults = faults m.reads m.writes;
+}

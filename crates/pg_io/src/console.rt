@@ -8,9 +8,9 @@ use crate::files::Failed;
 
 /// A console with a log of what was said to it and heard from it.
 ///
-/// An implementation tells its unread input and its log, or neither, as the console of the system does;
-/// which of both never changes. Two numbers of faults are always told: how many calls of `hear` have failed, and how
-/// many of `say`. A call that answers Ok leaves both as they were.
+/// An implementation tells its unread input and its log, or neither, as the console of the system
+/// does; which of both never changes. Two numbers of faults are always told: how many calls of
+/// `hear` have failed, and how many of `say`. A call that answers Ok leaves both as they were.
 pub trait Console {
     /// All that is told of the console.
     ghost told: { Self → ConsoleTold };
@@ -26,8 +26,9 @@ pub trait Console {
     /// Hears a line, and adds to the log what was heard.
     ///
     /// A line ends with its line feed or with the input, and its bytes without the line feed are
-    /// moved to the front of the buffer. Where as many bytes as the buffer is long have no line feed
-    /// among them, they are taken and the answer is `Long`; what follows is heard as a further line.
+    /// moved to the front of the buffer. Where as many bytes as the buffer is long have no line
+    /// feed among them, they are taken and the answer is `Long`; what follows is heard as a further
+    /// line.
     ///
     /// `Failed` means a fault of reading; then nothing is added.
     fn hear(&mut self, buf: &mut [u8]) -> Result<Heard, Failed>

@@ -17,7 +17,8 @@ pub enum Entry {
 /// The answer of a hear.
 #[derive(Clone, Copy, Debug, PartialEq, Eq)]
 pub enum Heard {
-    /// A line stands at the front of the buffer. The number is its length, below that of the buffer.
+    /// A line stands at the front of the buffer. The number is its length, below that of the
+    /// buffer.
     Line(usize),
     /// As many bytes were taken as the buffer is long, and no line feed was among them. They are
     /// not to be read from the buffer.

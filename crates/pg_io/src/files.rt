@@ -11,10 +11,11 @@ pub struct Failed;
 
 /// Files by their names: one is read at a time, and one is made at a time.
 ///
-/// An implementation tells which bytes stand under which names, what is unread and what is being made, or it
-/// tells nothing of bytes, as the files of the system do; which of both never changes. Whether a file is being
-/// made and two numbers of faults are always told: how many calls of `open` and `next` have failed, and how many of
-/// `create`, `append` and `finish`. A call that answers Ok leaves both as they were.
+/// An implementation tells which bytes stand under which names, what is unread and what is being
+/// made, or it tells nothing of bytes, as the files of the system do; which of both never changes.
+/// Whether a file is being made and two numbers of faults are always told: how many calls of `open`
+/// and `next` have failed, and how many of `create`, `append` and `finish`. A call that answers Ok
+/// leaves both as they were.
 pub trait Files {
     /// All that is told of the files.
     ghost told: { Self → FilesTold };
@@ -71,7 +72,8 @@ pub trait Files {
     /// and nothing is left to be finished.
     fn finish(&mut self) -> Result<(), Failed>
         requires { IsTrue (told self.old).busy }
-        ensures stored { Finishes (told self.old).held (told self.old).making (told self.new).held result }
+        ensures stored { Finishes (told self.old).held (told self.old).making
+            (told self.new).held result }
         ensures dropped { (told self.new).making ≡ None }
         ensures cause { BlamesWrites (told self.old).faults (told self.new).faults result }
         ensures idle { (told self.new).busy ≡ false };

@@ -90,8 +90,8 @@ fn first_piece(alloc: Global, room: usize, left: &[u8]) -> Result<Piece, Memory>
 impl MemConsole {
     /// A console with this input unread and an empty log.
     ///
-    /// `failing` lists the calls on it that fail, by their numbers from 0. The allocator is kept for
-    /// the log; this call takes no memory.
+    /// `failing` lists the calls on it that fail, by their numbers from 0. The allocator is kept
+    /// for the log; this call takes no memory.
     pub fn new(alloc: Global, input: Text, failing: Vec<u64>) -> MemConsole
         ensures left { left_in result ≡ input }
         ensures log { log_in result ≡ [] }
@@ -133,7 +133,8 @@ impl MemConsole {
 
     /// Adds what was said to the log, unless the call is to fail.
     fn add_said(&mut self, bytes: &[u8]) -> Result<(), Memory>
-        ensures added { OnOk result (log_in self.new ≡ log_in self.old ++ Entry.Said bytes.now ∷ []) }
+        ensures added { OnOk result
+            (log_in self.new ≡ log_in self.old ++ Entry.Said bytes.now ∷ []) }
         ensures refused { OnErr result (log_in self.new ≡ log_in self.old) }
         ensures left { (self.new.input ≡ self.old.input) × (self.new.from ≡ self.old.from) }
         ensures faults { (self.new.reads ≡ self.old.reads) × (self.new.writes ≡ self.old.writes) }

@@ -19,8 +19,8 @@ pub struct Draft {
     bytes: Vec<u8>,
 }
 
-/// Files in memory, of which listed calls fail. They tell what they hold, what is unread and what is
-/// being made.
+/// Files in memory, of which listed calls fail. They tell what they hold, what is unread and what
+/// is being made.
 #[derive(Drop)]
 pub struct MemFiles {
     alloc: Global,
@@ -34,11 +34,11 @@ pub struct MemFiles {
 }
 
 impl MemFiles {
-    /// Files that hold these pairs of a name and its bytes; of several pairs with one name the first
-    /// counts. No file is open and none is being made.
+    /// Files that hold these pairs of a name and its bytes; of several pairs with one name the
+    /// first counts. No file is open and none is being made.
     ///
-    /// `failing` lists the calls on these files that fail, by their numbers from 0. The allocator is
-    /// kept for the files that are made; this call takes no memory.
+    /// `failing` lists the calls on these files that fail, by their numbers from 0. The allocator
+    /// is kept for the files that are made; this call takes no memory.
     pub fn new(alloc: Global, files: Vec<(Text, Text)>, failing: Vec<u64>) -> MemFiles
         ensures held { held_in result ≡ held_by files.items }
         ensures left { left_in result ≡ [] }
@@ -112,7 +112,8 @@ impl Files for MemFiles {
 
     ghost told = { told_by };
 
-    /// A listed call fails, and another only at a name that isn't held. A file that is open stays open then.
+    /// A listed call fails, and another only at a name that isn't held. A file that is open stays
+    /// open then.
     fn open(&mut self, name: &str) -> Result<(), Failed>
         ensures opened { Opens (told_by self.old).held name.now (told_by self.new).left result }
         ensures cause { BlamesOpen (IsAbsent (told_by self.old).held name.now)
@@ -164,7 +165,8 @@ impl Files for MemFiles {
 
     /// A listed call fails, and another only for want of memory.
     fn create(&mut self, name: &str) -> Result<(), Failed>
-        ensures begun { OnOk result (Begins (told_by self.old).held name.now (told_by self.new).making) }
+        ensures begun { OnOk result
+            (Begins (told_by self.old).held name.now (told_by self.new).making) }
         ensures dropped { OnErr result ((told_by self.new).making ≡ None) }
         ensures cause { BlamesWrites (told_by self.old).faults (told_by self.new).faults result }
         ensures held { (told_by self.new).held ≡ (told_by self.old).held }
@@ -191,7 +193,8 @@ impl Files for MemFiles {
     fn append(&mut self, bytes: &[u8]) -> Result<(), Failed>
         requires { IsTrue (told_by self.old).busy }
         ensures added { OnOk result
-            (Adds (told_by self.old).held (told_by self.old).making bytes.now (told_by self.new).making) }
+            (Adds (told_by self.old).held (told_by self.old).making bytes.now
+            (told_by self.new).making) }
         ensures dropped { OnErr result ((told_by self.new).making ≡ None) }
         ensures cause { BlamesWrites (told_by self.old).faults (told_by self.new).faults result }
         ensures held { (told_by self.new).held ≡ (told_by self.old).held }

@@ -12,7 +12,8 @@ use std::alloc::{AllocError, Global};
 /// The most bytes that are asked for at a time.
 pub const MAX_PIECE_BYTES: usize = 65_536;
 
-/// Room for a piece of a file. The length is told by a limit alone, so that no proof unfolds the list.
+/// Room for a piece of a file. The length is told by a limit alone, so that no proof unfolds the
+/// list.
 fn piece(alloc: Global) -> Result<Vec<u8>, AllocError>
     ensures { IfOk result (λ buf. 0 < length buf.items) }
 {
@@ -50,10 +51,12 @@ fn pour_open<F: Files, S: Sink>(
     Ok(())
 }
 
-/// Pours the file of this name into a sink as it comes, to its end or to one byte more than the limit.
+/// Pours the file of this name into a sink as it comes, to its end or to one byte more than the
+/// limit.
 ///
-/// The sink gets pieces of up to `MAX_PIECE_BYTES` bytes, and more bytes than the limit only where the file is too long. `Stop::Read`
-/// means that a call has failed, or that the name isn't held; `Stop::Memory` means that memory was refused.
+/// The sink gets pieces of up to `MAX_PIECE_BYTES` bytes, and more bytes than the limit only where
+/// the file is too long. `Stop::Read` means that a call has failed, or that the name isn't held;
+/// `Stop::Memory` means that memory was refused.
 pub fn pour<F: Files, S: Sink>(
     alloc: Global,
     files: &mut F,
@@ -86,7 +89,8 @@ pub fn read_whole<F: Files>(
     name: &str,
     limit: usize,
 ) -> Result<Vec<u8>, Stop>
-    ensures bytes { IfOk result (λ bytes. IsFile (F.told files.old).held name.now limit bytes.items) }
+    ensures bytes { IfOk result
+        (λ bytes. IsFile (F.told files.old).held name.now limit bytes.items) }
     ensures causes { Causes (IsAbsent (F.told files.old).held name.now)
         (F.told files.old).faults (F.told files.new).faults result }
     ensures kept { ReadsOnly (F.told files.old) (F.told files.new) }
@@ -98,10 +102,11 @@ pub fn read_whole<F: Files>(
 
 /// Stores these bytes under the name, in place of what it held.
 ///
-/// `Stop::Write` means that a call has failed, and it is the only error; then the name holds what it
-/// held before or these bytes. However it ends, no file is being made afterwards.
+/// `Stop::Write` means that a call has failed, and it is the only error; then the name holds what
+/// it held before or these bytes. However it ends, no file is being made afterwards.
 pub fn store<F: Files>(files: &mut F, name: &str, bytes: &[u8]) -> Result<(), Stop>
-    ensures stored { Stored (F.told files.old).held (F.told files.new).held (name.now, bytes.now) result }
+    ensures stored { Stored (F.told files.old).held (F.told files.new).held
+        (name.now, bytes.now) result }
     ensures idle { (F.told files.new).busy ≡ false }
     ensures causes { Causes ⊥ (F.told files.old).faults (F.told files.new).faults result }
     ensures fed { result ≢ Err Stop.Memory }

@@ -6,7 +6,9 @@ use Rattle.pg_game.proofs.Members.{member-from_any}
 use Rattle.pg_board.proofs.Nearness.{found-any}
 
 -- what is found is a member
-pub next-listed : (t : ℕ → Bool) (xs : List ℕ) (o : Option ℕ) → o ≡ find t xs → IfSome o (Contains xs)
+pub next-listed : (t : ℕ → Bool) (xs : List ℕ) (o : Option ℕ)
+    → o ≡ find t xs
+    → IfSome o (Contains xs)
 next-listed t xs None is = tt
 next-listed t xs (Some x) is =
     let member = member-from_any (λ q. eqb q x) xs (found-any t xs x (sym is)).0 in

@@ -32,7 +32,9 @@ pub record IsAttackLine (g : Game) (p : Position) (points : List ℕ) : Type 0 w
   pub range : All (λ v. v < MAX_MEMBERS) points
   pub odd : length points % 2 ≡ 1
 
--- the body shows the answer at the position wherever the node stands, and it is by the first criterion
+-- the body shows the answer at the position wherever the node stands, and it is by the first
+-- criterion
 pub record IsLeaf (g : Game) (t : Score) (p : Position) (b : Bool) (body : Body) : Type 0 where
-  pub holds : (nodes : List Node) (k : ℕ) → BodyHolds g (claimer b) (claimed_goal g.kind t b) nodes k p body
+  pub holds : (nodes : List Node) (k : ℕ)
+      → BodyHolds g (claimer b) (claimed_goal g.kind t b) nodes k p body
   pub first : criterion_of body ≡ first_criterion g t p

@@ -35,12 +35,14 @@ fn points_of(alloc: Global, line: &ThreatLine) -> Result<Vec<u16>, Memory>
     Ok(points)
 }
 
-/// The points of the shortest threat line of the side to move, where one forces at most three replies.
+/// The points of the shortest threat line of the side to move, where one forces at most three
+/// replies.
 fn attack(alloc: Global, b: &mut Board<'_>) -> Result<Option<Vec<u16>>, Memory>
     requires going { is_over b.old.game b.old.stand.position ≡ false }
     ensures kept { b.new ≡ b.old }
     ensures found { IfOk result (λ r. is_some r ≡ attack_wins b.old.game b.old.stand.position) }
-    ensures line { IfOk result (λ r. IfSome r (λ points. IsAttackLine b.old.game b.old.stand.position points.items)) }
+    ensures line { IfOk result
+        (λ r. IfSome r (λ points. IsAttackLine b.old.game b.old.stand.position points.items)) }
 {
     let turn = b.turn();
     if !may_attack(b.kind(), turn) {
@@ -55,8 +57,8 @@ fn attack(alloc: Global, b: &mut Board<'_>) -> Result<Option<Vec<u16>>, Memory>
     }
 }
 
-/// Whether the board's counts show that not each of the lines meant can have two free points of its own: there are too many
-/// lines for the free points, or one line has fewer than two.
+/// Whether the board's counts show that not each of the lines meant can have two free points of its
+/// own: there are too many lines for the free points, or one line has fewer than two.
 fn is_short(b: &Board<'_>, side: Side) -> bool
     ensures { result ≡ true → pairs_exist b.now.game b.now.stand.position side ≡ false }
 {
@@ -70,25 +72,28 @@ fn is_short(b: &Board<'_>, side: Side) -> bool
     b.live_with(breaker, 1) > 0
 }
 
-/// Whether X reaches the score from the position, and the leaf that shows it, by the first criterion that applies; None
-/// where none does. No move is looked at but those of threat lines.
+/// Whether X reaches the score from the position, and the leaf that shows it, by the first
+/// criterion that applies; None where none does. No move is looked at but those of threat lines.
 ///
 /// 1. The game is over: the answer is its outcome's (`Over`).
-/// 2. A potential holds for the side that defends, `defender` of `pg_game`: Erdős and Selfridge's (1973) or, with bias, Beck's
-///    (1982); in Avoider-Enforcer that of Hefetz, Krivelevich, Stojaković and Szabó (2014). The answer is yes exactly where
-///    the defender is X (`Potential`).
-/// 3. The side to move has a threat line (Allis, van den Herik and Huntjens, 1993) of three replies at most. The answer is yes
-///    exactly where that side is X, and the leaf has the points of such a line, one of fewest replies (`Threat`).
-/// 4. Private pairs exist for the defender, two free points for each line meant (Hales and Jewett, 1963). The answer is yes
-///    exactly where the defender is X, and in Avoider-Enforcer the other free points are paired too (`Pairs`).
+/// 2. A potential holds for the side that defends, `defender` of `pg_game`: Erdős and Selfridge's
+///    (1973) or, with bias, Beck's (1982); in Avoider-Enforcer that of Hefetz, Krivelevich,
+///    Stojaković and Szabó (2014). The answer is yes exactly where the defender is X (`Potential`).
+/// 3. The side to move has a threat line (Allis, van den Herik and Huntjens, 1993) of three replies
+///    at most. The answer is yes exactly where that side is X, and the leaf has the points of such
+///    a line, one of fewest replies (`Threat`).
+/// 4. Private pairs exist for the defender, two free points for each line meant (Hales and Jewett,
+///    1963). The answer is yes exactly where the defender is X, and in Avoider-Enforcer the other
+///    free points are paired too (`Pairs`).
 ///
-/// The board stands at the position, and does so afterwards: threat lines are played on it and taken back. Its counts tell
-/// the first two criteria, where no threat line can be, and where pairs can't; only then the cache is asked. It fits the
-/// lines afterwards, want of memory included.
+/// The board stands at the position, and does so afterwards: threat lines are played on it and
+/// taken back. Its counts tell the first two criteria, where no threat line can be, and where pairs
+/// can't; only then the cache is asked. It fits the lines afterwards, want of memory included.
 ///
-/// What comes with an answer (`IsLeaf`) shows it at this position in any claim of the side that the answer is for, wherever
-/// the node stands, since it names no other; and it is by the first criterion that applies. Which line and which pairs it
-/// has, where several would do, and that the cache was asked, no clause tells.
+/// What comes with an answer (`IsLeaf`) shows it at this position in any claim of the side that the
+/// answer is for, wherever the node stands, since it names no other; and it is by the first
+/// criterion that applies. Which line and which pairs it has, where several would do, and that the
+/// cache was asked, no clause tells.
 ///
 /// # Errors
 ///

@@ -65,7 +65,8 @@ fn mark_from(node: &Node, k: usize, marks: &mut [bool])
 
 /// Marks what the marked nodes name, from the last on.
 fn mark_all(nodes: &[Node], marks: &mut [bool])
-    requires earlier { (k : ℕ) → (n : Node) → slice_get nodes.now k ≡ Some n → NamesEarlier k n.body }
+    requires earlier { (k : ℕ) → (n : Node) → slice_get nodes.now k ≡ Some n
+        → NamesEarlier k n.body }
     requires marks { AreMarked nodes.now (length nodes.now) marks.old }
     ensures { AreMarked nodes.now 0 marks.new }
 {
@@ -79,7 +80,8 @@ fn mark_all(nodes: &[Node], marks: &mut [bool])
 pub(crate) fn mark_needed(nodes: &[Node], marks: &mut [bool])
     requires some { 1 ≤ length nodes.now }
     requires few { length nodes.now ≤ MAX_CLAIM_NODES }
-    requires earlier { (k : ℕ) → (n : Node) → slice_get nodes.now k ≡ Some n → NamesEarlier k n.body }
+    requires earlier { (k : ℕ) → (n : Node) → slice_get nodes.now k ≡ Some n
+        → NamesEarlier k n.body }
     requires marks { marks.old ≡ replicate (length nodes.now) false }
     ensures { AreMarked nodes.now 0 marks.new }
 {

@@ -94,7 +94,10 @@ impl Order {
     /// Takes the moves that are left.
     fn take_rest(&mut self, moves: &[(u16, u32)]) -> Result<(), Memory>
         ensures takes { OnOk result (Takes self.old self.new) }
-        ensures gone { OnOk result ((k : ℕ) → (v : ℕ) → k < length moves.now → IsPlaceOf moves.now k v → v < MAX_POINTS → slice_get self.new.left v ≡ Some 65535) }
+        ensures gone { OnOk result ((k : ℕ) → (v : ℕ) → k < length moves.now
+            → IsPlaceOf moves.now k v
+            → v < MAX_POINTS
+            → slice_get self.new.left v ≡ Some 65535) }
     {
         for m in moves {
             self.take(m.0)?;
@@ -103,13 +106,15 @@ impl Order {
     }
 }
 
-/// The order in which to go through the moves at the board's position, as places in the list of moves, each of which is a
-/// point with anything beside it: those to points of live lines first, line by line and each where its point is first met,
-/// and then the others, ascending. A line is live where it has no point of Y, and in Maker-Maker where it has none of the
-/// side that isn't to move.
+/// The order in which to go through the moves at the board's position, as places in the list of
+/// moves, each of which is a point with anything beside it: those to points of live lines first,
+/// line by line and each where its point is first met, and then the others, ascending. A line is
+/// live where it has no point of Y, and in Maker-Maker where it has none of the side that isn't to
+/// move.
 ///
-/// The places are different, and each point below 256 to which a move goes has one, if there are at most 65,535 moves. So all
-/// moves are in it, where their points are different and below 256. That points of live lines come first, no clause tells.
+/// The places are different, and each point below 256 to which a move goes has one, if there are at
+/// most 65,535 moves. So all moves are in it, where their points are different and below 256. That
+/// points of live lines come first, no clause tells.
 ///
 /// # Errors
 ///

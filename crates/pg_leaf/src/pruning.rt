@@ -79,7 +79,8 @@ fn keep_node(
 ) -> Result<(), Memory>
     requires few { length out.old.items < 2 ^ 32 }
     requires earlier { NamesEarlier (length numbers.old.items) node.now.body }
-    ensures { OnOk result (IsKept marked node.now numbers.old.items numbers.new.items out.old.items out.new.items) }
+    ensures { OnOk result
+        (IsKept marked node.now numbers.old.items numbers.new.items out.old.items out.new.items) }
 {
     numbers.push(out.len() as u32)?;
     if !marked {
@@ -99,9 +100,11 @@ fn keep_node(
 /// The marked nodes in their order, with new numbers.
 fn marked_nodes(alloc: Global, nodes: &[Node], marks: &[bool]) -> Result<Vec<Node>, Memory>
     requires few { length nodes.now ≤ MAX_CLAIM_NODES }
-    requires earlier { (k : ℕ) → (n : Node) → slice_get nodes.now k ≡ Some n → NamesEarlier k n.body }
+    requires earlier { (k : ℕ) → (n : Node) → slice_get nodes.now k ≡ Some n
+        → NamesEarlier k n.body }
     requires marks { AreMarked nodes.now 0 marks.now }
-    ensures { IfOk result (λ out. (numbers : List ℕ) × IsPruned nodes.now marks.now (length nodes.now) numbers out.items) }
+    ensures { IfOk result (λ out. (numbers : List ℕ)
+        × IsPruned nodes.now marks.now (length nodes.now) numbers out.items) }
 {
     let mut numbers = Vec::new(alloc);
     let mut out = Vec::new(alloc);
@@ -119,8 +122,11 @@ fn marked_nodes(alloc: Global, nodes: &[Node], marks: &[bool]) -> Result<Vec<Nod
 pub fn prune(alloc: Global, nodes: &[Node]) -> Result<Vec<Node>, Memory>
     requires some { 1 ≤ length nodes.now }
     requires few { length nodes.now ≤ MAX_CLAIM_NODES }
-    requires earlier { (k : ℕ) → (n : Node) → slice_get nodes.now k ≡ Some n → NamesEarlier k n.body }
-    ensures { IfOk result (λ out. (marks : List Bool) × (numbers : List ℕ) × AreMarked nodes.now 0 marks × IsPruned nodes.now marks (length nodes.now) numbers out.items) }
+    requires earlier { (k : ℕ) → (n : Node) → slice_get nodes.now k ≡ Some n
+        → NamesEarlier k n.body }
+    ensures { IfOk result
+        (λ out. (marks : List Bool) × (numbers : List ℕ) × AreMarked nodes.now 0 marks
+        × IsPruned nodes.now marks (length nodes.now) numbers out.items) }
 {
     let mut marks = unmarked(alloc, nodes.len())?;
     mark_needed(nodes, marks.as_mut_slice());

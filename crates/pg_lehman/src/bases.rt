@@ -27,12 +27,14 @@ fn single(v: u16) -> PointSet
     set
 }
 
-/// The class of e: Short's where e is reached from the elements in neither base, Cut's where e reaches one in both, and
-/// else that of the side to move. The bases are settled then (Lehman 1964; Bruno and Weinberg 1970 for matroids).
+/// The class of e: Short's where e is reached from the elements in neither base, Cut's where e
+/// reaches one in both, and else that of the side to move. The bases are settled then (Lehman 1964;
+/// Bruno and Weinberg 1970 for matroids).
 pub fn decide<G: Ground>(bases: &mut Exchange<G>, e: u16) -> Class
     requires { (G.matroid bases.old.first).elements e ≡ true }
     ensures taken { IsTaken (G.matroid bases.old.first) e result }
-    ensures settled { IsSettled (G.matroid bases.old.first) (G.base bases.new.first) (G.base bases.new.second) }
+    ensures settled { IsSettled (G.matroid bases.old.first) (G.base bases.new.first)
+        (G.base bases.new.second) }
     ensures kept { G.matroid bases.new.first ≡ G.matroid bases.old.first }
 {
     bases.settle();
@@ -48,14 +50,21 @@ pub fn decide<G: Ground>(bases: &mut Exchange<G>, e: u16) -> Class
     }
 }
 
-/// Short's sets, where e is reached: once e is in neither base, the members of each base that are reached.
+/// Short's sets, where e is reached: once e is in neither base, the members of each base that are
+/// reached.
 fn short<G: Ground>(bases: &mut Exchange<G>, e: u16) -> Class
     requires element { (G.matroid bases.old.first).elements e ≡ true }
-    requires least { IsLeast (G.matroid bases.old.first) (G.base bases.old.first) (G.base bases.old.second) }
-    requires settled { IsSettled (G.matroid bases.old.first) (G.base bases.old.first) (G.base bases.old.second) }
-    requires leads { LeadsFrom (G.matroid bases.old.first) (G.base bases.old.first) (G.base bases.old.second) (in_neither (G.matroid bases.old.first) (G.base bases.old.first) (G.base bases.old.second)) e }
+    requires least { IsLeast (G.matroid bases.old.first) (G.base bases.old.first)
+        (G.base bases.old.second) }
+    requires settled { IsSettled (G.matroid bases.old.first) (G.base bases.old.first)
+        (G.base bases.old.second) }
+    requires leads { LeadsFrom (G.matroid bases.old.first) (G.base bases.old.first)
+        (G.base bases.old.second)
+        (in_neither (G.matroid bases.old.first) (G.base bases.old.first) (G.base bases.old.second))
+        e }
     ensures taken { IsTaken (G.matroid bases.old.first) e result }
-    ensures settled { IsSettled (G.matroid bases.old.first) (G.base bases.new.first) (G.base bases.new.second) }
+    ensures settled { IsSettled (G.matroid bases.old.first) (G.base bases.new.first)
+        (G.base bases.new.second) }
     ensures kept { G.matroid bases.new.first ≡ G.matroid bases.old.first }
 {
     free(bases, e);
@@ -69,12 +78,18 @@ fn short<G: Ground>(bases: &mut Exchange<G>, e: u16) -> Class
 /// Brings e, which is reached, into neither base.
 fn free<G: Ground>(bases: &mut Exchange<G>, e: u16)
     requires element { (G.matroid bases.old.first).elements e ≡ true }
-    requires least { IsLeast (G.matroid bases.old.first) (G.base bases.old.first) (G.base bases.old.second) }
-    requires settled { IsSettled (G.matroid bases.old.first) (G.base bases.old.first) (G.base bases.old.second) }
-    requires leads { LeadsFrom (G.matroid bases.old.first) (G.base bases.old.first) (G.base bases.old.second) (in_neither (G.matroid bases.old.first) (G.base bases.old.first) (G.base bases.old.second)) e }
+    requires least { IsLeast (G.matroid bases.old.first) (G.base bases.old.first)
+        (G.base bases.old.second) }
+    requires settled { IsSettled (G.matroid bases.old.first) (G.base bases.old.first)
+        (G.base bases.old.second) }
+    requires leads { LeadsFrom (G.matroid bases.old.first) (G.base bases.old.first)
+        (G.base bases.old.second)
+        (in_neither (G.matroid bases.old.first) (G.base bases.old.first) (G.base bases.old.second))
+        e }
     ensures first { G.base bases.new.first e ≡ false }
     ensures second { G.base bases.new.second e ≡ false }
-    ensures settled { IsSettled (G.matroid bases.old.first) (G.base bases.new.first) (G.base bases.new.second) }
+    ensures settled { IsSettled (G.matroid bases.old.first) (G.base bases.new.first)
+        (G.base bases.new.second) }
     ensures kept { G.matroid bases.new.first ≡ G.matroid bases.old.first }
 {
     let neither = bases.neither();
@@ -84,15 +99,20 @@ fn free<G: Ground>(bases: &mut Exchange<G>, e: u16)
     }
 }
 
-/// Cut's sets, where e reaches an element in both bases: once e is in both, what isn't reached without either base.
+/// Cut's sets, where e reaches an element in both bases: once e is in both, what isn't reached
+/// without either base.
 fn cut<G: Ground>(bases: &mut Exchange<G>, e: u16) -> Class
     requires element { (G.matroid bases.old.first).elements e ≡ true }
-    requires least { IsLeast (G.matroid bases.old.first) (G.base bases.old.first) (G.base bases.old.second) }
-    requires settled { IsSettled (G.matroid bases.old.first) (G.base bases.old.first) (G.base bases.old.second) }
+    requires least { IsLeast (G.matroid bases.old.first) (G.base bases.old.first)
+        (G.base bases.old.second) }
+    requires settled { IsSettled (G.matroid bases.old.first) (G.base bases.old.first)
+        (G.base bases.old.second) }
     requires placed { IsPlaced (G.base bases.old.first) (G.base bases.old.second) e }
-    requires leads { ReachesCommon (G.matroid bases.old.first) (G.base bases.old.first) (G.base bases.old.second) e }
+    requires leads { ReachesCommon (G.matroid bases.old.first) (G.base bases.old.first)
+        (G.base bases.old.second) e }
     ensures taken { IsTaken (G.matroid bases.old.first) e result }
-    ensures settled { IsSettled (G.matroid bases.old.first) (G.base bases.new.first) (G.base bases.new.second) }
+    ensures settled { IsSettled (G.matroid bases.old.first) (G.base bases.new.first)
+        (G.base bases.new.second) }
     ensures kept { G.matroid bases.new.first ≡ G.matroid bases.old.first }
 {
     double(bases, e);
@@ -107,12 +127,16 @@ fn cut<G: Ground>(bases: &mut Exchange<G>, e: u16) -> Class
 /// Brings e, which reaches an element in both bases, into both.
 fn double<G: Ground>(bases: &mut Exchange<G>, e: u16)
     requires element { (G.matroid bases.old.first).elements e ≡ true }
-    requires least { IsLeast (G.matroid bases.old.first) (G.base bases.old.first) (G.base bases.old.second) }
-    requires settled { IsSettled (G.matroid bases.old.first) (G.base bases.old.first) (G.base bases.old.second) }
+    requires least { IsLeast (G.matroid bases.old.first) (G.base bases.old.first)
+        (G.base bases.old.second) }
+    requires settled { IsSettled (G.matroid bases.old.first) (G.base bases.old.first)
+        (G.base bases.old.second) }
     requires placed { IsPlaced (G.base bases.old.first) (G.base bases.old.second) e }
-    requires leads { ReachesCommon (G.matroid bases.old.first) (G.base bases.old.first) (G.base bases.old.second) e }
+    requires leads { ReachesCommon (G.matroid bases.old.first) (G.base bases.old.first)
+        (G.base bases.old.second) e }
     ensures common { both (G.base bases.new.first) (G.base bases.new.second) e ≡ true }
-    ensures settled { IsSettled (G.matroid bases.old.first) (G.base bases.new.first) (G.base bases.new.second) }
+    ensures settled { IsSettled (G.matroid bases.old.first) (G.base bases.new.first)
+        (G.base bases.new.second) }
     ensures kept { G.matroid bases.new.first ≡ G.matroid bases.old.first }
 {
     let common = bases.common();
@@ -122,14 +146,16 @@ fn double<G: Ground>(bases: &mut Exchange<G>, e: u16)
     }
 }
 
-/// The sets of the side to move, where e is in one base alone: trees by what is reached from e too, cuts by what isn't
-/// reached.
+/// The sets of the side to move, where e is in one base alone: trees by what is reached from e too,
+/// cuts by what isn't reached.
 fn first<G: Ground>(bases: &Exchange<G>, e: u16, near: &PointSet, wide: &PointSet) -> Class
     requires element { (G.matroid bases.now.first).elements e ≡ true }
     requires placed { IsPlaced (G.base bases.now.first) (G.base bases.now.second) e }
     requires alone { both (G.base bases.now.first) (G.base bases.now.second) e ≡ false }
-    requires near { IsReached (G.matroid bases.now.first).spans (G.matroid bases.now.first).elements (G.base bases.now.first) (G.base bases.now.second) (contains near.now) }
-    requires wide { IsReached (G.matroid bases.now.first).spans (G.matroid bases.now.first).elements (G.base bases.now.first) (G.base bases.now.second) (contains wide.now) }
+    requires near { IsReached (G.matroid bases.now.first).spans (G.matroid bases.now.first).elements
+        (G.base bases.now.first) (G.base bases.now.second) (contains near.now) }
+    requires wide { IsReached (G.matroid bases.now.first).spans (G.matroid bases.now.first).elements
+        (G.base bases.now.first) (G.base bases.now.second) (contains wide.now) }
     requires unreached { contains near.now e ≡ false }
     requires reached { contains wide.now e ≡ true }
     ensures { IsTaken (G.matroid bases.now.first) e result }

@@ -69,9 +69,10 @@ fn set_claim(
     one_node(alloc, start, side, sets_body(side, with_e, first, second))
 }
 
-/// The certificate of a class, of version 1: a claim with X to move first and one with Y, at these positions. Short has X's
-/// trees twice, Cut has Y's cuts twice, and where the first mover wins X has trees and Y cuts. The number `e`, which stands
-/// for the further element, is named apart from the others.
+/// The certificate of a class, of version 1: a claim with X to move first and one with Y, at these
+/// positions. Short has X's trees twice, Cut has Y's cuts twice, and where the first mover wins X
+/// has trees and Y cuts. The number `e`, which stands for the further element, is named apart from
+/// the others.
 ///
 /// # Errors
 ///
@@ -85,7 +86,8 @@ pub fn class_certificate(
 ) -> Result<Cert, Memory>
     requires { e < MAX_MEMBERS }
     ensures version { IfOk result (λ certificate. certificate.version ≡ One) }
-    ensures claims { IfOk result (λ certificate. certificate.claims ≡ class_claims with_x.now with_y.now e sets.now) }
+    ensures claims { IfOk result
+        (λ certificate. certificate.claims ≡ class_claims with_x.now with_y.now e sets.now) }
 {
     let (first, second) = match sets {
         Class::Short { a1, a2 } => (

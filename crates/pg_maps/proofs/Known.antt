@@ -13,20 +13,34 @@ use Rattle.pg_maps.specs.Images.{Fits, AreFitting}
 use Rattle.pg_maps.proofs.Boards.{Fits-followed, Fits-reverse}
 use Rattle.pg_maps.proofs.Numbers.{followed-associative, reverse-followed, identity-followed}
 
-module _ (g : Game) (m : GridMap) (maps : List GridMap) (listed : AreFitting g (number_of m) maps) where
+module _ (g : Game) (m : GridMap) (maps : List GridMap)
+    (listed : AreFitting g (number_of m) maps) where
   -- what a map and then itself doesn't fit, it doesn't fit either
-  pub untwice : number_of (followed_by m m) < number_of m → (Contains maps (followed_by m m) → ⊥) → Fits g m → ⊥
-  untwice lower none fits = none (listed.all (followed_by m m) (Fits-followed g m m fits fits) lower)
+  pub untwice : number_of (followed_by m m) < number_of m
+      → (Contains maps (followed_by m m) → ⊥)
+      → Fits g m
+      → ⊥
+  untwice lower none fits =
+      none (listed.all (followed_by m m) (Fits-followed g m m fits fits) lower)
 
   -- after one that fits a map fits exactly where both together do
-  pub told : (a : GridMap) → Contains maps a → number_of (followed_by a m) < number_of m → Contains maps (followed_by a m) ↔ Fits g m
-  told a member lower = (λ c. back (listed.fit (followed_by a m) c), λ fits. listed.all (followed_by a m) (Fits-followed g a m first fits) lower)
+  pub told : (a : GridMap)
+      → Contains maps a
+      → number_of (followed_by a m) < number_of m
+      → Contains maps (followed_by a m) ↔ Fits g m
+  told a member lower = (
+    λ c. back (listed.fit (followed_by a m) c),
+    λ fits. listed.all (followed_by a m) (Fits-followed g a m first fits) lower,
+  )
     where
       first : Fits g a
       first = listed.fit a member
 
       back : Fits g (followed_by a m) → Fits g m
-      back both = subst (Fits g) (sym (followed-associative (reverse_of a) a m) ∙ ap (λ b. followed_by b m) (reverse-followed a) ∙ identity-followed m)
+      back both = subst (Fits g)
+          (sym (followed-associative (reverse_of a) a m)
+          ∙ ap (λ b. followed_by b m) (reverse-followed a)
+          ∙ identity-followed m)
           (Fits-followed g (reverse_of a) (followed_by a m) (Fits-reverse g a first) both)
 
 -- the derived test for equality finds exactly what is listed
@@ -40,10 +54,16 @@ beq-same true false on = absurd (false≢true on)
 beq-same false true on = absurd (false≢true on)
 beq-same false false on = refl
 
-pub listed-found : (maps : List GridMap) (m : GridMap) → Contains maps m → list_any (λ a. ghosts.eq a m) maps ≡ true
-listed-found maps m member = list_any-one (λ a. ghosts.eq a m) maps m member (ap₂ (λ p q. p && q) (beq-itself m.exchange) (ap₂ (λ p q. p && q) (beq-itself m.rows) (beq-itself m.columns)))
+pub listed-found : (maps : List GridMap) (m : GridMap)
+    → Contains maps m
+    → list_any (λ a. ghosts.eq a m) maps ≡ true
+listed-found maps m member = list_any-one (λ a. ghosts.eq a m) maps m member
+    (ap₂ (λ p q. p && q) (beq-itself m.exchange)
+    (ap₂ (λ p q. p && q) (beq-itself m.rows) (beq-itself m.columns)))
 
-pub found-listed : (maps : List GridMap) (m : GridMap) → list_any (λ a. ghosts.eq a m) maps ≡ true → Contains maps m
+pub found-listed : (maps : List GridMap) (m : GridMap)
+    → list_any (λ a. ghosts.eq a m) maps ≡ true
+    → Contains maps m
 found-listed maps m found =
     let one = Any-from_list_any (λ a. ghosts.eq a m) maps found in
     subst (Contains maps) (same one.1 one.4) (one.0, one.2, one.3)
@@ -52,4 +72,8 @@ found-listed maps m found =
     same a on =
         let parts = and_parts (beq a.exchange m.exchange) _ on in
         let others = and_parts (beq a.rows m.rows) (beq a.columns m.columns) parts.1 in
-        λ i. record { exchange = beq-same a.exchange m.exchange parts.0 i; rows = beq-same a.rows m.rows others.0 i; columns = beq-same a.columns m.columns others.1 i }
+        λ i. record {
+          exchange = beq-same a.exchange m.exchange parts.0 i;
+          rows = beq-same a.rows m.rows others.0 i;
+          columns = beq-same a.columns m.columns others.1 i;
+        }

@@ -18,7 +18,12 @@ number-numbered (suc (suc (suc (suc (suc (suc (suc (suc n)))))))) lt = absurd (o
 pub numbered-number : (m : GridMap) → numbered (number_of m) ≡ m
 numbered-number m = by m.exchange m.rows m.columns
   where
-    by : (e r c : Bool) → numbered (number_of (record { exchange = e; rows = r; columns = c })) ≡ record { exchange = e; rows = r; columns = c }
+    by : (e r c : Bool)
+        → numbered (number_of (record { exchange = e; rows = r; columns = c })) ≡ record {
+          exchange = e;
+          rows = r;
+          columns = c;
+        }
     by true true true = refl
     by true true false = refl
     by true false true = refl
@@ -52,7 +57,12 @@ differ-associative false b c = refl
 pub identity-followed : (m : GridMap) → followed_by identity m ≡ m
 identity-followed m = by m.exchange m.rows m.columns
   where
-    by : (e r c : Bool) → followed_by identity (record { exchange = e; rows = r; columns = c }) ≡ record { exchange = e; rows = r; columns = c }
+    by : (e r c : Bool)
+        → followed_by identity (record { exchange = e; rows = r; columns = c }) ≡ record {
+          exchange = e;
+          rows = r;
+          columns = c;
+        }
     by true true true = refl
     by true true false = refl
     by true false true = refl
@@ -65,14 +75,22 @@ identity-followed m = by m.exchange m.rows m.columns
 pub followed-identity : (m : GridMap) → followed_by m identity ≡ m
 followed-identity m = by m.exchange m.rows m.columns
   where
-    by : (e r c : Bool) → followed_by (record { exchange = e; rows = r; columns = c }) identity ≡ record { exchange = e; rows = r; columns = c }
+    by : (e r c : Bool)
+        → followed_by (record { exchange = e; rows = r; columns = c }) identity ≡ record {
+          exchange = e;
+          rows = r;
+          columns = c;
+        }
     by true r c = refl
     by false r c = refl
 
-pub followed-associative : (a b c : GridMap) → followed_by (followed_by a b) c ≡ followed_by a (followed_by b c)
+pub followed-associative : (a b c : GridMap)
+    → followed_by (followed_by a b) c ≡ followed_by a (followed_by b c)
 followed-associative a b c = by b.exchange c.exchange
   where
-    by : (be ce : Bool) → followed_by (followed_by a (record b { exchange = be })) (record c { exchange = ce }) ≡ followed_by a (followed_by (record b { exchange = be }) (record c { exchange = ce }))
+    by : (be ce : Bool)
+        → followed_by (followed_by a (record b { exchange = be })) (record c { exchange = ce })
+        ≡ followed_by a (followed_by (record b { exchange = be }) (record c { exchange = ce }))
     by true true = λ i. record {
       exchange = differ-associative a.exchange true true i;
       rows = sym (differ-associative c.rows b.columns a.rows) i;
@@ -98,7 +116,12 @@ followed-associative a b c = by b.exchange c.exchange
 pub followed-reverse : (m : GridMap) → followed_by m (reverse_of m) ≡ identity
 followed-reverse m = by m.exchange m.rows m.columns
   where
-    by : (e r c : Bool) → followed_by (record { exchange = e; rows = r; columns = c }) (reverse_of (record { exchange = e; rows = r; columns = c })) ≡ identity
+    by : (e r c : Bool)
+        → followed_by (record {
+          exchange = e;
+          rows = r;
+          columns = c;
+        }) (reverse_of (record { exchange = e; rows = r; columns = c })) ≡ identity
     by true true true = refl
     by true true false = refl
     by true false true = refl
@@ -111,7 +134,12 @@ followed-reverse m = by m.exchange m.rows m.columns
 pub reverse-followed : (m : GridMap) → followed_by (reverse_of m) m ≡ identity
 reverse-followed m = by m.exchange m.rows m.columns
   where
-    by : (e r c : Bool) → followed_by (reverse_of (record { exchange = e; rows = r; columns = c })) (record { exchange = e; rows = r; columns = c }) ≡ identity
+    by : (e r c : Bool)
+        → followed_by (reverse_of (record { exchange = e; rows = r; columns = c })) (record {
+          exchange = e;
+          rows = r;
+          columns = c;
+        }) ≡ identity
     by true true true = refl
     by true true false = refl
     by true false true = refl

@@ -1,4 +1,5 @@
--- The eight maps of a board of square cells: whether rows and columns are exchanged first, and whether the rows and the columns then stand in reverse order.
+-- The eight maps of a board of square cells: whether rows and columns are exchanged first, and
+-- whether the rows and the columns then stand in reverse order.
 use Rattle.std.specs.Prelude.{◌≡◌, ℕ, ◌+◌, ◌*◌, ◌-◌, ◌/◌, ◌%◌, Bool, true, false, ◌==◌, nat_lt, nat_le, if◌then◌else◌}
 use Rattle.pg_base.specs.declared.grid.Grid.{Grid}
 use Rattle.pg_game.specs.Trees.{differ}
@@ -10,7 +11,8 @@ numbered m = record { exchange = nat_le 4 m; rows = m / 2 % 2 == 1; columns = m 
 
 -- the number of a map: 4 for the exchange, 2 for the rows, 1 for the columns
 abbrev pub number_of : GridMap → ℕ
-number_of m = (if m.exchange then 4 else 0) + (if m.rows then 2 else 0) + (if m.columns then 1 else 0)
+number_of m =
+    (if m.exchange then 4 else 0) + (if m.rows then 2 else 0) + (if m.columns then 1 else 0)
 
 -- the map that leaves every cell
 abbrev pub identity : GridMap
@@ -33,8 +35,10 @@ image_column m grid row column = turned m.columns grid.width (if m.exchange then
 
 -- the point to which a point goes; what is no cell stays
 unfoldable pub image_of : GridMap → Grid → ℕ → ℕ
-image_of m grid v =
-    if nat_lt v (grid.width * grid.height) then image_row m grid (v / grid.width) (v % grid.width) * grid.width + image_column m grid (v / grid.width) (v % grid.width) else v
+image_of m grid v = if nat_lt v (grid.width * grid.height)
+    then image_row m grid (v / grid.width) (v % grid.width) * grid.width
+    + image_column m grid (v / grid.width) (v % grid.width)
+    else v
 
 -- the first map and then the second
 abbrev pub followed_by : GridMap → GridMap → GridMap
@@ -46,4 +50,8 @@ followed_by a b = record {
 
 -- the map that undoes a map
 abbrev pub reverse_of : GridMap → GridMap
-reverse_of m = record { exchange = m.exchange; rows = if m.exchange then m.columns else m.rows; columns = if m.exchange then m.rows else m.columns }
+reverse_of m = record {
+  exchange = m.exchange;
+  rows = if m.exchange then m.columns else m.rows;
+  columns = if m.exchange then m.rows else m.columns;
+}

@@ -1,4 +1,5 @@
--- Maps of a game's points onto themselves that take its lines onto its lines, the maps of its board that do so, and the images of positions.
+-- Maps of a game's points onto themselves that take its lines onto its lines, the maps of its board
+-- that do so, and the images of positions.
 use Rattle.std.specs.Prelude.{◌≡◌, ◌≢◌, ℕ, ◌<◌, List, map, Option, Some, None}
 use Rattle.std.specs.List.{AllPairs, Contains}
 use Rattle.std.specs.List.Sorted.{IsPermutation}
@@ -33,7 +34,8 @@ image_line f n line = points_below (from_list (map f line)) n
 abbrev pub AreSameLines : (ℕ → ℕ) → ℕ → List (List ℕ) → Type 0
 AreSameLines f n lines = IsPermutation (map (image_line f n) lines) lines
 
--- f takes the points of the game onto its points, as back undoes, and its lines onto its lines; on a graph every edge stays
+-- f takes the points of the game onto its points, as back undoes, and its lines onto its lines; on
+-- a graph every edge stays
 pub record IsAutomorphism (g : Game) (f back : ℕ → ℕ) : Type 0 where
   pub points : AreInverse (point_count g) f back
   pub lines : AreSameLines f (point_count g) (lines_of g)
@@ -92,4 +94,9 @@ abbrev pub image_set : (ℕ → ℕ) → FinSet nat_cmp → FinSet nat_cmp
 image_set f s = from_list (map f (members s))
 
 abbrev pub image_position : (ℕ → ℕ) → Position → Position
-image_position f p = record { x = image_set f p.x; y = image_set f p.y; turn = p.turn; left = p.left }
+image_position f p = record {
+  x = image_set f p.x;
+  y = image_set f p.y;
+  turn = p.turn;
+  left = p.left;
+}

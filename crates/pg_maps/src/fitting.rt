@@ -16,9 +16,9 @@ use pg_base::{Grid, Line, Memory};
 use pg_game::{Field, Game};
 use std::alloc::{AllocError, Global};
 
-/// Whether the map fits the game: it is a map of the game's board, and the images of the lines are the lines in another
-/// order. A line that stands twice counts twice. A game without a board, as each on a graph, has only the map that leaves
-/// every point, and that one fits.
+/// Whether the map fits the game: it is a map of the game's board, and the images of the lines are
+/// the lines in another order. A line that stands twice counts twice. A game without a board, as
+/// each on a graph, has only the map that leaves every point, and that one fits.
 ///
 /// # Errors
 ///
@@ -43,7 +43,8 @@ pub fn fits(alloc: Global, g: &Game, m: GridMap) -> Result<bool, Memory>
 /// `Memory` where no memory is found.
 pub fn fitting_maps(alloc: Global, g: &Game) -> Result<Vec<GridMap>, Memory>
     ensures fit { IfOk result (λ maps. (m : GridMap) → Contains maps.items m ↔ Fits g.now m) }
-    ensures ascending { IfOk result (λ maps. AllPairs (λ a b. number_of a < number_of b) maps.items) }
+    ensures ascending { IfOk result
+        (λ maps. AllPairs (λ a b. number_of a < number_of b) maps.items) }
 {
     let mut maps = Vec::with_capacity(alloc, usize::from(MAP_COUNT))?;
     maps.push(GridMap::numbered(0))?;
@@ -82,7 +83,8 @@ pub fn is_symmetric(alloc: Global, g: &Game) -> Result<bool, Memory>
     Ok(false)
 }
 
-/// Whether the map fits the game, whose lines the sorted rows are, where those of lower numbers that fit are known.
+/// Whether the map fits the game, whose lines the sorted rows are, where those of lower numbers
+/// that fit are known.
 fn fits_beside(
     alloc: Global,
     g: &Game,
@@ -159,7 +161,10 @@ fn are_images(
 ) -> Result<bool, AllocError>
     requires lines { All (IsRow (length table.now)) lines.now }
     requires rows { IsSorted row_cmp rows.now }
-    ensures { IfOk result (λ yes. (f : ℕ → ℕ) → (back : ℕ → ℕ) → IsTableOf f back table.now → (IsTrue yes ↔ IsPermutation (map (image_line f (length table.now)) lines.now) (points_of_rows rows.now))) }
+    ensures { IfOk result (λ yes. (f : ℕ → ℕ) → (back : ℕ → ℕ) → IsTableOf f back table.now
+        → (IsTrue yes
+        ↔ IsPermutation (map (image_line f (length table.now)) lines.now)
+        (points_of_rows rows.now))) }
 {
     let mut images = Vec::with_capacity(alloc, lines.len())?;
     for line in lines {
@@ -175,7 +180,8 @@ fn are_images(
 /// The images of the points of a line, in ascending order.
 fn image_row(alloc: Global, table: &[u16], line: &Line) -> Result<Vec<u16>, AllocError>
     requires { IsRow (length table.now) line.now }
-    ensures { IfOk result (λ row. (f : ℕ → ℕ) → (back : ℕ → ℕ) → IsTableOf f back table.now → row.items ≡ image_line f (length table.now) line.now) }
+    ensures { IfOk result (λ row. (f : ℕ → ℕ) → (back : ℕ → ℕ) → IsTableOf f back table.now
+        → row.items ≡ image_line f (length table.now) line.now) }
 {
     let mut row = Vec::with_capacity(alloc, line.len())?;
     for v in line.as_slice() {

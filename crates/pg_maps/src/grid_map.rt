@@ -8,8 +8,9 @@ use pg_base::{Grid, MAX_MEMBERS};
 /// How many maps there are.
 pub const MAP_COUNT: u8 = 8;
 
-/// A symmetry of the square or of the rectangle, as a map of the cells of a board: rows and columns are exchanged first, where
-/// `exchange` says so, and then the rows, the columns or both may be put in reverse order.
+/// A symmetry of the square or of the rectangle, as a map of the cells of a board: rows and columns
+/// are exchanged first, where `exchange` says so, and then the rows, the columns or both may be put
+/// in reverse order.
 #[derive(Clone, Copy, Debug, PartialEq, Eq)]
 pub struct GridMap {
     /// Whether rows and columns are exchanged first.
@@ -23,9 +24,10 @@ pub struct GridMap {
 impl GridMap {
     ghost use Rattle.pg_maps.specs.GridMaps.{numbered, number_of, IsMapOf, image_of, image_row, image_column, followed_by, reverse_of};
 
-    /// The map of a number, and None exactly where the number is above 7. With r and c the row and the column of a cell of
-    /// a board of width w and height h, both from 0, map 0 gives (r, c), map 1 (r, w - 1 - c), map 2 (h - 1 - r, c) and
-    /// map 3 (h - 1 - r, w - 1 - c); map 4 + k exchanges r and c and then does map k.
+    /// The map of a number, and None exactly where the number is above 7. With r and c the row and
+    /// the column of a cell of a board of width w and height h, both from 0, map 0 gives (r, c),
+    /// map 1 (r, w - 1 - c), map 2 (h - 1 - r, c) and map 3 (h - 1 - r, w - 1 - c); map 4 + k
+    /// exchanges r and c and then does map k.
     pub fn from_number(number: u8) -> Option<GridMap>
         ensures { result ≡ (if nat_lt number 8 then Some (numbered number) else None) }
     {
@@ -85,14 +87,16 @@ impl GridMap {
         }
     }
 
-    /// Whether it is a map of the board: rows and columns are exchanged only where there are as many of both.
+    /// Whether it is a map of the board: rows and columns are exchanged only where there are as
+    /// many of both.
     pub fn is_map_of(self, grid: Grid) -> bool
         ensures { IsTrue result ↔ IsMapOf grid self }
     {
         !self.exchange || grid.width == grid.height
     }
 
-    /// The point to which a point goes under a map of the board; a number that isn't one of a cell stays.
+    /// The point to which a point goes under a map of the board; a number that isn't one of a cell
+    /// stays.
     pub fn image_of(self, grid: Grid, point: u16) -> u16
         requires map { IsMapOf grid self }
         requires few { grid.width * grid.height ≤ MAX_MEMBERS }

@@ -10,7 +10,8 @@ impl GridMap {
     ghost use Rattle.pg_maps.specs.GridMaps.{IsMapOf, image_of};
     ghost use Rattle.pg_maps.specs.Images.{image_position, image_set};
 
-    /// The position with the images of both sides' points, the same side to move, and as many points left of its turn.
+    /// The position with the images of both sides' points, the same side to move, and as many
+    /// points left of its turn.
     pub fn image_position(self, grid: Grid, p: &Position) -> Position
         requires map { IsMapOf grid self }
         requires few { grid.width * grid.height ≤ MAX_MEMBERS }

@@ -1,4 +1,5 @@
-//! The maps of a board of square cells, turns and reflections: which fit a game, and what they keep.
+//! The maps of a board of square cells, turns and reflections: which fit a game, and what they
+//! keep.
 #![tactic(auto)]
 
 mod fitting;

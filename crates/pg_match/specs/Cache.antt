@@ -42,8 +42,10 @@ same_asked-decides a b = (
       let parts = and_parts _ _ both in
       let free_same = (equal-decides a.free b.free).0 parts.0 in
       let wanted_same = (bytes_eq-Decides a.wanted b.wanted).0 parts.1 in
-      ap (λ w. record { wanted = w; free = a.free }) wanted_same ∙ ap (λ f. record { wanted = b.wanted; free = f }) free_same,
-  λ same. and_from _ _ ((equal-decides a.free b.free).1 (ap (λ q. q.free) same)) ((bytes_eq-Decides a.wanted b.wanted).1 (ap (λ q. q.wanted) same)),
+      ap (λ w. record { wanted = w; free = a.free }) wanted_same
+      ∙ ap (λ f. record { wanted = b.wanted; free = f }) free_same,
+  λ same. and_from _ _ ((equal-decides a.free b.free).1 (ap (λ q. q.free) same))
+      ((bytes_eq-Decides a.wanted b.wanted).1 (ap (λ q. q.wanted) same)),
 )
 
 pub same_asked-equivalence : IsEquivalence same_asked
@@ -60,11 +62,18 @@ pub hash_input-respects : (a b : Asked) → same_asked a b ≡ true → hash_inp
 hash_input-respects a b h = ap hash_input ((same_asked-decides a b).0 h)
 
 -- two tests, one after the other
-pub same_asked-then : (a b : Asked) (f r : Bool) → f ≡ equal a.free b.free → f ≡ true → r ≡ bytes_eq a.wanted b.wanted → r ≡ same_asked a b
+pub same_asked-then : (a b : Asked) (f r : Bool)
+    → f ≡ equal a.free b.free
+    → f ≡ true
+    → r ≡ bytes_eq a.wanted b.wanted
+    → r ≡ same_asked a b
 unfolding same_asked
 same_asked-then a b f r is on rest = rest ∙ ap (λ t. t && bytes_eq a.wanted b.wanted) (sym on ∙ is)
 
-pub same_asked-else : (a b : Asked) (f : Bool) → f ≡ equal a.free b.free → f ≡ false → f ≡ same_asked a b
+pub same_asked-else : (a b : Asked) (f : Bool)
+    → f ≡ equal a.free b.free
+    → f ≡ false
+    → f ≡ same_asked a b
 unfolding same_asked
 same_asked-else a b f is off = off ∙ ap (λ t. t && bytes_eq a.wanted b.wanted) (sym off ∙ is)
 
@@ -75,7 +84,8 @@ pub record Kept : Type 0 where
   pub asked : Asked
   pub answer : Answer
 
--- a cache: how many answers it keeps at most, how often it had the answer, and what it keeps, the most recent first
+-- a cache: how many answers it keeps at most, how often it had the answer, and what it keeps, the
+-- most recent first
 pub record Cache : Type 0 where
   pub capacity : ℕ
   pub hits : ℕ
@@ -105,7 +115,8 @@ pub record IsHit (old new : Cache) (k : Kept) : Type 0 where
   pub was : old.kept ≡ before ++ k ∷ after
   pub now : new.kept ≡ k ∷ before ++ after
 
--- the question wasn't kept: its answer is kept now, and the least recent goes where there was no room, or it isn't kept
+-- the question wasn't kept: its answer is kept now, and the least recent goes where there was no
+-- room, or it isn't kept
 pub data IsMiss (old new : Cache) (k : Kept) : Type 0 where
   keeps : new.kept ≡ k ∷ take (old.capacity - 1) old.kept → IsMiss old new k
   leaves : new.kept ≡ old.kept → IsMiss old new k
@@ -116,10 +127,15 @@ pub record Remembers (old new : Cache) (k : Kept) : Type 0 where
   pub hit : IsHeld old k.asked → IsHit old new k
   pub missed : (IsHeld old k.asked → ⊥) → (new.hits ≡ old.hits) × IsMiss old new k
 
--- what the leaf of pairs leaves: the cache as it was, or as an ask for the lines meant and the free points leaves it
+-- what the leaf of pairs leaves: the cache as it was, or as an ask for the lines meant and the free
+-- points leaves it
 pub data IsAfterLeaf (g : Game) (p : Position) (side : Side) (old new : Cache) : Type 0 where
   unasked : new ≡ old → IsAfterLeaf g p side old new
-  asked : (k : Kept) → Remembers old new k → AreMeant g p side k.asked.wanted → AreFree g p k.asked.free → IsAfterLeaf g p side old new
+  asked : (k : Kept)
+      → Remembers old new k
+      → AreMeant g p side k.asked.wanted
+      → AreFree g p k.asked.free
+      → IsAfterLeaf g p side old new
 
 -- an entry of the cache as what is kept
 abbrev pub kept_of : Asked × Matching → Kept
@@ -128,10 +144,14 @@ kept_of e = record { asked = e.0; answer = told e.1 }
 -- ---- codes, by which a proof tells such values apart
 
 abbrev pub asked_code : Coded Asked
-asked_code = code_by (List ℕ × FinSet nat_cmp) (coded× (coded_list coded_ℕ) (set.code coded_ℕ)) (λ a. (a.wanted, a.free)) (λ p. record { wanted = p.0; free = p.1 }) (λ _. refl)
+asked_code = code_by (List ℕ × FinSet nat_cmp) (coded× (coded_list coded_ℕ) (set.code coded_ℕ))
+    (λ a. (a.wanted, a.free)) (λ p. record { wanted = p.0; free = p.1 }) (λ _. refl)
 
 abbrev pair_code : Coded Pair
-pair_code = code_by (ℕ × ℕ) (coded× coded_ℕ coded_ℕ) (λ s. (s.a, s.b)) (λ p. record { a = p.0; b = p.1 }) (λ _. refl)
+pair_code = code_by (ℕ × ℕ) (coded× coded_ℕ coded_ℕ) (λ s. (s.a, s.b)) (λ p. record {
+  a = p.0;
+  b = p.1;
+}) (λ _. refl)
 
 abbrev lists_of : Answer → List Pair ⊎ List ℕ
 lists_of (FoundPairs pairs) = inl pairs
@@ -146,23 +166,35 @@ answer_back (FoundPairs pairs) = refl
 answer_back (FoundShort family) = refl
 
 abbrev answer_code : Coded Answer
-answer_code = code_by (List Pair ⊎ List ℕ) (coded⊎ (coded_list pair_code) (coded_list coded_ℕ)) lists_of answer_of answer_back
+answer_code = code_by (List Pair ⊎ List ℕ)
+    (coded⊎ (coded_list pair_code) (coded_list coded_ℕ)) lists_of answer_of answer_back
 
 abbrev kept_code : Coded Kept
-kept_code = code_by (Asked × Answer) (coded× asked_code answer_code) (λ k. (k.asked, k.answer)) (λ p. record { asked = p.0; answer = p.1 }) (λ _. refl)
+kept_code = code_by (Asked × Answer) (coded× asked_code answer_code) (λ k. (k.asked, k.answer))
+    (λ p. record { asked = p.0; answer = p.1 }) (λ _. refl)
 
 abbrev pub cache_code : Coded Cache
-cache_code = code_by (ℕ × (ℕ × List Kept)) (coded× coded_ℕ (coded× coded_ℕ (coded_list kept_code))) (λ c. (c.capacity, (c.hits, c.kept))) (λ p. record { capacity = p.0; hits = p.1.0; kept = p.1.1 }) (λ _. refl)
+cache_code = code_by (ℕ × (ℕ × List Kept)) (coded× coded_ℕ (coded× coded_ℕ (coded_list kept_code)))
+    (λ c. (c.capacity, (c.hits, c.kept))) (λ p. record {
+      capacity = p.0;
+      hits = p.1.0;
+      kept = p.1.1;
+    }) (λ _. refl)
 
 -- ---- what the cache's own functions say of its entries
 
 -- an answer is that of the entry for the question
-pub record Answers (entries : List (Asked × Matching)) (asked : Asked) (answer : Matching) : Type 0 where
+pub record Answers (entries : List (Asked × Matching)) (asked : Asked)
+    (answer : Matching) : Type 0 where
   pub entry : Matching
   pub found : lookup (same_asked asked) entries ≡ Some entry
   pub same : told answer ≡ told entry
 
 -- the entries stay, or a question comes to the front with an answer
-pub data Keeps (old new : LruCache Asked Matching) (asked : Asked) (answer : Matching) : Type 0 where
+pub data Keeps (old new : LruCache Asked Matching) (asked : Asked)
+    (answer : Matching) : Type 0 where
   stays : new ≡ old → Keeps old new asked answer
-  puts : (copy : Matching) → told copy ≡ told answer → new ≡ lru_cache (put_entries same_asked old asked copy) old.cap → Keeps old new asked answer
+  puts : (copy : Matching)
+      → told copy ≡ told answer
+      → new ≡ lru_cache (put_entries same_asked old asked copy) old.cap
+      → Keeps old new asked answer

@@ -73,7 +73,8 @@ fn copy_of(alloc: Global, answer: &Matching) -> Result<Matching, Memory>
     }
 }
 
-/// Recent answers of the matching for one list of lines: those to the questions that were asked last.
+/// Recent answers of the matching for one list of lines: those to the questions that were asked
+/// last.
 #[derive(Debug, Drop)]
 pub struct PairCache {
     kept: LruCache<Question, Matching>,
@@ -89,7 +90,11 @@ impl Model for PairCache {
 
     ghost coded = { cache_code };
 
-    ghost view = { λ c. record { capacity = c.kept.cap; hits = c.hits; kept = map kept_of c.kept.entries } };
+    ghost view = { λ c. record {
+      capacity = c.kept.cap;
+      hits = c.hits;
+      kept = map kept_of c.kept.entries;
+    } };
 
     ghost invariant = { λ c. (1 ≤ c.kept.cap) × (length c.kept.entries ≤ c.kept.cap) };
 }
@@ -103,7 +108,11 @@ impl PairCache {
     pub fn new(alloc: Global, capacity: u32) -> Result<PairCache, Memory>
         requires some { 1 ≤ capacity }
         requires few { capacity ≤ MAX_CACHED_ANSWERS }
-        ensures { IfOk result (λ cache. cache ≡ record { capacity = capacity; hits = 0; kept = [] }) }
+        ensures { IfOk result (λ cache. cache ≡ record {
+          capacity = capacity;
+          hits = 0;
+          kept = [];
+        }) }
     {
         let Some(room) = NonZeroUsize::new(capacity as usize) else {
             unreachable!()
@@ -129,7 +138,9 @@ fn look_up(
     kept: &LruCache<Question, Matching>,
     asked: &Question,
 ) -> Result<Option<Matching>, Memory>
-    ensures { IfOk result (λ found. MatchOption found (lookup (same_asked asked.now) kept.now.entries ≡ None) (Answers kept.now.entries asked.now)) }
+    ensures { IfOk result
+        (λ found. MatchOption found (lookup (same_asked asked.now) kept.now.entries ≡ None)
+        (Answers kept.now.entries asked.now)) }
 {
     match kept.peek(asked) {
         Some(answer) => Ok(Some(copy_of(alloc, answer)?)),
@@ -147,8 +158,9 @@ fn keep(alloc: Global, kept: &mut LruCache<Question, Matching>, asked: Question,
 }
 
 impl PairCache {
-    /// The answer of `private_pairs`, from the cache where it keeps it: then that answer comes to the front and counts as a
-    /// hit. Otherwise it is kept in front, if there is memory for it, and the least recent one goes where there was no room.
+    /// The answer of `private_pairs`, from the cache where it keeps it: then that answer comes to
+    /// the front and counts as a hit. Otherwise it is kept in front, if there is memory for it, and
+    /// the least recent one goes where there was no room.
     ///
     /// # Errors
     ///
@@ -165,7 +177,10 @@ impl PairCache {
         ensures answer { IfOk result (IsMatching lines.now wanted.now free.now) }
         ensures range { IfOk result (λ found. HasPointsBelow (told found)) }
         ensures fits { Fits self.new lines.now }
-        ensures remembers { IfOk result (λ found. Remembers self.old self.new (record { asked = record { wanted = wanted.now; free = free.now }; answer = told found })) }
+        ensures remembers { IfOk result (λ found. Remembers self.old self.new (record {
+          asked = record { wanted = wanted.now; free = free.now };
+          answer = told found;
+        })) }
         ensures room { OnOk result (length self.new.kept ≤ self.new.capacity) }
         ensures memory { OnErr result (self.new ≡ self.old) }
     {

@@ -10,7 +10,8 @@ use crate::seats::{Seats, Step};
 use pg_base::{Line, MAX_MEMBERS, Memory, PointSet};
 use std::alloc::Global;
 
-/// The seats that were reached from the next one, in order, and the places of their lines among the wanted ones.
+/// The seats that were reached from the next one, in order, and the places of their lines among the
+/// wanted ones.
 #[derive(Debug, Drop)]
 pub(crate) struct Chain {
     pub(crate) steps: Vec<Step>,
@@ -45,7 +46,8 @@ impl Chain {
     /// Forgets all steps and starts from the seat.
     fn start(&mut self, seat: u16) -> Result<(), Memory>
         requires { seat < MAX_MEMBERS }
-        ensures steps { OnOk result (self.new.steps.items ≡ record { seat = seat; parent = 0 } ∷ []) }
+        ensures steps { OnOk result
+            (self.new.steps.items ≡ record { seat = seat; parent = 0 } ∷ []) }
         ensures entered { OnOk result (self.new.entered ≡ set.insert set.empty (seat / 2)) }
     {
         self.steps.clear();
@@ -56,8 +58,14 @@ impl Chain {
     /// Adds a step to the seat, unless its line was entered before.
     fn enter(&mut self, seat: u16, parent: usize) -> Result<(), Memory>
         requires { seat < MAX_MEMBERS }
-        ensures steps { OnOk result (self.new.steps.items ≡ (if set.contains self.old.entered (seat / 2) then self.old.steps.items else self.old.steps.items ++ record { seat = seat; parent = parent } ∷ [])) }
-        ensures entered { OnOk result (self.new.entered ≡ (if set.contains self.old.entered (seat / 2) then self.old.entered else set.insert self.old.entered (seat / 2))) }
+        ensures steps { OnOk result
+            (self.new.steps.items ≡ (if set.contains self.old.entered (seat / 2)
+            then self.old.steps.items
+            else self.old.steps.items ++ record { seat = seat; parent = parent } ∷ [])) }
+        ensures entered { OnOk result
+            (self.new.entered ≡ (if set.contains self.old.entered (seat / 2)
+            then self.old.entered
+            else set.insert self.old.entered (seat / 2))) }
     {
         if self.entered.has(seat / 2) {
             return Ok(());
@@ -69,13 +77,16 @@ impl Chain {
 }
 
 impl Chain {
-    /// Meets a point that the line of the step at a place may have: enters the seat that holds it. Tells whether none
-    /// holds it.
+    /// Meets a point that the line of the step at a place may have: enters the seat that holds it.
+    /// Tells whether none holds it.
     fn meet(&mut self, seats: &Seats, at: usize, v: u16) -> Result<bool, Memory>
         requires point { v < length seats.now.seat_of.items }
-        requires seats { (s : ℕ) → slice_get seats.now.seat_of.items v ≡ Some (Some s) → s < MAX_MEMBERS }
-        ensures vacant { IfOk result (λ ends. IsTrue ends → slice_get seats.now.seat_of.items v ≡ Some None) }
-        ensures taken { IfOk result (λ ends. ends ≡ false → IsTaken seats.now.seat_of.items self.new.entered v) }
+        requires seats { (s : ℕ) → slice_get seats.now.seat_of.items v ≡ Some (Some s)
+            → s < MAX_MEMBERS }
+        ensures vacant { IfOk result
+            (λ ends. IsTrue ends → slice_get seats.now.seat_of.items v ≡ Some None) }
+        ensures taken { IfOk result
+            (λ ends. ends ≡ false → IsTaken seats.now.seat_of.items self.new.entered v) }
         ensures grows { OnOk result (Meets seats.now.seat_of.items at v self.old self.new) }
     {
         match seats.seat_of[v as usize] {
@@ -87,7 +98,8 @@ impl Chain {
         }
     }
 
-    /// Meets each point that the line of the step at a place may have, up to one that no seat holds.
+    /// Meets each point that the line of the step at a place may have, up to one that no seat
+    /// holds.
     fn scan(
         &mut self,
         lines: &[Line],
@@ -98,9 +110,15 @@ impl Chain {
     ) -> Result<Option<u16>, Memory>
         requires search { IsSearch lines.now wanted.now free.now seats.now self.old }
         requires step { at < length self.old.steps.items }
-        ensures grows { OnOk result (Grows (may_have lines.now wanted.now free.now) seats.now.held.items self.old.steps.items self.old.entered self.new.steps.items self.new.entered) }
-        ensures scanned { IfOk result (λ found. found ≡ None → AreScannedAt (may_have lines.now wanted.now free.now) seats.now.seat_of.items self.old.steps.items self.new.entered at) }
-        ensures end { IfOk result (λ found. IfSome found (CanShift (may_have lines.now wanted.now free.now) seats.now.held.items seats.now.seat_of.items self.new.steps.items at)) }
+        ensures grows { OnOk result
+            (Grows (may_have lines.now wanted.now free.now) seats.now.held.items
+            self.old.steps.items self.old.entered self.new.steps.items self.new.entered) }
+        ensures scanned { IfOk result (λ found. found ≡ None
+            → AreScannedAt (may_have lines.now wanted.now free.now) seats.now.seat_of.items
+            self.old.steps.items self.new.entered at) }
+        ensures end { IfOk result (λ found. IfSome found
+            (CanShift (may_have lines.now wanted.now free.now) seats.now.held.items
+            seats.now.seat_of.items self.new.steps.items at)) }
     {
         let line = line_of(lines, wanted, self.steps[at].seat / 2);
         for v in line.as_slice() {
@@ -123,8 +141,12 @@ impl Chain {
     ) -> Result<Option<End>, Memory>
         requires search { IsSearch lines.now wanted.now free.now seats.now self.old }
         ensures search { OnOk result (IsSearch lines.now wanted.now free.now seats.now self.new) }
-        ensures scanned { IfOk result (λ found. found ≡ None → AreScanned (may_have lines.now wanted.now free.now) seats.now.seat_of.items self.new.steps.items self.new.entered (length self.new.steps.items)) }
-        ensures end { IfOk result (λ found. IfSome found (λ end. CanShift (may_have lines.now wanted.now free.now) seats.now.held.items seats.now.seat_of.items self.new.steps.items end.step end.point)) }
+        ensures scanned { IfOk result (λ found. found ≡ None
+            → AreScanned (may_have lines.now wanted.now free.now) seats.now.seat_of.items
+            self.new.steps.items self.new.entered (length self.new.steps.items)) }
+        ensures end { IfOk result
+            (λ found. IfSome found (λ end. CanShift (may_have lines.now wanted.now free.now)
+            seats.now.held.items seats.now.seat_of.items self.new.steps.items end.step end.point)) }
     {
         let mut at = 0;
         while at < self.steps.len() {
@@ -138,8 +160,10 @@ impl Chain {
 
     /// The lines that were entered.
     fn family(&self, alloc: Global, wanted: &[u32]) -> Result<Vec<u32>, Memory>
-        requires { (k : ℕ) → (step : Step) → slice_get self.now.steps.items k ≡ Some step → place_of step < length wanted.now }
-        ensures { IfOk result (λ family. family.items ≡ map (λ step. slice_index wanted.now (place_of step)) self.now.steps.items) }
+        requires { (k : ℕ) → (step : Step) → slice_get self.now.steps.items k ≡ Some step
+            → place_of step < length wanted.now }
+        ensures { IfOk result (λ family. family.items
+            ≡ map (λ step. slice_index wanted.now (place_of step)) self.now.steps.items) }
     {
         let mut family = Vec::with_capacity(alloc, self.steps.len())?;
         for step in &self.steps {
@@ -160,10 +184,15 @@ impl Chain {
         requires can { CanMatch lines.now wanted.now }
         requires few { length wanted.now ≤ 512 }
         requires room { length seats.old.held.items < 2 * length wanted.now }
-        requires seated { IsSeated (may_have lines.now wanted.now free.now) seats.old.held.items seats.old.seat_of.items }
-        ensures seated { IfOk result (λ family. family ≡ None → IsSeated (may_have lines.now wanted.now free.now) seats.new.held.items seats.new.seat_of.items) }
-        ensures more { IfOk result (λ family. family ≡ None → length seats.new.held.items ≡ length seats.old.held.items + 1) }
-        ensures short { IfOk result (λ family. IfSome family (λ short. IsShort lines.now wanted.now free.now short.items)) }
+        requires seated { IsSeated (may_have lines.now wanted.now free.now) seats.old.held.items
+            seats.old.seat_of.items }
+        ensures seated { IfOk result (λ family. family ≡ None
+            → IsSeated (may_have lines.now wanted.now free.now) seats.new.held.items
+            seats.new.seat_of.items) }
+        ensures more { IfOk result (λ family. family ≡ None
+            → length seats.new.held.items ≡ length seats.old.held.items + 1) }
+        ensures short { IfOk result
+            (λ family. IfSome family (λ short. IsShort lines.now wanted.now free.now short.items)) }
     {
         self.start(seats.held.len() as u16)?;
         match self.find(lines, wanted, free, seats)? {

@@ -39,9 +39,10 @@ fn avoider_can_pair(g: &Game, p: &Position, free: &PointSet) -> bool
     }
 }
 
-/// Pairs that hold for the side, where private pairs exist for it, and None exactly where they don't (pairing strategies are
-/// Hales and Jewett's, 1963). In Avoider-Enforcer the free points left over are paired too, from the lowest upwards. Where
-/// two counts show that there are none, the cache isn't asked.
+/// Pairs that hold for the side, where private pairs exist for it, and None exactly where they
+/// don't (pairing strategies are Hales and Jewett's, 1963). In Avoider-Enforcer the free points
+/// left over are paired too, from the lowest upwards. Where two counts show that there are none,
+/// the cache isn't asked.
 ///
 /// # Errors
 ///
@@ -57,7 +58,8 @@ pub fn pairs_leaf(
     ensures fits { Fits cache.new (lines_of g.now) }
     ensures cache { IsAfterLeaf g.now p.now side cache.old cache.new }
     ensures exist { IfOk result (λ found. is_some found ≡ pairs_exist g.now p.now side) }
-    ensures hold { IfOk result (λ found. IfSome found (λ pairs. PairsHold g.now p.now side pairs.items)) }
+    ensures hold { IfOk result
+        (λ found. IfSome found (λ pairs. PairsHold g.now p.now side pairs.items)) }
 {
     let Field::Lines(field) = &g.field else {
         return Ok(None);
@@ -79,7 +81,9 @@ pub fn pairs_leaf(
 /// In Avoider-Enforcer with pairs of the rest.
 fn completed(g: &Game, p: &Position, pairs: Vec<Pair>) -> Result<Vec<Pair>, Memory>
     requires { All (λ s. (s.a < MAX_MEMBERS) × (s.b < MAX_MEMBERS)) pairs.items }
-    ensures avoider { IfOk result (λ all. g.now.kind ≡ AvoiderEnforcer → (rest : List Pair) × (all.items ≡ pairs.items ++ rest) × PairUp (unpaired g.now p.now pairs.items) rest) }
+    ensures avoider { IfOk result (λ all. g.now.kind ≡ AvoiderEnforcer
+        → (rest : List Pair) × (all.items ≡ pairs.items ++ rest)
+        × PairUp (unpaired g.now p.now pairs.items) rest) }
     ensures others { IfOk result (λ all. (g.now.kind ≢ AvoiderEnforcer) → all.items ≡ pairs.items) }
 {
     if g.kind == Kind::AvoiderEnforcer {

@@ -1,4 +1,5 @@
-//! Private pairs by matching: two free points of its own for each of some lines, or lines that hold too few.
+//! Private pairs by matching: two free points of its own for each of some lines, or lines that hold
+//! too few.
 #![tactic(auto)]
 
 mod cache;

@@ -10,7 +10,8 @@ use crate::seats::Seats;
 use pg_base::{Line, Lines, MAX_MEMBERS, Memory, Pair, PointSet};
 use std::alloc::Global;
 
-/// Private pairs, or lines that have none. Exactly one of the two can be, by Hall's theorem (1935) with two points a line.
+/// Private pairs, or lines that have none. Exactly one of the two can be, by Hall's theorem (1935)
+/// with two points a line.
 #[derive(Debug, Drop)]
 pub enum Matching {
     /// A pair for each wanted line in order, the lower point first. All points are different.
@@ -49,8 +50,8 @@ fn count_free(line: &Line, free: &PointSet) -> usize
     line.as_slice().iter().filter(|v| free.has(**v)).count()
 }
 
-/// Wanted lines that hold too few free points, where counting shows it: there are too many lines for the free points,
-/// or one line has fewer than two.
+/// Wanted lines that hold too few free points, where counting shows it: there are too many lines
+/// for the free points, or one line has fewer than two.
 pub(crate) fn short_by_count(
     alloc: Global,
     lines: &[Line],
@@ -58,7 +59,8 @@ pub(crate) fn short_by_count(
     free: &PointSet,
 ) -> Result<Option<Vec<u32>>, Memory>
     requires can { CanMatch lines.now wanted.now }
-    ensures short { IfOk result (λ family. IfSome family (λ short. IsShort lines.now wanted.now free.now short.items)) }
+    ensures short { IfOk result
+        (λ family. IfSome family (λ short. IsShort lines.now wanted.now free.now short.items)) }
     ensures few { IfOk result (λ family. family ≡ None → length wanted.now ≤ 512) }
 {
     let most = free.len() as usize / 2;
@@ -73,13 +75,15 @@ pub(crate) fn short_by_count(
     Ok(None)
 }
 
-/// A pair of its own for each wanted line, of two free points, or wanted lines that hold too few free points together.
+/// A pair of its own for each wanted line, of two free points, or wanted lines that hold too few
+/// free points together.
 ///
-/// `wanted` has different numbers of lines, and the lines' points are below 1,024. Two counts of free points come first.
-/// Then each wanted line has two seats, and each seat in turn gets a point: a free one of its line, or one that is passed
-/// on along an alternating chain (Ford and Fulkerson 1956, Kuhn 1955). Where no chain ends, the lines that were reached
-/// hold too few (Hall 1935). Each seat takes at most as many steps as the wanted lines have points, in a list that is
-/// kept through the call.
+/// `wanted` has different numbers of lines, and the lines' points are below 1,024. Two counts of
+/// free points come first. Then each wanted line has two seats, and each seat in turn gets a point:
+/// a free one of its line, or one that is passed on along an alternating chain (Ford and Fulkerson
+/// 1956, Kuhn 1955). Where no chain ends, the lines that were reached hold too few (Hall 1935).
+/// Each seat takes at most as many steps as the wanted lines have points, in a list that is kept
+/// through the call.
 ///
 /// # Errors
 ///

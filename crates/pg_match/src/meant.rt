@@ -16,7 +16,8 @@ use std::alloc::Global;
 pub fn lines_without(alloc: Global, lines: &Lines, own: &PointSet) -> Result<Vec<u32>, Memory>
     requires few { length lines.now ≤ MAX_LINES }
     requires points { All (All (λ v. v < MAX_MEMBERS)) lines.now }
-    ensures lines { IfOk result (λ wanted. map (line_at lines.now) wanted.items ≡ filter (λ line. not (is_touched own.now line)) lines.now) }
+    ensures lines { IfOk result (λ wanted. map (line_at lines.now) wanted.items
+        ≡ filter (λ line. not (is_touched own.now line)) lines.now) }
     ensures ascending { IfOk result (λ wanted. AllPairs (λ i j. i < j) wanted.items) }
     ensures can { IfOk result (λ wanted. CanMatch lines.now wanted.items) }
 {

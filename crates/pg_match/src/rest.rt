@@ -23,9 +23,11 @@ fn points_of(pairs: &[Pair]) -> PointSet
     points
 }
 
-/// Pairs the point with the one that waits; where none waits it waits itself. Gives the one that waits then.
+/// Pairs the point with the one that waits; where none waits it waits itself. Gives the one that
+/// waits then.
 fn pair_on(pairs: &mut Vec<Pair>, waiting: Option<u16>, v: u16) -> Result<Option<u16>, Memory>
-    ensures { IfOk result (PairsOn (option_to_list waiting ++ v ∷ []) pairs.old.items pairs.new.items) }
+    ensures { IfOk result
+        (PairsOn (option_to_list waiting ++ v ∷ []) pairs.old.items pairs.new.items) }
 {
     let Some(u) = waiting else {
         return Ok(Some(v));
@@ -42,15 +44,16 @@ fn is_left_over(p: &Position, paired: &PointSet, v: u16) -> bool
     p.is_free(v) && !paired.has(v)
 }
 
-/// The pairs, and then pairs of the free points that are in none, from the lowest upwards. The last such point stays out
-/// where their number is odd. The points of the pairs are below 1,024.
+/// The pairs, and then pairs of the free points that are in none, from the lowest upwards. The last
+/// such point stays out where their number is odd. The points of the pairs are below 1,024.
 ///
 /// # Errors
 ///
 /// `Memory` where no memory is found.
 pub fn with_rest(g: &Game, p: &Position, pairs: Vec<Pair>) -> Result<Vec<Pair>, Memory>
     requires { All (λ s. (s.a < MAX_MEMBERS) × (s.b < MAX_MEMBERS)) pairs.items }
-    ensures { IfOk result (λ all. (rest : List Pair) × (all.items ≡ pairs.items ++ rest) × PairUp (unpaired g.now p.now pairs.items) rest) }
+    ensures { IfOk result (λ all. (rest : List Pair) × (all.items ≡ pairs.items ++ rest)
+        × PairUp (unpaired g.now p.now pairs.items) rest) }
 {
     let paired = points_of(&pairs);
     let mut pairs = pairs;

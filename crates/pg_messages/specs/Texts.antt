@@ -20,7 +20,8 @@ use Rattle.pg_messages.specs.declared.refusal.Refusal.TheVariants.{NoMeaning, No
 
 -- a fault of a file: the file's sign, the number of the fault, and that of its line
 abbrev pub file_fault_text : List ℕ → ℕ → ℕ → List ℕ
-file_fault_text file number line = file ++ (decimal number ++ (codes " line " ++ (decimal line ++ codes "\n")))
+file_fault_text file number line =
+    file ++ (decimal number ++ (codes " line " ++ (decimal line ++ codes "\n")))
 
 -- words that ask for nothing that the program does
 abbrev pub no_meaning_text : List ℕ
@@ -38,13 +39,16 @@ game_text number line = file_fault_text (codes "game G") number line
 abbrev pub certificate_text : ℕ → ℕ → List ℕ
 certificate_text number line = file_fault_text (codes "certificate C") number line
 
--- a certificate that isn't valid: the sign of its faults, the number of the first faulty claim, and that of the fault
+-- a certificate that isn't valid: the sign of its faults, the number of the first faulty claim, and
+-- that of the fault
 abbrev pub faulty_claim_text : List ℕ → ℕ → ℕ → List ℕ
-faulty_claim_text sign claim why = sign ++ (decimal why ++ (codes " claim " ++ (decimal claim ++ codes "\n")))
+faulty_claim_text sign claim why =
+    sign ++ (decimal why ++ (codes " claim " ++ (decimal claim ++ codes "\n")))
 
 -- the same with the number of the claim's first faulty node
 abbrev pub faulty_node_text : List ℕ → ℕ → ℕ → ℕ → List ℕ
-faulty_node_text sign claim node why = sign ++ (decimal why ++ (codes " claim " ++ (decimal claim ++ (codes " node " ++ (decimal node ++ codes "\n")))))
+faulty_node_text sign claim node why = sign ++ (decimal why
+    ++ (codes " claim " ++ (decimal claim ++ (codes " node " ++ (decimal node ++ codes "\n")))))
 
 -- a certificate of a game on lines, or of a switching game
 abbrev pub rejected_text : ℕ → ℕ → ℕ → List ℕ
@@ -81,18 +85,21 @@ refusal_text (Record number line) = record_text number line
 
 -- a claim that is accepted: who moves first, the side, and the goal that it forces
 abbrev pub accepted_text : Side → Side → Goal → List ℕ
-accepted_text turn side goal = codes "accepted " ++ (side_word turn ++ (codes " " ++ (side_word side ++ (codes " " ++ (goal_word goal ++ codes "\n")))))
+accepted_text turn side goal = codes "accepted " ++ (side_word turn
+    ++ (codes " " ++ (side_word side ++ (codes " " ++ (goal_word goal ++ codes "\n")))))
 
 -- the claim that is played
 abbrev pub claim_text : Side → Goal → List ℕ
-claim_text side goal = codes "claim " ++ (side_word side ++ (codes " " ++ (goal_word goal ++ codes "\n")))
+claim_text side goal =
+    codes "claim " ++ (side_word side ++ (codes " " ++ (goal_word goal ++ codes "\n")))
 
 -- a move of the side that is played
 abbrev pub move_text : ℕ → List ℕ
 move_text v = codes "move " ++ (decimal v ++ codes "\n")
 
--- a reply that is no number or is too long, that isn't below the number of points, that names a point that isn't free,
--- that comes after the end of the game, and that takes back where no move stands
+-- a reply that is no number or is too long, that isn't below the number of points, that names a
+-- point that isn't free, that comes after the end of the game, and that takes back where no move
+-- stands
 abbrev pub reply_text : ReplyFault → List ℕ
 reply_text NoNumber = codes "refused: not a number\n"
 reply_text NoPoint = codes "refused: no such point\n"
@@ -118,7 +125,8 @@ result_text kind score = codes "result " ++ (outcome_word kind score ++ codes "\
 
 -- ---- solving and making games
 
--- a switching game is Short's, or Cut's; a connectivity game is Maker's, or Breaker's; either is that of the side that moves first
+-- a switching game is Short's, or Cut's; a connectivity game is Maker's, or Breaker's; either is
+-- that of the side that moves first
 abbrev pub class_short_text : List ℕ
 class_short_text = codes "class short\n"
 
@@ -140,19 +148,24 @@ unknown_text positions = count_text (codes "unknown after ") positions (codes " 
 
 -- two numbers, each between words
 abbrev pub counts_text : List ℕ → ℕ → List ℕ → ℕ → List ℕ → List ℕ
-counts_text first one second other last = first ++ (decimal one ++ (second ++ (decimal other ++ last)))
+counts_text first one second other last =
+    first ++ (decimal one ++ (second ++ (decimal other ++ last)))
 
 -- a game on lines was made: the numbers of its points and of its lines
 abbrev pub line_game_text : ℕ → ℕ → List ℕ
-line_game_text points lines = counts_text (codes "game ") points (codes " points ") lines (codes " lines\n")
+line_game_text points lines =
+    counts_text (codes "game ") points (codes " points ") lines (codes " lines\n")
 
 -- a switching game was made: the numbers of its vertices and of its edges
 abbrev pub switching_game_text : ℕ → ℕ → List ℕ
-switching_game_text vertices edges = counts_text (codes "game ") vertices (codes " vertices ") edges (codes " edges\n")
+switching_game_text vertices edges =
+    counts_text (codes "game ") vertices (codes " vertices ") edges (codes " edges\n")
 
--- a game was solved: how many positions were expanded for the question asked last, and how many nodes the certificate has
+-- a game was solved: how many positions were expanded for the question asked last, and how many
+-- nodes the certificate has
 abbrev pub expanded_text : ℕ → ℕ → List ℕ
-expanded_text positions nodes = counts_text (codes "expanded ") positions (codes " nodes ") nodes (codes "\n")
+expanded_text positions nodes =
+    counts_text (codes "expanded ") positions (codes " nodes ") nodes (codes "\n")
 
 -- ---- recorded games
 
@@ -164,10 +177,12 @@ standing_text moves = count_text (codes "standing ") moves (codes "\n")
 abbrev pub recorded_text : ℕ → List ℕ
 recorded_text moves = count_text (codes "recorded ") moves (codes "\n")
 
--- a move that lost value: its number among those that stand, its point, and the outcomes that best play gives before and after it
+-- a move that lost value: its number among those that stand, its point, and the outcomes that best
+-- play gives before and after it
 abbrev pub lost_text : ℕ → ℕ → Kind → Score → Score → List ℕ
 lost_text number point kind before after =
-    codes "lost " ++ (decimal number ++ (codes " " ++ (decimal point ++ (codes " " ++ (outcome_word kind before ++ (codes " " ++ (outcome_word kind after ++ codes "\n")))))))
+    codes "lost " ++ (decimal number ++ (codes " " ++ (decimal point ++ (codes " "
+    ++ (outcome_word kind before ++ (codes " " ++ (outcome_word kind after ++ codes "\n")))))))
 
 -- the game was reviewed, with so many standing moves
 abbrev pub reviewed_text : ℕ → List ℕ
@@ -175,7 +190,8 @@ reviewed_text moves = count_text (codes "reviewed ") moves (codes "\n")
 
 -- the position after so many moves stays open after so many positions
 abbrev pub unknown_at_text : ℕ → ℕ → List ℕ
-unknown_at_text moves positions = counts_text (codes "unknown at ") moves (codes " after ") positions (codes " positions\n")
+unknown_at_text moves positions =
+    counts_text (codes "unknown at ") moves (codes " after ") positions (codes " positions\n")
 
 -- ---- all of them
 

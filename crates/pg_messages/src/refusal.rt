@@ -88,7 +88,8 @@ fn fault_text(file: &str, number: u8, line: u32) -> Line
     text
 }
 
-/// The text of a certificate with a faulty claim: the sign of its faults, the number of the fault, and that of the claim.
+/// The text of a certificate with a faulty claim: the sign of its faults, the number of the fault,
+/// and that of the claim.
 fn faulty_claim_text(sign: &str, claim: u32, why: u8) -> Line
     requires { length sign.now ≤ 20 }
     ensures { result.bytes ≡ faulty_claim_text sign.now claim why }
@@ -102,7 +103,8 @@ fn faulty_claim_text(sign: &str, claim: u32, why: u8) -> Line
     text
 }
 
-/// The text of a certificate with a faulty node: the sign of its faults, the number of the fault, and those of claim and node.
+/// The text of a certificate with a faulty node: the sign of its faults, the number of the fault,
+/// and those of claim and node.
 fn faulty_node_text(sign: &str, claim: u32, node: u32, why: u8) -> Line
     requires { length sign.now ≤ 15 }
     ensures { result.bytes ≡ faulty_node_text sign.now claim node why }

@@ -29,23 +29,33 @@ swap_or true false c = refl
 swap_or false b c = refl
 
 same_eq : (a b : ℕ) → eqb a b ≡ eqb b a
-same_eq a b = elim (cases_eq a b) [ inl e ↦ eq-eqb a b e ∙ sym (eq-eqb b a (sym e)) | inr ne ↦ ne_eqb a b ne ∙ sym (ne_eqb b a (λ e. ne (sym e))) ]
+same_eq a b = elim (cases_eq a b) [
+  | inl e ↦ eq-eqb a b e ∙ sym (eq-eqb b a (sym e))
+  | inr ne ↦ ne_eqb a b ne ∙ sym (ne_eqb b a (λ e. ne (sym e)))
+]
 
 -- one point after the other
-pub CanTake-iff : (points : ℕ) (p : Position) (taken middle : FinSet nat_cmp) (s : Pair) (first second : Bool)
+pub CanTake-iff : (points : ℕ) (p : Position) (taken middle : FinSet nat_cmp) (s : Pair)
+    (first second : Bool)
     → first ≡ (nat_lt s.a points && (is_free p s.a && not (contains taken s.a)))
-    → middle ≡ (if first then insert taken s.a else taken) → first ≡ true
+    → middle ≡ (if first then insert taken s.a else taken)
+    → first ≡ true
     → second ≡ (nat_lt s.b points && (is_free p s.b && not (contains middle s.b)))
     → (IsTrue second → CanTake points p taken s) × (CanTake points p taken s → IsTrue second)
 CanTake-iff points p taken middle s first second is_first is_middle on is_second =
-    let middle_is : middle ≡ insert taken s.a = is_middle ∙ ap (λ b. cond b (insert taken s.a) taken) on in
-    let a_parts = and_parts (nat_lt s.a points) (is_free p s.a && not (contains taken s.a)) (sym is_first ∙ on) in
+    let middle_is : middle ≡ insert taken s.a =
+    is_middle ∙ ap (λ b. cond b (insert taken s.a) taken) on in
+    let a_parts =
+    and_parts (nat_lt s.a points) (is_free p s.a && not (contains taken s.a)) (sym is_first ∙ on) in
     let a_free = and_parts (is_free p s.a) (not (contains taken s.a)) a_parts.1 in
-    let in_middle : contains middle s.b ≡ (eqb s.b s.a || contains taken s.b) = ap (λ t. contains t s.b) middle_is ∙ in_insert taken s.a s.b in (
+    let in_middle : contains middle s.b ≡ (eqb s.b s.a || contains taken s.b) =
+    ap (λ t. contains t s.b) middle_is ∙ in_insert taken s.a s.b in (
       λ yes_second.
-          let b_parts = and_parts (nat_lt s.b points) (is_free p s.b && not (contains middle s.b)) (sym is_second ∙ yes_second) in
+          let b_parts = and_parts (nat_lt s.b points) (is_free p s.b && not (contains middle s.b))
+          (sym is_second ∙ yes_second) in
           let b_free = and_parts (is_free p s.b) (not (contains middle s.b)) b_parts.1 in
-          let off = or_parts (eqb s.b s.a) (contains taken s.b) (sym in_middle ∙ not-true _ b_free.1) in
+          let off =
+          or_parts (eqb s.b s.a) (contains taken s.b) (sym in_middle ∙ not-true _ b_free.1) in
           record {
             a_range = ltb-true s.a points a_parts.0;
             b_range = ltb-true s.b points b_parts.0;
@@ -56,8 +66,10 @@ CanTake-iff points p taken middle s first second is_first is_middle on is_second
           },
       λ can.
           let free = and_parts _ _ can.free in
-          is_second ∙ and_from _ _ (lt-ltb s.b points can.b_range)
-          (and_from _ _ free.1 (not_from_false _ (in_middle ∙ or_from _ _ (ne_eqb s.b s.a (λ e. can.different (sym e))) can.b_fresh))),
+          is_second
+          ∙ and_from _ _ (lt-ltb s.b points can.b_range)
+          (and_from _ _ free.1 (not_from_false _
+          (in_middle ∙ or_from _ _ (ne_eqb s.b s.a (λ e. can.different (sym e))) can.b_fresh))),
     )
 
 pub taken-both : (taken middle last : FinSet nat_cmp) (s : Pair) (first second : Bool)
@@ -65,7 +77,8 @@ pub taken-both : (taken middle last : FinSet nat_cmp) (s : Pair) (first second :
     → last ≡ (if second then insert middle s.b else middle)
     → IsTrue second → (q : ℕ) → contains last q ≡ (has_point q s || contains taken q)
 taken-both taken middle last s first second is_middle on is_last on_second q =
-    ap (λ t. contains t q) (is_last ∙ ap (λ b. cond b (insert middle s.b) middle) on_second) ∙ in_insert middle s.b q
+    ap (λ t. contains t q) (is_last ∙ ap (λ b. cond b (insert middle s.b) middle) on_second)
+    ∙ in_insert middle s.b q
     ∙ ap (λ t. eqb q s.b || contains t q) (is_middle ∙ ap (λ b. cond b (insert taken s.a) taken) on)
     ∙ ap (λ b. eqb q s.b || b) (in_insert taken s.a q)
     ∙ swap_or (eqb q s.a) (eqb q s.b) (contains taken q)
@@ -83,34 +96,56 @@ AreOpenPairs-none g p = record {
 }
 
 -- a point that isn't taken is in no pair before
-fresh-apart : (xs : List Pair) (taken : FinSet nat_cmp) (v : ℕ) → ((q : ℕ) → contains taken q ≡ list_any (has_point q) xs) → contains taken v ≡ false → (t : Pair) → Contains xs t → (t.a ≢ v) × (t.b ≢ v)
+fresh-apart : (xs : List Pair) (taken : FinSet nat_cmp) (v : ℕ)
+    → ((q : ℕ) → contains taken q ≡ list_any (has_point q) xs)
+    → contains taken v ≡ false
+    → (t : Pair) → Contains xs t
+    → (t.a ≢ v) × (t.b ≢ v)
 fresh-apart xs taken v is fresh t c =
-    let off = or_parts (eqb t.a v) (eqb t.b v) (false-at (has_point v) xs t (sym (is v) ∙ fresh) c) in
+    let off =
+    or_parts (eqb t.a v) (eqb t.b v) (false-at (has_point v) xs t (sym (is v) ∙ fresh) c) in
     (λ e. false≢true (sym off.0 ∙ eq-eqb t.a v e), λ e. false≢true (sym off.1 ∙ eq-eqb t.b v e))
 
-take-next : (xs : List Pair) (i : ℕ) (d : Pair) → i < length xs → take (i + 1) xs ≡ take i xs ++ get_or xs i d ∷ []
+take-next : (xs : List Pair) (i : ℕ) (d : Pair)
+    → i < length xs
+    → take (i + 1) xs ≡ take i xs ++ get_or xs i d ∷ []
 take-next xs i d h = take_more xs i d h
 
-pub AreOpenPairs-more : (g : Game) (p : Position) (xs : List Pair) (i : ℕ) (d : Pair) (points : ℕ) (taken : FinSet nat_cmp)
-    → i < length xs → AreOpenPairs g p (take i xs) → points ≡ point_count g → ((q : ℕ) → contains taken q ≡ list_any (has_point q) (take i xs))
-    → CanTake points p taken (get_or xs i d) → AreOpenPairs g p (take (i + 1) xs)
+pub AreOpenPairs-more : (g : Game) (p : Position) (xs : List Pair) (i : ℕ) (d : Pair) (points : ℕ)
+    (taken : FinSet nat_cmp)
+    → i < length xs
+    → AreOpenPairs g p (take i xs)
+    → points ≡ point_count g
+    → ((q : ℕ) → contains taken q ≡ list_any (has_point q) (take i xs))
+    → CanTake points p taken (get_or xs i d)
+    → AreOpenPairs g p (take (i + 1) xs)
 AreOpenPairs-more g p xs i d points taken h before count is can =
     let s = get_or xs i d in
     subst (λ (ys : List Pair). AreOpenPairs g p ys) (sym (take-next xs i d h)) (record {
-      range = All-push (IsInGame g) (take i xs) s before.range (subst (λ (n : ℕ). s.a < n) count can.a_range, subst (λ (n : ℕ). s.b < n) count can.b_range);
+      range = All-push (IsInGame g) (take i xs) s before.range (
+        subst (λ (n : ℕ). s.a < n) count can.a_range,
+        subst (λ (n : ℕ). s.b < n) count can.b_range,
+      );
       free = All-push (λ s. is_open p s ≡ true) (take i xs) s before.free can.free;
       different = All-push (λ s. s.a ≢ s.b) (take i xs) s before.different can.different;
       disjoint = all_pairs_push SharesNone (take i xs) s before.disjoint (λ k e lt.
           let member = Contains-get_or (take i xs) k e lt in
-          let a = fresh-apart (take i xs) taken s.a is can.a_fresh (get_or (take i xs) k e) member in
-          let b = fresh-apart (take i xs) taken s.b is can.b_fresh (get_or (take i xs) k e) member in
+          let a =
+          fresh-apart (take i xs) taken s.a is can.a_fresh (get_or (take i xs) k e) member in
+          let b =
+          fresh-apart (take i xs) taken s.b is can.b_fresh (get_or (take i xs) k e) member in
           record { aa = a.0; ab = b.0; ba = a.1; bb = b.1 });
     })
 
-pub taken-more : (xs : List Pair) (i : ℕ) (d : Pair) (taken next : FinSet nat_cmp) → i < length xs → ((q : ℕ) → contains taken q ≡ list_any (has_point q) (take i xs))
-    → ((q : ℕ) → contains next q ≡ (has_point q (get_or xs i d) || contains taken q)) → (q : ℕ) → contains next q ≡ list_any (has_point q) (take (i + 1) xs)
-taken-more xs i d taken next h is more q =
-    more q ∙ or_comm (has_point q (get_or xs i d)) (contains taken q) ∙ ap (λ b. b || has_point q (get_or xs i d)) (is q) ∙ sym (list_any_more (has_point q) xs i d h)
+pub taken-more : (xs : List Pair) (i : ℕ) (d : Pair) (taken next : FinSet nat_cmp)
+    → i < length xs
+    → ((q : ℕ) → contains taken q ≡ list_any (has_point q) (take i xs))
+    → ((q : ℕ) → contains next q ≡ (has_point q (get_or xs i d) || contains taken q))
+    → (q : ℕ) → contains next q ≡ list_any (has_point q) (take (i + 1) xs)
+taken-more xs i d taken next h is more q = more q
+    ∙ or_comm (has_point q (get_or xs i d)) (contains taken q)
+    ∙ ap (λ b. b || has_point q (get_or xs i d)) (is q)
+    ∙ sym (list_any_more (has_point q) xs i d h)
   where
     or_comm : (a b : Bool) → (a || b) ≡ (b || a)
     or_comm true true = refl
@@ -118,8 +153,12 @@ taken-more xs i d taken next h is more q =
     or_comm false true = refl
     or_comm false false = refl
 
-pub CanTake-at : (g : Game) (p : Position) (xs : List Pair) (i : ℕ) (d : Pair) (points : ℕ) (taken : FinSet nat_cmp)
-    → i < length xs → AreOpenPairs g p xs → points ≡ point_count g → ((q : ℕ) → contains taken q ≡ list_any (has_point q) (take i xs))
+pub CanTake-at : (g : Game) (p : Position) (xs : List Pair) (i : ℕ) (d : Pair) (points : ℕ)
+    (taken : FinSet nat_cmp)
+    → i < length xs
+    → AreOpenPairs g p xs
+    → points ≡ point_count g
+    → ((q : ℕ) → contains taken q ≡ list_any (has_point q) (take i xs))
     → CanTake points p taken (get_or xs i d)
 CanTake-at g p xs i d points taken h pairs count is =
     let s = get_or xs i d in
@@ -129,39 +168,63 @@ CanTake-at g p xs i d points taken h pairs count is =
       b_range = subst (λ (n : ℕ). s.b < n) (sym count) range.1;
       free = All-get_or (λ s. is_open p s ≡ true) xs i d h pairs.free;
       different = All-get_or (λ s. s.a ≢ s.b) xs i d h pairs.different;
-      a_fresh = is s.a ∙ list_any-none (has_point s.a) (take i xs) (λ t c. let out = earlier t c in or_from _ _ (ne_eqb t.a s.a out.aa) (ne_eqb t.b s.a out.ba));
-      b_fresh = is s.b ∙ list_any-none (has_point s.b) (take i xs) (λ t c. let out = earlier t c in or_from _ _ (ne_eqb t.a s.b out.ab) (ne_eqb t.b s.b out.bb));
+      a_fresh = is s.a
+          ∙ list_any-none (has_point s.a) (take i xs) (λ t c. let out = earlier t c in or_from _ _
+          (ne_eqb t.a s.a out.aa) (ne_eqb t.b s.a out.ba));
+      b_fresh = is s.b
+          ∙ list_any-none (has_point s.b) (take i xs) (λ t c. let out = earlier t c in or_from _ _
+          (ne_eqb t.a s.b out.ab) (ne_eqb t.b s.b out.bb));
     }
   where
     earlier : (t : Pair) → Contains (take i xs) t → SharesNone t (get_or xs i d)
     earlier t c =
         let len = length-take-le i xs (omega arith) in
         let below : c.0 < i = omega (arith, c.1, len) in
-        let at : get_or xs c.0 d ≡ t = get_or_default xs c.0 d t (omega arith) ∙ sym (get_or-take i xs c.0 t below) ∙ c.2 in
+        let at : get_or xs c.0 d ≡ t =
+        get_or_default xs c.0 d t (omega arith) ∙ sym (get_or-take i xs c.0 t below) ∙ c.2 in
         subst (λ (u : Pair). SharesNone u (get_or xs i d)) at (pairs.disjoint c.0 i d below h)
 
-pub AreOpenPairs-all : (g : Game) (p : Position) (xs : List Pair) (i : ℕ) → length xs ≤ i → AreOpenPairs g p (take i xs) → AreOpenPairs g p xs
-AreOpenPairs-all g p xs i h pairs = subst (λ (ys : List Pair). AreOpenPairs g p ys) (take_all i xs h) pairs
+pub AreOpenPairs-all : (g : Game) (p : Position) (xs : List Pair) (i : ℕ)
+    → length xs ≤ i
+    → AreOpenPairs g p (take i xs)
+    → AreOpenPairs g p xs
+AreOpenPairs-all g p xs i h pairs =
+    subst (λ (ys : List Pair). AreOpenPairs g p ys) (take_all i xs h) pairs
 
 -- all the facts of the condition
-pub PairsHold-from : (g : Game) (p : Position) (side : Side) (pairs : List Pair) → AreOpenPairs g p pairs → HoldLines g p side pairs → (g.kind ≡ AvoiderEnforcer → PairsLeaveNone g p pairs) → PairsHold g p side pairs
-PairsHold-from g p side pairs open_pairs lines leaves = record { apart = open_pairs; held = lines; avoider = leaves }
+pub PairsHold-from : (g : Game) (p : Position) (side : Side) (pairs : List Pair)
+    → AreOpenPairs g p pairs
+    → HoldLines g p side pairs
+    → (g.kind ≡ AvoiderEnforcer → PairsLeaveNone g p pairs)
+    → PairsHold g p side pairs
+PairsHold-from g p side pairs open_pairs lines leaves = record {
+  apart = open_pairs;
+  held = lines;
+  avoider = leaves;
+}
 
-pub AreOpenPairs-of : (g : Game) (p : Position) (side : Side) (pairs : List Pair) → PairsHold g p side pairs → AreOpenPairs g p pairs
+pub AreOpenPairs-of : (g : Game) (p : Position) (side : Side) (pairs : List Pair)
+    → PairsHold g p side pairs
+    → AreOpenPairs g p pairs
 AreOpenPairs-of g p side pairs h = h.apart
 
 -- ---- the count of the points left out
 
 -- two sets that agree leave the same points out
-pub unpaired-is : (g : Game) (p : Position) (pairs : List Pair) (paired : FinSet nat_cmp) → ((q : ℕ) → contains paired q ≡ is_paired pairs q)
+pub unpaired-is : (g : Game) (p : Position) (pairs : List Pair) (paired : FinSet nat_cmp)
+    → ((q : ℕ) → contains paired q ≡ is_paired pairs q)
     → length (filter (λ v. not (contains paired v)) (free_points g p)) ≡ length (unpaired g p pairs)
-unpaired-is g p pairs paired is =
-    ap length (filter_agree (λ v. not (contains paired v)) (λ v. not (is_paired pairs v)) (λ q. ap not (is q)) (free_points g p))
+unpaired-is g p pairs paired is = ap length
+    (filter_agree (λ v. not (contains paired v)) (λ v. not (is_paired pairs v)) (λ q. ap not (is q))
+    (free_points g p))
 
 -- ---- the points of open pairs
 
 -- after both points of an open pair are put into a set
-pub opened-more : (p : Position) (before middle last : FinSet nat_cmp) (s : Pair) → middle ≡ insert before s.a → last ≡ insert middle s.b → is_open p s ≡ true
+pub opened-more : (p : Position) (before middle last : FinSet nat_cmp) (s : Pair)
+    → middle ≡ insert before s.a
+    → last ≡ insert middle s.b
+    → is_open p s ≡ true
     → (q : ℕ) → contains last q ≡ (contains before q || (is_open p s && has_point q s))
 opened-more p before middle last s is_middle is_last on q =
     taken-both before middle last s true true is_middle refl is_last refl q
@@ -186,24 +249,40 @@ pub any-Contains : (line : List ℕ) (q : ℕ) → Contains line q → list_any 
 any-Contains line q c = list_any-one (λ v. eqb v q) line q c (eq-eqb q q refl)
 
 -- some pair has both points among those of the line exactly where the line holds it
-pub holds-iff : (points : FinSet nat_cmp) (line : List ℕ) (pairs : List Pair) (r : Bool) → ((q : ℕ) → contains points q ≡ list_any (λ v. eqb v q) line)
-    → r ≡ list_any (λ s. contains points s.a && contains points s.b) pairs → (IsTrue r → Any (HoldsPair line) pairs) × (Any (HoldsPair line) pairs → IsTrue r)
+pub holds-iff : (points : FinSet nat_cmp) (line : List ℕ) (pairs : List Pair) (r : Bool)
+    → ((q : ℕ) → contains points q ≡ list_any (λ v. eqb v q) line)
+    → r ≡ list_any (λ s. contains points s.a && contains points s.b) pairs
+    → (IsTrue r → Any (HoldsPair line) pairs) × (Any (HoldsPair line) pairs → IsTrue r)
 holds-iff points line pairs r is result = (
   λ on.
-      let found = member-from_any (λ s. contains points s.a && contains points s.b) pairs (sym result ∙ on) in
+      let found =
+      member-from_any (λ s. contains points s.a && contains points s.b) pairs (sym result ∙ on) in
       let s = found.0 in
       let both = and_parts (contains points s.a) (contains points s.b) found.2 in
-      let c = found.1 in
-      (c.0, s, c.1, c.2, (Contains-any line s.a (sym (is s.a) ∙ both.0), Contains-any line s.b (sym (is s.b) ∙ both.1))),
+      let c = found.1 in (
+        c.0,
+        s,
+        c.1,
+        c.2,
+        (
+          Contains-any line s.a (sym (is s.a) ∙ both.0),
+          Contains-any line s.b (sym (is s.b) ∙ both.1),
+        ),
+      ),
   λ held.
       let s = held.1 in
       let member : Contains pairs s = (held.0, held.2, held.3) in
-      result ∙ list_any-one (λ t. contains points t.a && contains points t.b) pairs s member
-      (and_from _ _ (is s.a ∙ any-Contains line s.a held.4.0) (is s.b ∙ any-Contains line s.b held.4.1)),
+      result
+      ∙ list_any-one (λ t. contains points t.a && contains points t.b) pairs s member
+      (and_from _ _ (is s.a ∙ any-Contains line s.a held.4.0)
+      (is s.b ∙ any-Contains line s.b held.4.1)),
 )
 
 -- the points of pairs of the game are below 1,024
-pub pairs-few : (g : Game) (pairs : List Pair) → All (IsInGame g) pairs → All (λ s. (s.a < 1024) × (s.b < 1024)) pairs
+pub pairs-few : (g : Game) (pairs : List Pair)
+    → All (IsInGame g) pairs
+    → All (λ s. (s.a < 1024) × (s.b < 1024)) pairs
 pairs-few g pairs range =
     let few = point_count-le g in
-    All-weaker (IsInGame g) (λ s. (s.a < 1024) × (s.b < 1024)) (λ s here. (omega (arith, few, here.0), omega (arith, few, here.1))) pairs range
+    All-weaker (IsInGame g) (λ s. (s.a < 1024) × (s.b < 1024))
+    (λ s here. (omega (arith, few, here.0), omega (arith, few, here.1))) pairs range

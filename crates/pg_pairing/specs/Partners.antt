@@ -16,5 +16,7 @@ pub record AreSmall (partners : List ℕ) : Type 0 where
 -- the number of each point is one more than the other point of its pair, or 0 where it is in none
 pub record ArePartners (partners : List ℕ) (pairs : List Pair) : Type 0 where
   pub different : (s : Pair) → Contains pairs s → s.a ≢ s.b
-  pub paired : (s : Pair) → Contains pairs s → (get_or partners s.a 0 ≡ s.b + 1) × (get_or partners s.b 0 ≡ s.a + 1)
+  pub paired : (s : Pair)
+      → Contains pairs s
+      → (get_or partners s.a 0 ≡ s.b + 1) × (get_or partners s.b 0 ≡ s.a + 1)
   pub told : (v w : ℕ) → v < MAX_MEMBERS → get_or partners v 0 ≡ w + 1 → Any (IsPairOf v w) pairs

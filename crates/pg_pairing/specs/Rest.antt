@@ -32,7 +32,8 @@ abbrev pub MayClaim : Kind → Side → Type 0
 MayClaim kind side = kind ≡ AvoiderEnforcer → side ≡ X
 
 -- the other side has just made the last reply, and the rest of the pairs held before it
-pub record HeldBefore (g : Game) (p : Position) (side : Side) (pairs : List Pair) (last : Option ℕ) : Type 0 where
+pub record HeldBefore (g : Game) (p : Position) (side : Side) (pairs : List Pair)
+    (last : Option ℕ) : Type 0 where
   pub before : Position
   pub reply : ℕ
   pub last_is : last ≡ Some reply

@@ -6,7 +6,8 @@ use Rattle.pg_base.specs.declared.pair.Pair.{Pair}
 use Rattle.pg_game.specs.declared.position.Position.{Position}
 use Rattle.pg_game.specs.Pairs.{is_open}
 
--- both points of the pair are free points of the game, different, and not among those that are taken
+-- both points of the pair are free points of the game, different, and not among those that are
+-- taken
 pub record CanTake (points : ℕ) (p : Position) (taken : FinSet nat_cmp) (s : Pair) : Type 0 where
   pub a_range : s.a < points
   pub b_range : s.b < points

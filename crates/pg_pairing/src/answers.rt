@@ -42,7 +42,8 @@ fn free_partner(p: &Position, pairs: &[Pair], last: Option<u16>) -> Option<u16>
 fn put_open(p: &Position, opened: &mut PointSet, s: Pair)
     requires a_few { s.a < MAX_MEMBERS }
     requires b_few { s.b < MAX_MEMBERS }
-    ensures { (q : ℕ) → set.contains opened.new q ≡ (set.contains opened.old q || (is_open p.now s && has_point q s)) }
+    ensures { (q : ℕ) → set.contains opened.new q
+        ≡ (set.contains opened.old q || (is_open p.now s && has_point q s)) }
 {
     if p.is_free(s.a) && p.is_free(s.b) {
         opened.put(s.a);
@@ -53,7 +54,8 @@ fn put_open(p: &Position, opened: &mut PointSet, s: Pair)
 /// The points of the pairs whose two points are both free.
 fn open_points(p: &Position, pairs: &[Pair]) -> PointSet
     requires { All (λ s. (s.a < MAX_MEMBERS) × (s.b < MAX_MEMBERS)) pairs.now }
-    ensures { (q : ℕ) → set.contains result q ≡ list_any (λ s. is_open p.now s && has_point q s) pairs.now }
+    ensures { (q : ℕ)
+        → set.contains result q ≡ list_any (λ s. is_open p.now s && has_point q s) pairs.now }
 {
     let mut opened = PointSet::empty();
     for s in pairs {
@@ -82,8 +84,8 @@ fn lowest_loose(g: &Game, p: &Position, pairs: &[Pair]) -> Option<u16>
     lowest_outside(g, p, &open_points(p, pairs))
 }
 
-/// The free partner of the last reply, else the lowest free point in no pair whose two points are both free, else the
-/// lowest free point, else 0.
+/// The free partner of the last reply, else the lowest free point in no pair whose two points are
+/// both free, else the lowest free point, else 0.
 fn choose(g: &Game, p: &Position, pairs: &[Pair], last: Option<u16>) -> u16
     requires { All (λ s. (s.a < MAX_MEMBERS) × (s.b < MAX_MEMBERS)) pairs.now }
     ensures { result ≡ pairs_answer g.now p.now pairs.now last }
@@ -97,13 +99,13 @@ fn choose(g: &Game, p: &Position, pairs: &[Pair], last: Option<u16>) -> u16
     }
 }
 
-/// The answer by pairs to the last reply: its partner where that is free, else the lowest free point in no pair whose
-/// two points are both free, else the lowest free point.
+/// The answer by pairs to the last reply: its partner where that is free, else the lowest free
+/// point in no pair whose two points are both free, else the lowest free point.
 ///
-/// The rest of the pairs are those whose two points are both free. Where the claimer is to move, the rest holds after
-/// the answer in three cases: it held before the last reply of the other side; no reply has come and it holds; or the
-/// game is Maker-Breaker and it holds, as it does at the second point of a turn. In Avoider-Enforcer the claimer is X.
-/// It takes no memory.
+/// The rest of the pairs are those whose two points are both free. Where the claimer is to move,
+/// the rest holds after the answer in three cases: it held before the last reply of the other side;
+/// no reply has come and it holds; or the game is Maker-Breaker and it holds, as it does at the
+/// second point of a turn. In Avoider-Enforcer the claimer is X. It takes no memory.
 pub fn answer(g: &Game, p: &Position, pairs: &[Pair], last: Option<u16>) -> u16
     requires position { IsPosition g.now p.now }
     requires some_free { is_full g.now p.now ≡ false }
@@ -111,9 +113,19 @@ pub fn answer(g: &Game, p: &Position, pairs: &[Pair], last: Option<u16>) -> u16
     ensures rule { result ≡ pairs_answer g.now p.now pairs.now last }
     ensures within { result < point_count g.now }
     ensures free { is_free p.now result ≡ true }
-    ensures keeps_replied { (side : Side) → MayClaim g.now.kind side → p.now.turn ≡ side → HeldBefore g.now p.now side pairs.now last → RestHolds g.now (after g.now p.now result) side pairs.now }
-    ensures keeps_unreplied { (side : Side) → MayClaim g.now.kind side → p.now.turn ≡ side → last ≡ None → RestHolds g.now p.now side pairs.now → RestHolds g.now (after g.now p.now result) side pairs.now }
-    ensures keeps_in_turn { (side : Side) → g.now.kind ≡ MakerBreaker → p.now.turn ≡ side → RestHolds g.now p.now side pairs.now → RestHolds g.now (after g.now p.now result) side pairs.now }
+    ensures keeps_replied { (side : Side) → MayClaim g.now.kind side
+        → p.now.turn ≡ side
+        → HeldBefore g.now p.now side pairs.now last
+        → RestHolds g.now (after g.now p.now result) side pairs.now }
+    ensures keeps_unreplied { (side : Side) → MayClaim g.now.kind side
+        → p.now.turn ≡ side
+        → last ≡ None
+        → RestHolds g.now p.now side pairs.now
+        → RestHolds g.now (after g.now p.now result) side pairs.now }
+    ensures keeps_in_turn { (side : Side) → g.now.kind ≡ MakerBreaker
+        → p.now.turn ≡ side
+        → RestHolds g.now p.now side pairs.now
+        → RestHolds g.now (after g.now p.now result) side pairs.now }
 {
     choose(g, p, pairs, last)
 }

@@ -17,7 +17,8 @@ use pg_game::{Game, Position, breaker_of};
 /// Puts a free point of the game that isn't taken to those that are, and tells whether it could.
 fn take(points: u16, p: &Position, taken: &mut PointSet, v: u16) -> bool
     requires { points ≤ MAX_MEMBERS }
-    ensures free { result ≡ (nat_lt v points && (is_free p.now v && not (set.contains taken.old v))) }
+    ensures free { result
+        ≡ (nat_lt v points && (is_free p.now v && not (set.contains taken.old v))) }
     ensures taken { taken.new ≡ (if result then set.insert taken.old v else taken.old) }
 {
     if v < points && p.is_free(v) && !taken.has(v) {
@@ -32,7 +33,8 @@ fn take(points: u16, p: &Position, taken: &mut PointSet, v: u16) -> bool
 fn take_pair(points: u16, p: &Position, taken: &mut PointSet, s: Pair) -> bool
     requires { points ≤ MAX_MEMBERS }
     ensures fits { IsTrue result ↔ CanTake points p.now taken.old s }
-    ensures taken { IsTrue result → (q : ℕ) → set.contains taken.new q ≡ (has_point q s || set.contains taken.old q) }
+    ensures taken { IsTrue result
+        → (q : ℕ) → set.contains taken.new q ≡ (has_point q s || set.contains taken.old q) }
 {
     take(points, p, taken, s.a) && take(points, p, taken, s.b)
 }
@@ -40,7 +42,8 @@ fn take_pair(points: u16, p: &Position, taken: &mut PointSet, s: Pair) -> bool
 /// The points of the pairs, where these are of free points of the game, all different.
 pub(crate) fn paired_points(g: &Game, p: &Position, pairs: &[Pair]) -> Option<PointSet>
     ensures open { IsSome result ↔ AreOpenPairs g.now p.now pairs.now }
-    ensures points { IfSome result (λ paired. (q : ℕ) → set.contains paired q ≡ is_paired pairs.now q) }
+    ensures points { IfSome result
+        (λ paired. (q : ℕ) → set.contains paired q ≡ is_paired pairs.now q) }
 {
     let points = g.points();
     let mut taken = PointSet::empty();
@@ -62,7 +65,8 @@ pub(crate) fn is_outside(p: &Position, points: &PointSet, v: u16) -> bool
 
 /// How many free points are not in the set.
 fn count_outside(g: &Game, p: &Position, points: &PointSet) -> u16
-    ensures { result ≡ length (filter (λ v. not (set.contains points.now v)) (free_points g.now p.now)) }
+    ensures { result
+        ≡ length (filter (λ v. not (set.contains points.now v)) (free_points g.now p.now)) }
 {
     let mut outside = 0;
     for v in 0..g.points() {
@@ -83,11 +87,12 @@ fn unpaired_due(turn: Side) -> u16
     }
 }
 
-/// Whether, in Avoider-Enforcer, Enforcer claims one point a turn and no free point is left out of the pairs, but one
-/// where Avoider is to move. The set is that of the points in pairs.
+/// Whether, in Avoider-Enforcer, Enforcer claims one point a turn and no free point is left out of
+/// the pairs, but one where Avoider is to move. The set is that of the points in pairs.
 fn leave_none(g: &Game, p: &Position, pairs: &[Pair], paired: &PointSet) -> bool
     requires { (q : ℕ) → set.contains paired.now q ≡ is_paired pairs.now q }
-    ensures { IsTrue result ↔ (g.now.kind ≡ AvoiderEnforcer → PairsLeaveNone g.now p.now pairs.now) }
+    ensures { IsTrue result
+        ↔ (g.now.kind ≡ AvoiderEnforcer → PairsLeaveNone g.now p.now pairs.now) }
 {
     if g.kind != Kind::AvoiderEnforcer {
         return true;
@@ -113,21 +118,28 @@ fn hold_lines(g: &Game, p: &Position, side: Side, pairs: &[Pair]) -> bool
     true
 }
 
-/// Whether the pairs are of free points, all different, and every line without a point of the side that makes lines
-/// harmless holds both points of some pair. That side is the claimer, but Y in Avoider-Enforcer, where moreover Y
-/// claims one point a turn and no free point is left out of the pairs, but one where X is to move.
+/// Whether the pairs are of free points, all different, and every line without a point of the side
+/// that makes lines harmless holds both points of some pair. That side is the claimer, but Y in
+/// Avoider-Enforcer, where moreover Y claims one point a turn and no free point is left out of the
+/// pairs, but one where X is to move.
 ///
-/// Where it answers true, Y wins in Maker-Breaker, whatever the bias; the claimer gets at least a draw in Maker-Maker;
-/// and X wins in Avoider-Enforcer. Who is to move makes no difference. A graph has no lines, so there any pairs of free
-/// points hold, and force nothing. It takes no memory.
+/// Where it answers true, Y wins in Maker-Breaker, whatever the bias; the claimer gets at least a
+/// draw in Maker-Maker; and X wins in Avoider-Enforcer. Who is to move makes no difference. A graph
+/// has no lines, so there any pairs of free points hold, and force nothing. It takes no memory.
 ///
 /// The pairing is Hales and Jewett's (Regularity and positional games, 1963).
 pub fn holds(g: &Game, p: &Position, side: Side, pairs: &[Pair]) -> bool
     requires { IsPosition g.now p.now }
     ensures exact { IsTrue result ↔ PairsHold g.now p.now side pairs.now }
-    ensures breaker { IsTrue result → g.now.kind ≡ Kind.MakerBreaker → side ≡ Side.Y → Forces g.now p.now side Win }
+    ensures breaker { IsTrue result
+        → g.now.kind ≡ Kind.MakerBreaker
+        → side ≡ Side.Y
+        → Forces g.now p.now side Win }
     ensures draw { IsTrue result → g.now.kind ≡ Kind.MakerMaker → Forces g.now p.now side Draw }
-    ensures avoider { IsTrue result → g.now.kind ≡ Kind.AvoiderEnforcer → side ≡ Side.X → Forces g.now p.now side Win }
+    ensures avoider { IsTrue result
+        → g.now.kind ≡ Kind.AvoiderEnforcer
+        → side ≡ Side.X
+        → Forces g.now p.now side Win }
 {
     match paired_points(g, p, pairs) {
         Some(paired) => leave_none(g, p, pairs, &paired) && hold_lines(g, p, side, pairs),

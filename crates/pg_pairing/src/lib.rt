@@ -1,4 +1,5 @@
-//! Pairs of free points of which a side needs one each: the test, what it forces, and the answer to a reply.
+//! Pairs of free points of which a side needs one each: the test, what it forces, and the answer to
+//! a reply.
 #![tactic(auto)]
 
 mod answers;

@@ -12,11 +12,20 @@ use Rattle.pg_picture.specs.declared.style.TheConstants.{NAME_SPACE, STYLE}
 
 -- ---- words
 
--- a byte as it stands between tags: the signs that tags are made of by their names, and a question mark for what is no printable sign of ASCII
+-- a byte as it stands between tags: the signs that tags are made of by their names, and a question
+-- mark for what is no printable sign of ASCII
 abbrev pub escaped_byte : ℕ → Bytes
-escaped_byte c =
-    if c == 38 then codes "&amp;" else if c == 60 then codes "&lt;" else if c == 62 then codes "&gt;" else if c == 34 then codes "&quot;"
-    else if nat_le 32 c && nat_lt c 127 then c ∷ [] else codes "?"
+escaped_byte c = if c == 38
+    then codes "&amp;"
+    else if c == 60
+    then codes "&lt;"
+    else if c == 62
+    then codes "&gt;"
+    else if c == 34
+    then codes "&quot;"
+    else if nat_le 32 c && nat_lt c 127
+    then c ∷ []
+    else codes "?"
 
 -- words as they stand between tags
 abbrev pub escaped : Bytes → Bytes
@@ -43,7 +52,8 @@ lone name attributes = begun name attributes ++ codes "/>\n"
 
 -- a tag, what stands in it, and the tag that closes it
 abbrev pub filled : Bytes → List Attribute → Bytes → Bytes
-filled name attributes inside = begun name attributes ++ (codes ">" ++ (inside ++ (codes "</" ++ (name ++ codes ">\n"))))
+filled name attributes inside =
+    begun name attributes ++ (codes ">" ++ (inside ++ (codes "</" ++ (name ++ codes ">\n"))))
 
 -- ---- shapes
 
@@ -85,26 +95,44 @@ place_text place = decimal place.across ++ (codes " " ++ decimal place.down)
 
 -- the path of a bow: a quadratic curve
 abbrev pub path_of : Place → Place → Place → Attribute
-path_of from bend to = record { name = codes "d"; value = codes "M" ++ (place_text from ++ (codes "Q" ++ (place_text bend ++ (codes " " ++ place_text to)))) }
+path_of from bend to = record {
+  name = codes "d";
+  value = codes "M"
+      ++ (place_text from ++ (codes "Q" ++ (place_text bend ++ (codes " " ++ place_text to))));
+}
 
 -- a shape: one line
 unfoldable pub shape_text : Shape → Bytes
-shape_text (Square corner side paint) = lone (codes "rect") (painted paint ∷ numbered (codes "x") corner.across ∷ numbered (codes "y") corner.down ∷ numbered (codes "width") side ∷ numbered (codes "height") side ∷ [])
-shape_text (Disc centre radius paint) = lone (codes "circle") (painted paint ∷ numbered (codes "cx") centre.across ∷ numbered (codes "cy") centre.down ∷ numbered (codes "r") radius ∷ [])
-shape_text (Stroke from to paint) = lone (codes "line") (painted paint ∷ numbered (codes "x1") from.across ∷ numbered (codes "y1") from.down ∷ numbered (codes "x2") to.across ∷ numbered (codes "y2") to.down ∷ [])
-shape_text (Bow from bend to paint) = lone (codes "path") (painted paint ∷ path_of from bend to ∷ [])
-shape_text (Words at words paint) = filled (codes "text") (painted paint ∷ numbered (codes "x") at.across ∷ numbered (codes "y") at.down ∷ []) (escaped words)
+shape_text (Square corner side paint) = lone (codes "rect")
+    (painted paint ∷ numbered (codes "x") corner.across ∷ numbered (codes "y") corner.down
+    ∷ numbered (codes "width") side ∷ numbered (codes "height") side ∷ [])
+shape_text (Disc centre radius paint) = lone (codes "circle")
+    (painted paint ∷ numbered (codes "cx") centre.across ∷ numbered (codes "cy") centre.down
+    ∷ numbered (codes "r") radius ∷ [])
+shape_text (Stroke from to paint) = lone (codes "line")
+    (painted paint ∷ numbered (codes "x1") from.across ∷ numbered (codes "y1") from.down
+    ∷ numbered (codes "x2") to.across ∷ numbered (codes "y2") to.down ∷ [])
+shape_text (Bow from bend to paint) =
+    lone (codes "path") (painted paint ∷ path_of from bend to ∷ [])
+shape_text (Words at words paint) = filled (codes "text")
+    (painted paint ∷ numbered (codes "x") at.across ∷ numbered (codes "y") at.down ∷ [])
+    (escaped words)
 
 -- ---- pictures
 
--- the tag that opens a picture, but for its end: the name space of its tags, and the part of the plane that is seen
+-- the tag that opens a picture, but for its end: the name space of its tags, and the part of the
+-- plane that is seen
 unfoldable pub head : ℕ → ℕ → Bytes
 head width height =
-    begun (codes "svg") (record { name = codes "xmlns"; value = NAME_SPACE.now } ∷ record { name = codes "viewBox"; value = codes "0 0 " ++ (decimal width ++ (codes " " ++ decimal height)) } ∷ [])
+    begun (codes "svg") (record { name = codes "xmlns"; value = NAME_SPACE.now } ∷ record {
+      name = codes "viewBox";
+      value = codes "0 0 " ++ (decimal width ++ (codes " " ++ decimal height));
+    } ∷ [])
 
 -- what stands in it: the title, the style sheet, and the shapes
 unfoldable pub inside_of : Picture → Bytes
-inside_of p = filled (codes "title") [] (escaped p.title) ++ (filled (codes "style") [] STYLE.now ++ flat_map shape_text p.shapes)
+inside_of p = filled (codes "title") [] (escaped p.title)
+    ++ (filled (codes "style") [] STYLE.now ++ flat_map shape_text p.shapes)
 
 -- a picture
 unfoldable pub picture_text : Picture → Bytes

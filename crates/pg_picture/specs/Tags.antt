@@ -6,7 +6,9 @@ use Rattle.pg_base.specs.Texts.{Bytes}
 pub data Scan : Type 0 where
   Between : List Bytes → Scan  -- between tags
   Begun : List Bytes → Scan  -- behind the sign `<` that begins a tag
-  Opening : Bytes → List Bytes → Scan  -- in the name of a tag that opens, of which so much has been read
+  Opening : Bytes
+      → List Bytes
+      → Scan  -- in the name of a tag that opens, of which so much has been read
   Within : Bytes → List Bytes → Scan  -- behind that name
   Quoted : Bytes → List Bytes → Scan  -- in a value between quotation marks
   Lone : List Bytes → Scan  -- behind the `/` that closes a tag at once
@@ -25,14 +27,22 @@ closing (name ∷ open_tags) = Closing name open_tags
 -- one byte further: 34, 47, 60 and 62 are the signs `"`, `/`, `<` and `>`
 abbrev pub next : Scan → ℕ → Scan
 next (Between tags) c = if c == 60 then Begun tags else Between tags
-next (Begun tags) c = if c == 47 then closing tags else if is_letter c then Opening (c ∷ []) tags else Faulty
+next (Begun tags) c =
+    if c == 47 then closing tags else if is_letter c then Opening (c ∷ []) tags else Faulty
 next (Opening name tags) c =
     if is_letter c then Opening (name ++ c ∷ []) tags else if c == 32 then Within name tags
     else if c == 47 then Lone tags else if c == 62 then Between (name ∷ tags) else Faulty
-next (Within name tags) c =
-    if c == 34 then Quoted name tags else if c == 47 then Lone tags else if c == 62 then Between (name ∷ tags)
-    else if c == 60 then Faulty else Within name tags
-next (Quoted name tags) c = if c == 34 then Within name tags else if c == 60 then Faulty else Quoted name tags
+next (Within name tags) c = if c == 34
+    then Quoted name tags
+    else if c == 47
+    then Lone tags
+    else if c == 62
+    then Between (name ∷ tags)
+    else if c == 60
+    then Faulty
+    else Within name tags
+next (Quoted name tags) c =
+    if c == 34 then Within name tags else if c == 60 then Faulty else Quoted name tags
 next (Lone tags) c = if c == 62 then Between tags else Faulty
 next (Closing [] tags) c = if c == 62 then Between tags else Faulty
 next (Closing (sign ∷ name) tags) c = if c == sign then Closing name tags else Faulty

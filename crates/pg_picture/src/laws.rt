@@ -1,4 +1,5 @@
-//! Laws of pictures' texts. Each function is empty: what it promises is a law of the definitions alone.
+//! Laws of pictures' texts. Each function is empty: what it promises is a law of the definitions
+//! alone.
 ghost use Rattle.std.specs.Prelude.{codes};
 ghost use Rattle.pg_picture.specs.Svg.{picture_text};
 ghost use Rattle.pg_picture.specs.Tags.{CloseInOrder};
@@ -9,7 +10,8 @@ pub fn tags_close_in_order()
     ensures { (p : Picture) → CloseInOrder (picture_text p) }
 {}
 
-/// The scan that says so refuses a tag that stays open, tags that cross, and a tag that closes what wasn't opened.
+/// The scan that says so refuses a tag that stays open, tags that cross, and a tag that closes what
+/// wasn't opened.
 pub fn scan_refuses()
     ensures left_open { ¬ CloseInOrder (codes "<a>b") }
     ensures crossed { ¬ CloseInOrder (codes "<a><b></a></b>") }

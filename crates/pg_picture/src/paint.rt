@@ -1,6 +1,7 @@
 //! What the shapes of a picture are there for.
 
-/// What a shape is there for, which says how it is painted: each is one class of the picture's style sheet.
+/// What a shape is there for, which says how it is painted: each is one class of the picture's
+/// style sheet.
 #[derive(Clone, Copy, Debug, PartialEq, Eq)]
 pub enum Paint {
     /// A free point.
@@ -21,7 +22,8 @@ pub enum Paint {
     EdgeOfX,
     /// An edge of Y.
     EdgeOfY,
-    /// One of the pairs of a pairing: the number of its hue and dash, 0 to 7. A greater number is painted as its remainder by 8.
+    /// One of the pairs of a pairing: the number of its hue and dash, 0 to 7. A greater number is
+    /// painted as its remainder by 8.
     Pair(u8),
     /// An edge of the first tree or cut.
     First,

@@ -72,7 +72,8 @@ fn put_class(out: &mut String, paint: Paint) -> Result<(), AllocError>
 
 /// The class of pairs with this hue and dash.
 fn put_hue(out: &mut String, hue: u8) -> Result<(), AllocError>
-    ensures { OnOk result (string_bytes out.new ≡ string_bytes out.old ++ (codes "pair-" ++ decimal hue)) }
+    ensures { OnOk result
+        (string_bytes out.new ≡ string_bytes out.old ++ (codes "pair-" ++ decimal hue)) }
 {
     write!(out, "pair-{hue}")?;
     Ok(())
@@ -81,7 +82,8 @@ fn put_hue(out: &mut String, hue: u8) -> Result<(), AllocError>
 /// The attribute that says how a shape is painted.
 #[tactic(auto, unfolding(crate::specs::Svg::attribute_text))]
 fn put_paint(out: &mut String, paint: Paint) -> Result<(), AllocError>
-    ensures { OnOk result (string_bytes out.new ≡ string_bytes out.old ++ attribute_text (painted paint)) }
+    ensures { OnOk result
+        (string_bytes out.new ≡ string_bytes out.old ++ attribute_text (painted paint)) }
 {
     out.push_str(" class=\"")?;
     put_class(out, paint)?;
@@ -92,7 +94,8 @@ fn put_paint(out: &mut String, paint: Paint) -> Result<(), AllocError>
 /// An attribute with a number.
 #[tactic(auto, unfolding(crate::specs::Svg::attribute_text))]
 fn put_number(out: &mut String, name: &str, number: u32) -> Result<(), AllocError>
-    ensures { OnOk result (string_bytes out.new ≡ string_bytes out.old ++ attribute_text (numbered name.now number)) }
+    ensures { OnOk result
+        (string_bytes out.new ≡ string_bytes out.old ++ attribute_text (numbered name.now number)) }
 {
     write!(out, " {name}=\"{number}\"")?;
     Ok(())
@@ -100,7 +103,9 @@ fn put_number(out: &mut String, name: &str, number: u32) -> Result<(), AllocErro
 
 /// The attributes of a place, under two names.
 fn put_place(out: &mut String, across: &str, down: &str, place: Place) -> Result<(), AllocError>
-    ensures { OnOk result (string_bytes out.new ≡ string_bytes out.old ++ (attribute_text (numbered across.now place.across) ++ attribute_text (numbered down.now place.down))) }
+    ensures { OnOk result
+        (string_bytes out.new ≡ string_bytes out.old ++ (attribute_text
+        (numbered across.now place.across) ++ attribute_text (numbered down.now place.down))) }
 {
     put_number(out, across, place.across)?;
     put_number(out, down, place.down)?;
@@ -109,7 +114,9 @@ fn put_place(out: &mut String, across: &str, down: &str, place: Place) -> Result
 
 /// A square.
 fn put_square(out: &mut String, corner: Place, side: u32, paint: Paint) -> Result<(), AllocError>
-    ensures { OnOk result (string_bytes out.new ≡ string_bytes out.old ++ shape_text (shapes.Square corner side paint)) }
+    ensures { OnOk result
+        (string_bytes out.new
+        ≡ string_bytes out.old ++ shape_text (shapes.Square corner side paint)) }
 {
     out.push_str("<rect")?;
     put_paint(out, paint)?;
@@ -122,7 +129,9 @@ fn put_square(out: &mut String, corner: Place, side: u32, paint: Paint) -> Resul
 
 /// A disc.
 fn put_disc(out: &mut String, centre: Place, radius: u32, paint: Paint) -> Result<(), AllocError>
-    ensures { OnOk result (string_bytes out.new ≡ string_bytes out.old ++ shape_text (shapes.Disc centre radius paint)) }
+    ensures { OnOk result
+        (string_bytes out.new
+        ≡ string_bytes out.old ++ shape_text (shapes.Disc centre radius paint)) }
 {
     out.push_str("<circle")?;
     put_paint(out, paint)?;
@@ -134,7 +143,8 @@ fn put_disc(out: &mut String, centre: Place, radius: u32, paint: Paint) -> Resul
 
 /// A straight stroke.
 fn put_stroke(out: &mut String, from: Place, to: Place, paint: Paint) -> Result<(), AllocError>
-    ensures { OnOk result (string_bytes out.new ≡ string_bytes out.old ++ shape_text (shapes.Stroke from to paint)) }
+    ensures { OnOk result
+        (string_bytes out.new ≡ string_bytes out.old ++ shape_text (shapes.Stroke from to paint)) }
 {
     out.push_str("<line")?;
     put_paint(out, paint)?;
@@ -146,7 +156,8 @@ fn put_stroke(out: &mut String, from: Place, to: Place, paint: Paint) -> Result<
 
 /// A place in a path, behind a sign.
 fn put_step(out: &mut String, sign: &str, place: Place) -> Result<(), AllocError>
-    ensures { OnOk result (string_bytes out.new ≡ string_bytes out.old ++ (sign.now ++ place_text place)) }
+    ensures { OnOk result
+        (string_bytes out.new ≡ string_bytes out.old ++ (sign.now ++ place_text place)) }
 {
     let across = place.across;
     let down = place.down;
@@ -156,7 +167,8 @@ fn put_step(out: &mut String, sign: &str, place: Place) -> Result<(), AllocError
 
 /// The path of a bent stroke.
 fn put_path(out: &mut String, from: Place, bend: Place, to: Place) -> Result<(), AllocError>
-    ensures { OnOk result (string_bytes out.new ≡ string_bytes out.old ++ attribute_text (path_of from bend to)) }
+    ensures { OnOk result
+        (string_bytes out.new ≡ string_bytes out.old ++ attribute_text (path_of from bend to)) }
 {
     out.push_str(" d=\"")?;
     put_step(out, "M", from)?;
@@ -174,7 +186,9 @@ fn put_bow(
     to: Place,
     paint: Paint,
 ) -> Result<(), AllocError>
-    ensures { OnOk result (string_bytes out.new ≡ string_bytes out.old ++ shape_text (shapes.Bow from bend to paint)) }
+    ensures { OnOk result
+        (string_bytes out.new
+        ≡ string_bytes out.old ++ shape_text (shapes.Bow from bend to paint)) }
 {
     out.push_str("<path")?;
     put_paint(out, paint)?;
@@ -185,7 +199,9 @@ fn put_bow(
 
 /// Words at a place.
 fn put_text(out: &mut String, at: Place, words: &str, paint: Paint) -> Result<(), AllocError>
-    ensures { OnOk result (string_bytes out.new ≡ string_bytes out.old ++ shape_text (shapes.Words at words.now paint)) }
+    ensures { OnOk result
+        (string_bytes out.new
+        ≡ string_bytes out.old ++ shape_text (shapes.Words at words.now paint)) }
 {
     out.push_str("<text")?;
     put_paint(out, paint)?;
@@ -224,7 +240,8 @@ fn put_shape(out: &mut String, shape: &Shape) -> Result<(), AllocError>
 
 /// Shapes in order.
 fn put_shapes(out: &mut String, shapes: &[Shape]) -> Result<(), AllocError>
-    ensures { OnOk result (string_bytes out.new ≡ string_bytes out.old ++ flat_map shape_text shapes.now) }
+    ensures { OnOk result
+        (string_bytes out.new ≡ string_bytes out.old ++ flat_map shape_text shapes.now) }
 {
     for shape in shapes {
         put_shape(out, shape)?;
@@ -234,7 +251,9 @@ fn put_shapes(out: &mut String, shapes: &[Shape]) -> Result<(), AllocError>
 
 /// The title, as it is shown by what shows the picture.
 fn put_title(out: &mut String, title: &str) -> Result<(), AllocError>
-    ensures { OnOk result (string_bytes out.new ≡ string_bytes out.old ++ filled (codes "title") [] (escaped title.now)) }
+    ensures { OnOk result
+        (string_bytes out.new
+        ≡ string_bytes out.old ++ filled (codes "title") [] (escaped title.now)) }
 {
     out.push_str("<title>")?;
     put_words(out, title)?;
@@ -244,7 +263,8 @@ fn put_title(out: &mut String, title: &str) -> Result<(), AllocError>
 
 /// The style sheet.
 fn put_style(out: &mut String) -> Result<(), AllocError>
-    ensures { OnOk result (string_bytes out.new ≡ string_bytes out.old ++ filled (codes "style") [] STYLE.now) }
+    ensures { OnOk result
+        (string_bytes out.new ≡ string_bytes out.old ++ filled (codes "style") [] STYLE.now) }
 {
     out.push_str("<style>")?;
     out.push_str(STYLE)?;
@@ -262,7 +282,8 @@ fn put_head(out: &mut String, width: u32, height: u32) -> Result<(), AllocError>
     Ok(())
 }
 
-/// The text of a picture: SVG 1.1 in ASCII, a shape a line. A sign of its words that isn't printable in ASCII becomes a question mark.
+/// The text of a picture: SVG 1.1 in ASCII, a shape a line. A sign of its words that isn't
+/// printable in ASCII becomes a question mark.
 ///
 /// # Errors
 ///

@@ -57,7 +57,8 @@ pub enum Shape {
     },
     /// Words.
     Words {
-        /// The place on which they are centred, or at which they begin: those of the legend and of the heading.
+        /// The place on which they are centred, or at which they begin: those of the legend and of
+        /// the heading.
         at: Place,
         /// The words.
         words: Text,

@@ -3,8 +3,9 @@
 /// The name space of SVG.
 pub const NAME_SPACE: &str = "http://www.w3.org/2000/svg";
 
-/// How shapes are painted, a class for each paint. What is X's is dark and what is Y's is light, also where it is printed in grey;
-/// pairs differ in their hue and in their dash. Words are 14 units high, marks 18 and the heading 20.
+/// How shapes are painted, a class for each paint. What is X's is dark and what is Y's is light,
+/// also where it is printed in grey; pairs differ in their hue and in their dash. Words are 14
+/// units high, marks 18 and the heading 20.
 pub const STYLE: &str = "
 rect,circle{stroke:#000;stroke-width:1}
 line,path{fill:none;stroke:#000;stroke-width:2}

@@ -20,14 +20,21 @@ use Rattle.pg_game.proofs.WeightBounds.{small_points}
 pub on-small : (line : List ℕ) (u : ℕ) → All (λ v. v < 256) line → is_on u line ≡ true → u < 256
 on-small line u small on =
     let found = member-from_any (λ q. q == u) line on in
-    subst (λ (v : ℕ). v < 256) (eqb-true found.0 u found.2) (All-contains (λ v. v < 256) line found.0 small found.1)
+    subst (λ (v : ℕ). v < 256) (eqb-true found.0 u found.2)
+    (All-contains (λ v. v < 256) line found.0 small found.1)
 
 -- so is one with which a line would be filled
-pub threatens-small : (g : Game) (p : Position) (side : Side) (u : ℕ) → threatens g p side u ≡ true → u < 256
+pub threatens-small : (g : Game) (p : Position) (side : Side) (u : ℕ)
+    → threatens g p side u ≡ true
+    → u < 256
 threatens-small g p side u threat =
     let found = member-from_any (λ line. is_near p side line u) (lines_of g) threat in
-    let near = and_parts (is_free p u) (is_on u found.0 && list_all (λ q. (q == u) || contains (points_of p side) q) found.0) found.2 in
-    on-small found.0 u (All-contains (All (λ v. v < 256)) (lines_of g) found.0 (small_points g) found.1) (and_parts (is_on u found.0) _ near.1).0
+    let near = and_parts (is_free p u)
+    (is_on u found.0 && list_all (λ q. (q == u) || contains (points_of p side) q) found.0)
+    found.2 in
+    on-small found.0 u
+    (All-contains (All (λ v. v < 256)) (lines_of g) found.0 (small_points g) found.1)
+    (and_parts (is_on u found.0) _ near.1).0
 
 -- ---- threat lines
 
@@ -35,13 +42,19 @@ two_fewer : (v u : ℕ) (others : List ℕ) → take (length (v ∷ (u ∷ other
 two_fewer v u others = take_all (length (v ∷ (u ∷ others)) - 2) others (omega arith)
 
 -- after a forced reply the rest of the list decides
-pub leads-on : (g : Game) (p q r : Position) (side : Side) (points : List ℕ) (b : Bool) → 2 ≤ length points → Forcing g p side (get_or points 0 0) (get_or points 1 0)
-    → q ≡ after g p (get_or points 0 0) → r ≡ after g q (get_or points 1 0) → (IsTrue b ↔ LeadsToLine g r side (take (length points - 2) (drop 2 points))) → IsTrue b ↔ LeadsToLine g p side points
+pub leads-on : (g : Game) (p q r : Position) (side : Side) (points : List ℕ) (b : Bool)
+    → 2 ≤ length points
+    → Forcing g p side (get_or points 0 0) (get_or points 1 0)
+    → q ≡ after g p (get_or points 0 0)
+    → r ≡ after g q (get_or points 1 0)
+    → (IsTrue b ↔ LeadsToLine g r side (take (length points - 2) (drop 2 points)))
+    → IsTrue b ↔ LeadsToLine g p side points
 leads-on g p q r side [] b long forcing is_q is_r rest = absurd (omega arith)
 leads-on g p q r side (v ∷ []) b long forcing is_q is_r rest = absurd (omega arith)
 leads-on g p q r side (v ∷ (u ∷ others)) b long forcing is_q is_r rest =
     let reached : r ≡ after g (after g p v) u = is_r ∙ ap (λ (s : Position). after g s u) is_q in
-    let there = subst₂ (λ (s : Position) (xs : List ℕ). IsTrue b ↔ LeadsToLine g s side xs) reached (two_fewer v u others) rest in (
+    let there = subst₂ (λ (s : Position) (xs : List ℕ). IsTrue b ↔ LeadsToLine g s side xs) reached
+    (two_fewer v u others) rest in (
       λ on. (forcing, there.0 on),
       λ leads. there.1 leads.1,
     )

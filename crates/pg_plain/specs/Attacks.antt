@@ -15,7 +15,8 @@ pub record IsGoing (g : Game) (p : Position) : Type 0 where
 
 -- attacks and at most so many forced replies lead to a filled line
 abbrev pub LeadsWithin : ℕ → Game → Position → Side → Type 0
-LeadsWithin depth g p side = (points : List ℕ) × (depth_of points ≤ depth) × LeadsToLine g p side points
+LeadsWithin depth g p side =
+    (points : List ℕ) × (depth_of points ≤ depth) × LeadsToLine g p side points
 
 -- the attack at v forces the reply u, and so it goes on
 pub record IsReply (depth : ℕ) (g : Game) (p : Position) (side : Side) (v u : ℕ) : Type 0 where

@@ -3,7 +3,8 @@ use Rattle.std.specs.Prelude.{Bool, true, false, Option, Some, None}
 use Rattle.pg_base.specs.declared.side.Side.{Side}
 use Rattle.pg_base.specs.declared.side.Side.TheVariants.{X, Y}
 
--- the answer of the move where the side to move wants it, what was known where the move has the other answer, and else only what the side wants
+-- the answer of the move where the side to move wants it, what was known where the move has the
+-- other answer, and else only what the side wants
 abbrev pub with_move : Side → Option Bool → Option Bool → Option Bool
 with_move X (Some true) known = Some true
 with_move X (Some false) known = known

@@ -15,7 +15,8 @@ untouched own lines = filter (λ line. not (is_touched own line)) lines
 abbrev pub have_pairs : FinSet nat_cmp → List (List ℕ) → (ℕ → Bool) → Bool
 have_pairs own lines free = has_private_pairs (untouched own lines) free
 
--- whether a and the greater point b can be a line's pair, so that the other lines have pairs of what is left
+-- whether a and the greater point b can be a line's pair, so that the other lines have pairs of
+-- what is left
 abbrev pub is_pair : FinSet nat_cmp → List (List ℕ) → (ℕ → Bool) → ℕ → ℕ → Bool
 is_pair own others free a b = nat_lt a b && have_pairs own others (minus (minus free a) b)
 

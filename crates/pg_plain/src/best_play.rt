@@ -30,8 +30,8 @@ fn worst(side: Side) -> Score
     }
 }
 
-/// The value of the position: the outcome where it is over, else the best for the side to move of the values after each
-/// move.
+/// The value of the position: the outcome where it is over, else the best for the side to move of
+/// the values after each move.
 ///
 /// X's points must be points of the game. The time grows with the number of all plays.
 pub fn value(judge: &mut Judge, g: &Game, p: &Position) -> Score

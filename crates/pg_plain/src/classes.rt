@@ -31,8 +31,8 @@ fn by_values(with_x: Score, with_y: Score) -> Option<Class>
     }
 }
 
-/// The class of the game at its marks, by its values with each side to move. There is none where the side to move would
-/// lose both times, which no switching game shows.
+/// The class of the game at its marks, by its values with each side to move. There is none where
+/// the side to move would lose both times, which no switching game shows.
 pub fn class_of(judge: &mut Judge, g: &Game) -> Option<Class>
     requires { IsMadeForGame judge.old g.now }
     ensures class { option_map class_named result ≡ class_of g.now }

@@ -74,8 +74,8 @@ fn has_lines(kind: Kind) -> bool
     }
 }
 
-/// Whether each line meant can have two free points of its own, all different. On a graph there are no lines to mean, and
-/// the answer is no.
+/// Whether each line meant can have two free points of its own, all different. On a graph there are
+/// no lines to mean, and the answer is no.
 pub fn pairs_exist(g: &Game, p: &Position, side: Side) -> bool
     ensures { result ≡ pairs_exist g.now p.now side }
 {
@@ -89,7 +89,8 @@ pub fn pairs_exist(g: &Game, p: &Position, side: Side) -> bool
     have_private_pairs(g.lines(), own, &g.free_points(p))
 }
 
-/// What the first criterion that applies answers to the question whether X reaches the score, and None where none applies.
+/// What the first criterion that applies answers to the question whether X reaches the score, and
+/// None where none applies.
 ///
 /// X's points must be points of the game.
 pub fn decided(judge: &mut Judge, g: &Game, wanted: Score, p: &Position) -> Option<bool>

@@ -62,8 +62,9 @@ pub fn side(word: &str) -> Side {
     if word == "x" { Side::X } else { Side::Y }
 }
 
-/// What a game of the kind with so many points or vertices is played on: the lines of the text, of which `three`, `four`
-/// and `five` name those of a board, or its edges. There is none where the text tells none, or no memory is found.
+/// What a game of the kind with so many points or vertices is played on: the lines of the text, of
+/// which `three`, `four` and `five` name those of a board, or its edges. There is none where the
+/// text tells none, or no memory is found.
 pub fn field(alloc: Global, kind: Kind, count: u16, text: &str) -> Option<Field> {
     if kind == Kind::Switching {
         let ends = ends(alloc, text)?;
@@ -82,8 +83,8 @@ pub fn field(alloc: Global, kind: Kind, count: u16, text: &str) -> Option<Field>
     }))
 }
 
-/// The game that a text tells as `KIND COUNT TURN BIAS:LINES:X:Y`. There is none where the text tells none, the game isn't
-/// within the limits, or no memory is found.
+/// The game that a text tells as `KIND COUNT TURN BIAS:LINES:X:Y`. There is none where the text
+/// tells none, the game isn't within the limits, or no memory is found.
 pub fn game(alloc: Global, text: &str) -> Option<Game> {
     let head = part(text, 0);
     let kind = kind(word(head, 0));

@@ -1,4 +1,5 @@
-//! The conditions by which a claim is read off a position: the potentials of Breaker and of Avoider.
+//! The conditions by which a claim is read off a position: the potentials of Breaker and of
+//! Avoider.
 ghost use Rattle.std.specs.Prelude.{◌≡◌, ◌≢◌, ◌+◌, ◌<◌, ◌≤◌, if◌then◌else◌};
 ghost use Rattle.pg_base.specs.declared.kind.Kind.TheVariants.{Switching};
 ghost use Rattle.pg_game.specs.Avoider.{avoider_ends, avoider_risk, avoider_holds};
@@ -86,7 +87,8 @@ fn times_counted(g: &Game, p: &Position, side: Side) -> u8
     }
 }
 
-/// Whether the total, with the greatest weight of a free point as often as it counts, is below the limit.
+/// Whether the total, with the greatest weight of a free point as often as it counts, is below the
+/// limit.
 ///
 /// Erdős and Selfridge, On a combinatorial game (1973).
 pub(crate) fn potential_holds(g: &Game, p: &Position, side: Side) -> bool
@@ -117,8 +119,8 @@ fn avoider_risk(g: &Game, p: &Position) -> u128
     if avoider_ends(g, p) { 2 * total } else { total }
 }
 
-/// Whether the sum of the weights of the lines without a point of Enforcer, twice where Avoider takes the last free
-/// point, is below the limit.
+/// Whether the sum of the weights of the lines without a point of Enforcer, twice where Avoider
+/// takes the last free point, is below the limit.
 pub(crate) fn avoider_holds(g: &Game, p: &Position) -> bool
     ensures { result ≡ avoider_holds g.now p.now }
 {

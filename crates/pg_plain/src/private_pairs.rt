@@ -7,7 +7,8 @@ ghost use Rattle.pg_plain.specs.PairSearch.{have_pairs, is_pair, is_lesser};
 
 use pg_base::{Line, MAX_MEMBERS, PointSet};
 
-/// Whether each of the lines without a point of `own` can have two of the free points of its own, all different.
+/// Whether each of the lines without a point of `own` can have two of the free points of its own,
+/// all different.
 ///
 /// The time grows with the number of all ways to choose the pairs.
 #[cycle(line_after_line)]
@@ -27,12 +28,14 @@ pub fn have_private_pairs(lines: &[Line], own: &PointSet, free: &PointSet) -> bo
     }
 }
 
-/// Whether the line can have a pair of free points, so that the other lines have pairs of what is left.
+/// Whether the line can have a pair of free points, so that the other lines have pairs of what is
+/// left.
 #[cycle(line_after_line)]
 fn has_pair(line: &[u16], others: &[Line], own: &PointSet, free: &PointSet) -> bool
     requires line { All (λ v. v < MAX_MEMBERS) line.now }
     requires others { All (All (λ v. v < MAX_MEMBERS)) others.now }
-    ensures { result ≡ list_any (is_lesser own.now others.now (contains free.now) line.now) (filter (contains free.now) line.now) }
+    ensures { result ≡ list_any (is_lesser own.now others.now (contains free.now) line.now)
+        (filter (contains free.now) line.now) }
 {
     for a in line {
         if free.has(*a) && has_greater(*a, line, others, own, free) {
@@ -48,7 +51,8 @@ fn has_greater(a: u16, line: &[u16], others: &[Line], own: &PointSet, free: &Poi
     requires small { a < MAX_MEMBERS }
     requires line { All (λ v. v < MAX_MEMBERS) line.now }
     requires others { All (All (λ v. v < MAX_MEMBERS)) others.now }
-    ensures { result ≡ list_any (is_pair own.now others.now (contains free.now) a) (filter (contains free.now) line.now) }
+    ensures { result ≡ list_any (is_pair own.now others.now (contains free.now) a)
+        (filter (contains free.now) line.now) }
 {
     for b in line {
         if free.has(*b) && is_rest(a, *b, others, own, free) {

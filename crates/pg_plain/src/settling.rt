@@ -39,10 +39,12 @@ fn with_move(turn: Side, answer: Option<bool>, known: Option<bool>) -> Option<bo
     }
 }
 
-/// The answer to which the list settles the position for the question whether X reaches the score: that of the first
-/// criterion that applies, or for a member what the answers after all its moves give.
+/// The answer to which the list settles the position for the question whether X reaches the score:
+/// that of the first criterion that applies, or for a member what the answers after all its moves
+/// give.
 ///
-/// X's points must be points of the game. The time grows with the number of all plays through members of the list.
+/// X's points must be points of the game. The time grows with the number of all plays through
+/// members of the list.
 pub fn settled(
     judge: &mut Judge,
     g: &Game,

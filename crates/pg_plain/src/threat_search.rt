@@ -20,8 +20,8 @@ fn can_fill(g: &Game, p: &Position, side: Side) -> bool
     false
 }
 
-/// Whether the attack at v forces some reply after which attacks and at most so many further forced replies lead to a
-/// filled line.
+/// Whether the attack at v forces some reply after which attacks and at most so many further forced
+/// replies lead to a filled line.
 #[cycle(attacks_and_replies)]
 fn reply_leads(g: &Game, p: &Position, side: Side, v: u16, depth: u8) -> bool
     ensures { IsTrue result ↔ ReplyLeads depth g.now p.now side v }
@@ -62,7 +62,8 @@ pub fn has_threat_line(g: &Game, p: &Position, depth: u8) -> bool
     is_going(g, p) && leads_within(g, p, p.turn, depth)
 }
 
-/// Whether the side to move wins by filling a line, and has a threat line of at most three forced replies.
+/// Whether the side to move wins by filling a line, and has a threat line of at most three forced
+/// replies.
 #[tactic(auto, unfolding(pg_game::specs::Decided::attack_wins))]
 pub fn attack_wins(g: &Game, p: &Position) -> bool
     ensures { result ≡ attack_wins g.now p.now }

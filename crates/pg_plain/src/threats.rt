@@ -131,8 +131,9 @@ pub(crate) fn is_going(g: &Game, p: &Position) -> bool
     g.bias == 1 && !is_over(g, p)
 }
 
-/// Whether the side is to move in a game that isn't over and in which each side claims one point a turn, and the attacks
-/// and forced replies of the list, one after the other, end in an attack that fills a line. On a graph no list does.
+/// Whether the side is to move in a game that isn't over and in which each side claims one point a
+/// turn, and the attacks and forced replies of the list, one after the other, end in an attack that
+/// fills a line. On a graph no list does.
 pub fn is_threat_line(g: &Game, p: &Position, side: Side, points: &[u16]) -> bool
     ensures { IsTrue result ↔ IsThreatLine g.now p.now side points.now }
 {

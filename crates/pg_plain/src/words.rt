@@ -2,7 +2,8 @@
 use pg_base::{MAX_MEMBERS, Pair, PointSet};
 use std::alloc::Global;
 
-/// The part of a text that has this number, from 0, where `:` stands between parts, and no text where it has fewer.
+/// The part of a text that has this number, from 0, where `:` stands between parts, and no text
+/// where it has fewer.
 pub fn part(text: &str, number: usize) -> &str {
     text.split(':').nth(number).unwrap_or("")
 }
@@ -21,7 +22,8 @@ pub fn numbers(alloc: Global, text: &str) -> Option<Vec<u16>> {
     Some(list)
 }
 
-/// The set of the numbers of a text, unless some word is none, a set can't hold one, or no memory is found.
+/// The set of the numbers of a text, unless some word is none, a set can't hold one, or no memory
+/// is found.
 pub fn set(alloc: Global, text: &str) -> Option<PointSet> {
     let mut points = PointSet::empty();
     for v in &numbers(alloc, text)? {

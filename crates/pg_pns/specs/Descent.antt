@@ -13,7 +13,8 @@ use Rattle.pg_pns.specs.Known.{answer_at}
 -- ---- moves
 
 -- a move whose place has no answer
-pub record IsOpenMove (moves : List (ℕ × ℕ)) (answers : List (Option Answered)) (m : ℕ × ℕ) : Type 0 where
+pub record IsOpenMove (moves : List (ℕ × ℕ)) (answers : List (Option Answered))
+    (m : ℕ × ℕ) : Type 0 where
   pub member : Contains moves m
   pub unanswered : answer_at answers m.1 ≡ None
 

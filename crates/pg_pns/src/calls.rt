@@ -27,8 +27,8 @@ fn most_for(free: u32) -> u32
     MAX_EXPANDED_MOVES / free
 }
 
-/// How many positions a search may expand, where so many are asked for: so few that a claim stays within the limits of the
-/// format.
+/// How many positions a search may expand, where so many are asked for: so few that a claim stays
+/// within the limits of the format.
 pub fn budget_of(g: &Game, positions: u32) -> u32
     ensures exact { result ≡ budget_for (length (free_points g.now (start g.now))) positions }
     ensures most { result ≤ positions }
@@ -39,11 +39,11 @@ pub fn budget_of(g: &Game, positions: u32) -> u32
     if positions < most { positions } else { most }
 }
 
-/// Whether X reaches the score from the game's position, with the claim that shows it; or that so many expansions don't
-/// decide it.
+/// Whether X reaches the score from the game's position, with the claim that shows it; or that so
+/// many expansions don't decide it.
 ///
-/// The positions that are expanded are undecided, and each is one move after one that those before it don't settle.
-/// `work` holds them at every answer.
+/// The positions that are expanded are undecided, and each is one move after one that those before
+/// it don't settle. `work` holds them at every answer.
 ///
 /// # Errors
 ///
@@ -60,7 +60,8 @@ pub fn search(
     requires some { 1 ≤ budget }
     requires limit { budget ≤ MAX_CLAIM_NODES }
     requires few { budget * length (free_points g.now (start g.now)) ≤ MAX_EXPANDED_MOVES }
-    ensures answer { IfOk result (λ found. IsAnswer g.now question budget work.new.positions found) }
+    ensures answer { IfOk result
+        (λ found. IsAnswer g.now question budget work.new.positions found) }
     ensures question { work.new.question ≡ Some question }
     ensures rules { IsTable g.now question work.new.positions }
     ensures count { length work.new.positions ≤ budget }
@@ -70,8 +71,9 @@ pub fn search(
     search_with(alloc, g, question, budget, work, &mut cache)
 }
 
-/// The same with a cache of answers on private pairs for the game's lines. It is asked where no earlier criterion decides
-/// a position and two counts leave it open whether there are such pairs; no clause says how often.
+/// The same with a cache of answers on private pairs for the game's lines. It is asked where no
+/// earlier criterion decides a position and two counts leave it open whether there are such pairs;
+/// no clause says how often.
 ///
 /// # Errors
 ///
@@ -91,7 +93,8 @@ pub fn search_with(
     requires few { budget * length (free_points g.now (start g.now)) ≤ MAX_EXPANDED_MOVES }
     requires fits { Fits cache.old (lines_of g.now) }
     ensures fits { Fits cache.new (lines_of g.now) }
-    ensures answer { IfOk result (λ found. IsAnswer g.now question budget work.new.positions found) }
+    ensures answer { IfOk result
+        (λ found. IsAnswer g.now question budget work.new.positions found) }
     ensures question { work.new.question ≡ Some question }
     ensures rules { IsTable g.now question work.new.positions }
     ensures count { length work.new.positions ≤ budget }

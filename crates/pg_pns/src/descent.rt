@@ -29,10 +29,13 @@ fn first_open(moves: &[(u16, u32)], answers: &[Option<Answered>]) -> Option<(u16
 
 /// The best of the moves at a place, with the place after it, and None where it isn't expanded.
 fn next_on_way(table: &Table, guide: &Guide, place: u32) -> Option<(u16, u32)>
-    requires search { (t : Score) × (list : List Position) × (g : Game) × IsSearch g t [] list table.now }
+    requires search { (t : Score) × (list : List Position) × (g : Game)
+        × IsSearch g t [] list table.now }
     requires range { place < length table.now.positions.items }
-    ensures some { IfSome result (IsOpenMove (get_or table.now.moves.items place []) table.now.answers.items) }
-    ensures none { IfNone result (HasOpen (get_or table.now.moves.items place []) table.now.answers.items → ⊥) }
+    ensures some { IfSome result
+        (IsOpenMove (get_or table.now.moves.items place []) table.now.answers.items) }
+    ensures none { IfNone result
+        (HasOpen (get_or table.now.moves.items place []) table.now.answers.items → ⊥) }
 {
     let positions = table.positions.as_slice();
     let side = positions[place as usize].turn;
@@ -46,9 +49,11 @@ fn next_on_way(table: &Table, guide: &Guide, place: u32) -> Option<(u16, u32)>
     first_open(moves, answers)
 }
 
-/// Goes down from the root by the best moves, on the board too, and gives the place of the position that is expanded next.
+/// Goes down from the root by the best moves, on the board too, and gives the place of the position
+/// that is expanded next.
 pub(crate) fn go_down(table: &Table, guide: &Guide, board: &mut Board<'_>) -> u32
-    requires search { (t : Score) × (list : List Position) × IsSearch board.old.game t [] list table.now }
+    requires search { (t : Score) × (list : List Position)
+        × IsSearch board.old.game t [] list table.now }
     requires opened { answer_at table.now.answers.items 0 ≡ None }
     requires starts { IsAtStart board.old.game board.old }
     ensures next { IsNext table.now result }

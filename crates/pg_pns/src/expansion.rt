@@ -39,7 +39,8 @@ use std::alloc::Global;
 /// Adds a place before the place.
 fn add_parent(parents: &mut [Places], place: u32, k: u32) -> Result<(), Memory>
     requires { place < length parents.old }
-    ensures { OnOk result ((ups : List ℕ) → slice_get parents.old place ≡ Some ups → parents.new ≡ slice_set parents.old place (ups ++ k ∷ [])) }
+    ensures { OnOk result ((ups : List ℕ) → slice_get parents.old place ≡ Some ups
+        → parents.new ≡ slice_set parents.old place (ups ++ k ∷ [])) }
 {
     let ups = &mut parents[place as usize];
     ups.push(k)?;
@@ -67,10 +68,13 @@ fn meet_move(
     requires point { v < point_count g.now }
     requires free { is_free p.now v ≡ true }
     requires few { length table.old.positions.items < 2 ^ 32 }
-    requires grows { (list : List Position) × IsGrowing g.now question list k p.now v table.old nexts.old }
+    requires grows { (list : List Position)
+        × IsGrowing g.now question list k p.now v table.old nexts.old }
     ensures kept { board.new ≡ board.old }
     ensures fits { Fits cache.new (lines_of g.now) }
-    ensures grows { OnOk result ((list : List Position) → IsGrowing g.now question list k p.now v table.old nexts.old → IsGrowing g.now question list k p.now (v + 1) table.new nexts.new) }
+    ensures grows { OnOk result
+        ((list : List Position) → IsGrowing g.now question list k p.now v table.old nexts.old
+        → IsGrowing g.now question list k p.now (v + 1) table.new nexts.new) }
 {
     let place = meet_after(alloc, g, question, p, v, board, cache, table)?;
     add_parent(table.parents.as_mut_slice(), place, k)?;
@@ -90,12 +94,17 @@ fn expand(
 ) -> Result<(), Memory>
     requires asked { IsQuestion g.now.kind question }
     requires lines { g.now.kind ≢ Switching }
-    requires stands { (p : Position) → slice_get table.old.positions.items k ≡ Some p → IsAt g.now p board.old }
+    requires stands { (p : Position) → slice_get table.old.positions.items k ≡ Some p
+        → IsAt g.now p board.old }
     requires fits { Fits cache.old (lines_of g.now) }
-    requires grows { (list : List Position) × (p : Position) × CanGrow g.now question list table.old k p × (1 + (length list + 1) * length (free_points g.now (start g.now)) ≤ 100000) }
+    requires grows { (list : List Position) × (p : Position)
+        × CanGrow g.now question list table.old k p
+        × (1 + (length list + 1) * length (free_points g.now (start g.now)) ≤ 100000) }
     ensures kept { board.new ≡ board.old }
     ensures fits { Fits cache.new (lines_of g.now) }
-    ensures grows { OnOk result ((list : List Position) → (p : Position) → CanGrow g.now question list table.old k p → IsSearch g.now question (k ∷ []) (list ++ p ∷ []) table.new) }
+    ensures grows { OnOk result
+        ((list : List Position) → (p : Position) → CanGrow g.now question list table.old k p
+        → IsSearch g.now question (k ∷ []) (list ++ p ∷ []) table.new) }
 {
     let positions = table.positions.as_slice();
     let p = positions[k as usize];
@@ -122,7 +131,8 @@ fn settle_table(
 ) -> Result<(), Memory>
     requires some { (list : List Position) × IsSearch g.now question (k ∷ []) list table.old }
     requires few { length table.old.positions.items ≤ MAX_CLAIM_NODES }
-    ensures { OnOk result ((list : List Position) → IsSearch g.now question (k ∷ []) list table.old → IsSearch g.now question [] list table.new) }
+    ensures { OnOk result ((list : List Position) → IsSearch g.now question (k ∷ []) list table.old
+        → IsSearch g.now question [] list table.new) }
 {
     settle_from(
         alloc,
@@ -141,7 +151,8 @@ fn settle_table(
 /// Keeps the position that is expanded, behind the others, with its place.
 fn keep(expanded: &mut IndexMap<Position, u32>, p: Position, place: u32) -> Result<(), Memory>
     requires fresh { Contains (keys_of expanded.old.entries) p → ⊥ }
-    ensures kept { OnOk result (keys_of expanded.new.entries ≡ keys_of expanded.old.entries ++ p ∷ []) }
+    ensures kept { OnOk result
+        (keys_of expanded.new.entries ≡ keys_of expanded.old.entries ++ p ∷ []) }
     ensures same { OnErr result (keys_of expanded.new.entries ≡ keys_of expanded.old.entries) }
 {
     expanded.insert(p, place)?;
@@ -174,12 +185,15 @@ fn step(
     requires fits { Fits cache.old (lines_of g.now) }
     requires search { IsSearch g.now question [] (keys_of work.old.entries) table.old }
     requires unanswered { answer_at table.old.answers.items 0 ≡ None }
-    requires few { 1 + (length (keys_of work.old.entries) + 1) * length (free_points g.now (start g.now)) ≤ MAX_CLAIM_NODES }
+    requires few { 1
+        + (length (keys_of work.old.entries) + 1) * length (free_points g.now (start g.now))
+        ≤ MAX_CLAIM_NODES }
     ensures fits { Fits cache.new (lines_of g.now) }
     ensures rules { IsTable g.now question (keys_of work.new.entries) }
     ensures more { length (keys_of work.new.entries) ≤ length (keys_of work.old.entries) + 1 }
     ensures starts { OnOk result (IsAtStart g.now board.new) }
-    ensures count { OnOk result (length (keys_of work.new.entries) ≡ length (keys_of work.old.entries) + 1) }
+    ensures count { OnOk result
+        (length (keys_of work.new.entries) ≡ length (keys_of work.old.entries) + 1) }
     ensures search { OnOk result (IsSearch g.now question [] (keys_of work.new.entries) table.new) }
 {
     let k = go_down(table, guide, board);
@@ -205,7 +219,9 @@ fn claim_of(
     requires some { (list : List Position) × IsSearch g.now question [] list table }
     requires few { length table.positions.items ≤ MAX_CLAIM_NODES }
     requires root { slice_get table.answers.items 0 ≡ Some (Some answered) }
-    ensures { IfOk result (λ found. (list : List Position) → (budget : ℕ) → IsSearch g.now question [] list table → IsAnswer g.now question budget list found) }
+    ensures { IfOk result
+        (λ found. (list : List Position) → (budget : ℕ) → IsSearch g.now question [] list table
+        → IsAnswer g.now question budget list found) }
 {
     let Table {
         positions: _positions,
@@ -231,8 +247,8 @@ fn claim_of(
     }
 }
 
-/// Expands positions, which are kept in their order, until the root has an answer or so many are expanded, and gives the
-/// root's answer.
+/// Expands positions, which are kept in their order, until the root has an answer or so many are
+/// expanded, and gives the root's answer.
 fn find_answer(
     alloc: Global,
     g: &Game,
@@ -253,9 +269,12 @@ fn find_answer(
     ensures fits { Fits cache.new (lines_of g.now) }
     ensures rules { IsTable g.now question (keys_of expanded.new.entries) }
     ensures count { length (keys_of expanded.new.entries) ≤ budget }
-    ensures search { OnOk result (IsSearch g.now question [] (keys_of expanded.new.entries) table.new) }
-    ensures some { IfOk result (λ found. IfSome found (λ a. slice_get table.new.answers.items 0 ≡ Some (Some a))) }
-    ensures none { IfOk result (λ found. IfNone found ((answer_at table.new.answers.items 0 ≡ None) × (length (keys_of expanded.new.entries) ≡ budget))) }
+    ensures search { OnOk result
+        (IsSearch g.now question [] (keys_of expanded.new.entries) table.new) }
+    ensures some { IfOk result
+        (λ found. IfSome found (λ a. slice_get table.new.answers.items 0 ≡ Some (Some a))) }
+    ensures none { IfOk result (λ found. IfNone found ((answer_at table.new.answers.items 0 ≡ None)
+        × (length (keys_of expanded.new.entries) ≡ budget))) }
 {
     let mut guide = Guide::new(alloc);
     for n in 0..budget {
@@ -270,8 +289,8 @@ fn find_answer(
     Ok(root_answer(table))
 }
 
-/// Whether X reaches the score from the game's position, at which the board stands, found by expanding positions, which are
-/// kept in their order.
+/// Whether X reaches the score from the game's position, at which the board stands, found by
+/// expanding positions, which are kept in their order.
 fn explore_on(
     alloc: Global,
     g: &Game,
@@ -288,7 +307,8 @@ fn explore_on(
     requires few { budget * length (free_points g.now (start g.now)) ≤ MAX_EXPANDED_MOVES }
     requires empty { (keys_of expanded.old.entries) ≡ [] }
     ensures fits { Fits cache.new (lines_of g.now) }
-    ensures answer { IfOk result (λ found. IsAnswer g.now question budget (keys_of expanded.new.entries) found) }
+    ensures answer { IfOk result
+        (λ found. IsAnswer g.now question budget (keys_of expanded.new.entries) found) }
     ensures rules { IsTable g.now question (keys_of expanded.new.entries) }
     ensures count { length (keys_of expanded.new.entries) ≤ budget }
 {
@@ -302,7 +322,8 @@ fn explore_on(
     }
 }
 
-/// Whether X reaches the score from the game's position, found by expanding positions, which are kept in their order.
+/// Whether X reaches the score from the game's position, found by expanding positions, which are
+/// kept in their order.
 pub(crate) fn explore(
     alloc: Global,
     g: &Game,
@@ -317,7 +338,8 @@ pub(crate) fn explore(
     requires few { budget * length (free_points g.now (start g.now)) ≤ MAX_EXPANDED_MOVES }
     requires empty { (keys_of expanded.old.entries) ≡ [] }
     ensures fits { Fits cache.new (lines_of g.now) }
-    ensures answer { IfOk result (λ found. IsAnswer g.now question budget (keys_of expanded.new.entries) found) }
+    ensures answer { IfOk result
+        (λ found. IsAnswer g.now question budget (keys_of expanded.new.entries) found) }
     ensures rules { IsTable g.now question (keys_of expanded.new.entries) }
     ensures count { length (keys_of expanded.new.entries) ≤ budget }
 {

@@ -11,8 +11,8 @@ use crate::table::Table;
 use pg_base::{Memory, Side};
 use std::alloc::Global;
 
-/// The numbers of the positions met, and the orders in which the moves of those that are expanded are gone through, all by
-/// place.
+/// The numbers of the positions met, and the orders in which the moves of those that are expanded
+/// are gone through, all by place.
 #[derive(Debug, Drop)]
 pub(crate) struct Guide {
     numbers: Vec<Numbers>,
@@ -92,7 +92,8 @@ fn renumber_at(table: &Table, place: u32, numbers: &mut [Numbers]) -> bool {
     true
 }
 
-/// Brings the numbers at the places up to date, and gives the places above those whose numbers changed.
+/// Brings the numbers at the places up to date, and gives the places above those whose numbers
+/// changed.
 fn renumber_all(
     alloc: Global,
     table: &Table,
@@ -120,8 +121,8 @@ impl Guide {
         }
     }
 
-    /// The first of the moves at a place, in their order, without an answer and of least number; None where there is none
-    /// for want of an order.
+    /// The first of the moves at a place, in their order, without an answer and of least number;
+    /// None where there is none for want of an order.
     pub(crate) fn best(
         &self,
         side: Side,
@@ -162,8 +163,8 @@ impl Guide {
         }
     }
 
-    /// Takes the order of the moves at a place that was expanded, and brings the numbers up to date, level by level
-    /// upwards: a position before another has one free point more.
+    /// Takes the order of the moves at a place that was expanded, and brings the numbers up to
+    /// date, level by level upwards: a position before another has one free point more.
     pub(crate) fn update(
         &mut self,
         alloc: Global,

@@ -1,4 +1,5 @@
-//! A search for the answer to a question on a game: whether X reaches a score, with a claim that shows the answer.
+//! A search for the answer to a question on a game: whether X reaches a score, with a claim that
+//! shows the answer.
 #![tactic(auto)]
 
 mod calls;

@@ -78,7 +78,8 @@ fn by_moves(turn: Side, moves: &[(u16, u32)], numbers: &[Numbers]) -> Numbers {
     }
 }
 
-/// The numbers of a position, from its answer or from its moves, of which it has none before it is expanded.
+/// The numbers of a position, from its answer or from its moves, of which it has none before it is
+/// expanded.
 pub(crate) fn fresh_numbers(
     answer: Option<Answered>,
     turn: Side,

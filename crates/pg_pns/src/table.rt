@@ -28,7 +28,8 @@ use pg_match::PairCache;
 use std::alloc::Global;
 use std::collections::HashMap;
 
-/// The positions met, each at its place: their moves once they are expanded, the places before them, and their answers.
+/// The positions met, each at its place: their moves once they are expanded, the places before
+/// them, and their answers.
 #[derive(Debug, Drop)]
 pub(crate) struct Table {
     pub(crate) positions: Vec<Position>,
@@ -39,7 +40,8 @@ pub(crate) struct Table {
     pub(crate) claims: Claims,
 }
 
-/// The answer of a criterion at a position, at which the board stands, kept with a node that shows it.
+/// The answer of a criterion at a position, at which the board stands, kept with a node that shows
+/// it.
 pub(crate) fn leaf_answer(
     alloc: Global,
     g: &Game,
@@ -58,7 +60,8 @@ pub(crate) fn leaf_answer(
     requires no_room { length (nodes_of claims.old false) < 2 ^ 32 }
     ensures kept { board.new ≡ board.old }
     ensures fits { Fits cache.new (lines_of g.now) }
-    ensures adds { IfOk result (λ a. LeafAdds g.now question p.now a (nodes_of claims.old) (nodes_of claims.new)) }
+    ensures adds { IfOk result
+        (λ a. LeafAdds g.now question p.now a (nodes_of claims.old) (nodes_of claims.new)) }
 {
     match leaf(alloc, g, question, p, board, cache)? {
         Some((answer, body)) => {
@@ -140,8 +143,8 @@ impl Table {
     }
 }
 
-/// The place of the position after a move of the position at which the board stands, which is added where it wasn't met
-/// yet.
+/// The place of the position after a move of the position at which the board stands, which is added
+/// where it wasn't met yet.
 pub(crate) fn meet_after(
     alloc: Global,
     g: &Game,
@@ -164,7 +167,8 @@ pub(crate) fn meet_after(
     requires tree { IsTreeOf g.now question table.old }
     ensures kept { board.new ≡ board.old }
     ensures fits { Fits cache.new (lines_of g.now) }
-    ensures met { IfOk result (λ place. IsMetAt g.now question table.old table.new (after g.now p.now v) place) }
+    ensures met { IfOk result
+        (λ place. IsMetAt g.now question table.old table.new (after g.now p.now v) place) }
 {
     let q = g.after(p, v);
     if let Some(known) = table.find(&q) {

@@ -18,7 +18,8 @@ pub record AreAmong (corners : Corners) (cells : List Cell) : Type 0 where
 abbrev pub apart : ℕ → ℕ → ℕ
 apart a b = (a - b) + (b - a)
 
--- the upper and the lower one are less apart than the grid is high, and the other two than it is wide
+-- the upper and the lower one are less apart than the grid is high, and the other two than it is
+-- wide
 abbrev pub are_near : Grid → Corners → Bool
 are_near grid corners =
     nat_lt (apart corners.top.row corners.bottom.row) grid.height

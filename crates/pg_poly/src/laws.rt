@@ -16,5 +16,6 @@ pub fn shapes_are_told()
 
 /// The list by which a game file's shapes become lines has each placement once, in order.
 pub fn placements_are_listed()
-    ensures { (grid : Grid) → (cells : List Cell) → 0 < length cells → ArePlacements grid cells (placements_of grid cells) }
+    ensures { (grid : Grid) → (cells : List Cell) → 0 < length cells
+        → ArePlacements grid cells (placements_of grid cells) }
 {}

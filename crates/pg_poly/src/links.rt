@@ -9,7 +9,8 @@ use std::alloc::Global;
 
 /// Each label that is the first becomes the second.
 fn merge(labels: &mut [usize], from: usize, to: usize)
-    ensures { (k : ℕ) → k < length labels.old → slice_index labels.new k ≡ merged from to (slice_index labels.old k) }
+    ensures { (k : ℕ) → k < length labels.old
+        → slice_index labels.new k ≡ merged from to (slice_index labels.old k) }
 {
     if from == to {
         return;
@@ -34,7 +35,8 @@ fn own_labels(alloc: Global, n: usize) -> Result<Vec<usize>, Memory>
 
 /// Whether all labels are the first one.
 fn are_equal(labels: &[usize]) -> bool
-    ensures { IsTrue result ↔ ((k : ℕ) → k < length labels.now → slice_index labels.now k ≡ slice_index labels.now 0) }
+    ensures { IsTrue result
+        ↔ ((k : ℕ) → k < length labels.now → slice_index labels.now k ≡ slice_index labels.now 0) }
 {
     for label in labels {
         if *label != labels[0] {

@@ -12,7 +12,8 @@ use pg_base::Memory;
 use std::alloc::Global;
 use std::marker::Model;
 
-/// A polyomino (Golomb 1954; Harary's animals): cells of which any two are linked by steps between cells that share a side.
+/// A polyomino (Golomb 1954; Harary's animals): cells of which any two are linked by steps between
+/// cells that share a side.
 #[derive(Debug, Drop)]
 pub struct Shape {
     cells: Vec<Cell>,
@@ -110,8 +111,8 @@ impl Shape {
     ///
     /// # Errors
     ///
-    /// `Large` exactly where the word has more than 100 signs `1`, else `Form` exactly where it isn't a shape, and `Memory` where
-    /// no memory is found.
+    /// `Large` exactly where the word has more than 100 signs `1`, else `Form` exactly where it
+    /// isn't a shape, and `Memory` where no memory is found.
     pub fn read(alloc: Global, word: &[u8]) -> Result<Shape, ShapeFault>
         ensures cells { IfOk result (λ shape. shape ≡ cells_of word.now) }
         ensures count { IfOk result (λ shape. length shape ≡ ones word.now) }

@@ -7,7 +7,8 @@ unneeded : (b : Bool) (m w : ℕ) → w ≤ m → max m 0 ≡ max m (if b then w
 unneeded true m w h = omega (arith, h)
 unneeded false m w h = refl
 
-pub weight-raised : (b : Bool) (m w : ℕ) → max m (if nat_lt m w && b then w else 0) ≡ max m (if b then w else 0)
+pub weight-raised : (b : Bool) (m w : ℕ)
+    → max m (if nat_lt m w && b then w else 0) ≡ max m (if b then w else 0)
 weight-raised b m w = elim (cases_Bool (nat_lt m w)) [
   | inl on ↦ rw on refl
   | inr off ↦ let le = ltb-false m w off in rw off (unneeded b m w le)

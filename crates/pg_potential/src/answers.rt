@@ -12,8 +12,9 @@ use pg_game::{Game, Position, lowest_with};
 
 /// The answer by the potential: the lowest free point of greatest weight.
 ///
-/// Where the potential holds with the side to move, it holds after the answer, which may still be within the side's turn.
-/// The game is one on lines, and some point is free. The time is linear in the points of all lines; it takes no memory.
+/// Where the potential holds with the side to move, it holds after the answer, which may still be
+/// within the side's turn. The game is one on lines, and some point is free. The time is linear in
+/// the points of all lines; it takes no memory.
 pub fn answer(g: &Game, p: &Position, side: Side) -> u16
     requires lines { g.now.kind ≢ Switching }
     requires position { IsPosition g.now p.now }
@@ -21,8 +22,15 @@ pub fn answer(g: &Game, p: &Position, side: Side) -> u16
     ensures rule { result ≡ potential_answer g.now p.now side }
     ensures within { result < point_count g.now }
     ensures free { is_free p.now result ≡ true }
-    ensures keeps_breaker { g.now.kind ≡ MakerBreaker → side ≡ Y → p.now.turn ≡ side → PotentialHolds g.now p.now side → PotentialHolds g.now (after g.now p.now result) side }
-    ensures keeps_draw { g.now.kind ≡ MakerMaker → p.now.turn ≡ side → PotentialHolds g.now p.now side → PotentialHolds g.now (after g.now p.now result) side }
+    ensures keeps_breaker { g.now.kind ≡ MakerBreaker
+        → side ≡ Y
+        → p.now.turn ≡ side
+        → PotentialHolds g.now p.now side
+        → PotentialHolds g.now (after g.now p.now result) side }
+    ensures keeps_draw { g.now.kind ≡ MakerMaker
+        → p.now.turn ≡ side
+        → PotentialHolds g.now p.now side
+        → PotentialHolds g.now (after g.now p.now result) side }
 {
     let weights = weights_for(g, p, side);
     let greatest = greatest_free(g, p, &weights.points);

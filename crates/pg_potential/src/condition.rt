@@ -15,7 +15,8 @@ pub(crate) fn weights_for(g: &Game, p: &Position, side: Side) -> Weights
     ensures total { result.total ≡ total g.now p.now side }
     ensures few { result.total ≤ 2 ^ 115 }
     ensures count { length result.points ≡ MAX_POINTS }
-    ensures points { (v : ℕ) → v < MAX_POINTS → get_or result.points v 0 ≡ weight g.now p.now side v }
+    ensures points { (v : ℕ) → v < MAX_POINTS
+        → get_or result.points v 0 ≡ weight g.now p.now side v }
 {
     weigh(g, 1 + u128::from(g.bias), p.points_of(side), p)
 }
@@ -30,7 +31,8 @@ fn total_for(g: &Game, p: &Position, side: Side) -> u128
 
 /// The sum of the weights of the lines without a point of the side.
 ///
-/// A line weighs `1 + q` to the power of the greatest length of a line less its free points, where Y claims q points a turn.
+/// A line weighs `1 + q` to the power of the greatest length of a line less its free points, where
+/// Y claims q points a turn.
 pub fn total(g: &Game, p: &Position, side: Side) -> u128
     requires { IsPosition g.now p.now }
     ensures { result ≡ total g.now p.now side }
@@ -60,7 +62,9 @@ pub fn limit(g: &Game) -> u128
 fn free_weight(p: &Position, points: &[u128; MAX_POINTS], v: u16, least: u128) -> u128
     requires count { length points.now ≡ MAX_POINTS }
     requires small { v < MAX_POINTS }
-    ensures { result ≡ (if nat_lt least (get_or points.now v 0) && is_free p.now v then get_or points.now v 0 else 0) }
+    ensures { result ≡ (if nat_lt least (get_or points.now v 0) && is_free p.now v
+        then get_or points.now v 0
+        else 0) }
 {
     let weight = points[usize::from(v)];
     if weight > least && p.is_free(v) {
@@ -86,8 +90,8 @@ pub(crate) fn greatest_free(g: &Game, p: &Position, points: &[u128; MAX_POINTS])
     greatest
 }
 
-/// How often the greatest weight counts: as often as the other side may still claim a point before the side's next
-/// whole turn, or as often as the side has claimed one in its turn.
+/// How often the greatest weight counts: as often as the other side may still claim a point before
+/// the side's next whole turn, or as often as the side has claimed one in its turn.
 fn times_counted(g: &Game, p: &Position, side: Side) -> u8
     requires { IsPosition g.now p.now }
     ensures times { result ≡ times_counted g.now p.now side }
@@ -108,8 +112,8 @@ fn greatest_weight(g: &Game, p: &Position, side: Side) -> u128
     greatest_free(g, p, &weights_for(g, p, side).points)
 }
 
-/// Whether the total, with the greatest weight of a free point as often as it counts, is below the limit. No point weighs
-/// more than all lines, so the weights of points are often not needed.
+/// Whether the total, with the greatest weight of a free point as often as it counts, is below the
+/// limit. No point weighs more than all lines, so the weights of points are often not needed.
 fn is_low(g: &Game, p: &Position, side: Side) -> bool
     requires lines { g.now.kind ≢ Switching }
     requires position { IsPosition g.now p.now }
@@ -127,19 +131,24 @@ fn is_low(g: &Game, p: &Position, side: Side) -> bool
     total + times * greatest_weight(g, p, side) < limit
 }
 
-/// Whether the potential is low enough for the side: the total, with the greatest weight of a free point as often as it
-/// counts, is below the limit.
+/// Whether the potential is low enough for the side: the total, with the greatest weight of a free
+/// point as often as it counts, is below the limit.
 ///
-/// The greatest weight counts q times where the other side is to move, and where the side is to move, as often as it
-/// has claimed a point in its turn. Where it holds Y wins in Maker-Breaker, and the side gets at least a draw in
-/// Maker-Maker. The time is linear in the points of all lines; it takes no memory.
+/// The greatest weight counts q times where the other side is to move, and where the side is to
+/// move, as often as it has claimed a point in its turn. Where it holds Y wins in Maker-Breaker,
+/// and the side gets at least a draw in Maker-Maker. The time is linear in the points of all lines;
+/// it takes no memory.
 ///
-/// Erdős and Selfridge, On a combinatorial game (1973); for q above 1 the weights are those of Beck's biased form (1982).
+/// Erdős and Selfridge, On a combinatorial game (1973); for q above 1 the weights are those of
+/// Beck's biased form (1982).
 pub fn holds(g: &Game, p: &Position, side: Side) -> bool
     requires lines { g.now.kind ≢ Switching }
     requires position { IsPosition g.now p.now }
     ensures exact { IsTrue result ↔ PotentialHolds g.now p.now side }
-    ensures breaker { IsTrue result → g.now.kind ≡ Kind.MakerBreaker → side ≡ Side.Y → Forces g.now p.now side Win }
+    ensures breaker { IsTrue result
+        → g.now.kind ≡ Kind.MakerBreaker
+        → side ≡ Side.Y
+        → Forces g.now p.now side Win }
     ensures draw { IsTrue result → g.now.kind ≡ Kind.MakerMaker → Forces g.now p.now side Draw }
 {
     is_low(g, p, side)

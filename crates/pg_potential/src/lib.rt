@@ -1,4 +1,5 @@
-//! The potential of Erdős and Selfridge: the weights of lines, the test, what it forces, and the answer.
+//! The potential of Erdős and Selfridge: the weights of lines, the test, what it forces, and the
+//! answer.
 #![tactic(auto)]
 
 mod answers;

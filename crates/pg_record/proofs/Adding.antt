@@ -16,8 +16,13 @@ module _ (g : Game) (events : List Event) where
   some : 0 < length (replay g events).moves → (length (replay g events).moves == 0) ≡ false
   some h = grind (arith, nat_tests)
 
-  pub move-added : (v : ℕ) → is_err (judged_move g (replay g events).position v) ≡ false → length events < 10000 → with_one g events (Play v) ≡ Ok (events ++ Play v ∷ [])
+  pub move-added : (v : ℕ)
+      → is_err (judged_move g (replay g events).position v) ≡ false
+      → length events < 10000
+      → with_one g events (Play v) ≡ Ok (events ++ Play v ∷ [])
   move-added v legal few = let room = has_room few in rw (legal, room) refl
 
-  pub back-added : 0 < length (replay g events).moves → length events < 10000 → with_one g events Back ≡ Ok (events ++ Back ∷ [])
+  pub back-added : 0 < length (replay g events).moves
+      → length events < 10000
+      → with_one g events Back ≡ Ok (events ++ Back ∷ [])
   back-added h few = let on = some h in let room = has_room few in rw (on, room) refl

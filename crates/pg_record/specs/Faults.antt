@@ -18,12 +18,16 @@ abbrev pub is_refused : Game → List Event → Option ℕ → Bool
 is_refused g events None = false
 is_refused g events (Some v) = is_err (judged_move g (replay g events).position v)
 
--- the faults that a line of these words can have behind such events, in ascending order, each with whether it applies
+-- the faults that a line of these words can have behind such events, in ascending order, each with
+-- whether it applies
 abbrev pub line_faults : Game → List Event → List Bytes → List (Fault × Bool)
 line_faults g events [] = (faults.Form, true) ∷ []
-line_faults g events (name ∷ []) = (faults.Form, not (bytes_eq name (codes "back"))) ∷ (faults.Nothing, length (replay g events).moves == 0) ∷ (faults.Limit, is_full events) ∷ []
-line_faults g events (name ∷ word ∷ []) =
-    (faults.Form, not (bytes_eq name (codes "move"))) ∷ (faults.Number, is_none (number word)) ∷ (faults.Move, is_refused g events (number word)) ∷ (faults.Limit, is_full events) ∷ []
+line_faults g events (name ∷ []) = (faults.Form, not (bytes_eq name (codes "back")))
+    ∷ (faults.Nothing, length (replay g events).moves == 0) ∷ (faults.Limit, is_full events) ∷ []
+line_faults g events (name ∷ word ∷ []) = (faults.Form, not (bytes_eq name (codes "move"))) ∷ (
+  faults.Number,
+  is_none (number word),
+) ∷ (faults.Move, is_refused g events (number word)) ∷ (faults.Limit, is_full events) ∷ []
 line_faults g events (name ∷ word ∷ other ∷ others) = (faults.Form, true) ∷ []
 
 -- the file is too large
@@ -51,4 +55,5 @@ pub record IsFaultOfLine (g : Game) (text : Bytes) (fault : Fault) (number : ℕ
 
 -- the three ways
 abbrev pub IsFirstFault : Game → Bytes → Fault → ℕ → Type 0
-IsFirstFault g text fault number = IsTooLarge text fault number ⊎ (IsWithoutHeader text fault number ⊎ IsFaultOfLine g text fault number)
+IsFirstFault g text fault number = IsTooLarge text fault number
+    ⊎ (IsWithoutHeader text fault number ⊎ IsFaultOfLine g text fault number)

@@ -25,7 +25,8 @@ move_of (Some v) = Ok (Play v)
 abbrev pub event_from : List Bytes → Result Event Fault
 event_from [] = Err faults.Form
 event_from (name ∷ []) = if bytes_eq name (codes "back") then Ok Back else Err faults.Form
-event_from (name ∷ word ∷ []) = if bytes_eq name (codes "move") then move_of (number word) else Err faults.Form
+event_from (name ∷ word ∷ []) =
+    if bytes_eq name (codes "move") then move_of (number word) else Err faults.Form
 event_from (name ∷ word ∷ other ∷ others) = Err faults.Form
 
 -- the event that a line says: words stand behind single spaces, and may be empty
@@ -40,8 +41,10 @@ is_full events = nat_le MAX_EVENTS (length events)
 
 -- the faults that an event can have behind others, in ascending order, each with whether it applies
 abbrev pub event_faults : Game → List Event → Event → List (Fault × Bool)
-event_faults g events (Play v) = (faults.Move, is_err (judged_move g (replay g events).position v)) ∷ (faults.Limit, is_full events) ∷ []
-event_faults g events Back = (faults.Nothing, length (replay g events).moves == 0) ∷ (faults.Limit, is_full events) ∷ []
+event_faults g events (Play v) = (faults.Move, is_err (judged_move g (replay g events).position v))
+    ∷ (faults.Limit, is_full events) ∷ []
+event_faults g events Back =
+    (faults.Nothing, length (replay g events).moves == 0) ∷ (faults.Limit, is_full events) ∷ []
 
 -- the events with one more, or its fault
 abbrev pub with_one : Game → List Event → Event → Result (List Event) Fault
@@ -54,8 +57,11 @@ after g events line = and_then (event_of line) (with_one g events)
 -- what the lines say: the first line stands apart, and of the others the first faulty one decides
 abbrev pub said : Game → List Bytes → Result (List Event) (Fault × ℕ)
 said g [] = Err (faults.Header, 1)
-said g (first ∷ others) = if bytes_eq first (codes "posgame-record 1") then reading (after g) 2 [] others else Err (faults.Header, 1)
+said g (first ∷ others) = if bytes_eq first (codes "posgame-record 1")
+    then reading (after g) 2 [] others
+    else Err (faults.Header, 1)
 
 -- the events that a file tells of a game, or its first fault with the number of the line
 unfoldable pub record_of : Game → Bytes → Result (List Event) (Fault × ℕ)
-record_of g text = if nat_lt MAX_RECORD_BYTES (length text) then Err (faults.Size, 0) else said g (lines text)
+record_of g text =
+    if nat_lt MAX_RECORD_BYTES (length text) then Err (faults.Size, 0) else said g (lines text)

@@ -44,7 +44,8 @@ positions_along g p (v ∷ others) = p ∷ positions_along g (after g p v) other
 
 -- ---- which events may stand
 
--- an event may follow where these moves stand: a legal move, or `back` where there is a move to take back
+-- an event may follow where these moves stand: a legal move, or `back` where there is a move to
+-- take back
 abbrev pub MayFollow : Game → List ℕ → Event → Type 0
 MayFollow g moves (Play v) = is_ok (judged_move g (position_after g moves) v) ≡ true
 MayFollow g moves Back = 0 < length moves

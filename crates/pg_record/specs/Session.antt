@@ -33,13 +33,16 @@ pub record IsBoardAfter (g : Game) (moves : List ℕ) (b : View) : Type 0 where
   pub same : b.game ≡ g
   pub played : positions_of b ≡ positions_along g (start g) moves
 
--- what the moves are played on fits them: a board after them, or a judge that is made for the switching game
+-- what the moves are played on fits them: a board after them, or a judge that is made for the
+-- switching game
 abbrev pub IsTableAfter : Game → List ℕ → Table → Type 0
 IsTableAfter g moves (table.Lines b) = IsBoardAfter g moves b
 IsTableAfter g moves (table.Graph room) = IsMadeForGame room g
 
--- what a session keeps: its events may follow one another, its moves are those that stand, and there is room for all events
-pub record IsSession (g : Game) (events : List Event) (moves : List ℕ) (t : Table) (event_room move_room : ℕ) : Type 0 where
+-- what a session keeps: its events may follow one another, its moves are those that stand, and
+-- there is room for all events
+pub record IsSession (g : Game) (events : List Event) (moves : List ℕ) (t : Table)
+    (event_room move_room : ℕ) : Type 0 where
   pub legal : IsRecord g events
   pub same : moves ≡ standing events
   pub fits : IsTableAfter g (standing events) t

@@ -13,7 +13,8 @@ use std::fmt::Write;
 
 /// Puts the line of an event.
 fn put_event(out: &mut String, event: Event) -> Result<(), AllocError>
-    ensures { OnOk result (string_bytes out.new ≡ string_bytes out.old ++ spelled (event_words event)) }
+    ensures { OnOk result
+        (string_bytes out.new ≡ string_bytes out.old ++ spelled (event_words event)) }
 {
     match event {
         Event::Play(v) => {
@@ -26,7 +27,9 @@ fn put_event(out: &mut String, event: Event) -> Result<(), AllocError>
 
 /// Puts the lines of events.
 fn put_events(out: &mut String, events: &[Event]) -> Result<(), AllocError>
-    ensures { OnOk result (string_bytes out.new ≡ string_bytes out.old ++ flat_map (λ e. spelled (event_words e)) events.now) }
+    ensures { OnOk result
+        (string_bytes out.new
+        ≡ string_bytes out.old ++ flat_map (λ e. spelled (event_words e)) events.now) }
 {
     for event in events {
         put_event(out, *event)?;
@@ -34,7 +37,8 @@ fn put_events(out: &mut String, events: &[Event]) -> Result<(), AllocError>
     Ok(())
 }
 
-/// The text of a session's record: a first line, and one for each event. Events that were taken back stand in it too.
+/// The text of a session's record: a first line, and one for each event. Events that were taken
+/// back stand in it too.
 ///
 /// # Errors
 ///

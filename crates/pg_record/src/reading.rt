@@ -14,7 +14,8 @@ use pg_game::{Game, Judge};
 use pg_text::{FileError, LineError, Lines};
 use std::alloc::Global;
 
-/// The fault of one event more where there are as many as there may be: that the event can't be made counts first.
+/// The fault of one event more where there are as many as there may be: that the event can't be
+/// made counts first.
 fn fault_without_room(
     alloc: Global,
     g: &Game,
@@ -23,7 +24,8 @@ fn fault_without_room(
 ) -> Result<Fault, Memory>
     requires game { session.now.game ≡ g.now }
     requires full { MAX_EVENTS ≤ length session.now.events }
-    ensures { IfOk result (λ fault. least (event_faults g.now session.now.events (event_said said)) ≡ Some fault) }
+    ensures { IfOk result
+        (λ fault. least (event_faults g.now session.now.events (event_said said)) ≡ Some fault) }
 {
     match said {
         Said::Move(v) => {
@@ -51,7 +53,8 @@ fn fault_without_room(
 fn add(g: &Game, session: &mut Session, said: Said) -> Result<(), LineError<Fault>>
     requires game { session.old.game ≡ g.now }
     requires room { length session.old.events < MAX_EVENTS }
-    ensures events { Becomes result session.new.events (with_one g.now session.old.events (event_said said)) }
+    ensures events { Becomes result session.new.events
+        (with_one g.now session.old.events (event_said said)) }
     ensures game { session.new.game ≡ session.old.game }
 {
     match said {
@@ -97,7 +100,8 @@ fn read_line(
 /// What the lines behind the first say.
 fn read_events<'a>(alloc: Global, g: &'a Game, lines: Lines) -> Result<Session<'a>, FileError>
     requires { length lines ≤ MAX_RECORD_BYTES }
-    ensures read { IsReadAs number_of (λ s. s.events) result (reading (after g.now) 2 [] lines.entry) }
+    ensures read { IsReadAs number_of (λ s. s.events) result
+        (reading (after g.now) 2 [] lines.entry) }
     ensures game { IfOk result (λ s. s.game ≡ g.now) }
 {
     let mut session = Session::open(alloc, g)?;
@@ -111,17 +115,18 @@ fn read_events<'a>(alloc: Global, g: &'a Game, lines: Lines) -> Result<Session<'
     Ok(session)
 }
 
-/// The session that a record file tells of the game, or the first fault with the number of its line.
+/// The session that a record file tells of the game, or the first fault with the number of its
+/// line.
 ///
-/// The file is strict: words stand behind single spaces, no line is skipped, and the last line may lack its line feed. Where a
-/// line has several faults, the one with the least number is told.
+/// The file is strict: words stand behind single spaces, no line is skipped, and the last line may
+/// lack its line feed. Where a line has several faults, the one with the least number is told.
 ///
 /// # Errors
 ///
-/// `Bad` with the number of the fault: 1 for a file of more than `MAX_RECORD_BYTES` bytes, with line 0, 2 for another first line,
-/// 3 for a line that is neither `move` with one word nor `back`, 4 for a word that is no number, 5 for a move that
-/// `Session::play` refuses, 6 for `back` where no move stands, 7 for more events than `crate::MAX_EVENTS`. `Memory` where no
-/// memory is found.
+/// `Bad` with the number of the fault: 1 for a file of more than `MAX_RECORD_BYTES` bytes, with
+/// line 0, 2 for another first line, 3 for a line that is neither `move` with one word nor `back`,
+/// 4 for a word that is no number, 5 for a move that `Session::play` refuses, 6 for `back` where no
+/// move stands, 7 for more events than `crate::MAX_EVENTS`. `Memory` where no memory is found.
 #[tactic(auto, unfolding(crate::specs::RecordFile::record_of))]
 pub fn read_record<'a>(alloc: Global, g: &'a Game, bytes: &[u8]) -> Result<Session<'a>, FileError>
     ensures read { IsReadAs number_of (λ s. s.events) result (record_of g.now bytes.now) }

@@ -13,10 +13,12 @@ use pg_game::{Game, Illegal, Position};
 use std::alloc::Global;
 use std::marker::Model;
 
-/// A session: moves are played from a game's position and taken back, and each event is kept in order.
+/// A session: moves are played from a game's position and taken back, and each event is kept in
+/// order.
 ///
-/// The standing moves are those that aren't taken back. A game on lines is played on one board, on which moves are made and
-/// undone; of a switching game the standing moves are played again from its position.
+/// The standing moves are those that aren't taken back. A game on lines is played on one board, on
+/// which moves are made and undone; of a switching game the standing moves are played again from
+/// its position.
 #[derive(Debug, Drop)]
 pub struct Session<'a> {
     game: &'a Game,
@@ -38,11 +40,13 @@ impl<'a> Model for Session<'a> {
 
     ghost view = { λ a. record { game = a.game.now; events = a.events.items } };
 
-    ghost invariant = { λ a. IsSession a.game.now a.events.items a.moves.items a.table (vec_capacity a.events) (vec_capacity a.moves) };
+    ghost invariant = { λ a. IsSession a.game.now a.events.items a.moves.items a.table
+        (vec_capacity a.events) (vec_capacity a.moves) };
 }
 
 impl<'a> Session<'a> {
-    /// The session without events. It reserves room for all events, so that no later call takes memory.
+    /// The session without events. It reserves room for all events, so that no later call takes
+    /// memory.
     ///
     /// # Errors
     ///
@@ -65,12 +69,14 @@ impl<'a> Session<'a> {
     ///
     /// # Errors
     ///
-    /// As `Judge::play` at the position: `Range` where the game has no such point, else `Over` where it is over, else `Taken`
-    /// where the point isn't free. Nothing changes then.
+    /// As `Judge::play` at the position: `Range` where the game has no such point, else `Over`
+    /// where it is over, else `Taken` where the point isn't free. Nothing changes then.
     pub fn play(&mut self, v: u16) -> Result<(), Illegal>
         requires { length self.old.events < MAX_EVENTS }
-        ensures result { result ≡ refusal_of (judged_move self.old.game (replay self.old.game self.old.events).position v) }
-        ensures events { self.new.events ≡ (if is_ok result then self.old.events ++ Event.Play v ∷ [] else self.old.events) }
+        ensures result { result ≡ refusal_of
+            (judged_move self.old.game (replay self.old.game self.old.events).position v) }
+        ensures events { self.new.events
+            ≡ (if is_ok result then self.old.events ++ Event.Play v ∷ [] else self.old.events) }
         ensures game { self.new.game ≡ self.old.game }
     {
         self.table.play(self.game, self.moves.as_slice(), v)?;
@@ -83,11 +89,13 @@ impl<'a> Session<'a> {
         Ok(())
     }
 
-    /// Takes the last standing move back, and tells whether one stood. Where none does, nothing changes.
+    /// Takes the last standing move back, and tells whether one stood. Where none does, nothing
+    /// changes.
     pub fn back(&mut self) -> bool
         requires { length self.old.events < MAX_EVENTS }
         ensures result { result ≡ nat_lt 0 (length (replay self.old.game self.old.events).moves) }
-        ensures events { self.new.events ≡ (if result then self.old.events ++ Event.Back ∷ [] else self.old.events) }
+        ensures events { self.new.events
+            ≡ (if result then self.old.events ++ Event.Back ∷ [] else self.old.events) }
         ensures game { self.new.game ≡ self.old.game }
     {
         if self.moves.is_empty() {
@@ -127,7 +135,8 @@ impl<'a> Session<'a> {
     pub fn position(&self) -> Position
         ensures exact { result ≡ (replay self.now.game self.now.events).position }
         ensures fits { IsPosition self.now.game result }
-        ensures legal { IsLegalPlay self.now.game (start self.now.game) (replay self.now.game self.now.events).moves }
+        ensures legal { IsLegalPlay self.now.game (start self.now.game)
+            (replay self.now.game self.now.events).moves }
     {
         self.table.position(self.game, self.moves.as_slice())
     }

@@ -52,7 +52,8 @@ pub(crate) fn replayed(g: &Game, moves: &[u16]) -> Position
 fn play_on_board(board: &mut Board, v: u16) -> Result<(), Illegal>
     ensures result { result ≡ refusal_of (judged_move board.old.game board.old.stand.position v) }
     ensures game { board.new.game ≡ board.old.game }
-    ensures position { OnOk result (board.new.stand.position ≡ after board.old.game board.old.stand.position v) }
+    ensures position { OnOk result
+        (board.new.stand.position ≡ after board.old.game board.old.stand.position v) }
     ensures earlier { OnOk result (board.new.earlier ≡ board.old.earlier ++ board.old.stand ∷ []) }
     ensures kept { OnErr result (board.new ≡ board.old) }
 {
@@ -74,7 +75,8 @@ impl<'a> Table<'a> {
     pub(crate) fn play(&mut self, g: &Game, moves: &[u16], v: u16) -> Result<(), Illegal>
         requires fits { IsTableAfter g.now moves.now self.old }
         requires legal { IsLegalPlay g.now (start g.now) moves.now }
-        ensures result { result ≡ refusal_of (judged_move g.now (position_after g.now moves.now) v) }
+        ensures result { result
+            ≡ refusal_of (judged_move g.now (position_after g.now moves.now) v) }
         ensures played { OnOk result (IsTableAfter g.now (moves.now ++ v ∷ []) self.new) }
         ensures kept { OnErr result (IsTableAfter g.now moves.now self.new) }
     {

@@ -25,7 +25,9 @@ record Fitting (g : SpanGame) (board : Board) : Type 0 where
   pub points : points_on board ≡ edge_count g.graph
   pub vertices : vertices_on board ≡ g.graph.vertices
 
-fitting : (g : SpanGame) (board : Board) → IsDrawnGraph g.graph.vertices g.graph.ends [] board → Fitting g board
+fitting : (g : SpanGame) (board : Board)
+    → IsDrawnGraph g.graph.vertices g.graph.ends [] board
+    → Fitting g board
 fitting g board is =
     let fits : AreSpanParts g.graph g.x g.y = g.fits in
     record {
@@ -42,28 +44,44 @@ fitting g board is =
       vertices = ap vertices_on is.same;
     }
 
-on-first : (board : Board) (n : ℕ) (first : Option ℕ) → n ≤ points_on board → All (IsItemOn board) (first_items n first)
+on-first : (board : Board) (n : ℕ) (first : Option ℕ)
+    → n ≤ points_on board
+    → All (IsItemOn board) (first_items n first)
 on-first board n None le = All-nil (IsItemOn board)
-on-first board n (Some v) le = on-seen (IsItemOn board) (nat_lt v n) (Step v 1) (λ h. let lt = below-of v n h in omega (arith, lt, le))
+on-first board n (Some v) le = on-seen (IsItemOn board) (nat_lt v n) (Step v 1)
+    (λ h. let lt = below-of v n h in omega (arith, lt, le))
 
-on-body : (board : Board) (g : SpanGame) (body : SpanBody) → edge_count g.graph ≤ points_on board → g.graph.vertices ≤ vertices_on board → All (IsItemOn board) (span_items g body)
+on-body : (board : Board) (g : SpanGame) (body : SpanBody)
+    → edge_count g.graph ≤ points_on board
+    → g.graph.vertices ≤ vertices_on board
+    → All (IsItemOn board) (span_items g body)
 on-body board g (Trees first a1 a2) le few =
     let n = edge_count g.graph in
-    All-append (IsItemOn board) (first_items n first) (member_items n First a1 ++ member_items n Second a2) (on-first board n first le)
-    (All-append (IsItemOn board) (member_items n First a1) (member_items n Second a2) (on-members board n First a1 le) (on-members board n Second a2 le))
-on-body board g (Parts parts) le few =
-    on-numbered (IsItemOn board) (part_item g.graph.vertices) (λ u part. on-seen (IsItemOn board) (nat_lt u g.graph.vertices) (Part u part) (λ h. let lt = below-of u g.graph.vertices h in omega (arith, lt, few))) 0 parts
+    All-append (IsItemOn board) (first_items n first)
+    (member_items n First a1 ++ member_items n Second a2) (on-first board n first le)
+    (All-append (IsItemOn board) (member_items n First a1) (member_items n Second a2)
+    (on-members board n First a1 le) (on-members board n Second a2 le))
+on-body board g (Parts parts) le few = on-numbered (IsItemOn board) (part_item g.graph.vertices)
+    (λ u part. on-seen (IsItemOn board) (nat_lt u g.graph.vertices) (Part u part)
+    (λ h. let lt = below-of u g.graph.vertices h in omega (arith, lt, few))) 0 parts
 
 pub IsScene-span_game : (g : SpanGame) (scene : Scene) → IsSceneOfSpanGame g scene → IsScene scene
 IsScene-span_game g scene is =
     let fit = fitting g scene.board is.board in
     record {
       board = fit.is_board;
-      items = subst (All (IsItemOn scene.board)) (sym is.items) (on-points scene.board (edge_count g.graph) (marks_at g g.turn) (omega (arith, fit.points)));
-      few_lines = let same : length scene.legend ≡ length (span_legend (marks_at g g.turn)) = ap length is.legend in omega (arith, same);
+      items = subst (All (IsItemOn scene.board)) (sym is.items)
+          (on-points scene.board (edge_count g.graph) (marks_at g g.turn)
+          (omega (arith, fit.points)));
+      few_lines =
+          let same : length scene.legend ≡ length (span_legend (marks_at g g.turn)) =
+          ap length is.legend in
+          omega (arith, same);
     }
 
-pub IsScene-span : (g : SpanGame) (claim : SpanClaim) (fault : Option ℕ) (scene : Scene) → IsSceneOfSpan g claim fault scene → IsScene scene
+pub IsScene-span : (g : SpanGame) (claim : SpanClaim) (fault : Option ℕ) (scene : Scene)
+    → IsSceneOfSpan g claim fault scene
+    → IsScene scene
 IsScene-span g claim fault scene is =
     let fit = fitting g scene.board is.board in
     let on = IsItemOn scene.board in
@@ -73,7 +91,12 @@ IsScene-span g claim fault scene is =
     record {
       board = fit.is_board;
       items = subst (All on) (sym is.items)
-          (All-append on (point_items n p) (span_items g claim.body ++ fault_items fault) (on-points scene.board n p le)
-          (All-append on (span_items g claim.body) (fault_items fault) (on-body scene.board g claim.body le (omega (arith, fit.vertices))) (on-fault scene.board fault)));
-      few_lines = let same : length scene.legend ≡ length (span_legend p ++ span_line claim.body ∷ []) = ap length is.legend in omega (arith, same);
+          (All-append on (point_items n p) (span_items g claim.body ++ fault_items fault)
+          (on-points scene.board n p le) (All-append on (span_items g claim.body)
+          (fault_items fault) (on-body scene.board g claim.body le (omega (arith, fit.vertices)))
+          (on-fault scene.board fault)));
+      few_lines =
+          let same : length scene.legend ≡ length (span_legend p ++ span_line claim.body ∷ []) =
+          ap length is.legend in
+          omega (arith, same);
     }

@@ -54,74 +54,126 @@ on-all P [] h k d lt = absurd (omega arith)
 on-all P (x ∷ xs) h zero d lt = h.0
 on-all P (x ∷ xs) h (suc k) d lt = on-all P xs h.1 k d (omega arith)
 
-pub on-seen : (P : Item → Type 0) (b : Bool) (item : Item) → (b ≡ true → P item) → All P (seen_if b item)
+pub on-seen : (P : Item → Type 0) (b : Bool) (item : Item)
+    → (b ≡ true → P item)
+    → All P (seen_if b item)
 on-seen P true item h = on-one P item (h refl)
 on-seen P false item h = All-nil P
 
-pub on-numbered : {A : Type 0} (P : Item → Type 0) (item : ℕ → A → List Item) → ((k : ℕ) (a : A) → All P (item k a)) → (k : ℕ) (xs : List A) → All P (numbered item k xs)
+pub on-numbered : {A : Type 0} (P : Item → Type 0) (item : ℕ → A → List Item)
+    → ((k : ℕ) (a : A) → All P (item k a))
+    → (k : ℕ) (xs : List A) → All P (numbered item k xs)
 on-numbered P item h k [] = All-nil P
-on-numbered P item h k (x ∷ xs) = All-append P (item k x) (numbered item (suc k) xs) (h k x) (on-numbered P item h (suc k) xs)
+on-numbered P item h k (x ∷ xs) =
+    All-append P (item k x) (numbered item (suc k) xs) (h k x) (on-numbered P item h (suc k) xs)
 
-on-flat : {A : Type 0} (P : Item → Type 0) (item : A → List Item) → ((a : A) → All P (item a)) → (xs : List A) → All P (flat_map item xs)
+on-flat : {A : Type 0} (P : Item → Type 0) (item : A → List Item)
+    → ((a : A) → All P (item a))
+    → (xs : List A) → All P (flat_map item xs)
 on-flat P item h [] = All-nil P
-on-flat P item h (x ∷ xs) = subst (All P) (sym (flat_map-cons item x xs)) (All-append P (item x) (flat_map item xs) (h x) (on-flat P item h xs))
+on-flat P item h (x ∷ xs) = subst (All P) (sym (flat_map-cons item x xs))
+    (All-append P (item x) (flat_map item xs) (h x) (on-flat P item h xs))
 
 -- ---- what is drawn
 
-pub on-points : (board : Board) (n : ℕ) (p : Position) → n ≤ points_on board → All (IsItemOn board) (point_items n p)
-on-points board n p le = All-map (IsItemOn board) (λ v. items.Point v (mark_of p v)) (range_with_len 0 n) (λ k d lt.
+pub on-points : (board : Board) (n : ℕ) (p : Position)
+    → n ≤ points_on board
+    → All (IsItemOn board) (point_items n p)
+on-points board n p le =
+    All-map (IsItemOn board) (λ v. items.Point v (mark_of p v)) (range_with_len 0 n) (λ k d lt.
     let count = length-range_with_len 0 n in
-    let at : get_or (range_with_len 0 n) k d ≡ 0 + k = get_or-range_with_len 0 n k d (omega arith) in
+    let at : get_or (range_with_len 0 n) k d ≡ 0 + k =
+    get_or-range_with_len 0 n k d (omega arith) in
     omega arith)
 
 longest-few : (bias : ℕ) → longest bias ≤ 100
-longest-few bias = elim (cases_Bool (bias == 1)) [ inl one ↦ rw one (omega arith) | inr several ↦ rw several (omega arith) ]
+longest-few bias = elim (cases_Bool (bias == 1)) [
+  | inl one ↦ rw one (omega arith)
+  | inr several ↦ rw several (omega arith)
+]
 
-on-lines : (board : Board) (g : Game) → point_count g ≤ points_on board → All (IsItemOn board) (line_items (lines_of g))
+on-lines : (board : Board) (g : Game)
+    → point_count g ≤ points_on board
+    → All (IsItemOn board) (line_items (lines_of g))
 on-lines board g le = elim (cases_Bool (are_drawn (lines_of g))) [
   | inl few ↦ rw few (All-map (IsItemOn board) items.Line (lines_of g) (λ k d lt.
       let line = get_or (lines_of g) k d in
-      let fit : IsLineOf (point_count g) g.bias line = line-fit g line (Contains-get_or (lines_of g) k d lt) in
-      let most = longest-few g.bias in
-      (fit.some, omega (arith, fit.short, most), λ i e inside. omega (arith, fit.range i e inside, le))))
+      let fit : IsLineOf (point_count g) g.bias line =
+      line-fit g line (Contains-get_or (lines_of g) k d lt) in
+      let most = longest-few g.bias in (
+        fit.some,
+        omega (arith, fit.short, most),
+        λ i e inside. omega (arith, fit.range i e inside, le),
+      )))
   | inr many ↦ rw many (All-nil (IsItemOn board))
 ]
 
 pub below-of : (v n : ℕ) → nat_lt v n ≡ true → v < n
 below-of v n h = grind (arith, nat_tests)
 
-on-weights : (board : Board) (g : Game) (p : Position) (side : Side) → point_count g ≤ points_on board → All (IsItemOn board) (weight_items g p side)
+on-weights : (board : Board) (g : Game) (p : Position) (side : Side)
+    → point_count g ≤ points_on board
+    → All (IsItemOn board) (weight_items g p side)
 on-weights board g p side le = elim (cases_Bool (is_graph g.field)) [
   | inl graph ↦ rw graph (All-nil (IsItemOn board))
-  | inr lines ↦ rw lines (All-map (IsItemOn board) (λ v. items.Weight v (decimal (units g p side v))) (free_points g p) (λ k d lt.
-      let within = member-within g p (get_or (free_points g p) k d) (Contains-get_or (free_points g p) k d lt) in
+  | inr lines ↦ rw lines
+      (All-map (IsItemOn board) (λ v. items.Weight v (decimal (units g p side v))) (free_points g p)
+      (λ k d lt.
+      let within =
+      member-within g p (get_or (free_points g p) k d) (Contains-get_or (free_points g p) k d lt) in
       omega (arith, within, le)))
 ]
 
-pub on-members : (board : Board) (n : ℕ) (set : Set) (edges : FinSet nat_cmp) → n ≤ points_on board → All (IsItemOn board) (member_items n set edges)
-on-members board n set edges le = All-map (IsItemOn board) (λ v. items.Member v set) (points_below edges n) (λ k d lt.
+pub on-members : (board : Board) (n : ℕ) (set : Set) (edges : FinSet nat_cmp)
+    → n ≤ points_on board
+    → All (IsItemOn board) (member_items n set edges)
+on-members board n set edges le =
+    All-map (IsItemOn board) (λ v. items.Member v set) (points_below edges n) (λ k d lt.
     let small = on-all (λ v. v < n) (points_below edges n) (points_below-small edges n) k d lt in
     omega (arith, small, le))
 
-on-sets : (board : Board) (g : Game) (with_e : Bool) (first second : FinSet nat_cmp) → point_count g ≤ points_on board → (is_graph g.field ≡ true → terminals_on board ≡ 2) → All (IsItemOn board) (set_items g with_e first second)
+on-sets : (board : Board) (g : Game) (with_e : Bool) (first second : FinSet nat_cmp)
+    → point_count g ≤ points_on board
+    → (is_graph g.field ≡ true → terminals_on board ≡ 2)
+    → All (IsItemOn board) (set_items g with_e first second)
 on-sets board g with_e first second le two =
-    let further = on-seen (IsItemOn board) (with_e && is_graph g.field) (items.Extra First) (λ h. two (and_parts _ _ h).1) in
-    All-append (IsItemOn board) (seen_if (with_e && is_graph g.field) (items.Extra First)) (member_items (point_count g) First first ++ member_items (point_count g) Second second) further
-    (All-append (IsItemOn board) (member_items (point_count g) First first) (member_items (point_count g) Second second) (on-members board (point_count g) First first le) (on-members board (point_count g) Second second le))
+    let further = on-seen (IsItemOn board) (with_e && is_graph g.field) (items.Extra First)
+    (λ h. two (and_parts _ _ h).1) in
+    All-append (IsItemOn board) (seen_if (with_e && is_graph g.field) (items.Extra First))
+    (member_items (point_count g) First first ++ member_items (point_count g) Second second) further
+    (All-append (IsItemOn board) (member_items (point_count g) First first)
+    (member_items (point_count g) Second second) (on-members board (point_count g) First first le)
+    (on-members board (point_count g) Second second le))
 
-on-body : (board : Board) (g : Game) (p : Position) (side : Side) (body : Body) → point_count g ≤ points_on board → (is_graph g.field ≡ true → terminals_on board ≡ 2) → All (IsItemOn board) (body_items g p side body)
+on-body : (board : Board) (g : Game) (p : Position) (side : Side) (body : Body)
+    → point_count g ≤ points_on board
+    → (is_graph g.field ≡ true → terminals_on board ≡ 2)
+    → All (IsItemOn board) (body_items g p side body)
 on-body board g p side bodies.Over le two = All-nil (IsItemOn board)
-on-body board g p side (bodies.Move v child) le two = on-seen (IsItemOn board) (nat_lt v (point_count g)) (items.Move v child) (λ h. let lt = below-of v (point_count g) h in omega (arith, lt, le))
-on-body board g p side (bodies.All replies) le two = on-flat (IsItemOn board) (reply_item (point_count g)) (λ (r : Reply). on-seen (IsItemOn board) (nat_lt r.point (point_count g)) (items.Reply r.point r.child) (λ h. let lt = below-of r.point (point_count g) h in omega (arith, lt, le))) replies
-on-body board g p side (bodies.Pairs pairs) le two = on-numbered (IsItemOn board) (pair_item (point_count g)) (λ k (q : Pair). on-seen (IsItemOn board) (nat_lt q.a (point_count g) && nat_lt q.b (point_count g)) (items.Pair q.a q.b k) (λ h.
+on-body board g p side (bodies.Move v child) le two =
+    on-seen (IsItemOn board) (nat_lt v (point_count g)) (items.Move v child)
+    (λ h. let lt = below-of v (point_count g) h in omega (arith, lt, le))
+on-body board g p side (bodies.All replies) le two =
+    on-flat (IsItemOn board) (reply_item (point_count g)) (λ (r : Reply).
+    on-seen (IsItemOn board) (nat_lt r.point (point_count g)) (items.Reply r.point r.child)
+    (λ h. let lt = below-of r.point (point_count g) h in omega (arith, lt, le))) replies
+on-body board g p side (bodies.Pairs pairs) le two =
+    on-numbered (IsItemOn board) (pair_item (point_count g))
+    (λ k (q : Pair). on-seen (IsItemOn board)
+    (nat_lt q.a (point_count g) && nat_lt q.b (point_count g)) (items.Pair q.a q.b k) (λ h.
     let both = and_parts _ _ h in
     let first = below-of q.a (point_count g) both.0 in
     let second = below-of q.b (point_count g) both.1 in
     (omega (arith, first, le), omega (arith, second, le)))) 0 pairs
 on-body board g p side bodies.Potential le two = on-weights board g p side le
-on-body board g p side (bodies.Trees with_e first second) le two = on-sets board g with_e first second le two
-on-body board g p side (bodies.Cuts with_e first second) le two = on-sets board g with_e first second le two
-on-body board g p side (bodies.Threat points) le two = on-numbered (IsItemOn board) (step_item (point_count g)) (λ k v. on-seen (IsItemOn board) (nat_lt v (point_count g)) (items.Step v k) (λ h. let lt = below-of v (point_count g) h in omega (arith, lt, le))) 1 points
+on-body board g p side (bodies.Trees with_e first second) le two =
+    on-sets board g with_e first second le two
+on-body board g p side (bodies.Cuts with_e first second) le two =
+    on-sets board g with_e first second le two
+on-body board g p side (bodies.Threat points) le two =
+    on-numbered (IsItemOn board) (step_item (point_count g))
+    (λ k v. on-seen (IsItemOn board) (nat_lt v (point_count g)) (items.Step v k)
+    (λ h. let lt = below-of v (point_count g) h in omega (arith, lt, le))) 1 points
 on-body board g p side (bodies.Weaker child) le two = All-nil (IsItemOn board)
 
 pub on-fault : (board : Board) (fault : Option ℕ) → All (IsItemOn board) (fault_items fault)
@@ -130,24 +182,36 @@ on-fault board None = All-nil (IsItemOn board)
 
 -- ---- boards
 
-count-line : (grid : Option Cells) (points : ℕ) → ((cells : Cells) → grid ≡ Some cells → cells.width * cells.height ≡ points) → points_on (line_board grid points) ≡ points
+count-line : (grid : Option Cells) (points : ℕ)
+    → ((cells : Cells) → grid ≡ Some cells → cells.width * cells.height ≡ points)
+    → points_on (line_board grid points) ≡ points
 count-line None points h = refl
 count-line (Some cells) points h = h cells refl
 
-board-line : (grid : Option Cells) (points : ℕ) → ((cells : Cells) → grid ≡ Some cells → cells.width * cells.height ≡ points) → 1 ≤ points → points ≤ 256 → IsBoard (line_board grid points)
+board-line : (grid : Option Cells) (points : ℕ)
+    → ((cells : Cells) → grid ≡ Some cells → cells.width * cells.height ≡ points)
+    → 1 ≤ points
+    → points ≤ 256
+    → IsBoard (line_board grid points)
 board-line None points h some few = (some, few)
-board-line (Some cells) points h some few = let whole = h cells refl in (omega (arith, whole, some), omega (arith, whole, few))
+board-line (Some cells) points h some few =
+    let whole = h cells refl in
+    (omega (arith, whole, some), omega (arith, whole, few))
 
 record Fitting (field : Field) (board : Board) : Type 0 where
   pub is_board : IsBoard board
   pub points : points_on board ≡ field_points field
   pub two : is_graph field ≡ true → terminals_on board ≡ 2
 
-fitting : (kind : Kind) (bias : ℕ) (field : Field) (board : Board) → FieldFits kind field bias → IsBoardOf field board → Fitting field board
+fitting : (kind : Kind) (bias : ℕ) (field : Field) (board : Board)
+    → FieldFits kind field bias
+    → IsBoardOf field board
+    → Fitting field board
 fitting kind bias (Lines f) board fits is =
     let within : AreLinesOf bias f = fits.on_lines f refl in
     record {
-      is_board = subst IsBoard (sym is) (board-line f.grid f.points within.cells within.some_points within.few_points);
+      is_board = subst IsBoard (sym is)
+          (board-line f.grid f.points within.cells within.some_points within.few_points);
       points = ap points_on is ∙ count-line f.grid f.points within.cells;
       two = λ h. absurd (true≢false (sym h));
     }
@@ -159,7 +223,8 @@ fitting kind bias (OnGraph h) board fits is =
         few_vertices = within.few_vertices;
         few_edges = within.few_edges;
         on_ends = within.ends;
-        on_terminals = on-all (λ u. u < h.vertices) (h.s ∷ h.t ∷ []) (within.s_range, (within.t_range, tt));
+        on_terminals =
+            on-all (λ u. u < h.vertices) (h.s ∷ h.t ∷ []) (within.s_range, (within.t_range, tt));
         few_terminals = omega arith;
         is_bridge = is.found;
       });
@@ -168,12 +233,17 @@ fitting kind bias (OnGraph h) board fits is =
     }
 
 fitting-game : (g : Game) (board : Board) → IsBoardOf g.field board → Fitting g.field board
-fitting-game g board is = let fits : IsFit g.kind g.field g.x g.y g.bias = g.fits in fitting g.kind g.bias g.field board fits.within is
+fitting-game g board is =
+    let fits : IsFit g.kind g.field g.x g.y g.bias = g.fits in
+    fitting g.kind g.bias g.field board fits.within is
 
 -- ---- scenes
 
 legend-few : (g : Game) (p : Position) → length (game_legend g p) ≤ 3
-legend-few g p = elim (cases_Bool (are_drawn (lines_of g))) [ inl few ↦ rw few (omega arith) | inr many ↦ rw many (omega arith) ]
+legend-few g p = elim (cases_Bool (are_drawn (lines_of g))) [
+  | inl few ↦ rw few (omega arith)
+  | inr many ↦ rw many (omega arith)
+]
 
 pub IsScene-game : (g : Game) (scene : Scene) → IsSceneOfGame g scene → IsScene scene
 IsScene-game g scene is =
@@ -181,11 +251,19 @@ IsScene-game g scene is =
     let le : point_count g ≤ points_on scene.board = omega (arith, fit.points) in
     record {
       board = fit.is_board;
-      items = subst (All (IsItemOn scene.board)) (sym is.items) (All-append (IsItemOn scene.board) (point_items (point_count g) (start g)) (line_items (lines_of g)) (on-points scene.board (point_count g) (start g) le) (on-lines scene.board g le));
-      few_lines = let same : length scene.legend ≡ length (game_legend g (start g)) = ap length is.legend in omega (arith, same, legend-few g (start g));
+      items = subst (All (IsItemOn scene.board)) (sym is.items)
+          (All-append (IsItemOn scene.board) (point_items (point_count g) (start g))
+          (line_items (lines_of g)) (on-points scene.board (point_count g) (start g) le)
+          (on-lines scene.board g le));
+      few_lines =
+          let same : length scene.legend ≡ length (game_legend g (start g)) = ap length is.legend in
+          omega (arith, same, legend-few g (start g));
     }
 
-pub IsScene-node : (g : Game) (claim : Claim) (number : ℕ) (node : Node) (fault : Option ℕ) (scene : Scene) → IsSceneOf g claim number node fault scene → IsScene scene
+pub IsScene-node : (g : Game) (claim : Claim) (number : ℕ) (node : Node) (fault : Option ℕ)
+    (scene : Scene)
+    → IsSceneOf g claim number node fault scene
+    → IsScene scene
 IsScene-node g claim number node fault scene is =
     let fit = fitting-game g scene.board is.board in
     let on = IsItemOn scene.board in
@@ -194,10 +272,20 @@ IsScene-node g claim number node fault scene is =
     record {
       board = fit.is_board;
       items = subst (All on) (sym is.items)
-          (All-append on (point_items (point_count g) (position_of node)) (line_items (lines_of g) ++ (body ++ fault_items fault)) (on-points scene.board (point_count g) (position_of node) le)
-          (All-append on (line_items (lines_of g)) (body ++ fault_items fault) (on-lines scene.board g le)
-          (All-append on body (fault_items fault) (on-body scene.board g (position_of node) claim.side node.body le fit.two) (on-fault scene.board fault))));
+          (All-append on (point_items (point_count g) (position_of node))
+          (line_items (lines_of g) ++ (body ++ fault_items fault))
+          (on-points scene.board (point_count g) (position_of node) le)
+          (All-append on (line_items (lines_of g)) (body ++ fault_items fault)
+          (on-lines scene.board g le) (All-append on body (fault_items fault) (on-body scene.board g
+          (position_of node) claim.side node.body le fit.two) (on-fault scene.board fault))));
       few_lines =
-          let same : length scene.legend ≡ length (node_legend g (position_of node) claim.side node.body) = ap length is.legend in
-          omega (arith, same, legend-few g (position_of node), length-append (game_legend g (position_of node)) (body_line g (position_of node) claim.side node.body ∷ []));
+          let same : length scene.legend
+          ≡ length (node_legend g (position_of node) claim.side node.body) = ap length is.legend in
+          omega (
+            arith,
+            same,
+            legend-few g (position_of node),
+            length-append (game_legend g (position_of node))
+                (body_line g (position_of node) claim.side node.body ∷ []),
+          );
     }

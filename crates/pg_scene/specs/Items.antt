@@ -78,9 +78,12 @@ most_free own p (line ∷ lines) = max (free_on own p line) (most_free own p lin
 unfoldable pub unit_weight : ℕ → Game → FinSet nat_cmp → Position → ℕ
 unit_weight base g own p = base ^ (greatest_length (lines_of g) - most_free own p (lines_of g))
 
--- the sum of the weights of the lines through a point, in units: a line with the greatest number of free points weighs one
+-- the sum of the weights of the lines through a point, in units: a line with the greatest number of
+-- free points weighs one
 unfoldable pub units_by : ℕ → Game → FinSet nat_cmp → Position → ℕ → ℕ
-units_by base g own p v = sum_by (λ line. if is_on v line then line_weight base (most_free own p (lines_of g)) own p line else 0) (lines_of g)
+units_by base g own p v = sum_by
+    (λ line. if is_on v line then line_weight base (most_free own p (lines_of g)) own p line else 0)
+    (lines_of g)
 
 -- the same for a claimer
 abbrev pub units : Game → Position → Side → ℕ → ℕ
@@ -88,7 +91,9 @@ units g p side v = units_by (base_of g.kind g.bias) g (own_of g.kind p side) p v
 
 -- the weight of each free point, in a game on lines
 abbrev pub weight_items : Game → Position → Side → List Item
-weight_items g p side = if is_graph g.field then [] else map (λ v. items.Weight v (decimal (units g p side v))) (free_points g p)
+weight_items g p side = if is_graph g.field
+    then []
+    else map (λ v. items.Weight v (decimal (units g p side v))) (free_points g p)
 
 -- ---- the bodies of nodes, of which the points of the game alone are drawn
 
@@ -110,8 +115,8 @@ member_items n set edges = map (λ v. items.Member v set) (points_below edges n)
 
 -- the edges of two sets; the further edge between the terminals is drawn on a graph alone
 abbrev pub set_items : Game → Bool → FinSet nat_cmp → FinSet nat_cmp → List Item
-set_items g with_e first second =
-    seen_if (with_e && is_graph g.field) (items.Extra First) ++ (member_items (point_count g) First first ++ member_items (point_count g) Second second)
+set_items g with_e first second = seen_if (with_e && is_graph g.field) (items.Extra First)
+    ++ (member_items (point_count g) First first ++ member_items (point_count g) Second second)
 
 -- what a body names, where the claimer is that side
 abbrev pub body_items : Game → Position → Side → Body → List Item

@@ -1,4 +1,5 @@
--- What a picture is laid out from: a board within the limits of games, and items whose points and vertices are the board's.
+-- What a picture is laid out from: a board within the limits of games, and items whose points and
+-- vertices are the board's.
 use Rattle.std.specs.Prelude.{◌≡◌, ℕ, ◌+◌, ◌*◌, ◌-◌, ◌<◌, ◌≤◌, true, List, [], ◌∷◌, length, Option, IfSome}
 use Rattle.std.specs.List.{All}
 use Rattle.pg_base.specs.declared.limits.TheConstants.{MAX_EDGES}
@@ -17,14 +18,16 @@ abbrev pub IsSized : Multigraph → ℕ → Type 0
 IsSized h rows = (h.vertices ≡ rows * (rows - 1) + 2) × (h.s ≡ 0) × (h.t ≡ 1)
 
 -- the vertices and edges of the Bridg-It board of so many rows, whose terminals are 0 and 1
-pub record IsBridge (vertices : ℕ) (ends : List (ℕ × ℕ)) (terminals : List ℕ) (rows : ℕ) : Type 0 where
+pub record IsBridge (vertices : ℕ) (ends : List (ℕ × ℕ)) (terminals : List ℕ)
+    (rows : ℕ) : Type 0 where
   pub has_rows : has_bridge rows ≡ true
   pub same_vertices : vertices ≡ rows * (rows - 1) + 2
   pub same_ends : ends ≡ bridge_ends rows
   pub same_terminals : terminals ≡ 0 ∷ 1 ∷ []
 
 -- a multigraph within the limits, and the rows of the Bridg-It board that it is, where it is one
-pub record IsGraphBoard (vertices : ℕ) (ends : List (ℕ × ℕ)) (terminals : List ℕ) (bridge : Option ℕ) : Type 0 where
+pub record IsGraphBoard (vertices : ℕ) (ends : List (ℕ × ℕ)) (terminals : List ℕ)
+    (bridge : Option ℕ) : Type 0 where
   pub some_vertices : 2 ≤ vertices
   pub few_vertices : vertices ≤ MAX_VERTICES
   pub few_edges : length ends ≤ MAX_EDGES
@@ -60,7 +63,8 @@ terminals_on (Graph vertices ends terminals bridge) = length terminals
 -- an item that can stand on the board
 abbrev pub IsItemOn : Board → Item → Type 0
 IsItemOn board (Point v mark) = v < points_on board
-IsItemOn board (Line vs) = (1 ≤ length vs) × (length vs ≤ MAX_LINE_POINTS) × All (λ v. v < points_on board) vs
+IsItemOn board (Line vs) =
+    (1 ≤ length vs) × (length vs ≤ MAX_LINE_POINTS) × All (λ v. v < points_on board) vs
 IsItemOn board (Pair v w number) = (v < points_on board) × (w < points_on board)
 IsItemOn board (Weight v weight) = v < points_on board
 IsItemOn board (Member v set) = v < points_on board

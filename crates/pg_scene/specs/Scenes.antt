@@ -24,7 +24,8 @@ line_board (Some cells) points = Grid cells.width cells.height
 line_board None points = Ring points
 
 -- the board of a multigraph, with the rows of the Bridg-It board that it is, where it is one
-pub record IsDrawnGraph (vertices : ℕ) (ends : List (ℕ × ℕ)) (terminals : List ℕ) (board : Board) : Type 0 where
+pub record IsDrawnGraph (vertices : ℕ) (ends : List (ℕ × ℕ)) (terminals : List ℕ)
+    (board : Board) : Type 0 where
   pub rows : Option ℕ
   pub same : board ≡ Graph vertices ends terminals rows
   pub found : IfSome rows (IsBridge vertices ends terminals)
@@ -44,11 +45,15 @@ pub record IsSceneOfGame (g : Game) (scene : Scene) : Type 0 where
   pub items : scene.items ≡ point_items (point_count g) (start g) ++ line_items (lines_of g)
   pub legend : scene.legend ≡ game_legend g (start g)
 
--- a node of a claim: the game's points with the marks that the node says, the lines, what the body names, and whether the node is faulty
-pub record IsSceneOf (g : Game) (claim : Claim) (number : ℕ) (node : Node) (fault : Option ℕ) (scene : Scene) : Type 0 where
+-- a node of a claim: the game's points with the marks that the node says, the lines, what the body
+-- names, and whether the node is faulty
+pub record IsSceneOf (g : Game) (claim : Claim) (number : ℕ) (node : Node) (fault : Option ℕ)
+    (scene : Scene) : Type 0 where
   pub title : scene.title ≡ node_title claim number fault
   pub board : IsBoardOf g.field scene.board
-  pub items : scene.items ≡ point_items (point_count g) (position_of node) ++ (line_items (lines_of g) ++ (body_items g (position_of node) claim.side node.body ++ fault_items fault))
+  pub items : scene.items
+      ≡ point_items (point_count g) (position_of node) ++ (line_items (lines_of g)
+      ++ (body_items g (position_of node) claim.side node.body ++ fault_items fault))
   pub legend : scene.legend ≡ node_legend g (position_of node) claim.side node.body
 
 -- the certificate's claim and node of these numbers
@@ -57,7 +62,8 @@ pub record AreNamed (c : Cert) (claim number : ℕ) (whole : Claim) (node : Node
   pub node_at : slice_get whole.nodes number ≡ Some node
 
 -- the node of that number, of the certificate's claim of that number
-pub record IsSceneOfNode (g : Game) (c : Cert) (claim number : ℕ) (fault : Option ℕ) (scene : Scene) : Type 0 where
+pub record IsSceneOfNode (g : Game) (c : Cert) (claim number : ℕ) (fault : Option ℕ)
+    (scene : Scene) : Type 0 where
   pub whole : Claim
   pub node : Node
   pub named : AreNamed c claim number whole node

@@ -5,7 +5,8 @@ use pg_graph::Ends;
 /// What a game's points are drawn as.
 #[derive(Debug, Drop)]
 pub enum Board {
-    /// The cells of a board of squares: the point in row r and column c, both from 0, is `r * width + c`.
+    /// The cells of a board of squares: the point in row r and column c, both from 0, is
+    /// `r * width + c`.
     Grid {
         /// How many columns there are.
         width: u32,

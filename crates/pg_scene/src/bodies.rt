@@ -34,7 +34,8 @@ fn put_reply(items: &mut Vec<Item>, n: u16, reply: Reply) -> Result<(), Memory>
 
 /// Puts the replies whose points are below n.
 fn put_replies(items: &mut Vec<Item>, n: u16, replies: &[Reply]) -> Result<(), Memory>
-    ensures { OnOk result (items.new.items ≡ items.old.items ++ flat_map (reply_item n) replies.now) }
+    ensures { OnOk result
+        (items.new.items ≡ items.old.items ++ flat_map (reply_item n) replies.now) }
 {
     for reply in replies {
         put_reply(items, n, *reply)?;
@@ -60,7 +61,8 @@ fn put_sets(
     first: &PointSet,
     second: &PointSet,
 ) -> Result<(), Memory>
-    ensures { OnOk result (items.new.items ≡ items.old.items ++ set_items g.now with_e first.now second.now) }
+    ensures { OnOk result
+        (items.new.items ≡ items.old.items ++ set_items g.now with_e first.now second.now) }
 {
     let seen = with_e && is_on_graph(g);
     put_if(items, seen, Item::Extra { set: Set::First })?;
@@ -77,7 +79,8 @@ pub(crate) fn put_body(
     side: Side,
     body: &Body,
 ) -> Result<(), Memory>
-    ensures { OnOk result (items.new.items ≡ items.old.items ++ body_items g.now p.now side body.now) }
+    ensures { OnOk result
+        (items.new.items ≡ items.old.items ++ body_items g.now p.now side body.now) }
 {
     let n = g.points();
     match body {

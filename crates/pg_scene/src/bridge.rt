@@ -31,7 +31,8 @@ fn is_sized(graph: &Graph, rows: u16) -> bool
 fn is_bridge(alloc: Global, graph: &Graph, rows: u16) -> Result<bool, Memory>
     requires some { 1 ≤ rows }
     requires few { rows ≤ MAX_BRIDGE_ROWS }
-    ensures { IfOk result (λ same. IsTrue same ↔ IsBridge graph.now.vertices graph.now.ends (graph.now.s ∷ graph.now.t ∷ []) rows) }
+    ensures { IfOk result (λ same. IsTrue same
+        ↔ IsBridge graph.now.vertices graph.now.ends (graph.now.s ∷ graph.now.t ∷ []) rows) }
 {
     if !is_sized(graph, rows) {
         return Ok(false);
@@ -47,8 +48,11 @@ fn is_bridge(alloc: Global, graph: &Graph, rows: u16) -> Result<bool, Memory>
 
 /// The rows of the Bridg-It board that the graph is, and None exactly where it is none.
 fn bridge_rows(alloc: Global, graph: &Graph) -> Result<Option<u32>, Memory>
-    ensures found { IfOk result (λ rows. IfSome rows (IsBridge graph.now.vertices graph.now.ends (graph.now.s ∷ graph.now.t ∷ []))) }
-    ensures missed { IfOk result (λ rows. IfNone rows ((r : ℕ) → IsBridge graph.now.vertices graph.now.ends (graph.now.s ∷ graph.now.t ∷ []) r → ⊥)) }
+    ensures found { IfOk result (λ rows. IfSome rows
+        (IsBridge graph.now.vertices graph.now.ends (graph.now.s ∷ graph.now.t ∷ []))) }
+    ensures missed { IfOk result (λ rows. IfNone rows
+        ((r : ℕ) → IsBridge graph.now.vertices graph.now.ends (graph.now.s ∷ graph.now.t ∷ []) r
+        → ⊥)) }
 {
     for rows in 1..MAX_BRIDGE_ROWS as u16 + 1 {
         if is_bridge(alloc, graph, rows)? {
@@ -60,7 +64,8 @@ fn bridge_rows(alloc: Global, graph: &Graph) -> Result<Option<u32>, Memory>
 
 /// The board of a graph with its terminals.
 fn graph_board(alloc: Global, graph: &Graph) -> Result<Board, Memory>
-    ensures { IfOk result (IsDrawnGraph graph.now.vertices graph.now.ends (graph.now.s ∷ graph.now.t ∷ [])) }
+    ensures { IfOk result
+        (IsDrawnGraph graph.now.vertices graph.now.ends (graph.now.s ∷ graph.now.t ∷ [])) }
 {
     let bridge = bridge_rows(alloc, graph)?;
     let ends = graph.ends.as_slice().to_vec(alloc)?;
@@ -73,7 +78,8 @@ fn graph_board(alloc: Global, graph: &Graph) -> Result<Board, Memory>
     })
 }
 
-/// The board of a graph all of whose vertices are to be joined, without terminals. An error is want of memory.
+/// The board of a graph all of whose vertices are to be joined, without terminals. An error is want
+/// of memory.
 pub fn joining_board(alloc: Global, graph: &Graph) -> Result<Board, Memory>
     ensures { IfOk result (IsDrawnGraph graph.now.vertices graph.now.ends []) }
 {

@@ -24,33 +24,63 @@ ghost use Rattle.pg_scene.specs.SpanScenes.{IsSceneOfSpan, IsSceneOfSpanGame};
 /// Each item of a scene can stand on its board.
 pub fn scenes_can_be_laid_out()
     ensures games { (g : Game) → (scene : Scene) → IsSceneOfGame g scene → IsScene scene }
-    ensures nodes { (g : Game) → (claim : Claim) → (k : ℕ) → (node : Node) → (fault : Option ℕ) → (scene : Scene) → IsSceneOf g claim k node fault scene → IsScene scene }
+    ensures nodes { (g : Game) → (claim : Claim) → (k : ℕ) → (node : Node) → (fault : Option ℕ)
+        → (scene : Scene) → IsSceneOf g claim k node fault scene
+        → IsScene scene }
 {}
 
-/// Each point of the game is drawn exactly once, in ascending order, with the mark that it has; and no other point is.
+/// Each point of the game is drawn exactly once, in ascending order, with the mark that it has; and
+/// no other point is.
 pub fn points_are_drawn_once()
-    ensures games { (g : Game) → (scene : Scene) → IsSceneOfGame g scene → flat_map point_in scene.items ≡ map (λ v. (v, mark_of (start g) v)) (range_with_len 0 (point_count g)) }
-    ensures nodes { (g : Game) → (claim : Claim) → (k : ℕ) → (node : Node) → (fault : Option ℕ) → (scene : Scene) → IsSceneOf g claim k node fault scene → flat_map point_in scene.items ≡ map (λ v. (v, mark_of (position_of node) v)) (range_with_len 0 (point_count g)) }
+    ensures games { (g : Game) → (scene : Scene) → IsSceneOfGame g scene
+        → flat_map point_in scene.items
+        ≡ map (λ v. (v, mark_of (start g) v)) (range_with_len 0 (point_count g)) }
+    ensures nodes { (g : Game) → (claim : Claim) → (k : ℕ) → (node : Node) → (fault : Option ℕ)
+        → (scene : Scene) → IsSceneOf g claim k node fault scene
+        → flat_map point_in scene.items
+        ≡ map (λ v. (v, mark_of (position_of node) v)) (range_with_len 0 (point_count g)) }
 {}
 
-/// The pairs drawn are those of the node, each exactly once and in its order, where they are of points of the game.
+/// The pairs drawn are those of the node, each exactly once and in its order, where they are of
+/// points of the game.
 pub fn pairs_are_drawn_once()
-    ensures { (g : Game) → (claim : Claim) → (k : ℕ) → (node : Node) → (fault : Option ℕ) → (scene : Scene) → IsSceneOf g claim k node fault scene → (pairs : List Pair) → node.body ≡ bodies.Pairs pairs → All (λ q. (q.a < point_count g) × (q.b < point_count g)) pairs → flat_map pair_in scene.items ≡ pairs }
+    ensures { (g : Game) → (claim : Claim) → (k : ℕ) → (node : Node) → (fault : Option ℕ)
+        → (scene : Scene) → IsSceneOf g claim k node fault scene
+        → (pairs : List Pair) → node.body ≡ bodies.Pairs pairs
+        → All (λ q. (q.a < point_count g) × (q.b < point_count g)) pairs
+        → flat_map pair_in scene.items ≡ pairs }
 {}
 
-/// The edges drawn of two sets are those of the node that are edges of the game, each exactly once, in ascending order.
+/// The edges drawn of two sets are those of the node that are edges of the game, each exactly once,
+/// in ascending order.
 pub fn edges_are_drawn_once()
-    ensures trees { (g : Game) → (claim : Claim) → (k : ℕ) → (node : Node) → (fault : Option ℕ) → (scene : Scene) → IsSceneOf g claim k node fault scene → (with_e : Bool) → (first : FinSet nat_cmp) → (second : FinSet nat_cmp) → node.body ≡ bodies.Trees with_e first second → (flat_map first_in scene.items ≡ points_below first (point_count g)) × (flat_map second_in scene.items ≡ points_below second (point_count g)) }
-    ensures cuts { (g : Game) → (claim : Claim) → (k : ℕ) → (node : Node) → (fault : Option ℕ) → (scene : Scene) → IsSceneOf g claim k node fault scene → (with_e : Bool) → (first : FinSet nat_cmp) → (second : FinSet nat_cmp) → node.body ≡ bodies.Cuts with_e first second → (flat_map first_in scene.items ≡ points_below first (point_count g)) × (flat_map second_in scene.items ≡ points_below second (point_count g)) }
+    ensures trees { (g : Game) → (claim : Claim) → (k : ℕ) → (node : Node) → (fault : Option ℕ)
+        → (scene : Scene) → IsSceneOf g claim k node fault scene
+        → (with_e : Bool) → (first : FinSet nat_cmp) → (second : FinSet nat_cmp)
+        → node.body ≡ bodies.Trees with_e first second
+        → (flat_map first_in scene.items ≡ points_below first (point_count g))
+        × (flat_map second_in scene.items ≡ points_below second (point_count g)) }
+    ensures cuts { (g : Game) → (claim : Claim) → (k : ℕ) → (node : Node) → (fault : Option ℕ)
+        → (scene : Scene) → IsSceneOf g claim k node fault scene
+        → (with_e : Bool) → (first : FinSet nat_cmp) → (second : FinSet nat_cmp)
+        → node.body ≡ bodies.Cuts with_e first second
+        → (flat_map first_in scene.items ≡ points_below first (point_count g))
+        × (flat_map second_in scene.items ≡ points_below second (point_count g)) }
 {}
 
-/// The replies drawn are those of the node, each exactly once and in its order, where they are of points of the game.
+/// The replies drawn are those of the node, each exactly once and in its order, where they are of
+/// points of the game.
 pub fn replies_are_drawn_once()
-    ensures { (g : Game) → (claim : Claim) → (k : ℕ) → (node : Node) → (fault : Option ℕ) → (scene : Scene) → IsSceneOf g claim k node fault scene → (replies : List Reply) → node.body ≡ bodies.All replies → All (λ r. r.point < point_count g) replies → flat_map reply_in scene.items ≡ replies }
+    ensures { (g : Game) → (claim : Claim) → (k : ℕ) → (node : Node) → (fault : Option ℕ)
+        → (scene : Scene) → IsSceneOf g claim k node fault scene
+        → (replies : List Reply) → node.body ≡ bodies.All replies
+        → All (λ r. r.point < point_count g) replies
+        → flat_map reply_in scene.items ≡ replies }
 {}
 
 /// The points of items are the board's, the board is within the limits, and the legend is short.
 pub fn span_scenes_can_be_laid_out()
     ensures games { (g : SpanGame) → (scene : Scene) → IsSceneOfSpanGame g scene → IsScene scene }
-    ensures claims { (g : SpanGame) → (claim : SpanClaim) → (fault : Option ℕ) → (scene : Scene) → IsSceneOfSpan g claim fault scene → IsScene scene }
+    ensures claims { (g : SpanGame) → (claim : SpanClaim) → (fault : Option ℕ) → (scene : Scene)
+        → IsSceneOfSpan g claim fault scene → IsScene scene }
 {}

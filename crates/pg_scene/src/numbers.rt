@@ -23,7 +23,8 @@ fn put_pair(items: &mut Vec<Item>, n: u16, number: usize, pair: Pair) -> Result<
 
 /// Puts the pairs whose points are below n.
 pub(crate) fn put_pairs(items: &mut Vec<Item>, n: u16, pairs: &[Pair]) -> Result<(), Memory>
-    ensures { OnOk result (items.new.items ≡ items.old.items ++ numbered (pair_item n) 0 pairs.now) }
+    ensures { OnOk result
+        (items.new.items ≡ items.old.items ++ numbered (pair_item n) 0 pairs.now) }
 {
     for i in 0..pairs.len() {
         put_pair(items, n, i, pairs[i])?;
@@ -43,7 +44,8 @@ fn put_step(items: &mut Vec<Item>, n: u16, number: usize, point: u16) -> Result<
 
 /// Puts the points below n of a threat line.
 pub(crate) fn put_steps(items: &mut Vec<Item>, n: u16, points: &[u16]) -> Result<(), Memory>
-    ensures { OnOk result (items.new.items ≡ items.old.items ++ numbered (step_item n) 1 points.now) }
+    ensures { OnOk result
+        (items.new.items ≡ items.old.items ++ numbered (step_item n) 1 points.now) }
 {
     for i in 0..points.len() {
         put_step(items, n, i + 1, points[i])?;

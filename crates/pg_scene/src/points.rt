@@ -20,7 +20,8 @@ fn mark_of(p: &Position, v: u16) -> Option<Side>
     }
 }
 
-/// Puts each of so many points with its mark. An error is want of memory; what was put before stays.
+/// Puts each of so many points with its mark. An error is want of memory; what was put before
+/// stays.
 pub fn put_points(items: &mut Vec<Item>, n: u16, p: &Position) -> Result<(), Memory>
     requires { n ≤ MAX_EDGES }
     ensures { OnOk result (items.new.items ≡ items.old.items ++ point_items n p.now) }

@@ -19,7 +19,8 @@ use std::alloc::Global;
 
 /// The points with their marks, and the lines.
 fn game_items(alloc: Global, g: &Game, p: &Position) -> Result<Vec<Item>, Memory>
-    ensures { IfOk result (λ items. items.items ≡ point_items (point_count g.now) p.now ++ line_items (lines_of g.now)) }
+    ensures { IfOk result (λ items. items.items
+        ≡ point_items (point_count g.now) p.now ++ line_items (lines_of g.now)) }
 {
     let mut items = Vec::new(alloc);
     put_points(&mut items, g.points(), p)?;
@@ -35,7 +36,9 @@ fn node_items(
     node: &Node,
     fault: Option<u8>,
 ) -> Result<Items, Memory>
-    ensures { IfOk result (λ items. items ≡ point_items (point_count g.now) (position_of node.now) ++ (line_items (lines_of g.now) ++ (body_items g.now (position_of node.now) side node.now.body ++ fault_items fault))) }
+    ensures { IfOk result (λ items. items
+        ≡ point_items (point_count g.now) (position_of node.now) ++ (line_items (lines_of g.now)
+        ++ (body_items g.now (position_of node.now) side node.now.body ++ fault_items fault))) }
 {
     let p = node.position();
     let mut items = game_items(alloc, g, &p)?;
@@ -44,8 +47,9 @@ fn node_items(
     Ok(Items::from_vec(items))
 }
 
-/// What is to be seen of a game: its board, each point with its mark, and each line where there are at most 30 of them. The title says how large the game
-/// is; the legend says its kind, who is to move, and how many lines there are where they aren't drawn.
+/// What is to be seen of a game: its board, each point with its mark, and each line where there are
+/// at most 30 of them. The title says how large the game is; the legend says its kind, who is to
+/// move, and how many lines there are where they aren't drawn.
 ///
 /// # Errors
 ///
@@ -90,11 +94,13 @@ fn node_scene(
     })
 }
 
-/// What is to be seen of the node of that number, of the certificate's claim of that number, both counted from 0: the game's board, each point with the mark
-/// that it has at the node, each line where there are at most 30 of them, and what the body names; of all these the points of the game alone. None comes exactly
-/// where the certificate has no such node.
+/// What is to be seen of the node of that number, of the certificate's claim of that number, both
+/// counted from 0: the game's board, each point with the mark that it has at the node, each line
+/// where there are at most 30 of them, and what the body names; of all these the points of the game
+/// alone. None comes exactly where the certificate has no such node.
 ///
-/// `fault` is the number of the node's fault, where it is a faulty one; the title says it, and the node is shown as faulty.
+/// `fault` is the number of the node's fault, where it is a faulty one; the title says it, and the
+/// node is shown as faulty.
 ///
 /// # Errors
 ///
@@ -107,7 +113,8 @@ pub fn scene_of_node(
     node: u32,
     fault: Option<u8>,
 ) -> Result<Option<Scene>, Memory>
-    ensures scene { IfOk result (λ found. IfSome found (IsSceneOfNode game.now cert.now claim node fault)) }
+    ensures scene { IfOk result
+        (λ found. IfSome found (IsSceneOfNode game.now cert.now claim node fault)) }
     ensures none { IfOk result (λ found. IfNone found (LacksNode cert.now claim node)) }
 {
     let Some(whole) = cert.claims.as_slice().get(claim as usize) else {

@@ -37,7 +37,8 @@ fn put_part(items: &mut Vec<Item>, n: u16, vertex: usize, part: u16) -> Result<(
 
 /// Puts the vertices below n with the numbers of their parts.
 fn put_parts(items: &mut Vec<Item>, n: u16, parts: &[u16]) -> Result<(), Memory>
-    ensures { OnOk result (items.new.items ≡ items.old.items ++ numbered (part_item n) 0 parts.now) }
+    ensures { OnOk result
+        (items.new.items ≡ items.old.items ++ numbered (part_item n) 0 parts.now) }
 {
     for i in 0..parts.len() {
         put_part(items, n, i, parts[i])?;

@@ -109,7 +109,8 @@ fn claim_items(
     body: &SpanBody,
     fault: Option<u8>,
 ) -> Result<Items, Memory>
-    ensures { IfOk result (λ items. items ≡ point_items (edge_count g.now.graph) p.now ++ (span_items g.now body.now ++ fault_items fault)) }
+    ensures { IfOk result (λ items. items ≡ point_items (edge_count g.now.graph) p.now
+        ++ (span_items g.now body.now ++ fault_items fault)) }
 {
     let mut items = edge_items(alloc, g, p)?;
     put_span_body(&mut items, g, edge_count(g), body)?;
@@ -117,8 +118,8 @@ fn claim_items(
     Ok(Items::from_vec(items))
 }
 
-/// What is to be seen of a connectivity game: its graph, and each edge with its mark. The title says how large the game is; the legend says its kind, and who
-/// is to move.
+/// What is to be seen of a connectivity game: its graph, and each edge with its mark. The title
+/// says how large the game is; the legend says its kind, and who is to move.
 ///
 /// # Errors
 ///
@@ -161,10 +162,12 @@ fn claim_scene(
     })
 }
 
-/// What is to be seen of the certificate's claim of that number, counted from 0: the game's graph, each edge with its mark, and what the body names; of that
-/// the edges and vertices of the game alone. None comes exactly where the certificate has no such claim.
+/// What is to be seen of the certificate's claim of that number, counted from 0: the game's graph,
+/// each edge with its mark, and what the body names; of that the edges and vertices of the game
+/// alone. None comes exactly where the certificate has no such claim.
 ///
-/// `fault` is the number of the claim's fault, where it is a faulty one; the title says it, and the claim is shown as faulty.
+/// `fault` is the number of the claim's fault, where it is a faulty one; the title says it, and the
+/// claim is shown as faulty.
 ///
 /// # Errors
 ///
@@ -176,7 +179,8 @@ pub fn scene_of_span_claim(
     claim: u32,
     fault: Option<u8>,
 ) -> Result<Option<Scene>, Memory>
-    ensures scene { IfOk result (λ found. IfSome found (IsSceneOfSpanClaim game.now cert.now claim fault)) }
+    ensures scene { IfOk result
+        (λ found. IfSome found (IsSceneOfSpanClaim game.now cert.now claim fault)) }
     ensures none { IfOk result (λ found. IfNone found (slice_get cert.now.claims claim ≡ None)) }
 {
     let Some(whole) = cert.claims.as_slice().get(claim as usize) else {

@@ -53,7 +53,8 @@ fn free_on(own: &PointSet, p: &Position, line: &Line) -> usize
     free
 }
 
-/// The greatest number of free points of a line that none of the points takes, and 0 where there is none.
+/// The greatest number of free points of a line that none of the points takes, and 0 where there is
+/// none.
 fn most_free_of(own: &PointSet, p: &Position, lines: &[Line]) -> usize
     requires { All (All (λ v. v < MAX_MEMBERS)) lines.now }
     ensures most { result ≡ most_free own.now p.now lines.now }
@@ -79,7 +80,8 @@ pub(crate) fn most_free(g: &Game, p: &Position, side: Side) -> usize
 
 /// The weight that counts as one for the claimer.
 fn unit_weight(g: &Game, p: &Position, side: Side) -> u128
-    ensures unit { result ≡ unit_weight (base_of g.now.kind g.now.bias) g.now (own_of g.now.kind p.now side) p.now }
+    ensures unit { result
+        ≡ unit_weight (base_of g.now.kind g.now.bias) g.now (own_of g.now.kind p.now side) p.now }
     ensures some { 1 ≤ result }
 {
     let steps = greatest_length(g.lines()) - most_free(g, p, side);
@@ -89,12 +91,15 @@ fn unit_weight(g: &Game, p: &Position, side: Side) -> u128
 /// The weights for a claimer.
 fn weights_for(g: &Game, p: &Position, side: Side) -> Weights
     ensures count { length result.points ≡ MAX_POINTS }
-    ensures points { (v : ℕ) → v < MAX_POINTS → get_or result.points v 0 ≡ point_weight (base_of g.now.kind g.now.bias) g.now (own_of g.now.kind p.now side) p.now v }
+    ensures points { (v : ℕ) → v < MAX_POINTS
+        → get_or result.points v 0 ≡ point_weight (base_of g.now.kind g.now.bias) g.now
+        (own_of g.now.kind p.now side) p.now v }
 {
     weigh(g, u128::from(base_of(g)), own_of(g, p, side), p)
 }
 
-/// Puts the weight of each free point, in units, where there are no more points than in a game on lines.
+/// Puts the weight of each free point, in units, where there are no more points than in a game on
+/// lines.
 fn put_each(
     alloc: Global,
     items: &mut Vec<Item>,
@@ -103,7 +108,9 @@ fn put_each(
     side: Side,
 ) -> Result<(), Memory>
     requires { point_count g.now ≤ MAX_POINTS }
-    ensures { OnOk result (items.new.items ≡ items.old.items ++ map (λ v. Item.Weight v (decimal (units g.now p.now side v))) (free_points g.now p.now)) }
+    ensures { OnOk result
+        (items.new.items ≡ items.old.items ++ map
+        (λ v. Item.Weight v (decimal (units g.now p.now side v))) (free_points g.now p.now)) }
 {
     let weights = weights_for(g, p, side);
     let unit = unit_weight(g, p, side);

@@ -87,7 +87,8 @@ fn kind_line(alloc: Global, kind: Kind, bias: u8) -> Result<Text, Memory>
     Ok(Text::from_string(words))
 }
 
-/// Who is to move, with how many points it still claims where these are several. An error is want of memory.
+/// Who is to move, with how many points it still claims where these are several. An error is want
+/// of memory.
 pub fn turn_line(alloc: Global, p: &Position) -> Result<Text, Memory>
     ensures { IfOk result (λ text. text ≡ turn_line p.now) }
 {

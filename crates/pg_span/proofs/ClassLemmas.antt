@@ -42,51 +42,108 @@ y_wins XWins k = absurd (both_ways _ refl k)
 
 module _ (g : SpanGame) where
   pub place : (turn : Side) → IsPlace (edge_count g.graph) (marks_at g turn)
-  place turn = record { x_range = g.fits.x_range; y_range = g.fits.y_range; disjoint = g.fits.disjoint; one_left = refl }
+  place turn = record {
+    x_range = g.fits.x_range;
+    y_range = g.fits.y_range;
+    disjoint = g.fits.disjoint;
+    one_left = refl;
+  }
 
   some : 0 < g.graph.vertices
   some = let l = g.fits.some_vertices in omega (arith, l)
 
-  ends : (f : ℕ) → f < edge_count g.graph → (first_end_of g.graph f < g.graph.vertices) × (second_end_of g.graph f < g.graph.vertices)
+  ends : (f : ℕ)
+      → f < edge_count g.graph
+      → (first_end_of g.graph f < g.graph.vertices) × (second_end_of g.graph f < g.graph.vertices)
   ends f l = ends_in_range g.graph f g.fits.graph (omega arith)
 
   -- the side of a body that holds forces its win
-  pub forced-by : (side : Side) (p : Position) (body : SpanBody) → IsPlace (edge_count g.graph) p → IsBodyAt g p side body → ForcesBy (span_rules_of g) p side Win
+  pub forced-by : (side : Side) (p : Position) (body : SpanBody)
+      → IsPlace (edge_count g.graph) p
+      → IsBodyAt g p side body
+      → ForcesBy (span_rules_of g) p side Win
   forced-by side p (Trees first a1 a2) at h =
       subst (λ (s : Side). ForcesBy (span_rules_of g) p s Win) (sym h.0)
-      (ForcesBy-joining_trees (first_end_of g.graph) (second_end_of g.graph) (edge_count g.graph) g.graph.vertices some ends p first a1 a2 at h.1)
+      (ForcesBy-joining_trees (first_end_of g.graph) (second_end_of g.graph)
+      (edge_count g.graph) g.graph.vertices some ends p first a1 a2 at h.1)
   forced-by side p (Parts numbers) at h =
       subst (λ (s : Side). ForcesBy (span_rules_of g) p s Win) (sym h.0)
-      (ForcesBy-parts (first_end_of g.graph) (second_end_of g.graph) (edge_count g.graph) g.graph.vertices PART_NUMBERS (slice_index numbers) p at h.1.1)
+      (ForcesBy-parts (first_end_of g.graph) (second_end_of g.graph)
+      (edge_count g.graph) g.graph.vertices PART_NUMBERS (slice_index numbers) p at h.1.1)
 
-  by_trees : (turn : Side) (first : Option ℕ) (a1 a2 : FinSet nat_cmp) → AreTreesOfGame g (marks_at g turn) first a1 a2 → value_by (span_rules_of g) (marks_at g turn) ≡ XWins
-  by_trees turn first a1 a2 t = x_wins _ (forced-by X (marks_at g turn) (Trees first a1 a2) (place turn) (refl, t))
+  by_trees : (turn : Side) (first : Option ℕ) (a1 a2 : FinSet nat_cmp)
+      → AreTreesOfGame g (marks_at g turn) first a1 a2
+      → value_by (span_rules_of g) (marks_at g turn) ≡ XWins
+  by_trees turn first a1 a2 t =
+      x_wins _ (forced-by X (marks_at g turn) (Trees first a1 a2) (place turn) (refl, t))
 
-  by_parts : (turn : Side) (numbers : List ℕ) → ArePartsOfGame g (marks_at g turn) numbers → value_by (span_rules_of g) (marks_at g turn) ≡ YWins
-  by_parts turn numbers t = y_wins _ (forced-by Y (marks_at g turn) (Parts numbers) (place turn) (refl, t))
+  by_parts : (turn : Side) (numbers : List ℕ)
+      → ArePartsOfGame g (marks_at g turn) numbers
+      → value_by (span_rules_of g) (marks_at g turn) ≡ YWins
+  by_parts turn numbers t =
+      y_wins _ (forced-by Y (marks_at g turn) (Parts numbers) (place turn) (refl, t))
 
-  pub span_class-solved : (s : Solved) → SolvedHolds g s → span_class g ≡ Some (named (solved_class s))
+  pub span_class-solved : (s : Solved)
+      → SolvedHolds g s
+      → span_class g ≡ Some (named (solved_class s))
   unfolding span_class
-  span_class-solved (solved.Maker a1 a2) t = rw (by_trees X None a1 a2 t.0, by_trees Y None a1 a2 t.1) refl
+  span_class-solved (solved.Maker a1 a2) t =
+      rw (by_trees X None a1 a2 t.0, by_trees Y None a1 a2 t.1) refl
   span_class-solved (solved.Breaker parts) t = rw (by_parts X parts t.0, by_parts Y parts t.1) refl
-  span_class-solved (solved.First v a1 a2 parts) t = rw (by_trees X (Some v) a1 a2 t.0, by_parts Y parts t.1) refl
+  span_class-solved (solved.First v a1 a2 parts) t =
+      rw (by_trees X (Some v) a1 a2 t.0, by_parts Y parts t.1) refl
 
 -- ---- the certificate of what was found
 
 pub due-claims : (s : Solved) → AreDueClaims (solved_class s) (claims_of s)
-due-claims (solved.Maker a1 a2) = record { first = trees_claim X None a1 a2; second = trees_claim Y None a1 a2; two = refl; first_turn = refl; first_side = refl; second_turn = refl; second_side = refl }
-due-claims (solved.Breaker parts) = record { first = parts_claim X parts; second = parts_claim Y parts; two = refl; first_turn = refl; first_side = refl; second_turn = refl; second_side = refl }
-due-claims (solved.First v a1 a2 parts) = record { first = trees_claim X (Some v) a1 a2; second = parts_claim Y parts; two = refl; first_turn = refl; first_side = refl; second_turn = refl; second_side = refl }
+due-claims (solved.Maker a1 a2) = record {
+  first = trees_claim X None a1 a2;
+  second = trees_claim Y None a1 a2;
+  two = refl;
+  first_turn = refl;
+  first_side = refl;
+  second_turn = refl;
+  second_side = refl;
+}
+due-claims (solved.Breaker parts) = record {
+  first = parts_claim X parts;
+  second = parts_claim Y parts;
+  two = refl;
+  first_turn = refl;
+  first_side = refl;
+  second_turn = refl;
+  second_side = refl;
+}
+due-claims (solved.First v a1 a2 parts) = record {
+  first = trees_claim X (Some v) a1 a2;
+  second = parts_claim Y parts;
+  two = refl;
+  first_turn = refl;
+  first_side = refl;
+  second_turn = refl;
+  second_side = refl;
+}
 
-two-valid : (P : SpanClaim → Type 0) (first second : SpanClaim) → P first → P second → All P (first ∷ second ∷ [])
+two-valid : (P : SpanClaim → Type 0) (first second : SpanClaim)
+    → P first
+    → P second
+    → All P (first ∷ second ∷ [])
 two-valid P first second one two zero d low = one
 two-valid P first second one two (suc zero) d low = two
 two-valid P first second one two (suc (suc k)) d low = absurd (omega (arith, low))
 
-claims-valid : (g : SpanGame) (s : Solved) → SolvedHolds g s → All (IsSpanClaimValid g) (claims_of s)
+claims-valid : (g : SpanGame) (s : Solved)
+    → SolvedHolds g s
+    → All (IsSpanClaimValid g) (claims_of s)
 claims-valid g (solved.Maker a1 a2) t = two-valid (IsSpanClaimValid g) _ _ (refl, t.0) (refl, t.1)
-claims-valid g (solved.Breaker parts) t = two-valid (IsSpanClaimValid g) (parts_claim X parts) (parts_claim Y parts) (refl, t.0) (refl, t.1)
-claims-valid g (solved.First v a1 a2 parts) t = two-valid (IsSpanClaimValid g) (trees_claim X (Some v) a1 a2) (parts_claim Y parts) (refl, t.0) (refl, t.1)
+claims-valid g (solved.Breaker parts) t = two-valid (IsSpanClaimValid g) (parts_claim X parts)
+    (parts_claim Y parts) (refl, t.0) (refl, t.1)
+claims-valid g (solved.First v a1 a2 parts) t = two-valid (IsSpanClaimValid g)
+    (trees_claim X (Some v) a1 a2) (parts_claim Y parts) (refl, t.0) (refl, t.1)
 
-pub valid-certificate : (g : SpanGame) (s : Solved) (cert : SpanCert) → SolvedHolds g s → cert.claims ≡ claims_of s → IsSpanValid g cert
-valid-certificate g s cert t is = subst (λ (claims : List SpanClaim). All (IsSpanClaimValid g) claims) (sym is) (claims-valid g s t)
+pub valid-certificate : (g : SpanGame) (s : Solved) (cert : SpanCert)
+    → SolvedHolds g s
+    → cert.claims ≡ claims_of s
+    → IsSpanValid g cert
+valid-certificate g s cert t is = subst
+    (λ (claims : List SpanClaim). All (IsSpanClaimValid g) claims) (sym is) (claims-valid g s t)

@@ -40,9 +40,14 @@ unfolding count
 count-none p = refl
 
 -- with its next number the list has one more, where that is new
-pub image-more : (label : ℕ → ℕ) (n bound : ℕ) → label n < bound → image label n (label n) ≡ false → count (image label (suc n)) bound ≡ count (image label n) bound + 1
+pub image-more : (label : ℕ → ℕ) (n bound : ℕ)
+    → label n < bound
+    → image label n (label n) ≡ false
+    → count (image label (suc n)) bound ≡ count (image label n) bound + 1
 unfolding image plus
-image-more label n bound small fresh = count_same (image label (suc n)) (plus (image label n) (label n)) bound (λ z l. either_way (label n == z) (image label n z)) ∙ count_plus (image label n) (label n) bound fresh small
+image-more label n bound small fresh = count_same (image label (suc n))
+    (plus (image label n) (label n)) bound (λ z l. either_way (label n == z) (image label n z))
+    ∙ count_plus (image label n) (label n) bound fresh small
   where
     either_way : (a b : Bool) → (a || b) ≡ (b || a)
     either_way true true = refl
@@ -51,12 +56,18 @@ image-more label n bound small fresh = count_same (image label (suc n)) (plus (i
     either_way false false = refl
 
 -- and else as many as before
-pub image-same : (label : ℕ → ℕ) (n bound : ℕ) → image label n (label n) ≡ true → count (image label (suc n)) bound ≡ count (image label n) bound
+pub image-same : (label : ℕ → ℕ) (n bound : ℕ)
+    → image label n (label n) ≡ true
+    → count (image label (suc n)) bound ≡ count (image label n) bound
 unfolding image
-image-same label n bound old = count_same (image label (suc n)) (image label n) bound (λ z l. elim (cases_Bool (label n == z)) [
-  | inl is ↦ let here : image label n z ≡ true = subst (λ (v : ℕ). image label n v ≡ true) (eqb-true (label n) z is) old in rw (is, here) refl
-  | inr isnt ↦ rw isnt refl
-])
+image-same label n bound old = count_same (image label (suc n)) (image label n) bound
+    (λ z l. elim (cases_Bool (label n == z)) [
+      | inl is ↦
+          let here : image label n z ≡ true =
+          subst (λ (v : ℕ). image label n v ≡ true) (eqb-true (label n) z is) old in
+          rw (is, here) refl
+      | inr isnt ↦ rw isnt refl
+    ])
 
 -- no number stands before the first
 pub image-none : (label : ℕ → ℕ) (v : ℕ) → image label 0 v ≡ false
@@ -69,40 +80,73 @@ count-image_none label zero = refl
 count-image_none label (suc bound) = let rest = count-image_none label bound in omega (arith, rest)
 
 -- the last number isn't that one, so those before it tell
-pub image-last : (label : ℕ → ℕ) (n v : ℕ) → (label n ≡ v → ⊥) → image label n v ≡ false → image label (n + 1) v ≡ false
+pub image-last : (label : ℕ → ℕ) (n v : ℕ)
+    → (label n ≡ v → ⊥)
+    → image label n v ≡ false
+    → image label (n + 1) v ≡ false
 unfolding image
-image-last label n v other before = next (λ m. image label m v ≡ false) n (neither (label n == v) (image label n v) (false_from_ne_true _ (λ is. other (eqb-true (label n) v is))) before)
+image-last label n v other before = next (λ m. image label m v ≡ false) n
+    (neither (label n == v) (image label n v)
+    (false_from_ne_true _ (λ is. other (eqb-true (label n) v is))) before)
   where
     neither : (a b : Bool) → a ≡ false → b ≡ false → (a || b) ≡ false
     neither a b is_a is_b = rw (is_a, is_b) refl
 
 -- a number of the list is one of its first k
 pub image-found : (label : ℕ → ℕ) (n k v : ℕ) → k < n → label k ≡ v → image label n v ≡ true
-image-found label n k v low is = subst (λ (w : ℕ). image label n w ≡ true) is (image-at label n k low)
+image-found label n k v low is =
+    subst (λ (w : ℕ). image label n w ≡ true) is (image-at label n k low)
 
 -- as loops say it
-pub image-more_at : (label : ℕ → ℕ) (n bound : ℕ) → label n < bound → image label n (label n) ≡ false → count (image label (n + 1)) bound ≡ count (image label n) bound + 1
-image-more_at label n bound low fresh = next (λ m. count (image label m) bound ≡ count (image label n) bound + 1) n (image-more label n bound low fresh)
+pub image-more_at : (label : ℕ → ℕ) (n bound : ℕ)
+    → label n < bound
+    → image label n (label n) ≡ false
+    → count (image label (n + 1)) bound ≡ count (image label n) bound + 1
+image-more_at label n bound low fresh =
+    next (λ m. count (image label m) bound ≡ count (image label n) bound + 1) n
+    (image-more label n bound low fresh)
 
-pub image-same_at : (label : ℕ → ℕ) (n bound : ℕ) → image label n (label n) ≡ true → count (image label (n + 1)) bound ≡ count (image label n) bound
-image-same_at label n bound old = next (λ m. count (image label m) bound ≡ count (image label n) bound) n (image-same label n bound old)
+pub image-same_at : (label : ℕ → ℕ) (n bound : ℕ)
+    → image label n (label n) ≡ true
+    → count (image label (n + 1)) bound ≡ count (image label n) bound
+image-same_at label n bound old =
+    next (λ m. count (image label m) bound ≡ count (image label n) bound) n
+    (image-same label n bound old)
 
 -- ---- parts
 
 module _ (g : SpanGame) (p : Position) (numbers : List ℕ) where
   -- how many edges of the set have ends with different numbers
   abbrev crossed : (ℕ → Bool) → ℕ
-  crossed set = crossing (first_end_of g.graph) (second_end_of g.graph) (edge_count g.graph) (slice_index numbers) set
+  crossed set = crossing (first_end_of g.graph) (second_end_of g.graph) (edge_count g.graph)
+      (slice_index numbers) set
 
   -- sets of the same edges are crossed as often
-  pub crossed-same : (s t : ℕ → Bool) → ((f : ℕ) → f < edge_count g.graph → s f ≡ t f) → crossed s ≡ crossed t
-  crossed-same s t same = count_same _ _ (edge_count g.graph) (λ z l. ap (λ b. b && crosses (first_end_of g.graph) (second_end_of g.graph) (slice_index numbers) z) (same z l))
+  pub crossed-same : (s t : ℕ → Bool)
+      → ((f : ℕ) → f < edge_count g.graph → s f ≡ t f)
+      → crossed s ≡ crossed t
+  crossed-same s t same = count_same _ _ (edge_count g.graph) (λ z l.
+      ap (λ b. b && crosses (first_end_of g.graph) (second_end_of g.graph) (slice_index numbers) z)
+      (same z l))
 
   -- the condition on parts by its three counts
-  pub parts-told : (taken free parts : ℕ) (r : Bool) → length numbers ≡ g.graph.vertices → taken ≡ crossed (contains p.x) → free ≡ crossed (is_free p)
-      → parts ≡ count (image (slice_index numbers) (length numbers)) PART_NUMBERS → (IsTrue r ↔ AreFew taken free parts p.turn) → IsTrue r ↔ ArePartsOfGame g p numbers
+  pub parts-told : (taken free parts : ℕ) (r : Bool)
+      → length numbers ≡ g.graph.vertices
+      → taken ≡ crossed (contains p.x)
+      → free ≡ crossed (is_free p)
+      → parts ≡ count (image (slice_index numbers) (length numbers)) PART_NUMBERS
+      → (IsTrue r ↔ AreFew taken free parts p.turn)
+      → IsTrue r ↔ ArePartsOfGame g p numbers
   parts-told taken free parts r size is_taken is_free is_parts iff =
-      let all : parts ≡ count (image (slice_index numbers) g.graph.vertices) PART_NUMBERS = is_parts ∙ ap (λ n. count (image (slice_index numbers) n) PART_NUMBERS) size in (
-        (λ on. let few = iff.0 on in (size, record { few_taken = rw (← is_taken, ← all) few.0; few_free = rw (← is_taken, ← is_free, ← all) few.1 })),
+      let all : parts ≡ count (image (slice_index numbers) g.graph.vertices) PART_NUMBERS =
+      is_parts ∙ ap (λ n. count (image (slice_index numbers) n) PART_NUMBERS) size in (
+        (λ on.
+            let few = iff.0 on in (
+              size,
+              record {
+                few_taken = rw (← is_taken, ← all) few.0;
+                few_free = rw (← is_taken, ← is_free, ← all) few.1;
+              },
+            )),
         (λ h. iff.1 (rw (is_taken, all) h.1.few_taken, rw (is_taken, is_free, all) h.1.few_free)),
       )

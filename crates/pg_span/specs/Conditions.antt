@@ -12,7 +12,8 @@ use Rattle.pg_span.specs.declared.game.SpanGame.{SpanGame}
 
 -- the members are free edges of the game
 abbrev pub AreFree : SpanGame → FinSet nat_cmp → Type 0
-AreFree g set = (f : ℕ) → contains set f ≡ true → (f < edge_count g.graph) × (is_free (marks_at g X) f ≡ true)
+AreFree g set =
+    (f : ℕ) → contains set f ≡ true → (f < edge_count g.graph) × (is_free (marks_at g X) f ≡ true)
 
 -- disjoint sets of free edges
 pub record AreFreePair (g : SpanGame) (a1 a2 : FinSet nat_cmp) : Type 0 where

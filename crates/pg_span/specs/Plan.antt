@@ -22,5 +22,9 @@ pub record AreTreesOf (h : Graph) (t : TreePlan) (last : Option ℕ) : Type 0 wh
 
 -- trees whose sets are edges, or parts with a number for each vertex
 abbrev pub IsMovable : Graph → SpanBody → Option ℕ → Type 0
-IsMovable h (Trees first a1 a2) last = AreTreesOf h (record { first = first; a1 = a1; a2 = a2 }) last
+IsMovable h (Trees first a1 a2) last = AreTreesOf h (record {
+  first = first;
+  a1 = a1;
+  a2 = a2;
+}) last
 IsMovable h (Parts numbers) last = length numbers ≡ h.vertices

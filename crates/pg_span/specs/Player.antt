@@ -44,14 +44,16 @@ pub record MakesSpanMove (before now : SpanPlay) (last : Option ℕ) (v : ℕ) :
   pub turn : before.position.turn ≡ before.side
   pub within : v < edge_count before.game.graph
   pub free : is_free before.position v ≡ true
-  pub own : span_move before.game.graph before.position before.plan last ≡ record { edge = v; plan = now.plan }
+  pub own : span_move before.game.graph before.position before.plan last
+      ≡ record { edge = v; plan = now.plan }
   pub position : now.position ≡ moved (span_rules_of before.game) before.position v
   pub same_game : now.game ≡ before.game
   pub same_side : now.side ≡ before.side
 
 -- the player owes no move: the game is over or the other side is to move
 abbrev pub SpanWaits : SpanPlay → Type 0
-SpanWaits play = ((span_rules_of play.game).over play.position ≡ true) ⊎ (play.position.turn ≡ other play.side)
+SpanWaits play =
+    ((span_rules_of play.game).over play.position ≡ true) ⊎ (play.position.turn ≡ other play.side)
 
 -- the other side takes v, which is legal, and the plan waits for the answer
 pub record TakesSpanReply (before now : SpanPlay) (v : ℕ) : Type 0 where
@@ -65,10 +67,13 @@ abbrev pub MovesInSpan : SpanPlay → SpanPlay → Option ℕ → Type 0
 MovesInSpan before now None = SpanWaits before × (now ≡ before)
 MovesInSpan before now (Some v) = MakesSpanMove before now None v
 
--- what the player does after a legal reply: it takes the reply, and then makes its move where the game isn't over
+-- what the player does after a legal reply: it takes the reply, and then makes its move where the
+-- game isn't over
 abbrev pub AnswersInSpan : SpanPlay → SpanPlay → ℕ → Option ℕ → Type 0
-AnswersInSpan before now v None = TakesSpanReply before now v × ((span_rules_of now.game).over now.position ≡ true)
-AnswersInSpan before now v (Some w) = (between : SpanPlay) × TakesSpanReply before between v × MakesSpanMove between now (Some v) w
+AnswersInSpan before now v None =
+    TakesSpanReply before now v × ((span_rules_of now.game).over now.position ≡ true)
+AnswersInSpan before now v (Some w) =
+    (between : SpanPlay) × TakesSpanReply before between v × MakesSpanMove between now (Some v) w
 
 -- ---- what a player keeps
 
@@ -78,7 +83,8 @@ pub record IsSpanReached (g : SpanGame) (p : Position) : Type 0 where
   pub legal : IsPlayBy (span_rules_of g) (span_start g) moves
   pub leads : played_by (span_rules_of g) (span_start g) moves ≡ p
 
--- the position is reached by a legal play, the side forces its win from it, and while the game goes on the plan holds
+-- the position is reached by a legal play, the side forces its win from it, and while the game goes
+-- on the plan holds
 pub record IsOnPlan (g : SpanGame) (side : Side) (p : Position) (plan : SpanBody) : Type 0 where
   pub place : IsPlace (edge_count g.graph) p
   pub reached : IsSpanReached g p

@@ -69,9 +69,12 @@ claims_of (solved.First v a1 a2 parts) = trees_claim X (Some v) a1 a2 ∷ parts_
 
 -- trees or parts whoever is to move, or trees where X is to move and parts where Y is
 abbrev pub SolvedHolds : SpanGame → Solved → Type 0
-SolvedHolds g (solved.Maker a1 a2) = AreTreesOfGame g (marks_at g X) None a1 a2 × AreTreesOfGame g (marks_at g Y) None a1 a2
-SolvedHolds g (solved.Breaker parts) = ArePartsOfGame g (marks_at g X) parts × ArePartsOfGame g (marks_at g Y) parts
-SolvedHolds g (solved.First v a1 a2 parts) = AreTreesOfGame g (marks_at g X) (Some v) a1 a2 × ArePartsOfGame g (marks_at g Y) parts
+SolvedHolds g (solved.Maker a1 a2) =
+    AreTreesOfGame g (marks_at g X) None a1 a2 × AreTreesOfGame g (marks_at g Y) None a1 a2
+SolvedHolds g (solved.Breaker parts) =
+    ArePartsOfGame g (marks_at g X) parts × ArePartsOfGame g (marks_at g Y) parts
+SolvedHolds g (solved.First v a1 a2 parts) =
+    AreTreesOfGame g (marks_at g X) (Some v) a1 a2 × ArePartsOfGame g (marks_at g Y) parts
 
 -- each part that was found has a number below the number of vertices
 abbrev pub SolvedIsSmall : SpanGame → Solved → Type 0

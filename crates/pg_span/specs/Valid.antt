@@ -19,13 +19,20 @@ use Rattle.pg_span.specs.declared.flaw.SpanFlaw.TheVariants as flaws
 use Rattle.pg_span.specs.declared.game.SpanGame.{SpanGame}
 
 -- trees of the game at a position
-abbrev pub AreTreesOfGame : SpanGame → Position → Option ℕ → FinSet nat_cmp → FinSet nat_cmp → Type 0
-AreTreesOfGame g p first a1 a2 = AreJoiningTrees (first_end_of g.graph) (second_end_of g.graph) (edge_count g.graph) g.graph.vertices p first a1 a2
+abbrev pub AreTreesOfGame : SpanGame
+    → Position
+    → Option ℕ
+    → FinSet nat_cmp
+    → FinSet nat_cmp
+    → Type 0
+AreTreesOfGame g p first a1 a2 = AreJoiningTrees (first_end_of g.graph) (second_end_of g.graph)
+    (edge_count g.graph) g.graph.vertices p first a1 a2
 
 -- a number for each vertex, which part the game at a position
 abbrev pub ArePartsOfGame : SpanGame → Position → List ℕ → Type 0
-ArePartsOfGame g p numbers =
-    (length numbers ≡ g.graph.vertices) × AreParts (first_end_of g.graph) (second_end_of g.graph) (edge_count g.graph) g.graph.vertices PART_NUMBERS (slice_index numbers) p
+ArePartsOfGame g p numbers = (length numbers ≡ g.graph.vertices)
+    × AreParts (first_end_of g.graph) (second_end_of g.graph)
+    (edge_count g.graph) g.graph.vertices PART_NUMBERS (slice_index numbers) p
 
 -- trees are X's, and parts Y's; they hold at the position
 abbrev pub IsBodyAt : SpanGame → Position → Side → SpanBody → Type 0
@@ -54,4 +61,7 @@ pub record IsFirstFlaw (g : SpanGame) (cert : SpanCert) (number : ℕ) (why : Sp
   pub claim : SpanClaim
   pub at : slice_get cert.claims number ≡ Some claim
   pub flaw : HasFlaw g (marks_at g claim.turn) claim.side claim.body why
-  pub before : (k : ℕ) (c : SpanClaim) → k < number → slice_get cert.claims k ≡ Some c → IsSpanClaimValid g c
+  pub before : (k : ℕ) (c : SpanClaim)
+      → k < number
+      → slice_get cert.claims k ≡ Some c
+      → IsSpanClaimValid g c

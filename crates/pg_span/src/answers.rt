@@ -13,7 +13,8 @@ fn crosses(graph: &Graph, numbers: &[u16], v: u16) -> bool
     requires graph { IsGraph graph.now }
     requires numbers { length numbers.now ≡ graph.now.vertices }
     requires edge { v ≤ edge_count graph.now }
-    ensures { result ≡ crosses (first_end_of graph.now) (second_end_of graph.now) (slice_index numbers.now) v }
+    ensures { result
+        ≡ crosses (first_end_of graph.now) (second_end_of graph.now) (slice_index numbers.now) v }
 {
     let (a, b) = graph.ends_of(v);
     numbers[a as usize] != numbers[b as usize]

@@ -13,7 +13,8 @@ use crate::judge::SpanJudge;
 use pg_base::Side;
 use std::alloc::Global;
 
-/// A connectivity game and a certificate that is valid for it. It can be had from `span_check` alone.
+/// A connectivity game and a certificate that is valid for it. It can be had from `span_check`
+/// alone.
 #[derive(Clone, Copy, Debug)]
 pub struct SpanChecked<'a> {
     /// The game.
@@ -41,7 +42,8 @@ pub enum SpanFault {
 /// Why the claim isn't valid, and None where it is.
 fn flaw_of(judge: &mut SpanJudge, g: &SpanGame, claim: &SpanClaim) -> Option<SpanFlaw>
     requires { IsJudgeOf judge.old g.now }
-    ensures flaw { IfSome result (HasFlaw g.now (marks_at g.now claim.now.turn) claim.now.side claim.now.body) }
+    ensures flaw { IfSome result
+        (HasFlaw g.now (marks_at g.now claim.now.turn) claim.now.side claim.now.body) }
     ensures valid { IfNone result (IsSpanClaimValid g.now claim.now) }
     ensures kept { judge.new ≡ judge.old }
 {
@@ -66,8 +68,9 @@ fn flaw_of(judge: &mut SpanJudge, g: &SpanGame, claim: &SpanClaim) -> Option<Spa
 ///
 /// # Errors
 ///
-/// `Reject` exactly where some claim isn't valid, with the first such claim and its flaw: its body is the other side's, or
-/// else its condition doesn't hold. `Memory` says that there is no room to check them.
+/// `Reject` exactly where some claim isn't valid, with the first such claim and its flaw: its body
+/// is the other side's, or else its condition doesn't hold. `Memory` says that there is no room to
+/// check them.
 pub fn span_check<'a>(
     alloc: Global,
     g: &'a SpanGame,
@@ -77,7 +80,8 @@ pub fn span_check<'a>(
     ensures game { IfOk result (λ checked. checked.game.now ≡ g.now) }
     ensures cert { IfOk result (λ checked. checked.cert.now ≡ c.now) }
     ensures valid { IfOk result (λ _. IsSpanValid g.now c.now) }
-    ensures reject { (claim : ℕ) → (why : SpanFlaw) → result ≡ Err (SpanFault.Reject claim why) → IsFirstFlaw g.now c.now claim why }
+    ensures reject { (claim : ℕ) → (why : SpanFlaw) → result ≡ Err (SpanFault.Reject claim why)
+        → IsFirstFlaw g.now c.now claim why }
 {
     let Ok(mut judge) = SpanJudge::new(alloc, g) else {
         return Err(SpanFault::Memory);

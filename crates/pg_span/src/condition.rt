@@ -26,8 +26,8 @@ fn are_free(g: &SpanGame, set: &PointSet) -> bool
     set.is_below(g.graph.edge_count()) && set.shares_none(&g.x) && set.shares_none(&g.y)
 }
 
-/// Whether the edge may be claimed before the two sets, where there is one: it is free, in neither of them, and X is to
-/// move.
+/// Whether the edge may be claimed before the two sets, where there is one: it is free, in neither
+/// of them, and X is to move.
 fn may_claim_first(
     g: &SpanGame,
     turn: Side,
@@ -35,7 +35,8 @@ fn may_claim_first(
     a1: &PointSet,
     a2: &PointSet,
 ) -> bool
-    ensures { IsTrue result ↔ IsFirst (edge_count g.now.graph) (marks_at g.now turn) a1.now a2.now first }
+    ensures { IsTrue result
+        ↔ IsFirst (edge_count g.now.graph) (marks_at g.now turn) a1.now a2.now first }
 {
     let Some(v) = first else {
         return true;
@@ -80,7 +81,8 @@ fn join_both(
     requires claimed { AreBelow claimed.now (edge_count g.now.graph) }
     requires one { AreBelow a1.now (edge_count g.now.graph) }
     requires two { AreBelow a2.now (edge_count g.now.graph) }
-    ensures join { IsTrue result ↔ ((connects g.now.graph (either (contains claimed.now) (contains a1.now)) ≡ true)
+    ensures join { IsTrue result
+        ↔ ((connects g.now.graph (either (contains claimed.now) (contains a1.now)) ≡ true)
         × (connects g.now.graph (either (contains claimed.now) (contains a2.now)) ≡ true)) }
     ensures kept { judge.new ≡ judge.old }
 {
@@ -121,7 +123,8 @@ fn stands_before(numbers: &[u16], place: usize) -> bool
 
 /// How many different numbers there are.
 fn different(numbers: &[u16]) -> usize
-    ensures count { result ≡ count (image (slice_index numbers.now) (length numbers.now)) PART_NUMBERS }
+    ensures count { result
+        ≡ count (image (slice_index numbers.now) (length numbers.now)) PART_NUMBERS }
     ensures few { result ≤ length numbers.now }
 {
     let mut different = 0;
@@ -137,7 +140,9 @@ fn different(numbers: &[u16]) -> usize
 fn crosses(g: &SpanGame, numbers: &[u16], set: &PointSet, k: u16) -> bool
     requires numbers { length numbers.now ≡ g.now.graph.vertices }
     requires edge { k < edge_count g.now.graph }
-    ensures { result ≡ (contains set.now k && crosses (first_end_of g.now.graph) (second_end_of g.now.graph) (slice_index numbers.now) k) }
+    ensures { result ≡ (contains set.now k
+        && crosses (first_end_of g.now.graph) (second_end_of g.now.graph)
+        (slice_index numbers.now) k) }
 {
     let (u, v) = g.graph.ends_of(k);
     set.has(k) && numbers[u as usize] != numbers[v as usize]
@@ -146,7 +151,8 @@ fn crosses(g: &SpanGame, numbers: &[u16], set: &PointSet, k: u16) -> bool
 /// How many edges of the set have ends with different numbers.
 fn crossing(g: &SpanGame, numbers: &[u16], set: &PointSet) -> usize
     requires { length numbers.now ≡ g.now.graph.vertices }
-    ensures count { result ≡ crossing (first_end_of g.now.graph) (second_end_of g.now.graph) (edge_count g.now.graph) (slice_index numbers.now) (contains set.now) }
+    ensures count { result ≡ crossing (first_end_of g.now.graph) (second_end_of g.now.graph)
+        (edge_count g.now.graph) (slice_index numbers.now) (contains set.now) }
     ensures few { result ≤ edge_count g.now.graph }
 {
     let mut crossing = 0;
@@ -160,13 +166,15 @@ fn crossing(g: &SpanGame, numbers: &[u16], set: &PointSet) -> usize
 
 /// The free edges.
 fn free_edges(g: &SpanGame) -> PointSet
-    ensures { (f : ℕ) → f < edge_count g.now.graph → contains result f ≡ is_free (marks_at g.now X) f }
+    ensures { (f : ℕ) → f < edge_count g.now.graph
+        → contains result f ≡ is_free (marks_at g.now X) f }
 {
     let all = PointSet::all_below(g.graph.edge_count());
     all.without(&g.x).without(&g.y)
 }
 
-/// Whether so few edges between so many parts are X's, and so few free, that X can't join the parts.
+/// Whether so few edges between so many parts are X's, and so few free, that X can't join the
+/// parts.
 fn are_few(taken: usize, free: usize, parts: usize, turn: Side) -> bool
     requires taken { taken ≤ MAX_EDGES }
     requires free { free ≤ MAX_EDGES }
@@ -180,7 +188,8 @@ fn are_few(taken: usize, free: usize, parts: usize, turn: Side) -> bool
     taken + 2 <= parts && free + 2 * taken + 4 <= 2 * parts + spare
 }
 
-/// Whether the numbers part the game at its marks with the turn (Nash-Williams and Tutte 1961, for two trees).
+/// Whether the numbers part the game at its marks with the turn (Nash-Williams and Tutte 1961, for
+/// two trees).
 pub(crate) fn parts_hold(g: &SpanGame, turn: Side, numbers: &[u16]) -> bool
     ensures { IsTrue result ↔ ArePartsOfGame g.now (marks_at g.now turn) numbers.now }
 {

@@ -57,8 +57,8 @@ impl SpanJudge {
         Ok(SpanJudge { joiner, whole })
     }
 
-    /// Whether the edges of the set join every two vertices: all edges do, and none leads out of what the set joins to
-    /// vertex 0. It takes nearly linear time.
+    /// Whether the edges of the set join every two vertices: all edges do, and none leads out of
+    /// what the set joins to vertex 0. It takes nearly linear time.
     pub(crate) fn connects(&mut self, g: &SpanGame, set: &PointSet) -> bool
         requires made { IsJudgeOf self.old g.now }
         requires set { AreBelow set.now (edge_count g.now.graph) }
@@ -88,11 +88,13 @@ impl SpanJudge {
     }
 }
 
-/// The position after the side to move takes the edge in a position with that outcome, which may be none yet.
+/// The position after the side to move takes the edge in a position with that outcome, which may be
+/// none yet.
 ///
 /// # Errors
 ///
-/// `Range` where the game has no such edge, else `Over` where it is over, else `Taken` where the edge isn't free.
+/// `Range` where the game has no such edge, else `Over` where it is over, else `Taken` where the
+/// edge isn't free.
 pub(crate) fn play(
     g: &SpanGame,
     p: &Position,

@@ -1,4 +1,5 @@
-//! Laws of connectivity games. Each function is empty: what it promises is a law of the definitions alone.
+//! Laws of connectivity games. Each function is empty: what it promises is a law of the definitions
+//! alone.
 ghost use Rattle.std.specs.Prelude.{◌≡◌, ℕ, Some};
 ghost use Rattle.pg_base.specs.declared.goal.Goal.TheVariants.{Win};
 ghost use Rattle.pg_game.specs.Rules.{ForcesBy};
@@ -11,19 +12,29 @@ ghost use Rattle.pg_span.specs.declared.flaw.SpanFlaw.{SpanFlaw};
 ghost use Rattle.pg_span.specs.declared.game.SpanGame.{SpanGame};
 ghost use Rattle.pg_span.specs.declared.solved.SpanClass.{SpanClass};
 
-/// The side of a valid claim wins from the game's marks with the claim's turn (Lehman 1964 for trees; Nash-Williams and
-/// Tutte 1961 for parts).
+/// The side of a valid claim wins from the game's marks with the claim's turn (Lehman 1964 for
+/// trees; Nash-Williams and Tutte 1961 for parts).
 pub fn valid_claims_force()
-    ensures { (g : SpanGame) → (claim : SpanClaim) → IsSpanClaimValid g claim → ForcesBy (span_rules_of g) (marks_at g claim.turn) claim.side Win }
+    ensures { (g : SpanGame) → (claim : SpanClaim) → IsSpanClaimValid g claim
+        → ForcesBy (span_rules_of g) (marks_at g claim.turn) claim.side Win }
 {}
 
 /// A valid certificate has no first flaw, and any other one at most.
 pub fn faults_are_told()
-    ensures valid { (g : SpanGame) → (cert : SpanCert) → (claim : ℕ) → (why : SpanFlaw) → IsSpanValid g cert → IsFirstFlaw g cert claim why → ⊥ }
-    ensures one { (g : SpanGame) → (cert : SpanCert) → (claim other : ℕ) → (why how : SpanFlaw) → IsFirstFlaw g cert claim why → IsFirstFlaw g cert other how → (claim ≡ other) × (why ≡ how) }
+    ensures valid { (g : SpanGame) → (cert : SpanCert) → (claim : ℕ) → (why : SpanFlaw)
+        → IsSpanValid g cert
+        → IsFirstFlaw g cert claim why
+        → ⊥ }
+    ensures one { (g : SpanGame) → (cert : SpanCert) → (claim other : ℕ) → (why how : SpanFlaw)
+        → IsFirstFlaw g cert claim why
+        → IsFirstFlaw g cert other how
+        → (claim ≡ other) × (why ≡ how) }
 {}
 
 /// Valid claims of the sides that win with X and with Y to move tell the class.
 pub fn claims_tell_the_class()
-    ensures { (g : SpanGame) → (class : SpanClass) → (cert : SpanCert) → AreDueClaims class cert.claims → IsSpanValid g cert → span_class g ≡ Some (named class) }
+    ensures { (g : SpanGame) → (class : SpanClass) → (cert : SpanCert)
+        → AreDueClaims class cert.claims
+        → IsSpanValid g cert
+        → span_class g ≡ Some (named class) }
 {}

@@ -88,7 +88,11 @@ fn trees_move(
     requires made { IsMadeFor joiner.old graph.now }
     requires x_range { AreBelow p.now.x (edge_count graph.now) }
     requires trees { AreTreesOf graph.now trees last }
-    ensures own { span_move graph.now p.now (SpanBody.Trees trees.first trees.a1 trees.a2) last ≡ record { edge = result.edge; plan = SpanBody.Trees result.trees.first result.trees.a1 result.trees.a2 } }
+    ensures own { span_move graph.now p.now (SpanBody.Trees trees.first trees.a1 trees.a2) last
+        ≡ record {
+          edge = result.edge;
+          plan = SpanBody.Trees result.trees.first result.trees.a1 result.trees.a2;
+        } }
     ensures kept { joiner.new ≡ joiner.old }
 {
     let TreePlan { first, a1, a2 } = trees;
@@ -114,8 +118,8 @@ fn trees_move(
     }
 }
 
-/// The own move after the last reply by the plan, which is the body's parts or what is left of its trees. It takes no
-/// memory, and leaves the joiner as it was.
+/// The own move after the last reply by the plan, which is the body's parts or what is left of its
+/// trees. It takes no memory, and leaves the joiner as it was.
 pub(crate) fn own_move(
     graph: &Graph,
     joiner: &mut Joiner,
@@ -128,7 +132,8 @@ pub(crate) fn own_move(
     requires made { IsMadeFor joiner.old graph.now }
     requires x_range { AreBelow p.now.x (edge_count graph.now) }
     requires movable { IsMovable graph.now (plan_of body.now trees) last }
-    ensures own { span_move graph.now p.now (plan_of body.now trees) last ≡ record { edge = result.edge; plan = plan_of body.now result.trees } }
+    ensures own { span_move graph.now p.now (plan_of body.now trees) last
+        ≡ record { edge = result.edge; plan = plan_of body.now result.trees } }
     ensures kept { joiner.new ≡ joiner.old }
 {
     match body {

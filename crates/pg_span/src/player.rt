@@ -18,11 +18,13 @@ use pg_game::{Illegal, Position};
 use std::alloc::Global;
 use std::marker::Model;
 
-/// A player of a connectivity game: it makes one side's own moves by a checked claim, and takes the other side's replies.
+/// A player of a connectivity game: it makes one side's own moves by a checked claim, and takes the
+/// other side's replies.
 ///
-/// A contract sees the game, the side, the position and the plan, which is what is left of the claim's trees, or its parts.
-/// The position is always one after a legal play from the game's marks, and the side forces its win from it. No call after
-/// `open` takes memory, and each takes a time near-linear in the size of the game.
+/// A contract sees the game, the side, the position and the plan, which is what is left of the
+/// claim's trees, or its parts. The position is always one after a legal play from the game's
+/// marks, and the side forces its win from it. No call after `open` takes memory, and each takes a
+/// time near-linear in the size of the game.
 #[derive(Debug, Drop)]
 pub struct SpanPlayer<'a> {
     game: &'a SpanGame,
@@ -50,11 +52,26 @@ impl<'a> Model for SpanPlayer<'a> {
 
     ghost Value = { SpanPlay };
 
-    ghost coded = { code_by (SpanGame × (Side × (Position × SpanBody))) (coded× game_code.the_row.coded (coded× side_code.the_row.coded (coded× position_code.the_row.coded body_code.the_row.coded))) (λ s. (s.game, (s.side, (s.position, s.plan)))) (λ t. record { game = t.0; side = t.1.0; position = t.1.1.0; plan = t.1.1.1 }) (λ _. refl) };
+    ghost coded = { code_by (SpanGame × (Side × (Position × SpanBody)))
+        (coded× game_code.the_row.coded
+        (coded× side_code.the_row.coded
+        (coded× position_code.the_row.coded body_code.the_row.coded)))
+        (λ s. (s.game, (s.side, (s.position, s.plan)))) (λ t. record {
+          game = t.0;
+          side = t.1.0;
+          position = t.1.1.0;
+          plan = t.1.1.1;
+        }) (λ _. refl) };
 
-    ghost view = { λ a. record { game = a.game.now; side = a.claim.now.side; position = a.position; plan = plan_of a.claim.now.body a.trees } };
+    ghost view = { λ a. record {
+      game = a.game.now;
+      side = a.claim.now.side;
+      position = a.position;
+      plan = plan_of a.claim.now.body a.trees;
+    } };
 
-    ghost invariant = { λ a. IsSpanPlaying a.game.now a.claim.now.side a.position (plan_of a.claim.now.body a.trees) a.ending a.judge };
+    ghost invariant = { λ a. IsSpanPlaying a.game.now a.claim.now.side a.position
+        (plan_of a.claim.now.body a.trees) a.ending a.judge };
 }
 
 /// Why no player can be opened.
@@ -90,18 +107,23 @@ fn chosen_claim<'a>(g: &SpanGame, cert: &'a SpanCert, side: Side) -> Option<&'a 
 }
 
 impl<'a> SpanPlayer<'a> {
-    /// A player of the side at the game's marks, by the certificate's first claim of that side and the game's turn.
+    /// A player of the side at the game's marks, by the certificate's first claim of that side and
+    /// the game's turn.
     ///
     /// # Errors
     ///
-    /// `NoClaim` exactly where no claim has that side and the game's turn, else `Memory` where no memory is found.
+    /// `NoClaim` exactly where no claim has that side and the game's turn, else `Memory` where no
+    /// memory is found.
     pub fn open(alloc: Global, c: SpanChecked<'a>, side: Side) -> Result<SpanPlayer<'a>, SpanOpen>
-        ensures chosen { IfOk result (λ player. option_map (λ claim. claim.body) (chosen_span_claim c.entry.game.now c.entry.cert.now side) ≡ Some player.plan) }
+        ensures chosen { IfOk result (λ player. option_map (λ claim. claim.body)
+            (chosen_span_claim c.entry.game.now c.entry.cert.now side) ≡ Some player.plan) }
         ensures side { IfOk result (λ player. player.side ≡ side) }
         ensures game { IfOk result (λ player. player.game ≡ c.entry.game.now) }
         ensures position { IfOk result (λ player. player.position ≡ span_start c.entry.game.now) }
-        ensures none { result ≡ Err SpanOpen.NoClaim → chosen_span_claim c.entry.game.now c.entry.cert.now side ≡ None }
-        ensures missing { chosen_span_claim c.entry.game.now c.entry.cert.now side ≡ None → result ≡ Err SpanOpen.NoClaim }
+        ensures none { result ≡ Err SpanOpen.NoClaim
+            → chosen_span_claim c.entry.game.now c.entry.cert.now side ≡ None }
+        ensures missing { chosen_span_claim c.entry.game.now c.entry.cert.now side ≡ None
+            → result ≡ Err SpanOpen.NoClaim }
     {
         let game = c.game;
         let Some(claim) = chosen_claim(game, c.cert, side) else {
@@ -141,18 +163,22 @@ impl<'a> SpanPlayer<'a> {
         Kind::MakerBreaker
     }
 
-    /// The position, which is one after a legal play from the game's marks, and from which the side forces its win. While the
-    /// game goes on the plan holds at it.
+    /// The position, which is one after a legal play from the game's marks, and from which the side
+    /// forces its win. While the game goes on the plan holds at it.
     pub fn position(&self) -> Position
         ensures exact { result ≡ self.now.position }
-        ensures reached { (moves : List ℕ) × IsPlayBy (span_rules_of self.now.game) (span_start self.now.game) moves × (played_by (span_rules_of self.now.game) (span_start self.now.game) moves ≡ result) }
+        ensures reached { (moves : List ℕ)
+            × IsPlayBy (span_rules_of self.now.game) (span_start self.now.game) moves
+            × (played_by (span_rules_of self.now.game) (span_start self.now.game) moves ≡ result) }
         ensures forced { ForcesBy (span_rules_of self.now.game) result self.now.side Win }
-        ensures holds { (span_rules_of self.now.game).over result ≡ false → IsBodyAt self.now.game result self.now.side self.now.plan }
+        ensures holds { (span_rules_of self.now.game).over result ≡ false
+            → IsBodyAt self.now.game result self.now.side self.now.plan }
     {
         self.position
     }
 
-    /// The outcome of the position, and None exactly where the game isn't over. The side has won by it.
+    /// The outcome of the position, and None exactly where the game isn't over. The side has won by
+    /// it.
     pub fn outcome(&self) -> Option<Score>
         ensures exact { result ≡ ending_by (span_rules_of self.now.game) self.now.position }
         ensures reached { IfSome result (λ score. reaches self.now.side Win score ≡ true) }
@@ -160,10 +186,16 @@ impl<'a> SpanPlayer<'a> {
         self.ending
     }
 
-    /// Makes the own move at p after the last reply, where the player is to move in a game that goes on.
+    /// Makes the own move at p after the last reply, where the player is to move in a game that
+    /// goes on.
     fn make_move(&mut self, p: &Position, last: Option<u16>) -> u16
         requires { IsDue self.old.game self.old.side p.now self.old.plan last }
-        ensures { MakesSpanMove (record { game = self.old.game; side = self.old.side; position = p.now; plan = self.old.plan }) self.new last result }
+        ensures { MakesSpanMove (record {
+          game = self.old.game;
+          side = self.old.side;
+          position = p.now;
+          plan = self.old.plan;
+        }) self.new last result }
     {
         let made = own_move(
             &self.game.graph,
@@ -180,8 +212,8 @@ impl<'a> SpanPlayer<'a> {
         made.edge
     }
 
-    /// Makes one move of the player where it is to move, and tells it. None comes exactly where the game is over or the
-    /// other side is to move; then nothing changes.
+    /// Makes one move of the player where it is to move, and tells it. None comes exactly where the
+    /// game is over or the other side is to move; then nothing changes.
     pub fn first(&mut self) -> Option<u16>
         ensures { MovesInSpan self.old self.new result }
     {
@@ -192,17 +224,18 @@ impl<'a> SpanPlayer<'a> {
         Some(self.make_move(&position, None))
     }
 
-    /// Plays v for the other side, and then makes the player's move where the game goes on, and tells it. None comes exactly
-    /// where the game is over after v.
+    /// Plays v for the other side, and then makes the player's move where the game goes on, and
+    /// tells it. None comes exactly where the game is over after v.
     ///
     /// # Errors
     ///
-    /// `Range` where the game has no such edge, else `Over` where it is over, else `Taken` where the edge isn't free.
-    /// Then nothing changes.
+    /// `Range` where the game has no such edge, else `Over` where it is over, else `Taken` where
+    /// the edge isn't free. Then nothing changes.
     pub fn answer(&mut self, v: u16) -> Result<Option<u16>, Illegal>
         requires { SpanWaits self.old }
         ensures answered { IfOk result (λ own. AnswersInSpan self.old self.new v own) }
-        ensures refused { IfErr result (λ fault. judged_by (span_rules_of self.old.game) self.old.position v ≡ Err fault) }
+        ensures refused { IfErr result
+            (λ fault. judged_by (span_rules_of self.old.game) self.old.position v ≡ Err fault) }
         ensures same { IfErr result (λ _. self.new ≡ self.old) }
     {
         let replied = play(self.game, &self.position, self.ending, v)?;

@@ -18,7 +18,8 @@ use std::alloc::Global;
 
 /// Whether all vertices have one number.
 fn is_one(parts: &[u16]) -> bool
-    ensures { IsTrue result ↔ ((v : ℕ) → v < length parts.now → slice_index parts.now v ≡ slice_index parts.now 0) }
+    ensures { IsTrue result
+        ↔ ((v : ℕ) → v < length parts.now → slice_index parts.now v ≡ slice_index parts.now 0) }
 {
     for part in parts {
         if *part != parts[0] {
@@ -39,7 +40,8 @@ struct Bases {
 
 /// Two bases of the free edges with fewest common ones.
 fn settled_bases(alloc: Global, g: &SpanGame) -> Result<Bases, Memory>
-    ensures settled { IfOk result (λ s. AreBases (free_matroid g.now) (contains s.one) (contains s.two) (contains s.near)) }
+    ensures settled { IfOk result
+        (λ s. AreBases (free_matroid g.now) (contains s.one) (contains s.two) (contains s.near)) }
     ensures elements { IfOk result (λ s. contains s.elements ≡ (free_matroid g.now).elements) }
 {
     let mut bases = Trees::new(alloc, &g.graph, &g.x, &g.y, false)?;
@@ -88,11 +90,12 @@ fn find(alloc: Global, g: &SpanGame) -> Result<Solved, Memory>
     })
 }
 
-/// Who wins the game at its marks, with a certificate that shows it with X and with Y to move first: by two spanning
-/// forests of the free edges over X's that share as few edges as any two (Lehman 1964). Where all free edges with X's don't
-/// join every two vertices, or two edges or more are common, Breaker wins by the parts that X's edges and those reached from
-/// edges in neither forest join (Nash-Williams 1961; Tutte 1961); where none is common, Maker wins by the two forests; and
-/// where one is, the side to move does.
+/// Who wins the game at its marks, with a certificate that shows it with X and with Y to move
+/// first: by two spanning forests of the free edges over X's that share as few edges as any two
+/// (Lehman 1964). Where all free edges with X's don't join every two vertices, or two edges or more
+/// are common, Breaker wins by the parts that X's edges and those reached from edges in neither
+/// forest join (Nash-Williams 1961; Tutte 1961); where none is common, Maker wins by the two
+/// forests; and where one is, the side to move does.
 ///
 /// # Errors
 ///

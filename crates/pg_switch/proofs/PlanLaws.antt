@@ -21,58 +21,112 @@ pub record IsClaim (g : Game) (p : Position) (y : ℕ) : Type 0 where
   pub within : y < point_count g
   pub free : is_free p y ≡ true
 
-claim-from : (g : Game) (h : Graph) (p : Position) (y : ℕ) → g.field ≡ OnGraph h → IsFreeEdge h p y → IsClaim g p y
+claim-from : (g : Game) (h : Graph) (p : Position) (y : ℕ)
+    → g.field ≡ OnGraph h
+    → IsFreeEdge h p y
+    → IsClaim g p y
 claim-from g h p y on free =
     let low = free.0 in
     let few = (g.fits.within.on_graph h on).few_edges in
-    record { few = omega arith; within = subst (λ (n : ℕ). y < n) (sym (ap field_points on)) low; free = free.1 }
+    record {
+      few = omega arith;
+      within = subst (λ (n : ℕ). y < n) (sym (ap field_points on)) low;
+      free = free.1;
+    }
 
-answer-record : (a1 a2 f s : FinSet nat_cmp) (x y z : ℕ) → y ≡ z → f ≡ remove (remove a1 x) y → s ≡ remove (remove a2 x) y → ◌≡◌ {A = Answered} (record { edge = y; first = f; second = s }) (claimed z x a1 a2)
-answer-record a1 a2 f s x y z e is_f is_s = ap (λ (q : FinSet nat_cmp). record { edge = y; first = q; second = s }) is_f ∙ ap (λ (q : FinSet nat_cmp). record { edge = y; first = remove (remove a1 x) y; second = q }) is_s ∙ ap (λ (w : ℕ). claimed w x a1 a2) e
+answer-record : (a1 a2 f s : FinSet nat_cmp) (x y z : ℕ)
+    → y ≡ z
+    → f ≡ remove (remove a1 x) y
+    → s ≡ remove (remove a2 x) y
+    → ◌≡◌ {A = Answered} (record { edge = y; first = f; second = s }) (claimed z x a1 a2)
+answer-record a1 a2 f s x y z e is_f is_s = ap (λ (q : FinSet nat_cmp). record {
+  edge = y;
+  first = q;
+  second = s;
+}) is_f
+    ∙ ap (λ (q : FinSet nat_cmp). record {
+      edge = y;
+      first = remove (remove a1 x) y;
+      second = q;
+    }) is_s
+    ∙ ap (λ (w : ℕ). claimed w x a1 a2) e
 
 -- ---- Short
 
-pub short-rule : (field : Field) (h : Graph) (p : Position) (a1 a2 f s : FinSet nat_cmp) (last : Option ℕ) (x y : ℕ) → field ≡ OnGraph h → x ≡ answered_edge h last → y ≡ short_edge h p a1 a2 x → f ≡ remove (remove a1 x) y → s ≡ remove (remove a2 x) y
+pub short-rule : (field : Field) (h : Graph) (p : Position) (a1 a2 f s : FinSet nat_cmp)
+    (last : Option ℕ) (x y : ℕ)
+    → field ≡ OnGraph h
+    → x ≡ answered_edge h last
+    → y ≡ short_edge h p a1 a2 x
+    → f ≡ remove (remove a1 x) y
+    → s ≡ remove (remove a2 x) y
     → IsTreesAnswer field p a1 a2 last (record { edge = y; first = f; second = s })
 unfolding trees_answer
 short-rule field h p a1 a2 f s last x y on is_x is_y is_f is_s =
-    subst (λ (q : Field). IsTreesAnswer q p a1 a2 last (record { edge = y; first = f; second = s })) (sym on)
-    (answer-record a1 a2 f s x y (short_edge h p a1 a2 x) is_y is_f is_s ∙ ap (λ (w : ℕ). claimed (short_edge h p a1 a2 w) w a1 a2) is_x)
+    subst (λ (q : Field). IsTreesAnswer q p a1 a2 last (record {
+      edge = y;
+      first = f;
+      second = s;
+    })) (sym on) (answer-record a1 a2 f s x y (short_edge h p a1 a2 x) is_y is_f is_s
+    ∙ ap (λ (w : ℕ). claimed (short_edge h p a1 a2 w) w a1 a2) is_x)
 
-module _ (g : Game) (h : Graph) (p : Position) (a1 a2 : FinSet nat_cmp) (last : Option ℕ) (x y : ℕ) (on : g.field ≡ OnGraph h) (position : IsPosition g p) (going : is_over g p ≡ false) (mine : p.turn ≡ X)
-    (held : HeldUntil g p (λ q. TreesHold g q a1 a2) last) (is_x : x ≡ answered_edge h last) (is_y : y ≡ short_edge h p a1 a2 x) where
+module _ (g : Game) (h : Graph) (p : Position) (a1 a2 : FinSet nat_cmp) (last : Option ℕ) (x y : ℕ)
+    (on : g.field ≡ OnGraph h) (position : IsPosition g p) (going : is_over g p ≡ false)
+    (mine : p.turn ≡ X) (held : HeldUntil g p (λ q. TreesHold g q a1 a2) last)
+    (is_x : x ≡ answered_edge h last) (is_y : y ≡ short_edge h p a1 a2 x) where
   short-due : TreesDue h p a1 a2 x
-  short-due = subst (λ (w : ℕ). TreesDue h p a1 a2 w) (sym is_x) (trees-due g h p a1 a2 last on position mine held)
+  short-due = subst (λ (w : ℕ). TreesDue h p a1 a2 w) (sym is_x)
+      (trees-due g h p a1 a2 last on position mine held)
 
   short-edge : IsShortEdge h p a1 a2 x y
   short-edge =
       let z = some_free g h p on going in
-      subst (λ (w : ℕ). IsShortEdge h p a1 a2 x w) (sym is_y) (short-kept h p a1 a2 x z.0 (λ v k. subst (λ (n : ℕ). v < n) (ap field_points on) (position.x_range v k)) short-due z.1)
+      subst (λ (w : ℕ). IsShortEdge h p a1 a2 x w) (sym is_y)
+      (short-kept h p a1 a2 x z.0
+      (λ v k. subst (λ (n : ℕ). v < n) (ap field_points on) (position.x_range v k)) short-due z.1)
 
   pub short-claim : IsClaim g p y
   short-claim = claim-from g h p y on short-edge.free
 
-  pub short-after : (f s : FinSet nat_cmp) → f ≡ remove (remove a1 x) y → s ≡ remove (remove a2 x) y → TreesHold g (after g p y) f s
-  short-after f s is_f is_s =
-      subst (λ (q : Field). TreesHoldOn q (after g p y) f s) (sym on)
-      (subst₂ (λ (a b : FinSet nat_cmp). TreesHoldOn (OnGraph h) (after g p y) a b) (sym is_f) (sym is_s) (short-holds g h p a1 a2 x y mine short-due short-edge))
+  pub short-after : (f s : FinSet nat_cmp)
+      → f ≡ remove (remove a1 x) y
+      → s ≡ remove (remove a2 x) y
+      → TreesHold g (after g p y) f s
+  short-after f s is_f is_s = subst (λ (q : Field). TreesHoldOn q (after g p y) f s) (sym on)
+      (subst₂ (λ (a b : FinSet nat_cmp). TreesHoldOn (OnGraph h) (after g p y) a b) (sym is_f)
+      (sym is_s) (short-holds g h p a1 a2 x y mine short-due short-edge))
 
-  pub short-without : (f : FinSet nat_cmp) → f ≡ remove (remove a1 x) y → contains f (point_count g) ≡ false
+  pub short-without : (f : FinSet nat_cmp)
+      → f ≡ remove (remove a1 x) y
+      → contains f (point_count g) ≡ false
   short-without f is_f = left-without_e g h p a1 a2 f x y on short-due.left is_f
 
 -- ---- Cut
 
-pub cut-rule : (field : Field) (h : Graph) (p : Position) (d1 d2 f s : FinSet nat_cmp) (last : Option ℕ) (x y : ℕ) → field ≡ OnGraph h → x ≡ answered_edge h last → y ≡ cut_edge h p d1 d2 x → f ≡ remove (remove d1 x) y → s ≡ remove (remove d2 x) y
+pub cut-rule : (field : Field) (h : Graph) (p : Position) (d1 d2 f s : FinSet nat_cmp)
+    (last : Option ℕ) (x y : ℕ)
+    → field ≡ OnGraph h
+    → x ≡ answered_edge h last
+    → y ≡ cut_edge h p d1 d2 x
+    → f ≡ remove (remove d1 x) y
+    → s ≡ remove (remove d2 x) y
     → IsCutsAnswer field p d1 d2 last (record { edge = y; first = f; second = s })
 unfolding cuts_answer
 cut-rule field h p d1 d2 f s last x y on is_x is_y is_f is_s =
-    subst (λ (q : Field). IsCutsAnswer q p d1 d2 last (record { edge = y; first = f; second = s })) (sym on)
-    (answer-record d1 d2 f s x y (cut_edge h p d1 d2 x) is_y is_f is_s ∙ ap (λ (w : ℕ). claimed (cut_edge h p d1 d2 w) w d1 d2) is_x)
+    subst (λ (q : Field). IsCutsAnswer q p d1 d2 last (record {
+      edge = y;
+      first = f;
+      second = s;
+    })) (sym on) (answer-record d1 d2 f s x y (cut_edge h p d1 d2 x) is_y is_f is_s
+    ∙ ap (λ (w : ℕ). claimed (cut_edge h p d1 d2 w) w d1 d2) is_x)
 
-module _ (g : Game) (h : Graph) (p : Position) (d1 d2 : FinSet nat_cmp) (last : Option ℕ) (x y : ℕ) (on : g.field ≡ OnGraph h) (position : IsPosition g p) (going : is_over g p ≡ false) (mine : p.turn ≡ Y)
-    (held : HeldUntil g p (λ q. CutsHold g q d1 d2) last) (is_x : x ≡ answered_edge h last) (is_y : y ≡ cut_edge h p d1 d2 x) where
+module _ (g : Game) (h : Graph) (p : Position) (d1 d2 : FinSet nat_cmp) (last : Option ℕ) (x y : ℕ)
+    (on : g.field ≡ OnGraph h) (position : IsPosition g p) (going : is_over g p ≡ false)
+    (mine : p.turn ≡ Y) (held : HeldUntil g p (λ q. CutsHold g q d1 d2) last)
+    (is_x : x ≡ answered_edge h last) (is_y : y ≡ cut_edge h p d1 d2 x) where
   cut-due : CutsDue h p d1 d2 x
-  cut-due = subst (λ (w : ℕ). CutsDue h p d1 d2 w) (sym is_x) (cuts-due g h p d1 d2 last on position mine held)
+  cut-due = subst (λ (w : ℕ). CutsDue h p d1 d2 w) (sym is_x)
+      (cuts-due g h p d1 d2 last on position mine held)
 
   cut-edge : IsCutEdge h p d1 d2 x y
   cut-edge =
@@ -82,10 +136,15 @@ module _ (g : Game) (h : Graph) (p : Position) (d1 d2 : FinSet nat_cmp) (last : 
   pub cut-claim : IsClaim g p y
   cut-claim = claim-from g h p y on cut-edge.free
 
-  pub cut-after : (f s : FinSet nat_cmp) → f ≡ remove (remove d1 x) y → s ≡ remove (remove d2 x) y → CutsHold g (after g p y) f s
-  cut-after f s is_f is_s =
-      subst (λ (q : Field). CutsHoldOn q (after g p y) f s) (sym on)
-      (subst₂ (λ (a b : FinSet nat_cmp). CutsHoldOn (OnGraph h) (after g p y) a b) (sym is_f) (sym is_s) (cut-holds g h p d1 d2 x y mine cut-due cut-edge))
+  pub cut-after : (f s : FinSet nat_cmp)
+      → f ≡ remove (remove d1 x) y
+      → s ≡ remove (remove d2 x) y
+      → CutsHold g (after g p y) f s
+  cut-after f s is_f is_s = subst (λ (q : Field). CutsHoldOn q (after g p y) f s) (sym on)
+      (subst₂ (λ (a b : FinSet nat_cmp). CutsHoldOn (OnGraph h) (after g p y) a b) (sym is_f)
+      (sym is_s) (cut-holds g h p d1 d2 x y mine cut-due cut-edge))
 
-  pub cut-without : (f : FinSet nat_cmp) → f ≡ remove (remove d1 x) y → contains f (point_count g) ≡ false
+  pub cut-without : (f : FinSet nat_cmp)
+      → f ≡ remove (remove d1 x) y
+      → contains f (point_count g) ≡ false
   cut-without f is_f = left-without_e g h p d1 d2 f x y on cut-due.left is_f

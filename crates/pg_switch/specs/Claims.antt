@@ -1,5 +1,7 @@
--- Games in which X wants its points to pass a test, and Y that the points which aren't Y's don't; and trees and cuts in such games, by what sets of elements span.
--- In the switching game the test is whether edges join the terminals, on vectors whether they sum to a target, in a connectivity game whether edges join every two vertices.
+-- Games in which X wants its points to pass a test, and Y that the points which aren't Y's don't;
+-- and trees and cuts in such games, by what sets of elements span. In the switching game the test
+-- is whether edges join the terminals, on vectors whether they sum to a target, in a connectivity
+-- game whether edges join every two vertices.
 use Rattle.std.specs.Prelude.{◌≡◌, ◌⊎◌, ◌<◌, ℕ, suc, Bool, true, false, not, ◌||◌, if◌then◌else◌}
 use Rattle.std.specs.FinSet.{FinSet, contains}
 use Rattle.std.specs.Ordering.{nat_cmp}
@@ -18,7 +20,8 @@ use Rattle.pg_game.specs.Rules.{Rules}
 abbrev pub kept : ℕ → Position → ℕ → Bool
 kept n p = below (λ f. not (contains p.y f)) n
 
--- over where X's points pass the test, and X has won, or where those that aren't Y's don't, and Y has won
+-- over where X's points pass the test, and X has won, or where those that aren't Y's don't, and Y
+-- has won
 abbrev pub claim_rules : ℕ → ((ℕ → Bool) → Bool) → Rules
 claim_rules n holds = record {
   points = n;
@@ -38,7 +41,8 @@ pub record IsPlace (n : ℕ) (p : Position) : Type 0 where
   pub disjoint : ShareNone p.x p.y
   pub one_left : p.left ≡ 1
 
--- ---- spanning, which three laws define (pg_graph's IsSpan): the points are elements, and the number n stands for one more, e
+-- ---- spanning, which three laws define (pg_graph's IsSpan): the points are elements, and the
+-- number n stands for one more, e
 
 -- X wants to span e
 abbrev pub span_rules : ((ℕ → Bool) → ℕ → Bool) → ℕ → Rules
@@ -46,7 +50,8 @@ span_rules spans n = claim_rules n (λ set. spans set n)
 
 -- each member is free, or e where the side is to move
 abbrev pub AreFreeOrE : ℕ → Position → Side → FinSet nat_cmp → Type 0
-AreFreeOrE n p side set = (f : ℕ) → contains set f ≡ true → ((f < n) × (is_free p f ≡ true)) ⊎ ((f ≡ n) × (p.turn ≡ side))
+AreFreeOrE n p side set =
+    (f : ℕ) → contains set f ≡ true → ((f < n) × (is_free p f ≡ true)) ⊎ ((f ≡ n) × (p.turn ≡ side))
 
 -- each member is free
 abbrev pub AreFree : ℕ → Position → FinSet nat_cmp → Type 0
@@ -54,8 +59,10 @@ AreFree n p set = (f : ℕ) → contains set f ≡ true → (f < n) × (is_free 
 
 -- ---- trees (Lehman, A solution of the Shannon switching game, 1964)
 
--- Disjoint sets of free elements, the first perhaps with e where X is to move: with X's elements each spans the other's members, and e.
-pub record AreSpanTrees (spans : (ℕ → Bool) → ℕ → Bool) (n : ℕ) (p : Position) (a1 a2 : FinSet nat_cmp) : Type 0 where
+-- Disjoint sets of free elements, the first perhaps with e where X is to move: with X's elements
+-- each spans the other's members, and e.
+pub record AreSpanTrees (spans : (ℕ → Bool) → ℕ → Bool) (n : ℕ) (p : Position)
+    (a1 a2 : FinSet nat_cmp) : Type 0 where
   pub first_free : AreFreeOrE n p X a1
   pub second_free : AreFree n p a2
   pub apart : ShareNone a1 a2
@@ -74,8 +81,10 @@ left_without n p d = outside (kept (suc n) p) (contains d)
 abbrev pub IsSpanBridge : ((ℕ → Bool) → ℕ → Bool) → (ℕ → Bool) → ℕ → Type 0
 IsSpanBridge spans set f = spans (minus set f) f ≡ false
 
--- Disjoint sets of free elements, the first perhaps with e where Y is to move: of what is left without the one set each member of the other is a bridge, and so is e.
-pub record AreSpanCuts (spans : (ℕ → Bool) → ℕ → Bool) (n : ℕ) (p : Position) (d1 d2 : FinSet nat_cmp) : Type 0 where
+-- Disjoint sets of free elements, the first perhaps with e where Y is to move: of what is left
+-- without the one set each member of the other is a bridge, and so is e.
+pub record AreSpanCuts (spans : (ℕ → Bool) → ℕ → Bool) (n : ℕ) (p : Position)
+    (d1 d2 : FinSet nat_cmp) : Type 0 where
   pub first_free : AreFreeOrE n p Y d1
   pub second_free : AreFree n p d2
   pub apart : ShareNone d1 d2

@@ -10,7 +10,8 @@ use Rattle.pg_game.specs.declared.position.Position.{Position}
 use Rattle.pg_game.specs.Trees.{AreFreeWithE, AreFreeEdges, with_set, without_set}
 
 -- disjoint sets of free edges, the first perhaps with e where the side is to move
-pub record AreFreePair (h : Graph) (p : Position) (side : Side) (first second : FinSet nat_cmp) : Type 0 where
+pub record AreFreePair (h : Graph) (p : Position) (side : Side)
+    (first second : FinSet nat_cmp) : Type 0 where
   pub first_free : AreFreeWithE h p side first
   pub second_free : AreFreeEdges h p second
   pub apart : ShareNone first second
@@ -20,7 +21,9 @@ pub record JoinsOther (h : Graph) (p : Position) (one other : FinSet nat_cmp) : 
   pub members : (f : ℕ) → contains other f ≡ true → JoinsEndsOf h (with_set p one) f
   pub terminals : JoinsEndsOf h (with_set p one) (edge_count h)
 
--- what is left without the one set has each member of the other as a bridge, and e unless it is in the one set
+-- what is left without the one set has each member of the other as a bridge, and e unless it is in
+-- the one set
 pub record BridgesOther (h : Graph) (p : Position) (one other : FinSet nat_cmp) : Type 0 where
   pub members : (f : ℕ) → contains other f ≡ true → IsBridge h (without_set p one) f
-  pub terminals : contains one (edge_count h) ≡ false → IsBridge h (without_set p one) (edge_count h)
+  pub terminals : contains one (edge_count h) ≡ false
+      → IsBridge h (without_set p one) (edge_count h)

@@ -15,11 +15,15 @@ use Rattle.pg_game.specs.Trees.{Answered, lowest_free_edge, lowest_crossing, low
 
 -- the lowest edge of the other set that crosses what is left of the one, else the lowest free edge
 abbrev pub short_reply : Graph → Position → FinSet nat_cmp → FinSet nat_cmp → ℕ → ℕ
-short_reply h p one another x = unwrap_or (lowest_crossing h (with_set p (remove one x)) (first_end_of h x) another) (lowest_free_edge h p)
+short_reply h p one another x =
+    unwrap_or (lowest_crossing h (with_set p (remove one x)) (first_end_of h x) another)
+    (lowest_free_edge h p)
 
 -- the lowest edge of the other set that parts the ends of x, else the lowest free edge
 abbrev pub cut_reply : Graph → Position → FinSet nat_cmp → FinSet nat_cmp → ℕ → ℕ
-cut_reply h p one another x = unwrap_or (lowest_parting h (without_set p one) (first_end_of h x) (second_end_of h x) another) (lowest_free_edge h p)
+cut_reply h p one another x =
+    unwrap_or (lowest_parting h (without_set p one) (first_end_of h x) (second_end_of h x) another)
+    (lowest_free_edge h p)
 
 -- the other side has just taken x, and before that the fact held
 pub record HeldBefore (g : Game) (p : Position) (Held : Position → Type 0) (x : ℕ) : Type 0 where
@@ -36,11 +40,23 @@ HeldUntil g p Held (Some x) = HeldBefore g p Held x
 HeldUntil g p Held None = Held p
 
 -- on a graph, Short's answer by trees is this edge, and leaves these sets
-abbrev pub IsTreesAnswer : Field → Position → FinSet nat_cmp → FinSet nat_cmp → Option ℕ → Answered → Type 0
+abbrev pub IsTreesAnswer : Field
+    → Position
+    → FinSet nat_cmp
+    → FinSet nat_cmp
+    → Option ℕ
+    → Answered
+    → Type 0
 IsTreesAnswer (Lines f) p a1 a2 last answer = ⊥
 IsTreesAnswer (OnGraph h) p a1 a2 last answer = answer ≡ trees_answer h p a1 a2 last
 
 -- on a graph, Cut's answer by cuts is this edge, and leaves these sets
-abbrev pub IsCutsAnswer : Field → Position → FinSet nat_cmp → FinSet nat_cmp → Option ℕ → Answered → Type 0
+abbrev pub IsCutsAnswer : Field
+    → Position
+    → FinSet nat_cmp
+    → FinSet nat_cmp
+    → Option ℕ
+    → Answered
+    → Type 0
 IsCutsAnswer (Lines f) p d1 d2 last answer = ⊥
 IsCutsAnswer (OnGraph h) p d1 d2 last answer = answer ≡ cuts_answer h p d1 d2 last

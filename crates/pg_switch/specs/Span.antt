@@ -1,4 +1,5 @@
--- Connectivity games: Maker (X) wants his edges to join every two vertices, and Breaker (Y) that the edges which aren't his don't; and the conditions on trees and on parts.
+-- Connectivity games: Maker (X) wants his edges to join every two vertices, and Breaker (Y) that
+-- the edges which aren't his don't; and the conditions on trees and on parts.
 use Rattle.std.specs.Prelude.{◌≡◌, ◌<◌, ◌≤◌, ◌+◌, ◌*◌, ℕ, zero, suc, Bool, true, false, not, ◌&&◌, ◌||◌, ◌==◌, Option, Some, None, ⊤}
 use Rattle.std.specs.FinSet.{FinSet, contains, insert}
 use Rattle.std.specs.Ordering.{nat_cmp}
@@ -56,10 +57,12 @@ abbrev pub spare : Side → ℕ
 spare X = 0
 spare Y = 1
 
--- With q parts, by different numbers below a bound, X needs q - 1 edges that cross. It has at most q - 2, and so few are free that it doesn't get enough by every other one.
+-- With q parts, by different numbers below a bound, X needs q - 1 edges that cross. It has at most
+-- q - 2, and so few are free that it doesn't get enough by every other one.
 pub record AreParts (a b : ℕ → ℕ) (m n bound : ℕ) (label : ℕ → ℕ) (p : Position) : Type 0 where
   pub few_taken : crossing a b m label (contains p.x) + 2 ≤ count (image label n) bound
-  pub few_free : crossing a b m label (is_free p) + 2 * crossing a b m label (contains p.x) + 4 ≤ 2 * count (image label n) bound + spare p.turn
+  pub few_free : crossing a b m label (is_free p) + 2 * crossing a b m label (contains p.x) + 4
+      ≤ 2 * count (image label n) bound + spare p.turn
 
 -- ---- trees
 
@@ -71,10 +74,16 @@ with_first p (Some v) = contains (insert p.x v)
 -- the edge that is claimed first is free and in neither set, and X is to move
 abbrev pub IsFirst : ℕ → Position → FinSet nat_cmp → FinSet nat_cmp → Option ℕ → Type 0
 IsFirst m p a1 a2 None = ⊤
-IsFirst m p a1 a2 (Some v) = (v < m) × (is_free p v ≡ true) × (contains a1 v ≡ false) × (contains a2 v ≡ false) × (p.turn ≡ X)
+IsFirst m p a1 a2 (Some v) = (v < m)
+    × (is_free p v ≡ true)
+    × (contains a1 v ≡ false)
+    × (contains a2 v ≡ false)
+    × (p.turn ≡ X)
 
--- Disjoint sets of free edges: with X's edges, and the one that is claimed first, each joins every two vertices.
-pub record AreJoiningTrees (a b : ℕ → ℕ) (m n : ℕ) (p : Position) (first : Option ℕ) (a1 a2 : FinSet nat_cmp) : Type 0 where
+-- Disjoint sets of free edges: with X's edges, and the one that is claimed first, each joins every
+-- two vertices.
+pub record AreJoiningTrees (a b : ℕ → ℕ) (m n : ℕ) (p : Position) (first : Option ℕ)
+    (a1 a2 : FinSet nat_cmp) : Type 0 where
   pub first_claimed : IsFirst m p a1 a2 first
   pub one_free : (f : ℕ) → contains a1 f ≡ true → (f < m) × (is_free p f ≡ true)
   pub two_free : (f : ℕ) → contains a2 f ≡ true → (f < m) × (is_free p f ≡ true)

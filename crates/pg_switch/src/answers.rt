@@ -30,8 +30,8 @@ fn without(set: &PointSet, x: u16) -> PointSet
     others
 }
 
-/// The lowest edge of the other set that crosses what X's edges and the rest of the one set join to the first end of x,
-/// else the lowest free edge.
+/// The lowest edge of the other set that crosses what X's edges and the rest of the one set join to
+/// the first end of x, else the lowest free edge.
 fn short_reply(
     graph: &Graph,
     j: &mut Joiner,
@@ -58,8 +58,8 @@ fn short_reply(
     }
 }
 
-/// The lowest edge of the other set that parts the ends of x in what is left without the one set, else the lowest free
-/// edge.
+/// The lowest edge of the other set that parts the ends of x in what is left without the one set,
+/// else the lowest free edge.
 fn cut_reply(
     graph: &Graph,
     j: &mut Joiner,
@@ -84,9 +84,10 @@ fn cut_reply(
     }
 }
 
-/// Short's edge by two sets where the edge x is lost: the lowest one of the other set with exactly one end joined to the
-/// first end of x by X's edges and the rest of the set that x was in, and the lowest free edge where x is in neither set, or
-/// no edge of the other crosses. It takes no memory, and leaves the joiner as it was (Lehman 1964).
+/// Short's edge by two sets where the edge x is lost: the lowest one of the other set with exactly
+/// one end joined to the first end of x by X's edges and the rest of the set that x was in, and the
+/// lowest free edge where x is in neither set, or no edge of the other crosses. It takes no memory,
+/// and leaves the joiner as it was (Lehman 1964).
 pub fn short_edge(
     graph: &Graph,
     j: &mut Joiner,

@@ -21,7 +21,9 @@ fn are_free(graph: &Graph, p: &Position, allows_e: bool, members: &PointSet) -> 
     requires x_range { AreBelow p.now.x (edge_count graph.now) }
     requires y_range { AreBelow p.now.y (edge_count graph.now) }
     requires members { AreEdges graph.now (contains members.now) }
-    ensures { IsTrue result ↔ ((f : ℕ) → contains members.now f ≡ true → IsFreeEdge graph.now p.now f ⊎ ((f ≡ edge_count graph.now) × IsTrue allows_e)) }
+    ensures { IsTrue result
+        ↔ ((f : ℕ) → contains members.now f ≡ true
+        → IsFreeEdge graph.now p.now f ⊎ ((f ≡ edge_count graph.now) × IsTrue allows_e)) }
 {
     members.shares_none(&p.x)
         && members.shares_none(&p.y)
@@ -52,7 +54,8 @@ pub(crate) fn edges_left(graph: &Graph, set: &PointSet) -> PointSet
     left
 }
 
-/// Whether the two sets are disjoint sets of free edges, the first perhaps with e where the side is to move.
+/// Whether the two sets are disjoint sets of free edges, the first perhaps with e where the side is
+/// to move.
 fn are_free_pair(
     graph: &Graph,
     p: &Position,
@@ -72,7 +75,8 @@ fn are_free_pair(
         && first.shares_none(second)
 }
 
-/// Whether X's edges with the one set join the terminals, and the ends of each member of the other set.
+/// Whether X's edges with the one set join the terminals, and the ends of each member of the other
+/// set.
 fn joins_other(
     graph: &Graph,
     j: &mut Joiner,
@@ -91,7 +95,8 @@ fn joins_other(
     j.joins_all(graph, &p.x.union(one), &with_e(graph, other))
 }
 
-/// Whether each member of the other set is a bridge of what is left without the one set, and e unless it is in that.
+/// Whether each member of the other set is a bridge of what is left without the one set, and e
+/// unless it is in that.
 fn bridges_other(
     graph: &Graph,
     j: &mut Joiner,
@@ -146,12 +151,13 @@ fn are_cuts(graph: &Graph, j: &mut Joiner, p: &Position, d1: &PointSet, d2: &Poi
         && bridges_other(graph, j, p, d2, d1)
 }
 
-/// Whether the two sets are trees for X at the position: disjoint sets of free edges, the first perhaps with `e` where
-/// X is to move, each of which together with X's edges joins the terminals and the ends of every member of the other.
+/// Whether the two sets are trees for X at the position: disjoint sets of free edges, the first
+/// perhaps with `e` where X is to move, each of which together with X's edges joins the terminals
+/// and the ends of every member of the other.
 ///
-/// Where it answers true, X wins. The number of edges stands for `e`. It takes no memory and, by a few walks over the
-/// edges, nearly linear time, and leaves the joiner as it was. The condition is Lehman's (A solution of the Shannon
-/// switching game, 1964).
+/// Where it answers true, X wins. The number of edges stands for `e`. It takes no memory and, by a
+/// few walks over the edges, nearly linear time, and leaves the joiner as it was. The condition is
+/// Lehman's (A solution of the Shannon switching game, 1964).
 pub fn trees_hold(g: &Game, j: &mut Joiner, p: &Position, a1: &PointSet, a2: &PointSet) -> bool
     requires switching { g.now.kind ≡ Switching }
     requires made { IsMadeForGame j.old g.now }
@@ -167,12 +173,14 @@ pub fn trees_hold(g: &Game, j: &mut Joiner, p: &Position, a1: &PointSet, a2: &Po
     }
 }
 
-/// Whether the two sets are cuts for Y at the position: disjoint sets of free edges, the first perhaps with `e` where Y
-/// is to move. What is left when Y's edges and one of the sets go has every member of the other as a bridge, and `e`
-/// unless it went with the set. A bridge of a set is an edge whose ends the rest of the set doesn't join.
+/// Whether the two sets are cuts for Y at the position: disjoint sets of free edges, the first
+/// perhaps with `e` where Y is to move. What is left when Y's edges and one of the sets go has
+/// every member of the other as a bridge, and `e` unless it went with the set. A bridge of a set is
+/// an edge whose ends the rest of the set doesn't join.
 ///
-/// Where it answers true, Y wins. The number of edges stands for `e`. It takes no memory and, by a few walks over the
-/// edges, nearly linear time, and leaves the joiner as it was. The condition is the dual of Lehman's.
+/// Where it answers true, Y wins. The number of edges stands for `e`. It takes no memory and, by a
+/// few walks over the edges, nearly linear time, and leaves the joiner as it was. The condition is
+/// the dual of Lehman's.
 pub fn cuts_hold(g: &Game, j: &mut Joiner, p: &Position, d1: &PointSet, d2: &PointSet) -> bool
     requires switching { g.now.kind ≡ Switching }
     requires made { IsMadeForGame j.old g.now }

@@ -66,22 +66,27 @@ impl ShortPlan {
         }
     }
 
-    /// Short's answer to the last reply. Where the reply was in one of the sets, it is the lowest edge of the other with
-    /// exactly one end joined to the first end of the reply by X's edges and the rest of the one set; where there is no
-    /// such edge, or the reply was in no set, it is the lowest free edge. Without a reply `e` is answered. The reply and
-    /// the answer leave the sets.
+    /// Short's answer to the last reply. Where the reply was in one of the sets, it is the lowest
+    /// edge of the other with exactly one end joined to the first end of the reply by X's edges and
+    /// the rest of the one set; where there is no such edge, or the reply was in no set, it is the
+    /// lowest free edge. Without a reply `e` is answered. The reply and the answer leave the sets.
     ///
-    /// The sets must have been trees before the reply, or be trees now where none came. They are trees again after the
-    /// answer, without `e`. It takes no memory, and leaves the joiner as it was. The answer is Lehman's (A solution of
-    /// the Shannon switching game, 1964).
+    /// The sets must have been trees before the reply, or be trees now where none came. They are
+    /// trees again after the answer, without `e`. It takes no memory, and leaves the joiner as it
+    /// was. The answer is Lehman's (A solution of the Shannon switching game, 1964).
     pub fn answer(&mut self, g: &Game, j: &mut Joiner, p: &Position, last: Option<u16>) -> u16
         requires switching { g.now.kind ≡ Switching }
         requires made { IsMadeForGame j.old g.now }
         requires position { IsPosition g.now p.now }
         requires going { is_over g.now p.now ≡ false }
         requires turn { p.now.turn ≡ X }
-        requires held { HeldUntil g.now p.now (λ q. TreesHold g.now q self.old.first self.old.second) last }
-        ensures rule { IsTreesAnswer g.now.field p.now self.old.first self.old.second last (record { edge = result; first = self.new.first; second = self.new.second }) }
+        requires held { HeldUntil g.now p.now
+            (λ q. TreesHold g.now q self.old.first self.old.second) last }
+        ensures rule { IsTreesAnswer g.now.field p.now self.old.first self.old.second last (record {
+          edge = result;
+          first = self.new.first;
+          second = self.new.second;
+        }) }
         ensures within { result < point_count g.now }
         ensures free { is_free p.now result ≡ true }
         ensures holds { TreesHold g.now (after g.now p.now result) self.new.first self.new.second }
@@ -113,20 +118,27 @@ impl CutPlan {
         }
     }
 
-    /// Cut's answer to the last reply. Where the reply was in one of the sets, and the edges that weren't Y's join its
-    /// ends without that set, it is the lowest edge of the other set whose removal parts them there; otherwise it is the
-    /// lowest free edge. Without a reply `e` is answered. The reply and the answer leave the sets.
+    /// Cut's answer to the last reply. Where the reply was in one of the sets, and the edges that
+    /// weren't Y's join its ends without that set, it is the lowest edge of the other set whose
+    /// removal parts them there; otherwise it is the lowest free edge. Without a reply `e` is
+    /// answered. The reply and the answer leave the sets.
     ///
-    /// The sets must have been cuts before the reply, or be cuts now where none came. They are cuts again after the
-    /// answer, without `e`. It takes no memory, and leaves the joiner as it was. The answer is the dual of Lehman's.
+    /// The sets must have been cuts before the reply, or be cuts now where none came. They are cuts
+    /// again after the answer, without `e`. It takes no memory, and leaves the joiner as it was.
+    /// The answer is the dual of Lehman's.
     pub fn answer(&mut self, g: &Game, j: &mut Joiner, p: &Position, last: Option<u16>) -> u16
         requires switching { g.now.kind ≡ Switching }
         requires made { IsMadeForGame j.old g.now }
         requires position { IsPosition g.now p.now }
         requires going { is_over g.now p.now ≡ false }
         requires turn { p.now.turn ≡ Y }
-        requires held { HeldUntil g.now p.now (λ q. CutsHold g.now q self.old.first self.old.second) last }
-        ensures rule { IsCutsAnswer g.now.field p.now self.old.first self.old.second last (record { edge = result; first = self.new.first; second = self.new.second }) }
+        requires held { HeldUntil g.now p.now
+            (λ q. CutsHold g.now q self.old.first self.old.second) last }
+        ensures rule { IsCutsAnswer g.now.field p.now self.old.first self.old.second last (record {
+          edge = result;
+          first = self.new.first;
+          second = self.new.second;
+        }) }
         ensures within { result < point_count g.now }
         ensures free { is_free p.now result ≡ true }
         ensures holds { CutsHold g.now (after g.now p.now result) self.new.first self.new.second }

@@ -23,8 +23,14 @@ digits_from (c ∷ cs) e =
     let here = digit c both.0 in
     (rw (digit_value_is c here.0 here.1) (omega arith), digits_from cs both.1)
 
-pub value_steps : (ds : List ℕ) (i : ℕ) → i < length ds → list_all is_ascii_digit ds ≡ true → length ds ≤ MAX_DIGITS
-    → (digits_value 10 (take (i + 1) ds) ≡ digits_value 10 (take i ds) * 10 + (get_or ds i 0 - 48)) × (48 ≤ get_or ds i 0) × (get_or ds i 0 < 58) × (digits_value 10 (take (i + 1) ds) < 2 ^ 32)
+pub value_steps : (ds : List ℕ) (i : ℕ)
+    → i < length ds
+    → list_all is_ascii_digit ds ≡ true
+    → length ds ≤ MAX_DIGITS
+    → (digits_value 10 (take (i + 1) ds) ≡ digits_value 10 (take i ds) * 10 + (get_or ds i 0 - 48))
+    × (48 ≤ get_or ds i 0)
+    × (get_or ds i 0 < 58)
+    × (digits_value 10 (take (i + 1) ds) < 2 ^ 32)
 value_steps ds i lt digits few =
     let all = digits_from ds digits in
     let here : (48 ≤ get_or ds i 0) × (get_or ds i 0 ≤ 57) = digit_at ds i all lt in

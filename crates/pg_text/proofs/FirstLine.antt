@@ -14,45 +14,75 @@ use Rattle.pg_text.specs.Text.{Bytes, Lacks, without_empty_end, lines}
 abbrev pub is_feed : ℕ → Bool
 is_feed b = b == LINE_FEED
 
-without_empty_end-cons : (part : Bytes) (parts : List Bytes) → 0 < length parts → without_empty_end (part ∷ parts) ≡ part ∷ without_empty_end parts
+without_empty_end-cons : (part : Bytes) (parts : List Bytes)
+    → 0 < length parts
+    → without_empty_end (part ∷ parts) ≡ part ∷ without_empty_end parts
 without_empty_end-cons part [] h = absurd (omega arith)
 without_empty_end-cons part (next ∷ parts) h = refl
 
-pub without_empty_end-append : (front : List Bytes) (last : Bytes) → without_empty_end (front ++ last ∷ []) ≡ front ++ without_empty_end (last ∷ [])
+pub without_empty_end-append : (front : List Bytes) (last : Bytes)
+    → without_empty_end (front ++ last ∷ []) ≡ front ++ without_empty_end (last ∷ [])
 without_empty_end-append [] last = refl
-without_empty_end-append (part ∷ front) last = without_empty_end-cons part (front ++ last ∷ []) (omega (arith, length-append front (last ∷ []))) ∙ ap (λ (x : List Bytes). part ∷ x) (without_empty_end-append front last)
+without_empty_end-append (part ∷ front) last = without_empty_end-cons part (front ++ last ∷ [])
+    (omega (arith, length-append front (last ∷ [])))
+    ∙ ap (λ (x : List Bytes). part ∷ x) (without_empty_end-append front last)
 
-pub feed_some : (text : Bytes) (end : ℕ) → position is_feed text ≡ Some end → (end < length text) × (before_first is_feed text ≡ take end text) × (after_first is_feed text ≡ drop (end + 1) text)
-feed_some text end e = let found = first_is is_feed text end e in (found.0, ap (λ i. take i text) found.1, ap (λ i. drop (i + 1) text) found.1)
+pub feed_some : (text : Bytes) (end : ℕ)
+    → position is_feed text ≡ Some end
+    → (end < length text)
+    × (before_first is_feed text ≡ take end text)
+    × (after_first is_feed text ≡ drop (end + 1) text)
+feed_some text end e =
+    let found = first_is is_feed text end e in
+    (found.0, ap (λ i. take i text) found.1, ap (λ i. drop (i + 1) text) found.1)
 
-pub feed_none : (text : Bytes) → position is_feed text ≡ None → (before_first is_feed text ≡ text) × (after_first is_feed text ≡ [])
+pub feed_none : (text : Bytes)
+    → position is_feed text ≡ None
+    → (before_first is_feed text ≡ text) × (after_first is_feed text ≡ [])
 feed_none text e =
     let past = first_is_past is_feed text e in
     (take_all _ _ past, drop_all (position_or_len is_feed text + 1) text (omega arith))
 
-no_feed : (text : Bytes) → length text ≤ position_or_len is_feed text → All (λ b. is_feed b ≡ false) text
+no_feed : (text : Bytes)
+    → length text ≤ position_or_len is_feed text
+    → All (λ b. is_feed b ≡ false) text
 no_feed text past = λ i d lt. fails_before_first is_feed text i d (omega arith)
 
 pub one_line : (text : Bytes) → 0 < length text → without_empty_end (text ∷ []) ≡ text ∷ []
 one_line [] h = absurd (omega arith)
-one_line (b ∷ bs) h = let e : eqb (length (b ∷ bs)) 0 ≡ false = grind (arith, nat_tests) in rw e refl
+one_line (b ∷ bs) h =
+    let e : eqb (length (b ∷ bs)) 0 ≡ false = grind (arith, nat_tests) in
+    rw e refl
 
-pub lines_cut : (text : Bytes) → 0 < length text → lines text ≡ before_first is_feed text ∷ lines (after_first is_feed text)
+pub lines_cut : (text : Bytes)
+    → 0 < length text
+    → lines text ≡ before_first is_feed text ∷ lines (after_first is_feed text)
 unfolding lines
 lines_cut text some =
     elim (cases_lt (position_or_len is_feed text) (length text)) [
-      | inl lt ↦ ap without_empty_end (slice_split_first is_feed text 0 lt) ∙ without_empty_end-cons (before_first is_feed text) (slice_split is_feed (after_first is_feed text)) (omega (arith, length-slice_split is_feed (after_first is_feed text)))
+      | inl lt ↦ ap without_empty_end (slice_split_first is_feed text 0 lt)
+          ∙ without_empty_end-cons (before_first is_feed text)
+          (slice_split is_feed (after_first is_feed text))
+          (omega (arith, length-slice_split is_feed (after_first is_feed text)))
       | inr le ↦
           let front : before_first is_feed text ≡ text = take_all _ _ le in
-          let behind : after_first is_feed text ≡ [] = drop_all (position_or_len is_feed text + 1) text (omega arith) in
-          let whole : lines text ≡ text ∷ [] = ap without_empty_end (slice_split_none is_feed text (no_feed text le)) ∙ one_line text some in
+          let behind : after_first is_feed text ≡ [] =
+          drop_all (position_or_len is_feed text + 1) text (omega arith) in
+          let whole : lines text ≡ text ∷ [] =
+          ap without_empty_end (slice_split_none is_feed text (no_feed text le))
+          ∙ one_line text some in
           whole ∙ rw (front, behind) refl
     ]
 
 -- a whole line, and then the text behind its line feed
-pub lines_feed : (line behind : Bytes) → Lacks LINE_FEED line → lines (line ++ LINE_FEED ∷ behind) ≡ line ∷ lines behind
+pub lines_feed : (line behind : Bytes)
+    → Lacks LINE_FEED line
+    → lines (line ++ LINE_FEED ∷ behind) ≡ line ∷ lines behind
 unfolding lines
-lines_feed line behind lacks = ap without_empty_end (slice_split_at is_feed line LINE_FEED behind lacks refl) ∙ without_empty_end-cons line (slice_split is_feed behind) (omega (arith, length-slice_split is_feed behind))
+lines_feed line behind lacks =
+    ap without_empty_end (slice_split_at is_feed line LINE_FEED behind lacks refl)
+    ∙ without_empty_end-cons line (slice_split is_feed behind)
+    (omega (arith, length-slice_split is_feed behind))
 
 -- a text without bytes has no line
 pub no_lines : (text : Bytes) → length text ≡ 0 → lines text ≡ []
@@ -61,9 +91,13 @@ no_lines [] none = refl
 no_lines (b ∷ bs) none = absurd (omega arith)
 
 -- a text without a line feed is a line
-pub last_line : (text : Bytes) → 0 < length text → Lacks LINE_FEED text → lines text ≡ text ∷ lines []
+pub last_line : (text : Bytes)
+    → 0 < length text
+    → Lacks LINE_FEED text
+    → lines text ≡ text ∷ lines []
 unfolding lines
-last_line text some lacks = ap without_empty_end (slice_split_none is_feed text lacks) ∙ one_line text some
+last_line text some lacks =
+    ap without_empty_end (slice_split_none is_feed text lacks) ∙ one_line text some
 
 pub shorter : (text : Bytes) → 0 < length text → length (after_first is_feed text) < length text
 shorter text some = simp length-drop (omega arith)

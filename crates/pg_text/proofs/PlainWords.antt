@@ -1,4 +1,5 @@
--- Words of plain signs: joined by spaces they are cut again into the same words, and their text has no other signs.
+-- Words of plain signs: joined by spaces they are cut again into the same words, and their text has
+-- no other signs.
 use Rattle.std.proofs.Common.{◌≡◌, ℕ, ◌^◌, ◌<◌, ◌≤◌, false, List, [], ◌∷◌, arith, refl, ap, ◌∙◌}
 use Rattle.std.specs.Prelude.{◌==◌}
 use Rattle.std.specs.Fmt.{decimal}
@@ -31,11 +32,17 @@ no_space : (b : ℕ) → IsPlain b → (b == 32) ≡ false
 no_space b h = grind (arith, nat_tests, h.0)
 
 pub lacks_space : (w : Bytes) → IsWord w → Lacks 32 w
-lacks_space w h = All-from_recursion (λ b. (b == 32) ≡ false) w (all_of IsPlain (λ b. (b == 32) ≡ false) no_space w h)
+lacks_space w h = All-from_recursion (λ b. (b == 32) ≡ false) w
+    (all_of IsPlain (λ b. (b == 32) ≡ false) no_space w h)
 
-pub words_spaced : (w : Bytes) (ws : List Bytes) → IsWord w → AllByRecursion IsWord ws → parts 32 (spaced (w ∷ ws)) ≡ w ∷ ws
+pub words_spaced : (w : Bytes) (ws : List Bytes)
+    → IsWord w
+    → AllByRecursion IsWord ws
+    → parts 32 (spaced (w ∷ ws)) ≡ w ∷ ws
 words_spaced w [] h k = ap (parts 32) (append-nil w) ∙ only_word w (lacks_space w h)
-words_spaced w (v ∷ vs) h k = first_and_others (spaced (w ∷ v ∷ vs)) w (spaced (v ∷ vs)) refl (lacks_space w h) ∙ ap (λ (x : List Bytes). w ∷ x) (words_spaced v vs k.0 k.1)
+words_spaced w (v ∷ vs) h k =
+    first_and_others (spaced (w ∷ v ∷ vs)) w (spaced (v ∷ vs)) refl (lacks_space w h)
+    ∙ ap (λ (x : List Bytes). w ∷ x) (words_spaced v vs k.0 k.1)
 
 -- ---- the bytes of their text
 
@@ -45,13 +52,19 @@ quiet b h = (omega (arith, h.0), h.1)
 pub word_quiet : (w : Bytes) → IsWord w → AllByRecursion IsQuiet w
 word_quiet w h = all_of IsPlain IsQuiet quiet w h
 
-behind_quiet : (ws : List Bytes) → AllByRecursion IsWord ws → AllByRecursion IsQuiet (behind_spaces ws)
+behind_quiet : (ws : List Bytes)
+    → AllByRecursion IsWord ws
+    → AllByRecursion IsQuiet (behind_spaces ws)
 behind_quiet [] h = tt
-behind_quiet (w ∷ ws) h = ((omega arith, omega arith), all_append IsQuiet w (behind_spaces ws) (word_quiet w h.0) (behind_quiet ws h.1))
+behind_quiet (w ∷ ws) h = (
+  (omega arith, omega arith),
+  all_append IsQuiet w (behind_spaces ws) (word_quiet w h.0) (behind_quiet ws h.1),
+)
 
 pub spaced_quiet : (ws : List Bytes) → AllByRecursion IsWord ws → AllByRecursion IsQuiet (spaced ws)
 spaced_quiet [] h = tt
-spaced_quiet (w ∷ ws) h = all_append IsQuiet w (behind_spaces ws) (word_quiet w h.0) (behind_quiet ws h.1)
+spaced_quiet (w ∷ ws) h =
+    all_append IsQuiet w (behind_spaces ws) (word_quiet w h.0) (behind_quiet ws h.1)
 
 no_feed : (b : ℕ) → IsQuiet b → (b == 10) ≡ false
 no_feed b h = grind (arith, nat_tests, h.0)

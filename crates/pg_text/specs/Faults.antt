@@ -1,4 +1,5 @@
--- The faults of lines, whatever they are: the least of a line, the first faulty line, and what readers return.
+-- The faults of lines, whatever they are: the least of a line, the first faulty line, and what
+-- readers return.
 use Rattle.std.specs.Prelude.{◌≡◌, ℕ, ◌+◌, Bool, true, false, if◌then◌else◌, List, [], ◌∷◌, ◌++◌, Option, Some, None, Result, Ok, Err, IsErrAnd}
 use Rattle.std.specs.Borrow.{Bor}
 use Rattle.std.specs.List.{AllByRecursion}
@@ -50,8 +51,14 @@ abbrev pub go_on : {S F : Type 0} → ℕ → Result S F → (S → Result S (F 
 go_on n (Ok s) others = others s
 go_on n (Err fault) others = Err (fault, n)
 
--- What a reader knows after these lines, of which the first has number n, or the first fault and the number of its line.
-unfoldable pub reading : {S F : Type 0} → (S → Bytes → Result S F) → ℕ → S → List Bytes → Result S (F × ℕ)
+-- What a reader knows after these lines, of which the first has number n, or the first fault and
+-- the number of its line.
+unfoldable pub reading : {S F : Type 0}
+    → (S → Bytes → Result S F)
+    → ℕ
+    → S
+    → List Bytes
+    → Result S (F × ℕ)
 reading read n s [] = Ok s
 reading read n s (line ∷ others) = go_on n (read s line) (λ next. reading read (n + 1) next others)
 
@@ -68,8 +75,14 @@ Gives seen (Ok a) read = read ≡ Ok (seen a)
 Gives seen (Err error) read = Fails error read
 
 -- each call gives what reading of its word gives, unless memory ran out
-abbrev pub IsReader : {R F A : Type 0} → (R → Bor Bytes → Result A (LineError F) → Type 0) → R → (Bytes → Result A F) → Type 0
-IsReader {R} {F} {A} post read says = (word : Bor Bytes) (r : Result A (LineError F)) → post read word r → Gives (λ a. a) r (says word.now)
+abbrev pub IsReader : {R F A : Type 0}
+    → (R → Bor Bytes → Result A (LineError F) → Type 0)
+    → R
+    → (Bytes → Result A F)
+    → Type 0
+IsReader {R} {F} {A} post read says =
+    (word : Bor Bytes) (r : Result A (LineError F)) → post read word r
+    → Gives (λ a. a) r (says word.now)
 
 -- what was lent became what reading gives, unless memory ran out
 abbrev pub Becomes : {F U B : Type 0} → Result U (LineError F) → B → Result B F → Type 0
@@ -77,10 +90,16 @@ Becomes (Ok x) new read = read ≡ Ok new
 Becomes (Err error) new read = Fails error read
 
 -- what the caller got is what reading gives, the fault by its number, unless memory ran out
-abbrev pub IsReadAs : {F A B : Type 0} → (F → ℕ) → (A → B) → Result A FileError → Result B (F × ℕ) → Type 0
+abbrev pub IsReadAs : {F A B : Type 0}
+    → (F → ℕ)
+    → (A → B)
+    → Result A FileError
+    → Result B (F × ℕ)
+    → Type 0
 IsReadAs number_of seen (Ok a) read = read ≡ Ok (seen a)
 IsReadAs number_of seen (Err outcomes.Memory) read = Unit {0}
-IsReadAs number_of seen (Err (outcomes.Bad number line)) read = IsErrAnd read (λ bad. (number ≡ number_of bad.0) × (line ≡ bad.1))
+IsReadAs number_of seen (Err (outcomes.Bad number line)) read =
+    IsErrAnd read (λ bad. (number ≡ number_of bad.0) × (line ≡ bad.1))
 
 -- the error for a fault of the line with this number
 abbrev pub at_line : {F : Type 0} → (F → ℕ) → F → ℕ → FileError

@@ -1,4 +1,5 @@
--- Text of signs and words: parts with one sign between each two, lines, words behind single spaces, and numbers.
+-- Text of signs and words: parts with one sign between each two, lines, words behind single spaces,
+-- and numbers.
 use Rattle.std.specs.Prelude.{◌≡◌, ℕ, ◌+◌, Bool, true, false, ◌&&◌, ◌||◌, not, nat_lt, nat_le, ◌==◌, if◌then◌else◌, List, [], ◌∷◌, ◌++◌, length, slice_index, Option, Some, None, option_map, filter}
 use Rattle.std.specs.Char.{is_ascii_digit}
 use Rattle.std.specs.List.{slice_split, list_all, flat_map, All}
@@ -45,7 +46,8 @@ four_of _ = None
 unfoldable pub four_parts : ℕ → Bytes → Option Four
 four_parts sign text = four_of (parts sign text)
 
--- the words of a text, of which there may be none at all; a space stands between each two, and words may be empty
+-- the words of a text, of which there may be none at all; a space stands between each two, and
+-- words may be empty
 abbrev pub words_of : Option Bytes → List Bytes
 words_of None = []
 words_of (Some text) = parts SPACE text
@@ -56,7 +58,10 @@ words line = filter (λ w. not (length w == 0)) (slice_split (λ b. b == SPACE) 
 
 -- one to nine digits, the first of several not 0
 abbrev pub is_numeral : Bytes → Bool
-is_numeral word = nat_lt 0 (length word) && nat_le (length word) MAX_DIGITS && list_all is_ascii_digit word && (length word == 1 || not (slice_index word 0 == 48))
+is_numeral word = nat_lt 0 (length word)
+    && nat_le (length word) MAX_DIGITS
+    && list_all is_ascii_digit word
+    && (length word == 1 || not (slice_index word 0 == 48))
 
 -- the number that a word spells
 unfoldable pub number : Bytes → Option ℕ

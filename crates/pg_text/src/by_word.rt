@@ -11,7 +11,8 @@ use pg_base::SPACE;
 use std::alloc::{AllocError, Global};
 use std::marker::Model;
 
-/// The words of a text, of which there may be none: a single space stands between each two, so that words may be empty.
+/// The words of a text, of which there may be none: a single space stands between each two, so that
+/// words may be empty.
 ///
 /// It is an iterator over them, which makes no copy of the text.
 #[derive(Drop)]
@@ -52,7 +53,8 @@ impl<'a> Words<'a> {
         read: R,
     ) -> Result<Vec<T>, LineError<F>>
         requires { R.IsAlwaysCallable read }
-        ensures { (says : List ℕ → Result T F) → IsReader R.post read says → Gives (λ v. v.items) result (each_of says self.entry) }
+        ensures { (says : List ℕ → Result T F) → IsReader R.post read says
+            → Gives (λ v. v.items) result (each_of says self.entry) }
     {
         let mut found = Vec::new(alloc);
         for word in self {

@@ -1,4 +1,5 @@
-//! What text formats share: lines and words, numbers, the faults of a line in order, and the errors of their readers.
+//! What text formats share: lines and words, numbers, the faults of a line in order, and the errors
+//! of their readers.
 #![tactic(auto)]
 
 mod ascending;

@@ -48,7 +48,8 @@ pub fn number(word: &[u8]) -> Option<u32>
 /// The numbers that the words spell, if each spells one.
 #[tactic(auto, unfolding(crate::specs::Text::numbers))]
 pub fn number_list(alloc: Global, words: &[&[u8]]) -> Result<Option<Vec<u32>>, AllocError>
-    ensures { IfOk result (λ found. option_map (λ v. v.items) found ≡ numbers (map (λ w. w.now) words.now)) }
+    ensures { IfOk result
+        (λ found. option_map (λ v. v.items) found ≡ numbers (map (λ w. w.now) words.now)) }
 {
     let mut found = Vec::with_capacity(alloc, words.len())?;
     for word in words {

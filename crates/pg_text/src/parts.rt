@@ -16,7 +16,8 @@ pub fn has_sign(sign: u8, text: &[u8]) -> bool
 
 /// What stands before the first sign, and what behind it. The search looks at many bytes at a time.
 pub fn cut_at(sign: u8, text: &[u8]) -> Option<(&[u8], &[u8])>
-    ensures found { IfSome result (λ p. (text.now ≡ p.0.now ++ sign ∷ p.1.now) × Lacks sign p.0.now) }
+    ensures found { IfSome result
+        (λ p. (text.now ≡ p.0.now ++ sign ∷ p.1.now) × Lacks sign p.0.now) }
     ensures none { IfNone result (Lacks sign text.now) }
 {
     match memchr(sign, text) {
@@ -42,7 +43,12 @@ pub fn two_parts(sign: u8, text: &[u8]) -> Option<(&[u8], &[u8])>
 /// What stands around the three signs.
 #[tactic(auto, using(crate::proofs::Cuts::four_none, crate::proofs::Cuts::four_one, crate::proofs::Cuts::four_two, crate::proofs::Cuts::four_three))]
 pub fn four_parts(sign: u8, text: &[u8]) -> Option<(&[u8], &[u8], &[u8], &[u8])>
-    ensures { option_map (λ p. record { first = p.0.now; second = p.1.now; third = p.2.now; fourth = p.3.now }) result ≡ four_parts sign text.now }
+    ensures { option_map (λ p. record {
+      first = p.0.now;
+      second = p.1.now;
+      third = p.2.now;
+      fourth = p.3.now;
+    }) result ≡ four_parts sign text.now }
 {
     let (first, behind) = cut_at(sign, text)?;
     let (second, others) = cut_at(sign, behind)?;

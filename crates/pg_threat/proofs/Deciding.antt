@@ -13,16 +13,25 @@ use Rattle.pg_threat.specs.Search.{points_of_line}
 use Rattle.pg_threat.specs.Forced.{IsAnswer}
 
 -- where the side to move may attack, it has a short threat line exactly where one was found
-pub attack_wins-found : (g : Game) (p : Position) (found : Option ThreatLine) → may_attack g.kind p.turn ≡ true → IsAnswer g p p.turn greatest_depth found → attack_wins g p ≡ is_some found
+pub attack_wins-found : (g : Game) (p : Position) (found : Option ThreatLine)
+    → may_attack g.kind p.turn ≡ true
+    → IsAnswer g p p.turn greatest_depth found
+    → attack_wins g p ≡ is_some found
 unfolding attack_wins
-attack_wins-found g p (Some t) may h = and_from _ _ may (within-line g greatest_depth p (points_of_line t) h.few h.first.line)
+attack_wins-found g p (Some t) may h =
+    and_from _ _ may (within-line g greatest_depth p (points_of_line t) h.few h.first.line)
 attack_wins-found g p None may h = elim (cases_Bool (has_threat_line greatest_depth g p)) [
-  | inl on ↦ let line = line-within g greatest_depth p on in let deep = h line.0 line.2 in absurd (omega (arith, line.1))
+  | inl on ↦
+      let line = line-within g greatest_depth p on in
+      let deep = h line.0 line.2 in
+      absurd (omega (arith, line.1))
   | inr off ↦ and_right _ _ off
 ]
 
 -- where it may not, or where Y claims several points a turn, it has none
-pub attack_wins-not : (g : Game) (p : Position) → may_attack g.kind p.turn ≡ false → attack_wins g p ≡ false
+pub attack_wins-not : (g : Game) (p : Position)
+    → may_attack g.kind p.turn ≡ false
+    → attack_wins g p ≡ false
 unfolding attack_wins
 attack_wins-not g p may = and_left _ _ may
 

@@ -27,20 +27,25 @@ is_open_on p line v = is_on v line && is_free p v
 
 -- whether the side lacks so many points of the line, and the other side has none of it
 unfoldable pub lacks : Position → Side → ℕ → List ℕ → Bool
-lacks p side missing line = is_live p (other side) line && (own_count p side line + missing) == length line
+lacks p side missing line =
+    is_live p (other side) line && (own_count p side line + missing) == length line
 
--- whether the point is a free one of a line that the other side hasn't touched and of which the side lacks so many
+-- whether the point is a free one of a line that the other side hasn't touched and of which the
+-- side lacks so many
 abbrev pub lacks_at : Position → Side → ℕ → ℕ → List ℕ → Bool
 lacks_at p side missing v line = lacks p side missing line && is_open_on p line v
 
 unfoldable pub is_lacking : Game → Position → Side → ℕ → ℕ → Bool
 is_lacking g p side missing v = list_any (lacks_at p side missing v) (lines_of g)
 
--- whether another free point is on a line through the point that the other side hasn't touched and of which the side lacks two
+-- whether another free point is on a line through the point that the other side hasn't touched and
+-- of which the side lacks two
 unfoldable pub is_partner : Game → Position → Side → ℕ → ℕ → Bool
-is_partner g p side v u = not (u == v) && list_any (λ line. is_on v line && lacks_at p side 2 u line) (lines_of g)
+is_partner g p side v u =
+    not (u == v) && list_any (λ line. is_on v line && lacks_at p side 2 u line) (lines_of g)
 
--- whether the side lacks three points of the line, which the other side hasn't touched and which misses the point
+-- whether the side lacks three points of the line, which the other side hasn't touched and which
+-- misses the point
 abbrev pub is_gained : Position → Side → ℕ → List ℕ → Bool
 is_gained p side u line = lacks p side 3 line && not (is_on u line)
 
@@ -87,13 +92,20 @@ come_to lines (Some k) = k
 abbrev pub left_to : ℕ → Option ℕ → ℕ
 left_to lines next = lines - come_to lines next
 
--- the set has the points that are lacked on the lines before, and the walk goes on with a line that the other side hasn't touched
-pub record IsScan (g : Game) (p : Position) (side : Side) (missing : ℕ) (points : FinSet nat_cmp) (next : Option ℕ) : Type 0 where
-  pub before : (v : ℕ) → contains points v ≡ list_any (lacks_at p side missing v) (take (come_to (length (lines_of g)) next) (lines_of g))
-  pub within : (k : ℕ) → next ≡ Some k → (k < length (lines_of g)) × (is_live p (other side) (line_at g k) ≡ true)
+-- the set has the points that are lacked on the lines before, and the walk goes on with a line that
+-- the other side hasn't touched
+pub record IsScan (g : Game) (p : Position) (side : Side) (missing : ℕ) (points : FinSet nat_cmp)
+    (next : Option ℕ) : Type 0 where
+  pub before : (v : ℕ)
+      → contains points v ≡ list_any (lacks_at p side missing v)
+      (take (come_to (length (lines_of g)) next) (lines_of g))
+  pub within : (k : ℕ)
+      → next ≡ Some k
+      → (k < length (lines_of g)) × (is_live p (other side) (line_at g k) ≡ true)
 
 -- two of the first lines, of both of which the side lacks so many points, hold the free point
-pub record IsLackedTwice (g : Game) (p : Position) (side : Side) (missing lines v : ℕ) : Type 0 where
+pub record IsLackedTwice (g : Game) (p : Position) (side : Side)
+    (missing lines v : ℕ) : Type 0 where
   pub first : ℕ
   pub second : ℕ
   pub before : first < second
@@ -102,6 +114,9 @@ pub record IsLackedTwice (g : Game) (p : Position) (side : Side) (missing lines 
   pub on_second : lacks_at p side missing v (line_at g second) ≡ true
 
 -- and all points that are lacked on two of those lines are in the second set
-pub record IsScanTwice (g : Game) (p : Position) (side : Side) (missing : ℕ) (points twice : FinSet nat_cmp) (next : Option ℕ) : Type 0 where
+pub record IsScanTwice (g : Game) (p : Position) (side : Side) (missing : ℕ)
+    (points twice : FinSet nat_cmp) (next : Option ℕ) : Type 0 where
   pub scan : IsScan g p side missing points next
-  pub again : (v : ℕ) → IsLackedTwice g p side missing (come_to (length (lines_of g)) next) v → contains twice v ≡ true
+  pub again : (v : ℕ)
+      → IsLackedTwice g p side missing (come_to (length (lines_of g)) next) v
+      → contains twice v ≡ true

@@ -27,7 +27,8 @@ impl Lacked {
     fn put(&mut self, v: u16)
         requires { v < MAX_MEMBERS }
         ensures points { self.new.points ≡ insert self.old.points v }
-        ensures kept { (q : ℕ) → contains self.old.twice q ≡ true → contains self.new.twice q ≡ true }
+        ensures kept { (q : ℕ) → contains self.old.twice q ≡ true
+            → contains self.new.twice q ≡ true }
         ensures again { contains self.old.points v ≡ true → contains self.new.twice v ≡ true }
     {
         if self.points.has(v) {
@@ -40,9 +41,13 @@ impl Lacked {
 /// Puts the free points of the line to the others.
 fn put_open(b: &Board<'_>, line: u32, lacked: &mut Lacked)
     requires { line < length (lines_of b.now.game) }
-    ensures points { (v : ℕ) → contains lacked.new.points v ≡ (contains lacked.old.points v || is_open_on b.now.stand.position (line_at b.now.game line) v) }
-    ensures kept { (v : ℕ) → contains lacked.old.twice v ≡ true → contains lacked.new.twice v ≡ true }
-    ensures again { (v : ℕ) → contains lacked.old.points v ≡ true → is_open_on b.now.stand.position (line_at b.now.game line) v ≡ true → contains lacked.new.twice v ≡ true }
+    ensures points { (v : ℕ) → contains lacked.new.points v ≡ (contains lacked.old.points v
+        || is_open_on b.now.stand.position (line_at b.now.game line) v) }
+    ensures kept { (v : ℕ) → contains lacked.old.twice v ≡ true
+        → contains lacked.new.twice v ≡ true }
+    ensures again { (v : ℕ) → contains lacked.old.points v ≡ true
+        → is_open_on b.now.stand.position (line_at b.now.game line) v ≡ true
+        → contains lacked.new.twice v ≡ true }
 {
     for i in 0..b.line_len(line) {
         let v = b.line_point(line, i);
@@ -52,14 +57,18 @@ fn put_open(b: &Board<'_>, line: u32, lacked: &mut Lacked)
     }
 }
 
-/// The free points of the lines that the other side hasn't touched and of which the side lacks so many points.
+/// The free points of the lines that the other side hasn't touched and of which the side lacks so
+/// many points.
 ///
-/// Where the board counts no such line it answers at once. Else it walks the lines that the other side hasn't touched, and
-/// looks at the points of those alone of which so many are missing.
+/// Where the board counts no such line it answers at once. Else it walks the lines that the other
+/// side hasn't touched, and looks at the points of those alone of which so many are missing.
 pub(crate) fn lacking(b: &Board<'_>, side: Side, missing: u16) -> Lacked
     requires { missing ≤ 2 }
-    ensures points { (v : ℕ) → contains result.points v ≡ is_lacking b.now.game b.now.stand.position side missing v }
-    ensures twice { (v : ℕ) → IsLackedTwice b.now.game b.now.stand.position side missing (length (lines_of b.now.game)) v → contains result.twice v ≡ true }
+    ensures points { (v : ℕ)
+        → contains result.points v ≡ is_lacking b.now.game b.now.stand.position side missing v }
+    ensures twice { (v : ℕ) → IsLackedTwice b.now.game b.now.stand.position side missing
+        (length (lines_of b.now.game)) v
+        → contains result.twice v ≡ true }
     ensures fits { IsPosition b.now.game b.now.stand.position }
 {
     let mut lacked = Lacked {
@@ -80,10 +89,13 @@ pub(crate) fn lacking(b: &Board<'_>, side: Side, missing: u16) -> Lacked
     lacked
 }
 
-/// Whether the board's counts show that the side lacks more than two points of each line that the other side hasn't touched.
+/// Whether the board's counts show that the side lacks more than two points of each line that the
+/// other side hasn't touched.
 pub(crate) fn is_far(b: &Board<'_>, side: Side) -> bool
-    ensures one { result ≡ true → (v : ℕ) → is_lacking b.now.game b.now.stand.position side 1 v ≡ false }
-    ensures two { result ≡ true → (v : ℕ) → is_lacking b.now.game b.now.stand.position side 2 v ≡ false }
+    ensures one { result ≡ true → (v : ℕ)
+        → is_lacking b.now.game b.now.stand.position side 1 v ≡ false }
+    ensures two { result ≡ true → (v : ℕ)
+        → is_lacking b.now.game b.now.stand.position side 2 v ≡ false }
     ensures fits { IsPosition b.now.game b.now.stand.position }
 {
     let enemy = side.other();
@@ -108,7 +120,8 @@ fn lacks(b: &Board<'_>, side: Side, missing: u16, line: u32) -> bool
     b.count(line, side) + missing == b.line_len(line)
 }
 
-/// The other free points of the lines through the point that the other side hasn't touched and of which the side lacks two.
+/// The other free points of the lines through the point that the other side hasn't touched and of
+/// which the side lacks two.
 pub(crate) fn partners(b: &Board<'_>, side: Side, v: u16) -> PointSet
     requires range { v < point_count b.now.game }
     requires few { v < MAX_MEMBERS }
@@ -140,7 +153,8 @@ fn holds(b: &Board<'_>, line: u32, u: u16) -> bool
     false
 }
 
-/// Whether the other side hasn't touched the line, the side lacks three points of it, and it misses the point.
+/// Whether the other side hasn't touched the line, the side lacks three points of it, and it misses
+/// the point.
 fn is_gained(b: &Board<'_>, side: Side, u: u16, line: u32) -> bool
     requires { line < length (lines_of b.now.game) }
     ensures { result ≡ is_gained b.now.stand.position side u (line_at b.now.game line) }
@@ -151,11 +165,14 @@ fn is_gained(b: &Board<'_>, side: Side, u: u16, line: u32) -> bool
     !holds(b, line, u)
 }
 
-/// Whether the side lacks three points of a line through the point that the other side hasn't touched and that misses the
-/// other point.
+/// Whether the side lacks three points of a line through the point that the other side hasn't
+/// touched and that misses the other point.
 pub(crate) fn gains(b: &Board<'_>, side: Side, v: u16, u: u16) -> bool
     requires { v < point_count b.now.game }
-    ensures { result ≡ false → (line : List ℕ) → Contains (lines_of b.now.game) line → is_on v line ≡ true → is_gained b.now.stand.position side u line ≡ false }
+    ensures { result ≡ false
+        → (line : List ℕ) → Contains (lines_of b.now.game) line
+        → is_on v line ≡ true
+        → is_gained b.now.stand.position side u line ≡ false }
 {
     for line in b.through(v) {
         if is_gained(b, side, u, *line) {

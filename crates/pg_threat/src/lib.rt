@@ -1,7 +1,8 @@
 //! Threat lines: attacks that each force one reply, up to a filled line.
 //!
-//! The search is the threat-space search of Allis, van den Herik and Huntjens (Go-Moku and Threat-Space Search, 1993) to a
-//! small depth, and exact: the shortest line, and of these the first.
+//! The search is the threat-space search of Allis, van den Herik and Huntjens (Go-Moku and
+//! Threat-Space Search, 1993) to a small depth, and exact: the shortest line, and of these the
+//! first.
 #![tactic(auto)]
 
 mod lacking;

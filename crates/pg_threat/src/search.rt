@@ -42,7 +42,8 @@ fn both(one: &PointSet, other: &PointSet) -> PointSet
 fn sole(attacks: &PointSet, threats: &PointSet, v: u16) -> PointSet
     requires range { v < MAX_MEMBERS }
     requires least { IsLeastFrom threats.now 0 v }
-    ensures { (w : ℕ) → contains result w ≡ true ↔ ((contains attacks.now w ≡ true) × ((u : ℕ) → contains threats.now u ≡ true → u ≡ w)) }
+    ensures { (w : ℕ) → contains result w ≡ true
+        ↔ ((contains attacks.now w ≡ true) × ((u : ℕ) → contains threats.now u ≡ true → u ≡ w)) }
 {
     let mut points = PointSet::empty();
     if !attacks.has(v) {
@@ -55,9 +56,9 @@ fn sole(attacks: &PointSet, threats: &PointSet, v: u16) -> PointSet
     points
 }
 
-/// The attacks that are tried where the side lacks more than one point of each line: the points of lines of which it
-/// lacks two. In Maker-Maker an attack must also meet each threat of the other side, so that there is at most one where
-/// there is a threat, and none where there are two.
+/// The attacks that are tried where the side lacks more than one point of each line: the points of
+/// lines of which it lacks two. In Maker-Maker an attack must also meet each threat of the other
+/// side, so that there is at most one where there is a threat, and none where there are two.
 fn tried(b: &Board<'_>, side: Side, attacks: PointSet) -> PointSet
     requires { (v : ℕ) → contains attacks v ≡ is_lacking b.now.game b.now.stand.position side 2 v }
     ensures { (v : ℕ) → contains result v ≡ true ↔ IsTried b.now.game b.now.stand.position side v }
@@ -75,11 +76,15 @@ fn tried(b: &Board<'_>, side: Side, attacks: PointSet) -> PointSet
     }
 }
 
-/// The attacks that are tried, and among them those on two such lines: only they can leave two points to fill a line with.
+/// The attacks that are tried, and among them those on two such lines: only they can leave two
+/// points to fill a line with.
 fn attacks_at(b: &Board<'_>, side: Side) -> Attacks
-    ensures all { (v : ℕ) → contains result.all v ≡ true ↔ IsTried b.now.game b.now.stand.position side v }
+    ensures all { (v : ℕ)
+        → contains result.all v ≡ true ↔ IsTried b.now.game b.now.stand.position side v }
     ensures forks { (v : ℕ) → contains result.forks v ≡ true → contains result.all v ≡ true }
-    ensures twice { (v : ℕ) → contains result.all v ≡ true → IsLackedTwice b.now.game b.now.stand.position side 2 (length (lines_of b.now.game)) v → contains result.forks v ≡ true }
+    ensures twice { (v : ℕ) → contains result.all v ≡ true
+        → IsLackedTwice b.now.game b.now.stand.position side 2 (length (lines_of b.now.game)) v
+        → contains result.forks v ≡ true }
     ensures fits { IsPosition b.now.game b.now.stand.position }
 {
     let lacked = lacking(b, side, 2);
@@ -90,15 +95,17 @@ fn attacks_at(b: &Board<'_>, side: Side) -> Attacks
     }
 }
 
-/// Whether no line is left of which the side lacks two after an attack that forces the reply, by two counts: the attack's
-/// line is the only one of which it lacks two, and of each line through the attack of which it lacks three the reply takes
-/// a point.
+/// Whether no line is left of which the side lacks two after an attack that forces the reply, by
+/// two counts: the attack's line is the only one of which it lacks two, and of each line through
+/// the attack of which it lacks three the reply takes a point.
 fn leaves_none(b: &Board<'_>, side: Side, v: u16, u: u16) -> bool
     requires attacking { IsAttacking b.now.game b.now.stand.position side }
     requires single { b.now.game.bias ≡ 1 }
     requires attack { IsAttack b.now.game b.now.stand.position v }
     requires reply { is_partner b.now.game b.now.stand.position side v u ≡ true }
-    ensures { result ≡ true → (w : ℕ) → is_lacking b.now.game (after b.now.game (after b.now.game b.now.stand.position v) u) side 2 w ≡ false }
+    ensures { result ≡ true
+        → (w : ℕ) → is_lacking b.now.game
+        (after b.now.game (after b.now.game b.now.stand.position v) u) side 2 w ≡ false }
 {
     if b.live_with(side.other(), 2) != 1 {
         return false;
@@ -116,7 +123,8 @@ fn first_of_depth(
 ) -> Option<ThreatLine>
     requires attacking { IsAttacking b.old.game b.old.stand.position side }
     requires single { b.old.game.bias ≡ 1 }
-    requires tried { (v : ℕ) → contains attacks.now v ≡ true → IsTried b.old.game b.old.stand.position side v }
+    requires tried { (v : ℕ) → contains attacks.now v ≡ true
+        → IsTried b.old.game b.old.stand.position side v }
     requires begins { Begins b.old.game b.old.stand.position side depth attacks.now }
     requires least { NoneBelow (LeadsToLine b.old.game b.old.stand.position side) depth }
     requires some { 1 ≤ depth }
@@ -135,12 +143,12 @@ fn first_of_depth(
     None
 }
 
-/// The first list of exactly that depth that goes on after the attack at the point, by a forced reply, where none of less
-/// depth does.
+/// The first list of exactly that depth that goes on after the attack at the point, by a forced
+/// reply, where none of less depth does.
 ///
-/// The replies are read off the lines through the attack, and the last attack is a second point of them: for depth 1 nothing
-/// is played. Nor is it where the attack is idle: then a list that goes on after it and its reply
-/// would lead to a line without them, by less depth.
+/// The replies are read off the lines through the attack, and the last attack is a second point of
+/// them: for depth 1 nothing is played. Nor is it where the attack is idle: then a list that goes
+/// on after it and its reply would lead to a line without them, by less depth.
 #[cycle(attacks_and_replies)]
 fn answered(b: &mut Board<'_>, side: Side, v: u16, depth: u8) -> Option<ThreatLine>
     requires attacking { IsAttacking b.old.game b.old.stand.position side }
@@ -148,11 +156,13 @@ fn answered(b: &mut Board<'_>, side: Side, v: u16, depth: u8) -> Option<ThreatLi
     requires attack { IsAttack b.old.game b.old.stand.position v }
     requires answering { IsAnswering b.old.game (after b.old.game b.old.stand.position v) side }
     requires single { b.old.game.bias ≡ 1 }
-    requires least { NoneBelow (Replied b.old.game (after b.old.game b.old.stand.position v) side) depth }
+    requires least { NoneBelow (Replied b.old.game (after b.old.game b.old.stand.position v) side)
+        depth }
     requires whole { NoneBelow (LeadsToLine b.old.game b.old.stand.position side) depth }
     requires some { 1 ≤ depth }
     requires few { depth ≤ 3 }
-    ensures found { IsFound (Replied b.old.game (after b.old.game b.old.stand.position v) side) depth result }
+    ensures found { IsFound (Replied b.old.game (after b.old.game b.old.stand.position v) side)
+        depth result }
     ensures len { IfSome result (λ t. t.len ≡ 2 * depth) }
     ensures kept { b.new ≡ b.old }
 {
@@ -184,15 +194,16 @@ fn answered(b: &mut Board<'_>, side: Side, v: u16, depth: u8) -> Option<ThreatLi
     }
 }
 
-/// The threat line of least depth, and among these the first in the order of lists. None comes exactly where there is
-/// none of at most that depth. The board is afterwards as before; it takes no memory.
+/// The threat line of least depth, and among these the first in the order of lists. None comes
+/// exactly where there is none of at most that depth. The board is afterwards as before; it takes
+/// no memory.
 ///
-/// Where the side lacks more than two points of each line without a point of the other side, the board's counts tell so,
-/// and it answers at once. Else depths are tried from the least on, and at each position only the points of lines of which
-/// the side lacks two are tried as attacks.
+/// Where the side lacks more than two points of each line without a point of the other side, the
+/// board's counts tell so, and it answers at once. Else depths are tried from the least on, and at
+/// each position only the points of lines of which the side lacks two are tried as attacks.
 ///
-/// The depth is the number of forced replies. The side is the one to move, in a game that isn't over and in which each side
-/// claims one point a turn: X in Maker-Breaker, either in Maker-Maker.
+/// The depth is the number of forced replies. The side is the one to move, in a game that isn't
+/// over and in which each side claims one point a turn: X in Maker-Breaker, either in Maker-Maker.
 pub fn forced(b: &mut Board<'_>, side: Side, depth: u8) -> Option<ThreatLine>
     requires few { depth ≤ 3 }
     requires turn { b.old.stand.position.turn ≡ side }

@@ -6,12 +6,30 @@ use Rattle.pg_undo.specs.Extends.{Extends}
 use Rattle.pg_undo.proofs.Undoing.{back_to-with_set, back_to-level}
 
 pub extends-none : (t : Cells) → Extends 0 t t
-extends-none t = record { levels = λ level low. refl; more = omega arith; bound = omega arith; spare = refl; width = refl }
+extends-none t = record {
+  levels = λ level low. refl;
+  more = omega arith;
+  bound = omega arith;
+  spare = refl;
+  width = refl;
+}
 
-pub extends-more : (few more : ℕ) (t now : Cells) → Extends few t now → few ≤ more → Extends more t now
-extends-more few more t now h order = record { levels = h.levels; more = h.more; bound = omega (arith, h.bound); spare = h.spare; width = h.width }
+pub extends-more : (few more : ℕ) (t now : Cells)
+    → Extends few t now
+    → few ≤ more
+    → Extends more t now
+extends-more few more t now h order = record {
+  levels = h.levels;
+  more = h.more;
+  bound = omega (arith, h.bound);
+  spare = h.spare;
+  width = h.width;
+}
 
-pub extends-both : (one two : ℕ) (a b d : Cells) → Extends one a b → Extends two b d → Extends (one + two) a d
+pub extends-both : (one two : ℕ) (a b d : Cells)
+    → Extends one a b
+    → Extends two b d
+    → Extends (one + two) a d
 extends-both one two a b d h k = record {
   levels = λ level low. k.levels level (omega (arith, h.more)) ∙ h.levels level low;
   more = omega (arith, h.more, k.more);
@@ -34,5 +52,7 @@ extends-set t i v room =
     }
 
 -- going back to the level from which the changes began
-pub extends-back : (few : ℕ) (t now : Cells) → Extends few t now → back_to (length t.entries) now ≡ t
+pub extends-back : (few : ℕ) (t now : Cells)
+    → Extends few t now
+    → back_to (length t.entries) now ≡ t
 extends-back few t now h = h.levels (length t.entries) (omega arith) ∙ back_to-level t

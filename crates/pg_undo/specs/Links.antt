@@ -21,7 +21,8 @@ unfoldable pub history : ℕ → List ℕ → List (List ℕ)
 history n [] = remaining n [] ∷ []
 history n (i ∷ out) = history n out ++ remaining n (i ∷ out) ∷ []
 
--- ---- what is linked: the start is place 0, the number k is place k + 1, and the end is place n + 1
+-- ---- what is linked: the start is place 0, the number k is place k + 1, and the end is place n +
+-- 1
 
 -- where the place's links stand: start and end share a slot
 unfoldable pub slot : ℕ → ℕ → ℕ
@@ -55,7 +56,8 @@ pub record IsOut (n : ℕ) (next previous out : List ℕ) (i : ℕ) : Type 0 whe
   pub next_within : get_or next i 0 ≤ n
   pub previous_within : get_or previous i 0 ≤ n
 
--- What is left is linked, and so it was before each was taken out: linking the last one between its old neighbours gives the arrays of then.
+-- What is left is linked, and so it was before each was taken out: linking the last one between its
+-- old neighbours gives the arrays of then.
 unfoldable pub AreLinks : ℕ → List ℕ → List ℕ → List ℕ → Type 0
 AreLinks n next previous [] = AreLinked n next previous (is_left [])
 AreLinks n next previous (i ∷ out) =

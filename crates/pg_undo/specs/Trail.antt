@@ -9,7 +9,11 @@ pub record Cells : Type 0 where
 
 -- a cell is changed
 unfoldable pub with_set : Cells → ℕ → ℕ → Cells
-with_set t i v = record { cells = set t.cells i v; entries = t.entries ++ (i, get_or t.cells i 0) ∷ []; spare = t.spare - 1 }
+with_set t i v = record {
+  cells = set t.cells i v;
+  entries = t.entries ++ (i, get_or t.cells i 0) ∷ [];
+  spare = t.spare - 1;
+}
 
 -- the cells before the changes
 unfoldable pub before : List (ℕ × ℕ) → List ℕ → List ℕ
@@ -18,7 +22,11 @@ before (e ∷ entries) cells = set (before entries cells) e.0 e.1
 
 -- the trail as it was when it had so many entries
 unfoldable pub back_to : ℕ → Cells → Cells
-back_to level t = record { cells = before (drop level t.entries) t.cells; entries = take level t.entries; spare = t.spare + (length t.entries - level) }
+back_to level t = record {
+  cells = before (drop level t.entries) t.cells;
+  entries = take level t.entries;
+  spare = t.spare + (length t.entries - level);
+}
 
 -- the trail without entries
 unfoldable pub settled : Cells → Cells

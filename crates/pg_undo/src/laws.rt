@@ -2,10 +2,12 @@
 ghost use Rattle.std.specs.Prelude.{◌≡◌, ℕ, ◌≤◌, length};
 ghost use Rattle.pg_undo.specs.Trail.{Cells, with_set, back_to};
 
-/// After a change each earlier level is as it was before it. So whatever changes follow, going back to a level gives the
-/// cells and entries that the trail had at that level.
+/// After a change each earlier level is as it was before it. So whatever changes follow, going back
+/// to a level gives the cells and entries that the trail had at that level.
 pub fn changes_keep_earlier_levels()
-    ensures { (t : Cells) → (level i v : ℕ) → level ≤ length t.entries → 1 ≤ t.spare → back_to level (with_set t i v) ≡ back_to level t }
+    ensures { (t : Cells) → (level i v : ℕ) → level ≤ length t.entries
+        → 1 ≤ t.spare
+        → back_to level (with_set t i v) ≡ back_to level t }
 {}
 
 /// A trail that goes back no entry stays as it is.
@@ -15,5 +17,7 @@ pub fn own_level_is_the_trail()
 
 /// Going back in two steps is going back in one.
 pub fn going_back_in_steps()
-    ensures { (low high : ℕ) → (t : Cells) → low ≤ high → high ≤ length t.entries → back_to low (back_to high t) ≡ back_to low t }
+    ensures { (low high : ℕ) → (t : Cells) → low ≤ high
+        → high ≤ length t.entries
+        → back_to low (back_to high t) ≡ back_to low t }
 {}

@@ -7,9 +7,11 @@ use pg_base::Memory;
 use std::alloc::Global;
 use std::marker::Model;
 
-/// The numbers below n in ascending order, from which members are taken out, and put back in reverse order.
+/// The numbers below n in ascending order, from which members are taken out, and put back in
+/// reverse order.
 ///
-/// The number n stands for both ends: what follows it is the first member, and what precedes it is the last.
+/// The number n stands for both ends: what follows it is the first member, and what precedes it is
+/// the last.
 #[derive(Debug, Drop)]
 pub struct Ring {
     /// The n with which the ring was made.
@@ -22,8 +24,8 @@ pub struct Ring {
     unlinked: Vec<u32>,
 }
 
-/// The lists that the ring was, oldest first: the last is what it is now, and each other one is what it was before a
-/// member was taken out that is still out.
+/// The lists that the ring was, oldest first: the last is what it is now, and each other one is
+/// what it was before a member was taken out that is still out.
 impl Model for Ring {
     ghost use Rattle.std.specs.Prelude.{ℕ, List, ◌≡◌, ◌+◌, ◌≤◌, length, reverse};
     ghost use Rattle.std.specs.Vec.{vec_capacity};
@@ -34,7 +36,8 @@ impl Model for Ring {
 
     ghost view = { λ a. history a.end (reverse a.unlinked.items) };
 
-    ghost invariant = { λ a. AreLinks a.end a.next.items a.previous.items (reverse a.unlinked.items) × (a.end ≤ vec_capacity a.unlinked) };
+    ghost invariant = { λ a. AreLinks a.end a.next.items a.previous.items (reverse a.unlinked.items)
+        × (a.end ≤ vec_capacity a.unlinked) };
 }
 
 impl Ring {

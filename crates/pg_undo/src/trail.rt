@@ -25,9 +25,15 @@ impl Model for Trail {
 
     ghost Value = { Cells };
 
-    ghost view = { λ a. record { cells = a.cells.items; entries = a.entries.items; spare = a.room - length a.entries.items } };
+    ghost view = { λ a. record {
+      cells = a.cells.items;
+      entries = a.entries.items;
+      spare = a.room - length a.entries.items;
+    } };
 
-    ghost invariant = { λ a. (length a.entries.items ≤ a.room) × (a.room ≤ vec_capacity a.entries) × All (λ e. e.0 < length a.cells.items) a.entries.items };
+    ghost invariant = { λ a. (length a.entries.items ≤ a.room)
+        × (a.room ≤ vec_capacity a.entries)
+        × All (λ e. e.0 < length a.cells.items) a.entries.items };
 }
 
 impl Trail {
@@ -70,7 +76,8 @@ impl Trail {
         self.cells[i] = v;
     }
 
-    /// Drops all entries: what was changed can't be undone any more, and the whole room is there again.
+    /// Drops all entries: what was changed can't be undone any more, and the whole room is there
+    /// again.
     pub fn settle(&mut self)
         ensures { self.new ≡ settled self.old }
     {

@@ -44,8 +44,10 @@ chosen_vec_claim g cert side = find (is_vec_claim_of side g.turn) cert.claims
 
 -- the sets of a body, and none where it has none
 abbrev pub plan_of_body : VecGame → Body → VecPlan
-plan_of_body g (Trees with_e first second) = record { first = with_e_named g with_e first; second = second }
-plan_of_body g (Cuts with_e first second) = record { first = with_e_named g with_e first; second = second }
+plan_of_body g (Trees with_e first second) =
+    record { first = with_e_named g with_e first; second = second }
+plan_of_body g (Cuts with_e first second) =
+    record { first = with_e_named g with_e first; second = second }
 plan_of_body g _ = record { first = empty; second = empty }
 
 -- the sets of a claim's first node
@@ -68,14 +70,16 @@ pub record MakesVecMove (before now : VecPlay) (last : Option ℕ) (v : ℕ) : T
   pub turn : before.position.turn ≡ before.side
   pub within : v < length before.game.vectors
   pub free : is_free before.position v ≡ true
-  pub own : vec_move (vector_spans (with_target before.game)) (length before.game.vectors) before.side before.position before.plan last ≡ record { vector = v; plan = now.plan }
+  pub own : vec_move (vector_spans (with_target before.game)) (length before.game.vectors)
+      before.side before.position before.plan last ≡ record { vector = v; plan = now.plan }
   pub position : now.position ≡ moved (vector_rules before.game) before.position v
   pub same_game : now.game ≡ before.game
   pub same_side : now.side ≡ before.side
 
 -- the player owes no move: the game is over or the other side is to move
 abbrev pub VecWaits : VecPlay → Type 0
-VecWaits play = ((vector_rules play.game).over play.position ≡ true) ⊎ (play.position.turn ≡ other play.side)
+VecWaits play =
+    ((vector_rules play.game).over play.position ≡ true) ⊎ (play.position.turn ≡ other play.side)
 
 -- the other side takes v, which is legal, and the plan waits for the answer
 pub record TakesVecReply (before now : VecPlay) (v : ℕ) : Type 0 where
@@ -89,17 +93,22 @@ abbrev pub MovesOnVectors : VecPlay → VecPlay → Option ℕ → Type 0
 MovesOnVectors before now None = VecWaits before × (now ≡ before)
 MovesOnVectors before now (Some v) = MakesVecMove before now None v
 
--- what the player does after a legal reply: it takes the reply, and then makes its move where the game isn't over
+-- what the player does after a legal reply: it takes the reply, and then makes its move where the
+-- game isn't over
 abbrev pub AnswersOnVectors : VecPlay → VecPlay → ℕ → Option ℕ → Type 0
-AnswersOnVectors before now v None = TakesVecReply before now v × ((vector_rules now.game).over now.position ≡ true)
-AnswersOnVectors before now v (Some w) = (between : VecPlay) × TakesVecReply before between v × MakesVecMove between now (Some v) w
+AnswersOnVectors before now v None =
+    TakesVecReply before now v × ((vector_rules now.game).over now.position ≡ true)
+AnswersOnVectors before now v (Some w) =
+    (between : VecPlay) × TakesVecReply before between v × MakesVecMove between now (Some v) w
 
 -- ---- what a player keeps
 
 -- the plan is X's trees or Y's cuts at the position
 abbrev pub VecPlanHolds : VecGame → Side → Position → VecPlan → Type 0
-VecPlanHolds g X p plan = AreSpanTrees (vector_spans (with_target g)) (length g.vectors) p plan.first plan.second
-VecPlanHolds g Y p plan = AreSpanCuts (vector_spans (with_target g)) (length g.vectors) p plan.first plan.second
+VecPlanHolds g X p plan =
+    AreSpanTrees (vector_spans (with_target g)) (length g.vectors) p plan.first plan.second
+VecPlanHolds g Y p plan =
+    AreSpanCuts (vector_spans (with_target g)) (length g.vectors) p plan.first plan.second
 
 -- the position is that after a legal play from the game's marks
 pub record IsVecReached (g : VecGame) (p : Position) : Type 0 where
@@ -107,7 +116,8 @@ pub record IsVecReached (g : VecGame) (p : Position) : Type 0 where
   pub legal : IsPlayBy (vector_rules g) (vec_start g) moves
   pub leads : played_by (vector_rules g) (vec_start g) moves ≡ p
 
--- the position is reached by a legal play, the side forces its win from it, and while the game goes on the plan holds
+-- the position is reached by a legal play, the side forces its win from it, and while the game goes
+-- on the plan holds
 pub record IsOnVecPlan (g : VecGame) (side : Side) (p : Position) (plan : VecPlan) : Type 0 where
   pub place : IsPlace (length g.vectors) p
   pub reached : IsVecReached g p
@@ -115,13 +125,15 @@ pub record IsOnVecPlan (g : VecGame) (side : Side) (p : Position) (plan : VecPla
   pub holds : (vector_rules g).over p ≡ false → VecPlanHolds g side p plan
 
 -- it is on its plan, knows the outcome, and has a judge of the game
-pub record IsVecPlaying (g : VecGame) (side : Side) (p : Position) (plan : VecPlan) (ending : Option Score) (judge : VecJudge) : Type 0 where
+pub record IsVecPlaying (g : VecGame) (side : Side) (p : Position) (plan : VecPlan)
+    (ending : Option Score) (judge : VecJudge) : Type 0 where
   pub on : IsOnVecPlan g side p plan
   pub known : ending ≡ ending_by (vector_rules g) p
   pub judged : IsVecJudgeOf judge g
 
 -- the other side has just taken v, and before that the plan held
-pub record HeldBefore (g : VecGame) (side : Side) (p : Position) (plan : VecPlan) (v : ℕ) : Type 0 where
+pub record HeldBefore (g : VecGame) (side : Side) (p : Position) (plan : VecPlan)
+    (v : ℕ) : Type 0 where
   pub before : Position
   pub place : IsPlace (length g.vectors) before
   pub theirs : before.turn ≡ other side
@@ -136,7 +148,8 @@ HeldUntil g side p plan None = VecPlanHolds g side p plan
 HeldUntil g side p plan (Some v) = HeldBefore g side p plan v
 
 -- the side is to move in a game that goes on
-pub record IsVecDue (g : VecGame) (side : Side) (p : Position) (plan : VecPlan) (last : Option ℕ) : Type 0 where
+pub record IsVecDue (g : VecGame) (side : Side) (p : Position) (plan : VecPlan)
+    (last : Option ℕ) : Type 0 where
   pub place : IsPlace (length g.vectors) p
   pub reached : IsVecReached g p
   pub going : (vector_rules g).over p ≡ false

@@ -69,7 +69,8 @@ fn lowest_free(n: u16, p: &Position) -> u16
 }
 
 impl VecJudge {
-    /// A judge for the game. `Memory` says that there is no room for its vectors and the rows of their elimination.
+    /// A judge for the game. `Memory` says that there is no room for its vectors and the rows of
+    /// their elimination.
     pub(crate) fn new(alloc: Global, g: &VecGame) -> Result<VecJudge, Memory>
         ensures { IfOk result (λ judge. IsVecJudgeOf judge g.now) }
     {
@@ -82,7 +83,8 @@ impl VecJudge {
     /// Whether the target is the sum of some vectors of the set.
     fn spans_target(&mut self, g: &VecGame, set: &PointSet) -> bool
         requires { IsVecJudgeOf self.old g.now }
-        ensures spans { result ≡ vector_spans (with_target g.now) (contains set.now) (length g.now.vectors) }
+        ensures spans { result
+            ≡ vector_spans (with_target g.now) (contains set.now) (length g.now.vectors) }
         ensures kept { IsVecJudgeOf self.new g.now }
     {
         spans(&mut self.rows, self.vectors.as_slice(), set, target_of(g))
@@ -117,7 +119,8 @@ impl VecJudge {
     ) -> u16
         requires made { IsVecJudgeOf self.old g.now }
         requires vector { x ≤ length g.now.vectors }
-        ensures reply { result ≡ reply_vector (vector_spans (with_target g.now)) (length g.now.vectors) side p.now one.now other.now x }
+        ensures reply { result ≡ reply_vector (vector_spans (with_target g.now))
+            (length g.now.vectors) side p.now one.now other.now x }
         ensures kept { IsVecJudgeOf self.new g.now }
     {
         let n = target_of(g);
@@ -150,7 +153,8 @@ impl VecJudge {
     ) -> u16
         requires made { IsVecJudgeOf self.old g.now }
         requires vector { x ≤ length g.now.vectors }
-        ensures answer { result ≡ answer_vector (vector_spans (with_target g.now)) (length g.now.vectors) side p.now plan.now x }
+        ensures answer { result ≡ answer_vector (vector_spans (with_target g.now))
+            (length g.now.vectors) side p.now plan.now x }
         ensures kept { IsVecJudgeOf self.new g.now }
     {
         if plan.first.has(x) {
@@ -163,11 +167,13 @@ impl VecJudge {
     }
 }
 
-/// The position after the side to move takes the vector in a position with that outcome, which may be none yet.
+/// The position after the side to move takes the vector in a position with that outcome, which may
+/// be none yet.
 ///
 /// # Errors
 ///
-/// `Range` where the game has no such vector, else `Over` where it is over, else `Taken` where the vector isn't free.
+/// `Range` where the game has no such vector, else `Over` where it is over, else `Taken` where the
+/// vector isn't free.
 pub(crate) fn play(
     g: &VecGame,
     p: &Position,

@@ -53,7 +53,8 @@ pub(crate) fn own_move(
 ) -> Made
     requires made { IsVecJudgeOf judge.old g.now }
     requires last { lost_vector (length g.now.vectors) last ≤ length g.now.vectors }
-    ensures own { vec_move (vector_spans (with_target g.now)) (length g.now.vectors) side p.now plan.now last ≡ record { vector = result.vector; plan = result.plan } }
+    ensures own { vec_move (vector_spans (with_target g.now)) (length g.now.vectors) side p.now
+        plan.now last ≡ record { vector = result.vector; plan = result.plan } }
     ensures kept { IsVecJudgeOf judge.new g.now }
 {
     let x = lost_vector(g, last);

@@ -15,11 +15,13 @@ use pg_gf2::{VecChecked, VecGame, VecPlan, with_e_named};
 use std::alloc::Global;
 use std::marker::Model;
 
-/// A player of a game on vectors: it makes one side's own moves by a checked claim, and takes the other side's replies.
+/// A player of a game on vectors: it makes one side's own moves by a checked claim, and takes the
+/// other side's replies.
 ///
-/// A contract sees the game, the side, the position and the plan, which is what is left of the claim's sets. The position
-/// is always one after a legal play from the game's marks, and the side forces its win from it. No call after `open` takes
-/// memory. A call takes the time of a few eliminations.
+/// A contract sees the game, the side, the position and the plan, which is what is left of the
+/// claim's sets. The position is always one after a legal play from the game's marks, and the side
+/// forces its win from it. No call after `open` takes memory. A call takes the time of a few
+/// eliminations.
 #[derive(Drop)]
 pub struct VecPlayer<'a> {
     game: &'a VecGame,
@@ -45,9 +47,23 @@ impl<'a> Model for VecPlayer<'a> {
 
     ghost Value = { VecPlay };
 
-    ghost coded = { code_by (VecGame × (Side × (Position × VecPlan))) (coded× game_code.the_row.coded (coded× side_code.the_row.coded (coded× position_code.the_row.coded plan_code.the_row.coded))) (λ s. (s.game, (s.side, (s.position, s.plan)))) (λ t. record { game = t.0; side = t.1.0; position = t.1.1.0; plan = t.1.1.1 }) (λ _. refl) };
+    ghost coded = { code_by (VecGame × (Side × (Position × VecPlan)))
+        (coded× game_code.the_row.coded
+        (coded× side_code.the_row.coded
+        (coded× position_code.the_row.coded plan_code.the_row.coded)))
+        (λ s. (s.game, (s.side, (s.position, s.plan)))) (λ t. record {
+          game = t.0;
+          side = t.1.0;
+          position = t.1.1.0;
+          plan = t.1.1.1;
+        }) (λ _. refl) };
 
-    ghost view = { λ a. record { game = a.game.now; side = a.side; position = a.position; plan = a.plan } };
+    ghost view = { λ a. record {
+      game = a.game.now;
+      side = a.side;
+      position = a.position;
+      plan = a.plan;
+    } };
 
     ghost invariant = { λ a. IsVecPlaying a.game.now a.side a.position a.plan a.ending a.judge };
 }
@@ -123,18 +139,23 @@ fn plan_of(g: &VecGame, claim: &Claim) -> VecPlan
 }
 
 impl<'a> VecPlayer<'a> {
-    /// A player of the side at the game's marks, by the certificate's first claim of that side and the game's turn.
+    /// A player of the side at the game's marks, by the certificate's first claim of that side and
+    /// the game's turn.
     ///
     /// # Errors
     ///
-    /// `NoClaim` exactly where no claim has that side and the game's turn, else `Memory` where no memory is found.
+    /// `NoClaim` exactly where no claim has that side and the game's turn, else `Memory` where no
+    /// memory is found.
     pub fn open(alloc: Global, c: VecChecked<'a>, side: Side) -> Result<VecPlayer<'a>, VecOpen>
-        ensures chosen { IfOk result (λ player. option_map (plan_of_claim c.entry.game.now) (chosen_vec_claim c.entry.game.now c.entry.cert.now side) ≡ Some player.plan) }
+        ensures chosen { IfOk result (λ player. option_map (plan_of_claim c.entry.game.now)
+            (chosen_vec_claim c.entry.game.now c.entry.cert.now side) ≡ Some player.plan) }
         ensures side { IfOk result (λ player. player.side ≡ side) }
         ensures game { IfOk result (λ player. player.game ≡ c.entry.game.now) }
         ensures position { IfOk result (λ player. player.position ≡ vec_start c.entry.game.now) }
-        ensures none { result ≡ Err VecOpen.NoClaim → chosen_vec_claim c.entry.game.now c.entry.cert.now side ≡ None }
-        ensures missing { chosen_vec_claim c.entry.game.now c.entry.cert.now side ≡ None → result ≡ Err VecOpen.NoClaim }
+        ensures none { result ≡ Err VecOpen.NoClaim
+            → chosen_vec_claim c.entry.game.now c.entry.cert.now side ≡ None }
+        ensures missing { chosen_vec_claim c.entry.game.now c.entry.cert.now side ≡ None
+            → result ≡ Err VecOpen.NoClaim }
     {
         let game = c.game;
         let Some(claim) = chosen_claim(game, c.cert, side) else {
@@ -174,18 +195,22 @@ impl<'a> VecPlayer<'a> {
         Kind::Switching
     }
 
-    /// The position, which is one after a legal play from the game's marks, and from which the side forces its win. While the
-    /// game goes on the plan holds at it.
+    /// The position, which is one after a legal play from the game's marks, and from which the side
+    /// forces its win. While the game goes on the plan holds at it.
     pub fn position(&self) -> Position
         ensures exact { result ≡ self.now.position }
-        ensures reached { (moves : List ℕ) × IsPlayBy (vector_rules self.now.game) (vec_start self.now.game) moves × (played_by (vector_rules self.now.game) (vec_start self.now.game) moves ≡ result) }
+        ensures reached { (moves : List ℕ)
+            × IsPlayBy (vector_rules self.now.game) (vec_start self.now.game) moves
+            × (played_by (vector_rules self.now.game) (vec_start self.now.game) moves ≡ result) }
         ensures forced { ForcesBy (vector_rules self.now.game) result self.now.side Win }
-        ensures holds { (vector_rules self.now.game).over result ≡ false → VecPlanHolds self.now.game self.now.side result self.now.plan }
+        ensures holds { (vector_rules self.now.game).over result ≡ false
+            → VecPlanHolds self.now.game self.now.side result self.now.plan }
     {
         self.position
     }
 
-    /// The outcome of the position, and None exactly where the game isn't over. The side has won by it.
+    /// The outcome of the position, and None exactly where the game isn't over. The side has won by
+    /// it.
     pub fn outcome(&self) -> Option<Score>
         ensures exact { result ≡ ending_by (vector_rules self.now.game) self.now.position }
         ensures reached { IfSome result (λ score. reaches self.now.side Win score ≡ true) }
@@ -193,10 +218,16 @@ impl<'a> VecPlayer<'a> {
         self.ending
     }
 
-    /// Makes the own move at p after the last reply, where the player is to move in a game that goes on.
+    /// Makes the own move at p after the last reply, where the player is to move in a game that
+    /// goes on.
     fn make_move(&mut self, p: &Position, last: Option<u16>) -> u16
         requires { IsVecDue self.old.game self.old.side p.now self.old.plan last }
-        ensures { MakesVecMove (record { game = self.old.game; side = self.old.side; position = p.now; plan = self.old.plan }) self.new last result }
+        ensures { MakesVecMove (record {
+          game = self.old.game;
+          side = self.old.side;
+          position = p.now;
+          plan = self.old.plan;
+        }) self.new last result }
     {
         let made = own_move(&mut self.judge, self.game, self.side, p, &self.plan, last);
         let next = p.after(BIAS, made.vector);
@@ -206,8 +237,8 @@ impl<'a> VecPlayer<'a> {
         made.vector
     }
 
-    /// Makes one move of the player where it is to move, and tells it. None comes exactly where the game is over or the
-    /// other side is to move; then nothing changes.
+    /// Makes one move of the player where it is to move, and tells it. None comes exactly where the
+    /// game is over or the other side is to move; then nothing changes.
     pub fn first(&mut self) -> Option<u16>
         ensures { MovesOnVectors self.old self.new result }
     {
@@ -218,17 +249,18 @@ impl<'a> VecPlayer<'a> {
         Some(self.make_move(&position, None))
     }
 
-    /// Plays v for the other side, and then makes the player's move where the game goes on, and tells it. None comes exactly
-    /// where the game is over after v.
+    /// Plays v for the other side, and then makes the player's move where the game goes on, and
+    /// tells it. None comes exactly where the game is over after v.
     ///
     /// # Errors
     ///
-    /// `Range` where the game has no such vector, else `Over` where it is over, else `Taken` where the vector isn't free.
-    /// Then nothing changes.
+    /// `Range` where the game has no such vector, else `Over` where it is over, else `Taken` where
+    /// the vector isn't free. Then nothing changes.
     pub fn answer(&mut self, v: u16) -> Result<Option<u16>, Illegal>
         requires { VecWaits self.old }
         ensures answered { IfOk result (λ own. AnswersOnVectors self.old self.new v own) }
-        ensures refused { IfErr result (λ fault. judged_by (vector_rules self.old.game) self.old.position v ≡ Err fault) }
+        ensures refused { IfErr result
+            (λ fault. judged_by (vector_rules self.old.game) self.old.position v ≡ Err fault) }
         ensures same { IfErr result (λ _. self.new ≡ self.old) }
     {
         let replied = play(self.game, &self.position, self.ending, v)?;

@@ -7,7 +7,8 @@ use Rattle.pg_words.specs.declared.command.Command.{Command as Order}
 use Rattle.pg_words.specs.declared.command.Command.TheVariants as order
 
 abbrev pub ordered : Order → Command
-ordered (order.Solve g c positions images) = Solve (string_bytes g) (string_bytes c) positions images
+ordered (order.Solve g c positions images) =
+    Solve (string_bytes g) (string_bytes c) positions images
 ordered (order.Check g c) = Check (string_bytes g) (string_bytes c)
 ordered (order.Play g c side) = Play (string_bytes g) (string_bytes c) side
 ordered (order.Gen which g c) = Gen which (string_bytes g) (option_map string_bytes c)

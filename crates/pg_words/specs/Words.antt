@@ -18,7 +18,8 @@ use Rattle.pg_gen.specs.declared.limits.TheConstants.{MAX_BRIDGE_ROWS, MAX_SQUAR
 
 -- what the program is asked to do, with the names of files
 pub data Command : Type 0 where
-  -- solve a game, by so many positions where it is said, perhaps with a certificate that names positions as images of others
+  -- solve a game, by so many positions where it is said, perhaps with a certificate that names
+  -- positions as images of others
   Solve : (game certificate : Bytes) (positions : Option ℕ) (images : Bool) → Command
   -- check a certificate for a game
   Check : (game certificate : Bytes) → Command
@@ -41,7 +42,8 @@ limit_of None = Some None
 limit_of (Some word) = option_map (λ n. Some n) (number_in 1 MAX_POSITIONS word)
 
 abbrev pub solve : List Bytes → Option Bytes → Option Bytes → Bool → Option Command
-solve (game ∷ certificate ∷ []) positions None images = option_map (λ limit. Solve game certificate limit images) (limit_of positions)
+solve (game ∷ certificate ∷ []) positions None images =
+    option_map (λ limit. Solve game certificate limit images) (limit_of positions)
 solve _ _ _ _ = None
 
 abbrev pub check : List Bytes → Option Bytes → Option Bytes → Option Command
@@ -79,12 +81,15 @@ bridge (r ∷ names) = option_and_then (λ r. made names (Bridge r)) (number_in 
 bridge [] = None
 
 abbrev pub scatter_by : Option ℕ → Option ℕ → Option ℕ → Option ℕ → Option Source
-scatter_by (Some seed) (Some n) (Some m) (Some k) = if nat_le (m * k) MAX_SUMMED_POINTS then Some (Scatter seed n m k) else None
+scatter_by (Some seed) (Some n) (Some m) (Some k) =
+    if nat_le (m * k) MAX_SUMMED_POINTS then Some (Scatter seed n m k) else None
 scatter_by _ _ _ _ = None
 
 -- m lines of k points, of n in all
 abbrev pub scatter_of : Bytes → Bytes → Bytes → Bytes → Option Source
-scatter_of seed n m k = scatter_by (seed_of seed) (number_in 1 MAX_POINTS n) (number_in 0 MAX_LINES m) (option_and_then (λ n. number_in 1 (min n MAX_LINE_POINTS) k) (number_in 1 MAX_POINTS n))
+scatter_of seed n m k =
+    scatter_by (seed_of seed) (number_in 1 MAX_POINTS n) (number_in 0 MAX_LINES m)
+    (option_and_then (λ n. number_in 1 (min n MAX_LINE_POINTS) k) (number_in 1 MAX_POINTS n))
 
 abbrev pub scatter : List Bytes → Option Command
 scatter (seed ∷ n ∷ m ∷ k ∷ names) = option_and_then (made names) (scatter_of seed n m k)
@@ -104,10 +109,12 @@ task_of name None =
     if bytes_eq name (codes "solve") then Some tasks.Solve
     else if bytes_eq name (codes "check") then Some tasks.Check
     else None
-task_of name (Some word) = if bytes_eq name (codes "play") then option_map tasks.Play (side_of word) else None
+task_of name (Some word) =
+    if bytes_eq name (codes "play") then option_map tasks.Play (side_of word) else None
 
 abbrev pub of_family : Family → List Bytes → Option Bytes → Option Bytes → Option Command
-of_family family (name ∷ game ∷ certificate ∷ []) None side = option_map (λ task. OfFamily family task game certificate) (task_of name side)
+of_family family (name ∷ game ∷ certificate ∷ []) None side =
+    option_map (λ task. OfFamily family task game certificate) (task_of name side)
 of_family family _ _ _ = None
 
 -- what the first positional, the others and the options ask for, without a flag

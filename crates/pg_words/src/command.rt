@@ -73,7 +73,8 @@ pub enum Command {
         game: String,
         /// The name of the record.
         record: String,
-        /// How many positions the search may expand for each position, 1 to 100,000, where it is said.
+        /// How many positions the search may expand for each position, 1 to 100,000, where it is
+        /// said.
         positions: Option<u32>,
     },
 }

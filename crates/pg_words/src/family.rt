@@ -6,7 +6,8 @@ use pg_base::Side;
 pub enum Family {
     /// Connectivity games: X wants to join every two vertices of a graph.
     Connectivity,
-    /// Switching games on vectors over two elements: X wants the target to be a sum of vectors of X's.
+    /// Switching games on vectors over two elements: X wants the target to be a sum of vectors of
+    /// X's.
     Vectors,
 }
 

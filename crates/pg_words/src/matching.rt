@@ -52,7 +52,8 @@ pub(crate) fn is_set(value: Option<&str>) -> bool
 
 /// What the words in order give; none where an option or the flag stands twice.
 pub fn matches<'a>(alloc: Global, ordered: &'a [String]) -> Result<Option<ArgMatches<'a>>, Memory>
-    ensures { (line : Line) → map string_bytes ordered.now ≡ in_order line → IfOk result (λ found. option_map given_in found ≡ given line) }
+    ensures { (line : Line) → map string_bytes ordered.now ≡ in_order line
+        → IfOk result (λ found. option_map given_in found ≡ given line) }
 {
     let command = command(alloc)?;
     match command.try_get_matches_from(ordered) {

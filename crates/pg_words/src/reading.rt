@@ -12,7 +12,8 @@ use std::alloc::Global;
 
 /// The meaning of the words that follow the program's name; none where they have none.
 ///
-/// They are put in order, each option as one word, a flag among them, and read by one `clap` command; the README of this crate has the rules and the table.
+/// They are put in order, each option as one word, a flag among them, and read by one `clap`
+/// command; the README of this crate has the rules and the table.
 ///
 /// # Errors
 ///

@@ -21,7 +21,8 @@ pub enum Source {
         points: u32,
         /// The number of lines, at most 20,000.
         lines: u32,
-        /// The number of points of a line, 1 to the lesser of 100 and the number of points. All lines have at most 400,000 points together.
+        /// The number of points of a line, 1 to the lesser of 100 and the number of points. All
+        /// lines have at most 400,000 points together.
         size: u32,
     },
 }

@@ -48,7 +48,8 @@ fn solve(
     side: Option<&str>,
     images: bool,
 ) -> Result<Option<Command>, Memory>
-    ensures { IfOk result (λ c. option_map ordered c ≡ solve (texts others.now) (text positions.entry) (text side.entry) images) }
+    ensures { IfOk result (λ c. option_map ordered c
+        ≡ solve (texts others.now) (text positions.entry) (text side.entry) images) }
 {
     let ([game, certificate], None) = (others, side) else {
         return Ok(None);
@@ -72,7 +73,8 @@ fn record(
     positions: Option<&str>,
     side: Option<&str>,
 ) -> Result<Option<Command>, Memory>
-    ensures { IfOk result (λ c. option_map ordered c ≡ recorded (texts others.now) (text positions.entry) (text side.entry)) }
+    ensures { IfOk result (λ c. option_map ordered c
+        ≡ recorded (texts others.now) (text positions.entry) (text side.entry)) }
 {
     let ([game, record], None, None) = (others, positions, side) else {
         return Ok(None);
@@ -88,7 +90,8 @@ fn review(
     positions: Option<&str>,
     side: Option<&str>,
 ) -> Result<Option<Command>, Memory>
-    ensures { IfOk result (λ c. option_map ordered c ≡ reviewed (texts others.now) (text positions.entry) (text side.entry)) }
+    ensures { IfOk result (λ c. option_map ordered c
+        ≡ reviewed (texts others.now) (text positions.entry) (text side.entry)) }
 {
     let ([game, record], None) = (others, side) else {
         return Ok(None);
@@ -111,7 +114,8 @@ fn check(
     positions: Option<&str>,
     side: Option<&str>,
 ) -> Result<Option<Command>, Memory>
-    ensures { IfOk result (λ c. option_map ordered c ≡ check (texts others.now) (text positions.entry) (text side.entry)) }
+    ensures { IfOk result (λ c. option_map ordered c
+        ≡ check (texts others.now) (text positions.entry) (text side.entry)) }
 {
     let ([game, certificate], None, None) = (others, positions, side) else {
         return Ok(None);
@@ -127,7 +131,8 @@ fn play(
     positions: Option<&str>,
     side: Option<&str>,
 ) -> Result<Option<Command>, Memory>
-    ensures { IfOk result (λ c. option_map ordered c ≡ play (texts others.now) (text positions.entry) (text side.entry)) }
+    ensures { IfOk result (λ c. option_map ordered c
+        ≡ play (texts others.now) (text positions.entry) (text side.entry)) }
 {
     let ([game, certificate], None, Some(word)) = (others, positions, side) else {
         return Ok(None);
@@ -150,7 +155,8 @@ fn report(
     positions: Option<&str>,
     side: Option<&str>,
 ) -> Result<Option<Command>, Memory>
-    ensures { IfOk result (λ c. option_map ordered c ≡ report (texts others.now) (text positions.entry) (text side.entry)) }
+    ensures { IfOk result (λ c. option_map ordered c
+        ≡ report (texts others.now) (text positions.entry) (text side.entry)) }
 {
     let ([game, certificate], None, None) = (others, positions, side) else {
         return Ok(None);
@@ -247,7 +253,8 @@ fn generate(
     positions: Option<&str>,
     side: Option<&str>,
 ) -> Result<Option<Command>, Memory>
-    ensures { IfOk result (λ c. option_map ordered c ≡ generate (texts others.now) (text positions.entry) (text side.entry)) }
+    ensures { IfOk result (λ c. option_map ordered c
+        ≡ generate (texts others.now) (text positions.entry) (text side.entry)) }
 {
     let ([kind, others @ ..], None, None) = (others, positions, side) else {
         return Ok(None);
@@ -283,7 +290,8 @@ fn of_family(
     positions: Option<&str>,
     side: Option<&str>,
 ) -> Result<Option<Command>, Memory>
-    ensures { IfOk result (λ c. option_map ordered c ≡ of_family family (texts others.now) (text positions.entry) (text side.entry)) }
+    ensures { IfOk result (λ c. option_map ordered c
+        ≡ of_family family (texts others.now) (text positions.entry) (text side.entry)) }
 {
     let ([name, game, certificate], None) = (others, positions) else {
         return Ok(None);
@@ -308,7 +316,8 @@ fn plain(
     positions: Option<&str>,
     side: Option<&str>,
 ) -> Result<Option<Command>, Memory>
-    ensures { IfOk result (λ c. option_map ordered c ≡ plain name.now (texts others.now) (text positions.entry) (text side.entry)) }
+    ensures { IfOk result (λ c. option_map ordered c
+        ≡ plain name.now (texts others.now) (text positions.entry) (text side.entry)) }
 {
     match name {
         "check" => check(alloc, others, positions, side),
@@ -331,7 +340,8 @@ pub(crate) fn asked(
     side: Option<&str>,
     images: bool,
 ) -> Result<Option<Command>, Memory>
-    ensures { IfOk result (λ c. option_map ordered c ≡ asked_by (texts positionals.now) (text positions.entry) (text side.entry) images) }
+    ensures { IfOk result (λ c. option_map ordered c
+        ≡ asked_by (texts positionals.now) (text positions.entry) (text side.entry) images) }
 {
     let [name, others @ ..] = positionals else {
         return Ok(None);

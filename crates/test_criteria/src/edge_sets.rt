@@ -18,11 +18,13 @@ pub(crate) struct EdgeTally {
     pub trees: u32,
     /// How many pairs of sets are cuts, summed over the positions.
     pub cuts: u32,
-    /// At how many positions X wins and there are no trees, or there are trees and X doesn't win, and so for Y and cuts.
+    /// At how many positions X wins and there are no trees, or there are trees and X doesn't win,
+    /// and so for Y and cuts.
     pub faults: u32,
 }
 
-/// How many of all pairs of sets, with e among the edges, are the side's at the position: X's trees, or Y's cuts.
+/// How many of all pairs of sets, with e among the edges, are the side's at the position: X's
+/// trees, or Y's cuts.
 fn count_sets(g: &Game, joiner: &mut Joiner, p: &Position, side: Side) -> u32
     requires switching { g.now.kind ≡ Switching }
     requires small { point_count g.now < 12 }

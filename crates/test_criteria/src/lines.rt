@@ -37,7 +37,8 @@ pub(crate) fn potential_holds(g: &Game, p: &Position, side: Side) -> bool
     requires lines { g.now.kind ≢ Switching }
     requires position { IsPosition g.now p.now }
     ensures avoider { g.now.kind ≡ AvoiderEnforcer → IsTrue result ↔ AvoiderHolds g.now p.now }
-    ensures breaker { g.now.kind ≢ AvoiderEnforcer → IsTrue result ↔ PotentialHolds g.now p.now side }
+    ensures breaker { g.now.kind ≢ AvoiderEnforcer
+        → IsTrue result ↔ PotentialHolds g.now p.now side }
 {
     match g.kind {
         Kind::AvoiderEnforcer => pg_avoider::holds(g, p),
@@ -102,7 +103,8 @@ fn tally_position(judge: &mut Judge, g: &Game, claim: &Claimed<'_>, p: &Position
     tally.add(potential, pairings, forced);
 }
 
-/// Adds what is found at all positions where this side is to move and still claims so many points in its turn.
+/// Adds what is found at all positions where this side is to move and still claims so many points
+/// in its turn.
 fn tally_turn(
     judge: &mut Judge,
     g: &Game,
@@ -123,7 +125,8 @@ fn tally_turn(
     }
 }
 
-/// What is found of the side's claim to the goal at all positions of a game on lines, over the sets of pairs.
+/// What is found of the side's claim to the goal at all positions of a game on lines, over the sets
+/// of pairs.
 pub(crate) fn tally_claim(
     judge: &mut Judge,
     g: &Game,

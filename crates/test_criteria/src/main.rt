@@ -1,7 +1,8 @@
-//! Answers tables of small games by the criteria and by plain search, and says of each table whether all its rows are so.
+//! Answers tables of small games by the criteria and by plain search, and says of each table
+//! whether all its rows are so.
 //!
-//! Each criterion is proved to force its claim. The tables here pin where it holds, and where the value by plain search reaches
-//! the goal. The product calls nothing of it.
+//! Each criterion is proved to force its claim. The tables here pin where it holds, and where the
+//! value by plain search reaches the goal. The product calls nothing of it.
 #![tactic(auto)]
 
 mod edge_sets;
@@ -20,7 +21,8 @@ mod told;
 use crate::questions::is_so;
 use std::io;
 
-/// Says which rows of the table aren't so, or where all are, how many it has. No row of an unknown question is so.
+/// Says which rows of the table aren't so, or where all are, how many it has. No row of an unknown
+/// question is so.
 fn answer(rt: &HostRuntime, table: &str) -> io::Result<()> {
     let name = table.lines().next().unwrap_or("");
     let mut count = 0u32;

@@ -14,8 +14,9 @@ pub(crate) fn number_count(count: u16) -> u32
     1 << (2 * count)
 }
 
-/// The two sets of points below the count that a number names: of the two binary digits that belong to a point, counted
-/// from the lowest, the first says whether it is in the one set, and the second whether it is in the other.
+/// The two sets of points below the count that a number names: of the two binary digits that belong
+/// to a point, counted from the lowest, the first says whether it is in the one set, and the second
+/// whether it is in the other.
 pub(crate) fn sets_of(count: u16, number: u32) -> (PointSet, PointSet)
     requires { count ≤ 12 }
     ensures first { AreBelow result.0 count }
@@ -34,8 +35,8 @@ pub(crate) fn sets_of(count: u16, number: u32) -> (PointSet, PointSet)
     (first, second)
 }
 
-/// The position with X's and Y's points by number, where no point is both sides' and the side to move may still claim so
-/// many points in its turn.
+/// The position with X's and Y's points by number, where no point is both sides' and the side to
+/// move may still claim so many points in its turn.
 pub(crate) fn position_of(g: &Game, number: u32, turn: Side, left: u8) -> Option<Position>
     requires { point_count g.now ≤ 12 }
     ensures { IfSome result (IsPosition g.now) }

@@ -32,8 +32,8 @@ fn after_plays(g: &Game, plays: &[u16]) -> Option<Position>
     Some(p)
 }
 
-/// The answer of the side to the last reply, where the pairs hold for it at the beginning of X's turn and some point is
-/// free now.
+/// The answer of the side to the last reply, where the pairs hold for it at the beginning of X's
+/// turn and some point is free now.
 fn answer_at(g: &Game, side: Side, p: &Position, pairs: &[Pair], last: Option<u16>) -> Option<u16>
     requires { IsPosition g.now p.now }
 {

@@ -16,7 +16,8 @@ const PAIRS: [Pair; 10] = [
     Pair { a: 3, b: 4 },
 ];
 
-/// The pairs that a number names: the binary digit of each, counted from the lowest, says whether it is among them.
+/// The pairs that a number names: the binary digit of each, counted from the lowest, says whether
+/// it is among them.
 fn pairs_of(alloc: Global, number: u16) -> Result<Pairs, AllocError> {
     let mut members = Vec::new(alloc);
     for i in 0..10 {

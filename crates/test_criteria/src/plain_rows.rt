@@ -50,7 +50,8 @@ fn depth_word(g: &Game) -> &'static str {
     "none"
 }
 
-/// Whether that depth is the first word of what is due, and the second says whether a threat line wins.
+/// Whether that depth is the first word of what is due, and the second says whether a threat line
+/// wins.
 pub(crate) fn depth_is_due(g: &Game, due: &str) -> bool {
     let wins = yes_or_no(attack_wins(g, &g.start()));
     depth_word(g) == pg_plain::word(due, 0) && wins == pg_plain::word(due, 1)

@@ -15,7 +15,8 @@ fn are_potentials(g: &Game, side: Side, with_x: &str, with_y: &str) -> bool {
     potential_word(g, Side::X, side) == with_x && potential_word(g, Side::Y, side) == with_y
 }
 
-/// Whether the row tells the total for the side as Breaker, the limit, and whether the potential holds with X and with Y to move.
+/// Whether the row tells the total for the side as Breaker, the limit, and whether the potential
+/// holds with X and with Y to move.
 pub(crate) fn is_breaker(g: &Game, row: &str) -> Option<bool> {
     let (side, text) = (asked_side(row), due(row));
     let total = word(text, 0).parse::<u128>().ok()?;
@@ -45,7 +46,8 @@ pub(crate) fn is_weight(g: &Game, row: &str) -> Option<bool> {
     Some(weight_at(g, asked_side(row), v)? == due(row).parse::<u128>().ok()?)
 }
 
-/// The answer by the potential, Avoider's or Breaker's by the kind, of the side that is to move, in a game on lines with a free point.
+/// The answer by the potential, Avoider's or Breaker's by the kind, of the side that is to move, in
+/// a game on lines with a free point.
 fn answer_of(g: &Game, side: Side) -> Option<u16> {
     let p = turn_of(g, side);
     if g.kind == Kind::Switching || g.is_full(&p) {

@@ -5,15 +5,18 @@ use pg_game::Game;
 use pg_plain::game;
 use std::alloc::Global;
 
-/// Whether the row tells what is so of the game, of the question with this name; none where there is no such question, or the row tells no more
-/// than that game.
+/// Whether the row tells what is so of the game, of the question with this name; none where there
+/// is no such question, or the row tells no more than that game.
 fn is_so_in(alloc: Global, g: &Game, question: &str, row: &str) -> Option<bool> {
     match question {
-        // at how many positions the potential holds, how many sets of pairs hold at them, and at how many the value reaches the goal.
+        // at how many positions the potential holds, how many sets of pairs hold at them, and at
+        // how many the value reaches the goal.
         "claims" => tables::is_claim(alloc, g, row),
-        // at how many positions the side to move wins by its next move, at how many by a threat line, and at how many by its value.
+        // at how many positions the side to move wins by its next move, at how many by a threat
+        // line, and at how many by its value.
         "attacks" => tables::are_attacks(alloc, g, row),
-        // how many positions X wins, and how many pairs of sets are trees, and how many cuts, at all of them.
+        // how many positions X wins, and how many pairs of sets are trees, and how many cuts, at
+        // all of them.
         "trees-and-cuts" => tables::are_trees_and_cuts(alloc, g, row),
         // whether the potential holds and the side forces a win, with X and with Y to move.
         "starts" => tables::are_starts(alloc, g, row),
@@ -47,7 +50,8 @@ fn is_so_in(alloc: Global, g: &Game, question: &str, row: &str) -> Option<bool> 
     }
 }
 
-/// Whether the row tells what is so, of the question with this name; none where there is no such question, or the row can't be read.
+/// Whether the row tells what is so, of the question with this name; none where there is no such
+/// question, or the row can't be read.
 pub(crate) fn is_so(alloc: Global, question: &str, row: &str) -> Option<bool> {
     let g = game(alloc, row)?;
     is_so_in(alloc, &g, question, row)

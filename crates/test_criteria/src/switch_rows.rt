@@ -8,8 +8,8 @@ use pg_plain::{part, set};
 use pg_switch::{CutPlan, ShortPlan, cuts_hold, trees_hold};
 use std::alloc::Global;
 
-/// Whether the side's sets hold: trees for X and cuts for Y. There is no answer where the game isn't on a graph, a set has other
-/// members than its edges and e, or no memory is found.
+/// Whether the side's sets hold: trees for X and cuts for Y. There is no answer where the game
+/// isn't on a graph, a set has other members than its edges and e, or no memory is found.
 fn hold(
     alloc: Global,
     g: &Game,

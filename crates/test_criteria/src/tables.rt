@@ -25,8 +25,8 @@ fn claim_in(alloc: Global, g: &Game, side: Side, goal: Goal, pairings: &[Pairs])
     Some(tally_claim(&mut judge, g, side, goal, pairings))
 }
 
-/// Whether the row tells of its claim at how many positions the potential holds, how many sets of pairs hold at them, and at how
-/// many the value reaches the goal.
+/// Whether the row tells of its claim at how many positions the potential holds, how many sets of
+/// pairs hold at them, and at how many the value reaches the goal.
 pub(crate) fn is_claim(alloc: Global, g: &Game, row: &str) -> Option<bool> {
     let goal = if word(part(row, 0), 5) == "win" {
         Goal::Win
@@ -39,8 +39,8 @@ pub(crate) fn is_claim(alloc: Global, g: &Game, row: &str) -> Option<bool> {
     are_told(alloc, numbers, tally.faults, due(row))
 }
 
-/// Whether the row tells at how many positions the side to move wins by its next move, at how many by a threat line, and at how
-/// many the value is its win.
+/// Whether the row tells at how many positions the side to move wins by its next move, at how many
+/// by a threat line, and at how many the value is its win.
 pub(crate) fn are_attacks(alloc: Global, g: &Game, row: &str) -> Option<bool> {
     if g.points() > 12 {
         return None;
@@ -51,7 +51,8 @@ pub(crate) fn are_attacks(alloc: Global, g: &Game, row: &str) -> Option<bool> {
     are_told(alloc, numbers, tally.faults, due(row))
 }
 
-/// Whether the row tells how many positions X wins, and how many pairs of sets are trees and how many are cuts at all of them.
+/// Whether the row tells how many positions X wins, and how many pairs of sets are trees and how
+/// many are cuts at all of them.
 pub(crate) fn are_trees_and_cuts(alloc: Global, g: &Game, row: &str) -> Option<bool> {
     if g.kind != Kind::Switching || g.points() >= 12 {
         return None;
@@ -63,8 +64,8 @@ pub(crate) fn are_trees_and_cuts(alloc: Global, g: &Game, row: &str) -> Option<b
     are_told(alloc, numbers, tally.faults, due(row))
 }
 
-/// Whether the side's potential holds at the beginning of the turn as the one word says, and whether the side forces a win from
-/// there as the other says, in a game on lines.
+/// Whether the side's potential holds at the beginning of the turn as the one word says, and
+/// whether the side forces a win from there as the other says, in a game on lines.
 fn start_is(
     alloc: Global,
     g: &Game,
@@ -82,7 +83,8 @@ fn start_is(
     Some(holds_so && is_forced(&mut judge, g, &p, side, Goal::Win) == (forced == "yes"))
 }
 
-/// Whether the row tells of both turns whether the side's potential holds, and whether the side forces a win.
+/// Whether the row tells of both turns whether the side's potential holds, and whether the side
+/// forces a win.
 pub(crate) fn are_starts(alloc: Global, g: &Game, row: &str) -> Option<bool> {
     let (side, text) = (asked_side(row), due(row));
     let with_x = start_is(alloc, g, side, Side::X, word(text, 0), word(text, 1))?;

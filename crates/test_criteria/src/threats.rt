@@ -66,7 +66,8 @@ fn tally_turn(judge: &mut Judge, g: &Game, turn: Side, tally: &mut ThreatTally)
     }
 }
 
-/// What is found of threat lines at all positions of a game in which each side claims one point a turn.
+/// What is found of threat lines at all positions of a game in which each side claims one point a
+/// turn.
 pub(crate) fn tally_threats(judge: &mut Judge, g: &Game) -> ThreatTally
     requires small { point_count g.now ≤ 12 }
     requires made { IsMadeForGame judge.old g.now }

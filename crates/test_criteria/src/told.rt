@@ -1,4 +1,5 @@
-//! What the questions share: the turn at which one is asked, the parts of a row, and words for answers.
+//! What the questions share: the turn at which one is asked, the parts of a row, and words for
+//! answers.
 ghost use Rattle.pg_game.specs.Game.{IsPosition};
 
 use pg_base::Side;

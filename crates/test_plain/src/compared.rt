@@ -12,13 +12,15 @@ use std::alloc::Global;
 /// What was found.
 #[derive(Drop)]
 pub(crate) struct Tally {
-    /// At how many positions the shortest threat line forces no reply, one, two, and three, and at how many there is none.
+    /// At how many positions the shortest threat line forces no reply, one, two, and three, and at
+    /// how many there is none.
     pub(crate) found: [u32; 5],
     /// How often the two searches differ, or the board is left in another way.
     pub(crate) faults: u32,
 }
 
-/// The line that the search finds to a depth at the game's marks, where the side to move may attack there.
+/// The line that the search finds to a depth at the game's marks, where the side to move may attack
+/// there.
 pub(crate) fn line_at_start(
     alloc: Global,
     g: &Game,
@@ -34,7 +36,8 @@ pub(crate) fn line_at_start(
     Ok(forced(&mut b, g.turn, depth))
 }
 
-/// Whether a line is found to a depth exactly where the shortest forces so many replies at most, and is that.
+/// Whether a line is found to a depth exactly where the shortest forces so many replies at most,
+/// and is that.
 fn is_due(found: Option<ThreatLine>, shortest: Option<ThreatLine>, depth: u8) -> bool {
     let Some(other) = shortest else {
         return found.is_none();
@@ -53,7 +56,8 @@ fn is_due(found: Option<ThreatLine>, shortest: Option<ThreatLine>, depth: u8) ->
 }
 
 impl Tally {
-    /// Compares the two searches at the game's marks, to each depth, where the side to move may attack.
+    /// Compares the two searches at the game's marks, to each depth, where the side to move may
+    /// attack.
     pub(crate) fn compare(&mut self, alloc: Global, g: &Game) -> Result<(), Memory>
         requires { g.now.kind ≢ Switching }
     {

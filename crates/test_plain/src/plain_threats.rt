@@ -4,8 +4,8 @@ use pg_game::{Game, Position};
 use pg_plain::is_threat_line;
 use pg_threat::ThreatLine;
 
-/// Fills the list from a place on with free points so that it is a threat line, the first such list in the order of lists.
-/// `now` is the position after the points before that place.
+/// Fills the list from a place on with free points so that it is a threat line, the first such list
+/// in the order of lists. `now` is the position after the points before that place.
 fn fill(g: &Game, p: &Position, side: Side, now: &Position, points: &mut [u16], at: usize) -> bool {
     if at >= points.len() {
         return is_threat_line(g, p, side, points);
@@ -21,8 +21,8 @@ fn fill(g: &Game, p: &Position, side: Side, now: &Position, points: &mut [u16], 
     false
 }
 
-/// The shortest threat line of the side at the position with seven points at most, of these the first in the order of
-/// lists. It tries lists of one point, of three, of five and of seven.
+/// The shortest threat line of the side at the position with seven points at most, of these the
+/// first in the order of lists. It tries lists of one point, of three, of five and of seven.
 pub(crate) fn first_line(g: &Game, p: &Position, side: Side) -> Option<ThreatLine> {
     for depth in 0..4u8 {
         let len = 2 * depth + 1;

@@ -8,10 +8,12 @@ use std::test::Fail;
 
 /// Rows with `;` between them, of games as `KIND COUNT TURN BIAS:LINES:X:Y`, behind a word:
 ///
-/// - `order`, with the number of positions behind BIAS and a last part: those that are expanded, each as `X|Y|TURN`. The first move
-///   of least number is followed, those to points of live lines before the others.
-/// - `settled`: with each number of positions up to a limit the search leaves open whether X wins exactly where the plain program
-///   says that the expanded positions don't settle it, and else both say the same. No criterion decides these games.
+/// - `order`, with the number of positions behind BIAS and a last part: those that are expanded,
+///   each as `X|Y|TURN`. The first move of least number is followed, those to points of live lines
+///   before the others.
+/// - `settled`: with each number of positions up to a limit the search leaves open whether X wins
+///   exactly where the plain program says that the expanded positions don't settle it, and else
+///   both say the same. No criterion decides these games.
 /// - `cached`: the cache of pairs is asked.
 const ROWS: &str = "\
 order avoider-enforcer 3 x 1 20000:0 1,0 2,1 2:::||x,0||y,1||y,2||y,0|1|x,1|0|x,2|0|x;\

@@ -1,5 +1,5 @@
-//! Rows worked by hand, and a table of small games. Its numbers are those of bench/threat_lines.py, which finds them in
-//! another way.
+//! Rows worked by hand, and a table of small games. Its numbers are those of bench/threat_lines.py,
+//! which finds them in another way.
 use crate::compared::{Tally, line_at_start};
 use pg_base::{Kind, PointSet, Side};
 use pg_game::Game;
@@ -10,9 +10,11 @@ use std::test::Fail;
 
 /// Rows with `;` between them, behind a word:
 ///
-/// - `positions KIND COUNT:LINES:FOUND`: at how many of all positions at which the side to move may attack the shortest threat line
-///   forces no reply, one, two and three, and at how many there is none. Both searches say the same at each of them, to each depth.
-/// - `line KIND COUNT TURN BIAS DEPTH:LINES:X:Y:POINTS`: the points of the line that is found to a depth.
+/// - `positions KIND COUNT:LINES:FOUND`: at how many of all positions at which the side to move may
+///   attack the shortest threat line forces no reply, one, two and three, and at how many there is
+///   none. Both searches say the same at each of them, to each depth.
+/// - `line KIND COUNT TURN BIAS DEPTH:LINES:X:Y:POINTS`: the points of the line that is found to a
+///   depth.
 const ROWS: &str = "\
 positions maker-breaker 3:0 1,0 2:8 1 0 0 2;\
 positions maker-breaker 5:0 1 2,2 3 4:45 4 0 0 46;\
@@ -39,7 +41,8 @@ line maker-maker 9 x 1 3:0 1,0 2,0 5 6:7 8:5 6:0 1 2;\
 line maker-breaker 9 x 1 3:0 1,0 2,3 5 6:7 8:5 6:0 1 2;\
 line maker-maker 9 x 1 3:0 1,0 2,3 5 6:7 8:5 6:";
 
-/// X's and Y's marks by a number: its digit to the base 3 for each point says whose mark it has, if any. None where it has more digits.
+/// X's and Y's marks by a number: its digit to the base 3 for each point says whose mark it has, if
+/// any. None where it has more digits.
 fn marks_of(points: u16, number: u32) -> Option<(PointSet, PointSet)> {
     let (mut x, mut y) = (PointSet::empty(), PointSet::empty());
     let mut rest = number;
@@ -91,7 +94,8 @@ fn are_found(alloc: Global, told: &str) -> Option<bool> {
     Some(tally.faults == 0 && text.as_str() == part(told, 2))
 }
 
-/// Whether the line has these points, in their order; where there is no line, whether there are none.
+/// Whether the line has these points, in their order; where there is no line, whether there are
+/// none.
 fn has_points(line: Option<ThreatLine>, due: &str) -> bool {
     let Some(line) = line else {
         return due.is_empty();

@@ -1,4 +1,5 @@
-//! Reads tables of rows `WORDS => MEANING`, and says of which tables all rows are so, and which other rows aren't.
+//! Reads tables of rows `WORDS => MEANING`, and says of which tables all rows are so, and which
+//! other rows aren't.
 #![tactic(auto)]
 
 mod telling;
@@ -40,7 +41,8 @@ fn say(rt: &HostRuntime, table: Table) -> io::Result<()> {
     Ok(())
 }
 
-/// Says of each table whether its rows are so, and which rows aren't. Empty lines and those that begin with `#` say nothing.
+/// Says of each table whether its rows are so, and which rows aren't. Empty lines and those that
+/// begin with `#` say nothing.
 fn answer(rt: &HostRuntime, tables: &str) -> io::Result<()> {
     let mut table = empty("");
     for line in tables.lines() {

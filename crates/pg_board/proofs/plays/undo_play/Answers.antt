@@ -11,38 +11,52 @@ turn-requires c = rw c.undo_to.ensures (some-cells _ _ _ _ _ c.requires.before)
 
 pub relink_lines-requires-clause-many : goal.relink_lines-requires-clause-many
 relink_lines-requires-clause-many c =
-    let own = left_by-own c.args.layout.now c.undo_to.new.self.cells X c.args.play.point (sym c.in-X.is ∙ c.turn.ensures) in
+    let own = left_by-own c.args.layout.now c.undo_to.new.self.cells X c.args.play.point
+    (sym c.in-X.is ∙ c.turn.ensures) in
     let low = c.requires.played.lists X in
-    let same = ap (λ (t : Cells). left_by c.args.layout.now t.cells X c.args.play.point) c.undo_to.ensures in
+    let same =
+    ap (λ (t : Cells). left_by c.args.layout.now t.cells X c.args.play.point) c.undo_to.ensures in
     omega arith
 
 pub relink_lines-requires-in-Y-clause-many : goal.relink_lines-requires-in-Y-clause-many
 relink_lines-requires-in-Y-clause-many c =
-    let own = left_by-own c.args.layout.now c.undo_to.new.self.cells Y c.args.play.point (sym c.in-Y.is ∙ c.turn.ensures) in
+    let own = left_by-own c.args.layout.now c.undo_to.new.self.cells Y c.args.play.point
+    (sym c.in-Y.is ∙ c.turn.ensures) in
     let low = c.requires.played.lists Y in
-    let same = ap (λ (t : Cells). left_by c.args.layout.now t.cells Y c.args.play.point) c.undo_to.ensures in
+    let same =
+    ap (λ (t : Cells). left_by c.args.layout.now t.cells Y c.args.play.point) c.undo_to.ensures in
     omega arith
 
 pub returns-clause-live_x : goal.returns-clause-live_x
 returns-clause-live_x c =
-    let back = ap (λ (t : Cells). fewer (left_by c.args.layout.now t.cells X c.args.play.point) c.args.live_x.now) c.undo_to.ensures in
+    let back = ap
+    (λ (t : Cells). fewer (left_by c.args.layout.now t.cells X c.args.play.point) c.args.live_x.now)
+    c.undo_to.ensures in
     elim c.match-turn.branch [
       | in-X w ↦
-          let own = left_by-own c.args.layout.now c.undo_to.new.self.cells X c.args.play.point (sym w.in-X.is ∙ c.turn.ensures) in
-          w.live_x-is ∙ (w.relink_lines.ensures ∙ (ap (λ n. fewer n c.args.live_x.now) (sym own) ∙ back))
+          let own = left_by-own c.args.layout.now c.undo_to.new.self.cells X c.args.play.point
+          (sym w.in-X.is ∙ c.turn.ensures) in
+          w.live_x-is
+          ∙ (w.relink_lines.ensures ∙ (ap (λ n. fewer n c.args.live_x.now) (sym own) ∙ back))
       | in-Y w ↦
-          let none = left_by-other c.args.layout.now c.undo_to.new.self.cells Y c.args.play.point (sym w.in-Y.is ∙ c.turn.ensures) in
+          let none = left_by-other c.args.layout.now c.undo_to.new.self.cells Y c.args.play.point
+          (sym w.in-Y.is ∙ c.turn.ensures) in
           w.live_x-is ∙ (fewer-none _ c.args.live_x.now none ∙ back)
     ]
 
 pub returns-clause-live_y : goal.returns-clause-live_y
 returns-clause-live_y c =
-    let back = ap (λ (t : Cells). fewer (left_by c.args.layout.now t.cells Y c.args.play.point) c.args.live_y.now) c.undo_to.ensures in
+    let back = ap
+    (λ (t : Cells). fewer (left_by c.args.layout.now t.cells Y c.args.play.point) c.args.live_y.now)
+    c.undo_to.ensures in
     elim c.match-turn.branch [
       | in-X w ↦
-          let none = left_by-other c.args.layout.now c.undo_to.new.self.cells X c.args.play.point (sym w.in-X.is ∙ c.turn.ensures) in
+          let none = left_by-other c.args.layout.now c.undo_to.new.self.cells X c.args.play.point
+          (sym w.in-X.is ∙ c.turn.ensures) in
           w.live_y-is ∙ (fewer-none _ c.args.live_y.now none ∙ back)
       | in-Y w ↦
-          let own = left_by-own c.args.layout.now c.undo_to.new.self.cells Y c.args.play.point (sym w.in-Y.is ∙ c.turn.ensures) in
-          w.live_y-is ∙ (w.relink_lines-in-Y.ensures ∙ (ap (λ n. fewer n c.args.live_y.now) (sym own) ∙ back))
+          let own = left_by-own c.args.layout.now c.undo_to.new.self.cells Y c.args.play.point
+          (sym w.in-Y.is ∙ c.turn.ensures) in
+          w.live_y-is
+          ∙ (w.relink_lines-in-Y.ensures ∙ (ap (λ n. fewer n c.args.live_y.now) (sym own) ∙ back))
     ]

@@ -11,6 +11,9 @@ loop-p-init c = record { out = sym (append-nil (string_bytes c.args.out.now)); b
 
 pub loop-p-preserved : goal.loop-p-preserved
 loop-p-preserved c = record {
-  out = field_grows c.args.set.now c.loop-p.p (string_bytes c.args.out.now) (string_bytes c.loop-p.out) (string_bytes c.put_next.new.out) c.loop-p.begun c.loop-p.invariant.out c.loop-p.invariant.begun c.in_ok-begun.ensures.text;
-  begun = begun_grows c.args.set.now c.loop-p.p c.loop-p.begun c.in_ok-begun.begun c.loop-p.invariant.begun c.in_ok-begun.ensures.begun;
+  out = field_grows c.args.set.now c.loop-p.p (string_bytes c.args.out.now)
+      (string_bytes c.loop-p.out) (string_bytes c.put_next.new.out) c.loop-p.begun
+      c.loop-p.invariant.out c.loop-p.invariant.begun c.in_ok-begun.ensures.text;
+  begun = begun_grows c.args.set.now c.loop-p.p c.loop-p.begun c.in_ok-begun.begun
+      c.loop-p.invariant.begun c.in_ok-begun.ensures.begun;
 }

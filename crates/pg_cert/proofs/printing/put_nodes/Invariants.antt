@@ -5,4 +5,5 @@ use Rattle.pg_cert.specs.Print.{node_text}
 use Rattle.pg_cert.proofs.printing.put_nodes.Given as goal
 
 abbrev pub invariant-loop-node : goal.invariant-loop-node
-invariant-loop-node l = string_bytes l.out ≡ string_bytes l.fn.out ++ flat_map node_text (take l.node-index l.nodes)
+invariant-loop-node l =
+    string_bytes l.out ≡ string_bytes l.fn.out ++ flat_map node_text (take l.node-index l.nodes)

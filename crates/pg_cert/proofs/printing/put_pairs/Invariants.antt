@@ -5,4 +5,5 @@ use Rattle.pg_cert.specs.Print.{pair_word}
 use Rattle.pg_cert.proofs.printing.put_pairs.Given as goal
 
 abbrev pub invariant-loop-pair : goal.invariant-loop-pair
-invariant-loop-pair l = string_bytes l.out ≡ string_bytes l.fn.out ++ behind_spaces (map pair_word (take l.pair-index l.pairs))
+invariant-loop-pair l = string_bytes l.out
+    ≡ string_bytes l.fn.out ++ behind_spaces (map pair_word (take l.pair-index l.pairs))

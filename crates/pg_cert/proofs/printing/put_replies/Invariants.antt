@@ -5,4 +5,5 @@ use Rattle.pg_cert.specs.Print.{reply_word}
 use Rattle.pg_cert.proofs.printing.put_replies.Given as goal
 
 abbrev pub invariant-loop-reply : goal.invariant-loop-reply
-invariant-loop-reply l = string_bytes l.out ≡ string_bytes l.fn.out ++ behind_spaces (map reply_word (take l.reply-index l.replies))
+invariant-loop-reply l = string_bytes l.out
+    ≡ string_bytes l.fn.out ++ behind_spaces (map reply_word (take l.reply-index l.replies))

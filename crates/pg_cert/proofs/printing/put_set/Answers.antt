@@ -10,4 +10,6 @@ unfolding points_below
 loop-p-init c = sym (append-nil (string_bytes c.args.out.now))
 
 pub loop-p-preserved : goal.loop-p-preserved
-loop-p-preserved c = set_grows c.args.set.now c.loop-p.p (string_bytes c.args.out.now) (string_bytes c.loop-p.out) (string_bytes c.put_member.new.out) c.loop-p.invariant c.in_ok-put_member.ensures
+loop-p-preserved c =
+    set_grows c.args.set.now c.loop-p.p (string_bytes c.args.out.now) (string_bytes c.loop-p.out)
+    (string_bytes c.put_member.new.out) c.loop-p.invariant c.in_ok-put_member.ensures

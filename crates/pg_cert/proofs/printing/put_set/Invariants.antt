@@ -6,4 +6,5 @@ use Rattle.pg_text.specs.Text.{behind_spaces}
 use Rattle.pg_cert.proofs.printing.put_set.Given as goal
 
 abbrev pub invariant-loop-p : goal.invariant-loop-p
-invariant-loop-p l = string_bytes l.out ≡ string_bytes l.fn.out ++ behind_spaces (map decimal (points_below l.set l.p))
+invariant-loop-p l = string_bytes l.out
+    ≡ string_bytes l.fn.out ++ behind_spaces (map decimal (points_below l.set l.p))

@@ -10,7 +10,10 @@ use Rattle.pg_exchange.proofs.path.climb.Goals as goal
 pub loop-p-init : goal.loop-p-init
 loop-p-init c =
     record {
-      climbed = IsClimbed-begin (first_label c.args.g.now c.args.names.now) (second_label c.args.g.now c.args.names.now) (contains c.args.base.now) (reads_up c.args.depth.now) (reads_up c.args.above.now) (reads_up c.args.via.now) c.args.from c.args.to (contains c.empty-found.result)
+      climbed = IsClimbed-begin (first_label c.args.g.now c.args.names.now)
+          (second_label c.args.g.now c.args.names.now) (contains c.args.base.now)
+          (reads_up c.args.depth.now) (reads_up c.args.above.now)
+          (reads_up c.args.via.now) c.args.from c.args.to (contains c.empty-found.result)
           (emptied c.empty-found.result c.empty-found.ensures);
       range_p = c.requires.from;
       range_q = c.requires.to;
@@ -20,7 +23,8 @@ pub loop-p-smaller-then-depth-p : goal.loop-p-smaller-then-depth-p
 unfolding reads_up
 loop-p-smaller-then-depth-p c =
     let step = c.fits.ensures.step c.if-not-fits.false in
-    let lower : slice_index c.args.depth.now (slice_index c.args.above.now c.loop-p.q) < slice_index c.args.depth.now c.loop-p.q = step.lower in
+    let lower : slice_index c.args.depth.now (slice_index c.args.above.now c.loop-p.q)
+    < slice_index c.args.depth.now c.loop-p.q = step.lower in
     omega arith
 
 pub loop-p-preserved-then-depth-p : goal.loop-p-preserved-then-depth-p
@@ -35,13 +39,18 @@ loop-p-preserved-then-depth-p c =
     let p : ℕ = c.loop-p.p in
     let q : ℕ = c.loop-p.q in
     let found = contains c.loop-p.found in
-    let turned = IsClimbed-turned la lb base depth above via c.args.from c.args.to p q found c.loop-p.invariant.climbed in
+    let turned = IsClimbed-turned la lb base depth above via c.args.from c.args.to p q found
+    c.loop-p.invariant.climbed in
     let step : IsStep la lb base any above via depth q = c.fits.ensures.step c.if-not-fits.false in
     let deep : depth p ≤ depth q = omega (arith, c.if-depth-p.true) in
-    let next = IsClimbed-step la lb base depth above via c.args.to c.args.from q p found turned any (λ e. c.loop-p-test.true (sym e)) deep step in
+    let next = IsClimbed-step la lb base depth above via c.args.to c.args.from q p found turned any
+    (λ e. c.loop-p-test.true (sym e)) deep step in
     let now = with_point c.loop-p.found c.put.new.self (via q) c.put.ensures in
     record {
-      climbed = subst (λ (s : ℕ → Bool). IsClimbed la lb base depth above via c.args.from c.args.to p (above q) s) (sym now) (IsClimbed-turned la lb base depth above via c.args.to c.args.from (above q) p (plus found (via q)) next);
+      climbed = subst (λ (s : ℕ → Bool).
+          IsClimbed la lb base depth above via c.args.from c.args.to p (above q) s) (sym now)
+          (IsClimbed-turned la lb base depth above via c.args.to c.args.from (above q) p
+          (plus found (via q)) next);
       range_p = c.loop-p.invariant.range_p;
       range_q = (c.fits.ensures.range c.if-not-fits.false).0;
     }
@@ -50,7 +59,8 @@ pub loop-p-smaller : goal.loop-p-smaller
 unfolding reads_up
 loop-p-smaller c =
     let step = c.fits-else-depth-p.ensures.step c.if-not-fits-2.false in
-    let lower : slice_index c.args.depth.now (slice_index c.args.above.now c.loop-p.p) < slice_index c.args.depth.now c.loop-p.p = step.lower in
+    let lower : slice_index c.args.depth.now (slice_index c.args.above.now c.loop-p.p)
+    < slice_index c.args.depth.now c.loop-p.p = step.lower in
     omega arith
 
 pub loop-p-preserved : goal.loop-p-preserved
@@ -65,17 +75,23 @@ loop-p-preserved c =
     let p : ℕ = c.loop-p.p in
     let q : ℕ = c.loop-p.q in
     let found = contains c.loop-p.found in
-    let step : IsStep la lb base any above via depth p = c.fits-else-depth-p.ensures.step c.if-not-fits-2.false in
+    let step : IsStep la lb base any above via depth p =
+    c.fits-else-depth-p.ensures.step c.if-not-fits-2.false in
     let deep : depth q ≤ depth p = omega (arith, c.if-depth-p.false) in
-    let next = IsClimbed-step la lb base depth above via c.args.from c.args.to p q found c.loop-p.invariant.climbed any c.loop-p-test.true deep step in
-    let now = with_point c.loop-p.found c.put-else-depth-p.new.self (via p) c.put-else-depth-p.ensures in
+    let next = IsClimbed-step la lb base depth above via c.args.from c.args.to p q found
+    c.loop-p.invariant.climbed any c.loop-p-test.true deep step in
+    let now =
+    with_point c.loop-p.found c.put-else-depth-p.new.self (via p) c.put-else-depth-p.ensures in
     record {
-      climbed = subst (λ (s : ℕ → Bool). IsClimbed la lb base depth above via c.args.from c.args.to (above p) q s) (sym now) next;
+      climbed = subst (λ (s : ℕ → Bool).
+          IsClimbed la lb base depth above via c.args.from c.args.to (above p) q s) (sym now) next;
       range_p = (c.fits-else-depth-p.ensures.range c.if-not-fits-2.false).0;
       range_q = c.loop-p.invariant.range_q;
     }
 
 pub returns : goal.returns
-returns c =
-    IsPath-climbed (first_label c.args.g.now c.args.names.now) (second_label c.args.g.now c.args.names.now) (contains c.args.base.now) (reads_up c.args.depth.now) (reads_up c.args.above.now) (reads_up c.args.via.now) c.args.from c.args.to c.loop-p.p c.loop-p.q (contains c.loop-p.found)
-    c.loop-p-test.false c.loop-p.invariant.climbed
+returns c = IsPath-climbed (first_label c.args.g.now c.args.names.now)
+    (second_label c.args.g.now c.args.names.now) (contains c.args.base.now)
+    (reads_up c.args.depth.now) (reads_up c.args.above.now)
+    (reads_up c.args.via.now) c.args.from c.args.to c.loop-p.p c.loop-p.q
+    (contains c.loop-p.found) c.loop-p-test.false c.loop-p.invariant.climbed

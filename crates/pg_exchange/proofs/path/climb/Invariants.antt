@@ -6,7 +6,8 @@ use Rattle.pg_exchange.proofs.path.climb.Given as goal
 
 abbrev pub invariant-loop-p : goal.invariant-loop-p
 invariant-loop-p l = record {
-  climbed : IsClimbed (first_label l.g l.names) (second_label l.g l.names) (contains l.base) (reads_up l.depth) (reads_up l.above) (reads_up l.via) l.from l.to l.p l.q (contains l.found);
+  climbed : IsClimbed (first_label l.g l.names) (second_label l.g l.names) (contains l.base)
+      (reads_up l.depth) (reads_up l.above) (reads_up l.via) l.from l.to l.p l.q (contains l.found);
   range_p : l.p < l.g.vertices;
   range_q : l.q < l.g.vertices;
 }

@@ -13,19 +13,31 @@ use Rattle.pg_exchange.proofs.TreeLemmas.{count_most}
 use Rattle.pg_exchange.proofs.PathLemmas.{IsSpread-begin, find_leaving}
 use Rattle.pg_exchange.proofs.path.find.Goals as goal
 
-only_from : (empty started : ℕ → Bool) (from : ℕ) → ((z : ℕ) → empty z ≡ false) → started ≡ plus empty from → (z : ℕ) → started z ≡ true → z ≡ from
-only_from empty started from none is z h = elim (plus_cases empty from z (subst (λ (s : ℕ → Bool). s z ≡ true) is h)) [ inl k ↦ absurd (both_ways _ (none z) k) | inr e ↦ sym e ]
+only_from : (empty started : ℕ → Bool) (from : ℕ)
+    → ((z : ℕ) → empty z ≡ false)
+    → started ≡ plus empty from
+    → (z : ℕ) → started z ≡ true
+    → z ≡ from
+only_from empty started from none is z h =
+    elim (plus_cases empty from z (subst (λ (s : ℕ → Bool). s z ≡ true) is h)) [
+      | inl k ↦ absurd (both_ways _ (none z) k)
+      | inr e ↦ sym e
+    ]
 
 pub loop-above-init : goal.loop-above-init
 loop-above-init c =
     let is = with_point c.empty-reached.result c.put.new.self c.args.from c.put.ensures in
-    let only = only_from (contains c.empty-reached.result) (contains c.put.new.self) c.args.from (emptied c.empty-reached.result c.empty-reached.ensures) is in
+    let only = only_from (contains c.empty-reached.result) (contains c.put.new.self) c.args.from
+    (emptied c.empty-reached.result c.empty-reached.ensures) is in
     record {
       above_length = c.requires.above;
       via_length = c.requires.via;
       depth_length = c.requires.depth;
-      spread = IsSpread-begin (first_label c.args.g.now c.args.names.now) (second_label c.args.g.now c.args.names.now) (contains c.args.base.now) c.args.from (contains c.put.new.self) (reads_up c.args.above.now) (reads_up c.args.via.now) only
-          (subst (λ (s : ℕ → Bool). s c.args.from ≡ true) (sym is) (plus_new (contains c.empty-reached.result) c.args.from c.args.from refl));
+      spread = IsSpread-begin (first_label c.args.g.now c.args.names.now)
+          (second_label c.args.g.now c.args.names.now) (contains c.args.base.now) c.args.from
+          (contains c.put.new.self) (reads_up c.args.above.now) (reads_up c.args.via.now) only
+          (subst (λ (s : ℕ → Bool). s c.args.from ≡ true) (sym is)
+          (plus_new (contains c.empty-reached.result) c.args.from c.args.from refl));
       small = λ z h. subst (λ (v : ℕ). v < c.args.g.now.vertices) (sym (only z h)) c.requires.from;
       fewer = λ z h. h;
       done = λ k on out. absurd (both_ways _ out on);
@@ -44,7 +56,8 @@ loop-above-smaller c =
     let base = contains c.args.base.now in
     let e = c.sweep.ensures in
     let out : old c.args.to ≡ false = cc (c.has.ensures, c.loop-above-test.true) in
-    let w = find_leaving la lb base old c.args.from c.args.to c.requires.joined i.spread.begins out in
+    let w =
+    find_leaving la lb base old c.args.from c.args.to c.requires.joined i.spread.begins out in
     let k : ℕ = w.0 in
     let edge : k < suc (edge_count g) = c.requires.base k w.1 in
     let ends = ends_in_range g k c.requires.graph (omega arith) in
@@ -55,8 +68,10 @@ loop-above-smaller c =
     elim w.2 [ inl h ↦ both_ways _ h.1 both.1 | inr h ↦ both_ways _ h.0 both.0 ]) in
     let more : count old g.vertices < count new g.vertices =
     elim w.2 [
-      | inl h ↦ count_less old new (lb k) g.vertices e.more h.1 (e.across k here (inl h.0)).1 low_second
-      | inr h ↦ count_less old new (la k) g.vertices e.more h.0 (e.across k here (inr h.1)).0 low_first
+      | inl h ↦
+          count_less old new (lb k) g.vertices e.more h.1 (e.across k here (inl h.0)).1 low_second
+      | inr h ↦
+          count_less old new (la k) g.vertices e.more h.0 (e.across k here (inr h.1)).0 low_first
     ] in
     let most : count new g.vertices ≤ g.vertices = count_most new g.vertices in
     omega arith

@@ -10,8 +10,12 @@ invariant-loop-size l = record {
   above_length : length l.above ≡ l.g.vertices;
   via_length : length l.via ≡ l.g.vertices;
   depth_length : length l.depth ≡ l.g.vertices;
-  spread : (base : ℕ → Bool) → (from : ℕ) → IsWithin (contains l.initial.left) base → IsSpread (first_label l.g l.names) (second_label l.g l.names) base from (contains l.initial.reached) (reads_up l.initial.above) (reads_up l.initial.via)
-      → IsSpread (first_label l.g l.names) (second_label l.g l.names) base from (contains l.reached) (reads_up l.above) (reads_up l.via);
+  spread : (base : ℕ → Bool)
+      → (from : ℕ) → IsWithin (contains l.initial.left) base
+      → IsSpread (first_label l.g l.names) (second_label l.g l.names) base from
+      (contains l.initial.reached) (reads_up l.initial.above) (reads_up l.initial.via)
+      → IsSpread (first_label l.g l.names) (second_label l.g l.names) base from (contains l.reached)
+      (reads_up l.above) (reads_up l.via);
   more : IsWithin (contains l.initial.reached) (contains l.reached);
   small : IsBelow (contains l.reached) l.g.vertices;
   fewer : IsWithin (contains l.left) (contains l.initial.left);

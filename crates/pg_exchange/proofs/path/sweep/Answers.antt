@@ -26,25 +26,36 @@ loop-k-preserved c =
     let now = contains c.cross.new.reached in
     let la = first_label g names in
     let lb = second_label g names in
-    let first : la k ≡ slice_index names c.ends_of-u.result.0 = ap (λ (p : ℕ × ℕ). slice_index names p.0) (sym c.ends_of-u.ensures.ends) in
-    let second : lb k ≡ slice_index names c.ends_of-u.result.1 = ap (λ (p : ℕ × ℕ). slice_index names p.1) (sym c.ends_of-u.ensures.ends) in
+    let first : la k ≡ slice_index names c.ends_of-u.result.0 =
+    ap (λ (p : ℕ × ℕ). slice_index names p.0) (sym c.ends_of-u.ensures.ends) in
+    let second : lb k ≡ slice_index names c.ends_of-u.result.1 =
+    ap (λ (p : ℕ × ℕ). slice_index names p.1) (sym c.ends_of-u.ensures.ends) in
     let e = c.cross.ensures in
     let both : c.cross.result ≡ true → IsReachedBoth now (la k) (lb k) = λ t.
-    let p = e.both t in (subst (λ (z : ℕ). now z ≡ true) (sym first) p.0, subst (λ (z : ℕ). now z ≡ true) (sym second) p.1) in
+    let p = e.both t in (
+      subst (λ (z : ℕ). now z ≡ true) (sym first) p.0,
+      subst (λ (z : ℕ). now z ≡ true) (sym second) p.1,
+    ) in
     let crossed : (old (la k) ≡ true) ⊎ (old (lb k) ≡ true) → c.cross.result ≡ true = λ some.
     elim (cases_Bool c.cross.result) [
       | inl t ↦ t
       | inr o ↦
           let p = e.neither o in
           absurd (elim some [
-            | inl h ↦ both_ways _ p.0 (subst (λ (z : ℕ). contains c.loop-k.reached z ≡ true) first (i.more (la k) h))
-            | inr h ↦ both_ways _ p.1 (subst (λ (z : ℕ). contains c.loop-k.reached z ≡ true) second (i.more (lb k) h))
+            | inl h ↦ both_ways _ p.0
+                (subst (λ (z : ℕ). contains c.loop-k.reached z ≡ true) first (i.more (la k) h))
+            | inr h ↦ both_ways _ p.1
+                (subst (λ (z : ℕ). contains c.loop-k.reached z ≡ true) second (i.more (lb k) h))
           ])
     ] in
-    let lifted : (j : ℕ) → begun j ≡ true → left j ≡ false → IsReachedBoth now (la j) (lb j) = λ j on out. let p = i.done j on out in (e.more (la j) p.0, e.more (lb j) p.1) in
-    let across : (j : ℕ) → j < k + 1 → begun j ≡ true → (old (la j) ≡ true) ⊎ (old (lb j) ≡ true) → IsReachedBoth now (la j) (lb j) = λ j l on some.
-    elim (cases_eq j k) [
-      | inl at ↦ subst (λ (z : ℕ). IsReachedBoth now (la z) (lb z)) (sym at) (both (crossed (subst (λ (z : ℕ). (old (la z) ≡ true) ⊎ (old (lb z) ≡ true)) at some)))
+    let lifted : (j : ℕ) → begun j ≡ true → left j ≡ false → IsReachedBoth now (la j) (lb j) =
+    λ j on out. let p = i.done j on out in (e.more (la j) p.0, e.more (lb j) p.1) in
+    let across : (j : ℕ) → j < k + 1
+    → begun j ≡ true
+    → (old (la j) ≡ true) ⊎ (old (lb j) ≡ true)
+    → IsReachedBoth now (la j) (lb j) = λ j l on some. elim (cases_eq j k) [
+      | inl at ↦ subst (λ (z : ℕ). IsReachedBoth now (la z) (lb z)) (sym at)
+          (both (crossed (subst (λ (z : ℕ). (old (la z) ≡ true) ⊎ (old (lb z) ≡ true)) at some)))
       | inr d ↦ elim (cases_lt j c.loop-k.next) [
         | inl lt ↦ let p = i.across j lt on some in (e.more (la j) p.0, e.more (lb j) p.1)
         | inr ge ↦ elim (cases_Bool (left j)) [
@@ -53,11 +64,16 @@ loop-k-preserved c =
         ]
       ]
     ] in
-    let spread : (base : ℕ → Bool) (from : ℕ) → IsWithin begun base → IsSpread la lb base from old (reads_up c.args.above.now) (reads_up c.args.via.now) → IsSpread la lb base from now (reads_up c.cross.new.above) (reads_up c.cross.new.via) =
-    λ base from w s. e.spread la lb base from (w k (i.fewer k found.member)) (inl (first, second)) (i.spread base from w s) in
+    let spread : (base : ℕ → Bool) (from : ℕ) → IsWithin begun base
+    → IsSpread la lb base from old (reads_up c.args.above.now) (reads_up c.args.via.now)
+    → IsSpread la lb base from now (reads_up c.cross.new.above) (reads_up c.cross.new.via) =
+    λ base from w s. e.spread la lb base from (w k (i.fewer k found.member)) (inl (first, second))
+    (i.spread base from w s) in
     elim c.if-cross.branch [
       | then-cross w ↦
-          let is : contains c.if-cross.left ≡ minus left k = ap (λ (s : FinSet nat_cmp). contains s) w.left-is ∙ without_point c.loop-k.left w.take.new.self k w.take.ensures in
+          let is : contains c.if-cross.left ≡ minus left k =
+          ap (λ (s : FinSet nat_cmp). contains s) w.left-is
+          ∙ without_point c.loop-k.left w.take.new.self k w.take.ensures in
           record {
             above_length = omega arith;
             via_length = omega arith;
@@ -66,15 +82,20 @@ loop-k-preserved c =
             spread = spread;
             more = λ z h. e.more z (i.more z h);
             small = λ z h. let l = e.small z h in omega (arith, l, i.above_length);
-            fewer = λ z h. i.fewer z (minus_parts left k z (subst (λ (s : ℕ → Bool). s z ≡ true) is h)).0;
+            fewer = λ z h. i.fewer z
+                (minus_parts left k z (subst (λ (s : ℕ → Bool). s z ≡ true) is h)).0;
             done = λ j on out. elim (cases_eq k j) [
-              | inl at ↦ subst (λ (z : ℕ). IsReachedBoth now (la z) (lb z)) at (both w.if-cross.true)
-              | inr d ↦ lifted j on (false_from_ne_true _ (λ h. both_ways _ out (subst (λ (s : ℕ → Bool). s j ≡ true) (sym is) (minus_from left k j h d))))
+              | inl at ↦
+                  subst (λ (z : ℕ). IsReachedBoth now (la z) (lb z)) at (both w.if-cross.true)
+              | inr d ↦ lifted j on
+                  (false_from_ne_true _ (λ h. both_ways _ out
+                  (subst (λ (s : ℕ → Bool). s j ≡ true) (sym is) (minus_from left k j h d))))
             ];
             across = across;
           }
       | else-cross w ↦
-          let is : contains c.if-cross.left ≡ left = ap (λ (s : FinSet nat_cmp). contains s) w.left-is in
+          let is : contains c.if-cross.left ≡ left =
+          ap (λ (s : FinSet nat_cmp). contains s) w.left-is in
           record {
             above_length = omega arith;
             via_length = omega arith;

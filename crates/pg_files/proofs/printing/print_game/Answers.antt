@@ -9,5 +9,14 @@ pub returns : goal.returns
 unfolding printed
 returns c =
     let g = entry c.args.g.now in
-    rw (c.into_bytes.ensures.value, c.in_ok-put_last.ensures, c.in_ok-put_field.ensures, c.in_ok-put_word.ensures, c.in_ok-push_str.ensures.bytes, c.new-out.ensures.bytes, c.word.ensures)
-    (joined header (worded keys.Kind (kind_word g.kind)) (field_words g.bias g.field) (last_lines g.x g.y g.turn))
+    rw (
+      c.into_bytes.ensures.value,
+      c.in_ok-put_last.ensures,
+      c.in_ok-put_field.ensures,
+      c.in_ok-put_word.ensures,
+      c.in_ok-push_str.ensures.bytes,
+      c.new-out.ensures.bytes,
+      c.word.ensures,
+    )
+    (joined header (worded keys.Kind (kind_word g.kind)) (field_words g.bias g.field)
+    (last_lines g.x g.y g.turn))

@@ -5,4 +5,5 @@ use Rattle.std.specs.List.{flat_map}
 use Rattle.pg_files.proofs.printing.put_numbers.Given as goal
 
 abbrev pub invariant-loop-n : goal.invariant-loop-n
-invariant-loop-n l = string_bytes l.out ≡ string_bytes l.fn.out ++ (l.fn.word ++ flat_map (λ n. 32 ∷ decimal n) (take l.n-index l.numbers))
+invariant-loop-n l = string_bytes l.out ≡ string_bytes l.fn.out
+    ++ (l.fn.word ++ flat_map (λ n. 32 ∷ decimal n) (take l.n-index l.numbers))

@@ -10,4 +10,9 @@ pub invariant_of-result : goal.invariant_of-result
 invariant_of-result c =
     let d = view c.args.draft in
     let sound = sound_reading 1 nothing d c.requires.said_by sound_nothing c.requires.is_said in
-    record { fits = subst (λ (f : Field). IsFit c.in-Some.kind f c.args.draft.x c.args.draft.y c.args.draft.bias) (sym c.field_of-field.ensures) (fits_sound d c.in-Some.kind c.in-Some-turn.turn sound c.in-Some.is c.in-Some-turn.is) }
+    record {
+      fits = subst
+          (λ (f : Field). IsFit c.in-Some.kind f c.args.draft.x c.args.draft.y c.args.draft.bias)
+          (sym c.field_of-field.ensures)
+          (fits_sound d c.in-Some.kind c.in-Some-turn.turn sound c.in-Some.is c.in-Some-turn.is);
+    }

@@ -7,21 +7,35 @@ use Rattle.pg_files.specs.Views.{view, number_of}
 use Rattle.pg_files.proofs.reading.read_lines.Goals as goal
 
 pub overflow_add-number : goal.overflow_add-number
-overflow_add-number c = omega (arith, c.loop-line.invariant.count, lines_few c.args.text.now, c.requires)
+overflow_add-number c =
+    omega (arith, c.loop-line.invariant.count, lines_few c.args.text.now, c.requires)
 
 pub loop-line-preserved : goal.loop-line-preserved
 loop-line-preserved c =
-    let rest : c.loop-line.line-iterator ≡ c.in-Some.line.now ∷ c.next.new.self = c.in-Some.ensures.steps in
+    let rest : c.loop-line.line-iterator ≡ c.in-Some.line.now ∷ c.next.new.self =
+    c.in-Some.ensures.steps in
     record {
-      so_far = reads_on after (c.loop-line.number + 1) (view c.loop-line.draft) (view c.read.new.self) c.in-Some.line.now c.next.new.self c.in_default.ensures ∙ ap (λ (ls : List Bytes). reading after (c.loop-line.number + 1) (view c.loop-line.draft) ls) (sym rest) ∙ c.loop-line.invariant.so_far;
+      so_far = reads_on after (c.loop-line.number + 1) (view c.loop-line.draft)
+          (view c.read.new.self) c.in-Some.line.now c.next.new.self c.in_default.ensures
+          ∙ ap (λ (ls : List Bytes).
+          reading after (c.loop-line.number + 1) (view c.loop-line.draft) ls) (sym rest)
+          ∙ c.loop-line.invariant.so_far;
       count = omega (arith, ap length rest, c.loop-line.invariant.count);
     }
 
 pub returns-in-Err : goal.returns-in-Err
 returns-in-Err c =
-    let rest : c.loop-line.line-iterator ≡ c.in-Some.line.now ∷ c.next.new.self = c.in-Some.ensures.steps in
-    rw c.at.ensures (ends after number_of view c.in-Err.error (c.loop-line.number + 1) (view c.loop-line.draft) c.in-Some.line.now c.next.new.self _ c.in-Err.ensures (ap (λ (ls : List Bytes). reading after (c.loop-line.number + 1) (view c.loop-line.draft) ls) (sym rest) ∙ c.loop-line.invariant.so_far))
+    let rest : c.loop-line.line-iterator ≡ c.in-Some.line.now ∷ c.next.new.self =
+    c.in-Some.ensures.steps in
+    rw c.at.ensures
+    (ends after number_of view c.in-Err.error (c.loop-line.number + 1)
+    (view c.loop-line.draft) c.in-Some.line.now c.next.new.self _ c.in-Err.ensures
+    (ap (λ (ls : List Bytes). reading after (c.loop-line.number + 1) (view c.loop-line.draft) ls)
+    (sym rest)
+    ∙ c.loop-line.invariant.so_far))
 
 pub returns : goal.returns
-returns c =
-    sym c.loop-line.invariant.so_far ∙ ap (λ (ls : List Bytes). reading after (c.loop-line.number + 1) (view c.loop-line.draft) ls) c.in-None.ensures.steps.0 ∙ is_over after (c.loop-line.number + 1) (view c.loop-line.draft)
+returns c = sym c.loop-line.invariant.so_far
+    ∙ ap (λ (ls : List Bytes). reading after (c.loop-line.number + 1) (view c.loop-line.draft) ls)
+    c.in-None.ensures.steps.0
+    ∙ is_over after (c.loop-line.number + 1) (view c.loop-line.draft)

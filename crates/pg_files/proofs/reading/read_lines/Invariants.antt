@@ -7,6 +7,7 @@ use Rattle.pg_files.proofs.reading.read_lines.Given as goal
 
 abbrev pub invariant-loop-line : goal.invariant-loop-line
 invariant-loop-line l = record {
-  so_far : reading after (l.number + 1) (view l.draft) l.line-iterator ≡ reading after 1 nothing (lines l.text);
+  so_far : reading after (l.number + 1) (view l.draft) l.line-iterator
+      ≡ reading after 1 nothing (lines l.text);
   count : l.number + length l.line-iterator ≤ length (lines l.text);
 }

@@ -5,5 +5,8 @@ use Rattle.pg_game.proofs.weights.add_weight.Given as goal
 abbrev pub invariant-loop-v : goal.invariant-loop-v
 invariant-loop-v l = record {
   count : length l.points ≡ 256;
-  added : (v : ℕ) → v < 256 → get_or l.points v 0 ≡ get_or l.fn.points v 0 + (if is_on v (take l.v-index l.line) then l.weight else 0);
+  added : (v : ℕ)
+      → v < 256
+      → get_or l.points v 0
+      ≡ get_or l.fn.points v 0 + (if is_on v (take l.v-index l.line) then l.weight else 0);
 }

@@ -7,13 +7,17 @@ use Rattle.pg_game.proofs.weights.full_weight.Goals as goal
 
 pub overflow_cast-greatest_length : goal.overflow_cast-greatest_length
 overflow_cast-greatest_length c =
-    let is : c.greatest_length.result ≡ greatest_length (lines_of c.args.g.now) = c.greatest_length.ensures ∙ ap greatest_length c.lines.ensures.lines in
+    let is : c.greatest_length.result ≡ greatest_length (lines_of c.args.g.now) =
+    c.greatest_length.ensures ∙ ap greatest_length c.lines.ensures.lines in
     omega (arith, is, greatest_length-few c.args.g.now)
 
 pub pow-requires : goal.pow-requires
 pow-requires c =
-    let is = full_weight-is c.args.base c.args.g.now c.greatest_length.result (c.greatest_length.ensures ∙ ap greatest_length c.lines.ensures.lines) in
+    let is = full_weight-is c.args.base c.args.g.now c.greatest_length.result
+    (c.greatest_length.ensures ∙ ap greatest_length c.lines.ensures.lines) in
     omega (arith, is, c.requires.few)
 
 pub returns : goal.returns
-returns c = c.pow.ensures ∙ full_weight-is c.args.base c.args.g.now c.greatest_length.result (c.greatest_length.ensures ∙ ap greatest_length c.lines.ensures.lines)
+returns c = c.pow.ensures
+    ∙ full_weight-is c.args.base c.args.g.now c.greatest_length.result
+    (c.greatest_length.ensures ∙ ap greatest_length c.lines.ensures.lines)

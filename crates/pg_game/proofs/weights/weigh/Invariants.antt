@@ -7,5 +7,9 @@ abbrev pub invariant-loop-line : goal.invariant-loop-line
 invariant-loop-line l = record {
   total : l.total ≡ sum_by (line_weight l.base l.longest l.own l.p) (take l.line-index l.lines);
   count : length l.points ≡ 256;
-  points : (v : ℕ) → v < 256 → get_or l.points v 0 ≡ sum_by (λ line. if is_on v line then line_weight l.base l.longest l.own l.p line else 0) (take l.line-index l.lines);
+  points : (v : ℕ)
+      → v < 256
+      → get_or l.points v 0
+      ≡ sum_by (λ line. if is_on v line then line_weight l.base l.longest l.own l.p line else 0)
+      (take l.line-index l.lines);
 }

@@ -4,4 +4,6 @@ use Rattle.pg_gf2.specs.Check.{IsVecClaimValid}
 use Rattle.pg_gf2.proofs.checked.first_faulty.Given as goal
 
 abbrev pub invariant-loop-k : goal.invariant-loop-k
-invariant-loop-k l = (i : ℕ) (claim : Claim) → i < l.k → slice_get l.c.claims i ≡ Some claim → IsVecClaimValid l.g l.c.version claim
+invariant-loop-k l = (i : ℕ) (claim : Claim) → i < l.k
+    → slice_get l.c.claims i ≡ Some claim
+    → IsVecClaimValid l.g l.c.version claim

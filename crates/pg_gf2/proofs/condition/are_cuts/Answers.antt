@@ -25,9 +25,15 @@ are_bridges-requires-clause-bridges c =
     let n = length g.vectors in
     let p = at_turn g turn in
     let apart = c.are_apart.ensures.0 c.if-not-are_apart.false in
-    let bridges = parted_is g turn vs c.requires e is_e d1 d2 c.with_point.result c.without-parted.result c.with_point.ensures (of_outside c.with_point.result d1 c.without-parted.result c.without-parted.ensures.difference) in
-    let left = left_is g turn vs c.requires e is_e c.kept-left.result c.without.result d1 (c.kept-left.ensures turn) (of_outside c.kept-left.result d1 c.without.result c.without.ensures.difference) in
-    within_list g turn vs c.requires e is_e c.without-parted.result (parted spans n p d1 d2) bridges (parted_below spans n p g.fits.y_range d1 d2 apart.1)
+    let bridges = parted_is g turn vs c.requires e is_e d1 d2 c.with_point.result
+    c.without-parted.result c.with_point.ensures
+    (of_outside c.with_point.result d1 c.without-parted.result
+    c.without-parted.ensures.difference) in
+    let left = left_is g turn vs c.requires e is_e c.kept-left.result c.without.result d1
+    (c.kept-left.ensures turn)
+    (of_outside c.kept-left.result d1 c.without.result c.without.ensures.difference) in
+    within_list g turn vs c.requires e is_e c.without-parted.result (parted spans n p d1 d2) bridges
+    (parted_below spans n p g.fits.y_range d1 d2 apart.1)
 
 pub are_bridges-requires-clause-within : goal.are_bridges-requires-clause-within
 are_bridges-requires-clause-within c =
@@ -42,9 +48,15 @@ are_bridges-requires-clause-within c =
     let n = length g.vectors in
     let p = at_turn g turn in
     let apart = c.are_apart.ensures.0 c.if-not-are_apart.false in
-    let bridges = parted_is g turn vs c.requires e is_e d1 d2 c.with_point.result c.without-parted.result c.with_point.ensures (of_outside c.with_point.result d1 c.without-parted.result c.without-parted.ensures.difference) in
-    let left = left_is g turn vs c.requires e is_e c.kept-left.result c.without.result d1 (c.kept-left.ensures turn) (of_outside c.kept-left.result d1 c.without.result c.without.ensures.difference) in
-    within_sets g turn vs c.requires e is_e c.without-parted.result c.without.result _ _ bridges left (parted_left spans n p g.fits.y_range d1 d2 apart.1)
+    let bridges = parted_is g turn vs c.requires e is_e d1 d2 c.with_point.result
+    c.without-parted.result c.with_point.ensures
+    (of_outside c.with_point.result d1 c.without-parted.result
+    c.without-parted.ensures.difference) in
+    let left = left_is g turn vs c.requires e is_e c.kept-left.result c.without.result d1
+    (c.kept-left.ensures turn)
+    (of_outside c.kept-left.result d1 c.without.result c.without.ensures.difference) in
+    within_sets g turn vs c.requires e is_e c.without-parted.result c.without.result _ _ bridges
+    left (parted_left spans n p g.fits.y_range d1 d2 apart.1)
 
 pub returns-then-not-branch : goal.returns-then-not-branch
 returns-then-not-branch c =
@@ -59,10 +71,18 @@ returns-then-not-branch c =
     let n = length g.vectors in
     let p = at_turn g turn in
     let apart = c.are_apart.ensures.0 c.if-not-are_apart.false in
-    let bridges = parted_is g turn vs c.requires e is_e d1 d2 c.with_point.result c.without-parted.result c.with_point.ensures (of_outside c.with_point.result d1 c.without-parted.result c.without-parted.ensures.difference) in
-    let left = left_is g turn vs c.requires e is_e c.kept-left.result c.without.result d1 (c.kept-left.ensures turn) (of_outside c.kept-left.result d1 c.without.result c.without.ensures.difference) in (
+    let bridges = parted_is g turn vs c.requires e is_e d1 d2 c.with_point.result
+    c.without-parted.result c.with_point.ensures
+    (of_outside c.with_point.result d1 c.without-parted.result
+    c.without-parted.ensures.difference) in
+    let left = left_is g turn vs c.requires e is_e c.kept-left.result c.without.result d1
+    (c.kept-left.ensures turn)
+    (of_outside c.kept-left.result d1 c.without.result c.without.ensures.difference) in (
       λ t. absurd (both_ways _ refl t),
-      λ t. absurd (both_ways _ c.if-not-branch.true (c.in_ok-are_bridges.ensures.1 (PartsWithout-owed g turn vs c.requires e is_e d1 c.without.result c.without-parted.result _ left bridges (cuts_first spans n p d1 d2 t)))),
+      λ t. absurd
+          (both_ways _ c.if-not-branch.true
+          (c.in_ok-are_bridges.ensures.1 (PartsWithout-owed g turn vs c.requires e is_e d1
+          c.without.result c.without-parted.result _ left bridges (cuts_first spans n p d1 d2 t)))),
     )
 
 pub are_bridges-requires-2-clause-bridges : goal.are_bridges-requires-2-clause-bridges
@@ -78,11 +98,20 @@ are_bridges-requires-2-clause-bridges c =
     let n = length g.vectors in
     let p = at_turn g turn in
     let apart = c.are_apart.ensures.0 c.if-not-are_apart.false in
-    let bridges = parted_is g turn vs c.requires e is_e d1 d2 c.with_point.result c.without-parted.result c.with_point.ensures (of_outside c.with_point.result d1 c.without-parted.result c.without-parted.ensures.difference) in
-    let left = left_is g turn vs c.requires e is_e c.kept-left.result c.without.result d1 (c.kept-left.ensures turn) (of_outside c.kept-left.result d1 c.without.result c.without.ensures.difference) in
-    let others = with_e_is g turn vs c.requires e is_e d1 c.with_point-2.result c.with_point-2.ensures in
-    let rest = left_is g turn vs c.requires e is_e c.kept-left.result c.without-2.result d2 (c.kept-left.ensures turn) (of_outside c.kept-left.result d2 c.without-2.result c.without-2.ensures.difference) in
-    within_list g turn vs c.requires e is_e c.with_point-2.result _ others (first_below spans n p Y d1 apart.0)
+    let bridges = parted_is g turn vs c.requires e is_e d1 d2 c.with_point.result
+    c.without-parted.result c.with_point.ensures
+    (of_outside c.with_point.result d1 c.without-parted.result
+    c.without-parted.ensures.difference) in
+    let left = left_is g turn vs c.requires e is_e c.kept-left.result c.without.result d1
+    (c.kept-left.ensures turn)
+    (of_outside c.kept-left.result d1 c.without.result c.without.ensures.difference) in
+    let others =
+    with_e_is g turn vs c.requires e is_e d1 c.with_point-2.result c.with_point-2.ensures in
+    let rest = left_is g turn vs c.requires e is_e c.kept-left.result c.without-2.result d2
+    (c.kept-left.ensures turn)
+    (of_outside c.kept-left.result d2 c.without-2.result c.without-2.ensures.difference) in
+    within_list g turn vs c.requires e is_e c.with_point-2.result _ others
+    (first_below spans n p Y d1 apart.0)
 
 pub are_bridges-requires-2-clause-within : goal.are_bridges-requires-2-clause-within
 are_bridges-requires-2-clause-within c =
@@ -97,11 +126,20 @@ are_bridges-requires-2-clause-within c =
     let n = length g.vectors in
     let p = at_turn g turn in
     let apart = c.are_apart.ensures.0 c.if-not-are_apart.false in
-    let bridges = parted_is g turn vs c.requires e is_e d1 d2 c.with_point.result c.without-parted.result c.with_point.ensures (of_outside c.with_point.result d1 c.without-parted.result c.without-parted.ensures.difference) in
-    let left = left_is g turn vs c.requires e is_e c.kept-left.result c.without.result d1 (c.kept-left.ensures turn) (of_outside c.kept-left.result d1 c.without.result c.without.ensures.difference) in
-    let others = with_e_is g turn vs c.requires e is_e d1 c.with_point-2.result c.with_point-2.ensures in
-    let rest = left_is g turn vs c.requires e is_e c.kept-left.result c.without-2.result d2 (c.kept-left.ensures turn) (of_outside c.kept-left.result d2 c.without-2.result c.without-2.ensures.difference) in
-    within_sets g turn vs c.requires e is_e c.with_point-2.result c.without-2.result _ _ others rest (first_left spans n p g.fits.y_range d1 d2 apart.0 apart.1 apart.2)
+    let bridges = parted_is g turn vs c.requires e is_e d1 d2 c.with_point.result
+    c.without-parted.result c.with_point.ensures
+    (of_outside c.with_point.result d1 c.without-parted.result
+    c.without-parted.ensures.difference) in
+    let left = left_is g turn vs c.requires e is_e c.kept-left.result c.without.result d1
+    (c.kept-left.ensures turn)
+    (of_outside c.kept-left.result d1 c.without.result c.without.ensures.difference) in
+    let others =
+    with_e_is g turn vs c.requires e is_e d1 c.with_point-2.result c.with_point-2.ensures in
+    let rest = left_is g turn vs c.requires e is_e c.kept-left.result c.without-2.result d2
+    (c.kept-left.ensures turn)
+    (of_outside c.kept-left.result d2 c.without-2.result c.without-2.ensures.difference) in
+    within_sets g turn vs c.requires e is_e c.with_point-2.result c.without-2.result _ _ others rest
+    (first_left spans n p g.fits.y_range d1 d2 apart.0 apart.1 apart.2)
 
 pub returns : goal.returns
 returns c =
@@ -116,14 +154,29 @@ returns c =
     let n = length g.vectors in
     let p = at_turn g turn in
     let apart = c.are_apart.ensures.0 c.if-not-are_apart.false in
-    let bridges = parted_is g turn vs c.requires e is_e d1 d2 c.with_point.result c.without-parted.result c.with_point.ensures (of_outside c.with_point.result d1 c.without-parted.result c.without-parted.ensures.difference) in
-    let left = left_is g turn vs c.requires e is_e c.kept-left.result c.without.result d1 (c.kept-left.ensures turn) (of_outside c.kept-left.result d1 c.without.result c.without.ensures.difference) in
-    let others = with_e_is g turn vs c.requires e is_e d1 c.with_point-2.result c.with_point-2.ensures in
-    let rest = left_is g turn vs c.requires e is_e c.kept-left.result c.without-2.result d2 (c.kept-left.ensures turn) (of_outside c.kept-left.result d2 c.without-2.result c.without-2.ensures.difference) in
-    let first = PartsWithout-told g turn vs c.requires e is_e d1 c.without.result c.without-parted.result _ left bridges (c.in_ok-are_bridges.ensures.0 c.if-not-branch.false) in
-    let step : (b : Bool) → (IsTrue b ↔ ((f : ℕ) → contains c.with_point-2.result f ≡ true → IsSpanBridge (vector_spans vs) (contains c.without-2.result) f)) → (IsTrue b ↔ CutsAt g turn d1 d2) =
-    λ b told. (
-      λ t. cuts_from spans n p d1 d2 apart first (PartsWithout-told g turn vs c.requires e is_e d2 c.without-2.result c.with_point-2.result (plus (contains d1) n) rest others (told.0 t)),
-      λ t. told.1 (PartsWithout-owed g turn vs c.requires e is_e d2 c.without-2.result c.with_point-2.result (plus (contains d1) n) rest others (cuts_second spans n p d1 d2 t)),
+    let bridges = parted_is g turn vs c.requires e is_e d1 d2 c.with_point.result
+    c.without-parted.result c.with_point.ensures
+    (of_outside c.with_point.result d1 c.without-parted.result
+    c.without-parted.ensures.difference) in
+    let left = left_is g turn vs c.requires e is_e c.kept-left.result c.without.result d1
+    (c.kept-left.ensures turn)
+    (of_outside c.kept-left.result d1 c.without.result c.without.ensures.difference) in
+    let others =
+    with_e_is g turn vs c.requires e is_e d1 c.with_point-2.result c.with_point-2.ensures in
+    let rest = left_is g turn vs c.requires e is_e c.kept-left.result c.without-2.result d2
+    (c.kept-left.ensures turn)
+    (of_outside c.kept-left.result d2 c.without-2.result c.without-2.ensures.difference) in
+    let first = PartsWithout-told g turn vs c.requires e is_e d1 c.without.result
+    c.without-parted.result _ left bridges (c.in_ok-are_bridges.ensures.0 c.if-not-branch.false) in
+    let step : (b : Bool) → (IsTrue b
+    ↔ ((f : ℕ) → contains c.with_point-2.result f ≡ true
+    → IsSpanBridge (vector_spans vs) (contains c.without-2.result) f))
+    → (IsTrue b ↔ CutsAt g turn d1 d2) = λ b told. (
+      λ t. cuts_from spans n p d1 d2 apart first
+          (PartsWithout-told g turn vs c.requires e is_e d2 c.without-2.result c.with_point-2.result
+          (plus (contains d1) n) rest others (told.0 t)),
+      λ t. told.1
+          (PartsWithout-owed g turn vs c.requires e is_e d2 c.without-2.result c.with_point-2.result
+          (plus (contains d1) n) rest others (cuts_second spans n p d1 d2 t)),
     ) in
     IfOk-weaker _ _ _ step c.are_bridges-2.ensures

@@ -13,6 +13,9 @@ returns c =
     let claim = c.args.claim.now in
     let node = c.index-nodes-0.result in
     let one : length claim.nodes ≡ 1 = ap length (sym c.as_slice-nodes.ensures) ∙ short.1 in
-    let at : slice_get claim.nodes 0 ≡ Some node = subst (λ (nodes : List Node). slice_get nodes 0 ≡ Some node) c.as_slice-nodes.ensures
-    (slice_get_read c.as_slice-nodes.result.now (length c.as_slice-nodes.result.now) 0 node refl (omega (arith, short.1)) c.index-nodes-0.is) in
-    IfOk-weaker _ _ _ (λ (v : Option VecFlaw) (i : IsNodeVerdict c.args.g.now claim node v). claim_verdict c.args.g.now c.args.version claim node short.0 one at v i) c.node_flaw.ensures
+    let at : slice_get claim.nodes 0 ≡ Some node =
+    subst (λ (nodes : List Node). slice_get nodes 0 ≡ Some node) c.as_slice-nodes.ensures
+    (slice_get_read c.as_slice-nodes.result.now (length c.as_slice-nodes.result.now) 0 node refl
+    (omega (arith, short.1)) c.index-nodes-0.is) in
+    IfOk-weaker _ _ _ (λ (v : Option VecFlaw) (i : IsNodeVerdict c.args.g.now claim node v).
+    claim_verdict c.args.g.now c.args.version claim node short.0 one at v i) c.node_flaw.ensures

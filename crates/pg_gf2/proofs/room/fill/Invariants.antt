@@ -8,7 +8,8 @@ use Rattle.pg_gf2.proofs.room.fill.Given as goal
 
 abbrev pub invariant-loop-k : goal.invariant-loop-k
 invariant-loop-k l = record {
-  eliminated : IsEliminated (vector_at l.vectors) (length l.vectors) (contains l.set) (λ _. false) (below (contains l.set) l.k) l.rows.items;
+  eliminated : IsEliminated (vector_at l.vectors) (length l.vectors) (contains l.set) (λ _. false)
+      (below (contains l.set) l.k) l.rows.items;
   within : IsWithin (contains l.base) (contains l.set);
   few : vec_len l.rows ≤ l.k;
   room : length l.vectors ≤ vec_capacity l.rows;

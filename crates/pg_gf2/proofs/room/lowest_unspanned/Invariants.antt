@@ -4,4 +4,6 @@ use Rattle.pg_gf2.specs.Vectors.{vector_spans}
 use Rattle.pg_gf2.proofs.room.lowest_unspanned.Given as goal
 
 abbrev pub invariant-loop-k : goal.invariant-loop-k
-invariant-loop-k l = (f : ℕ) → f < l.k → contains l.candidates f ≡ true → vector_spans l.vectors (contains l.set) f ≡ true
+invariant-loop-k l = (f : ℕ) → f < l.k
+    → contains l.candidates f ≡ true
+    → vector_spans l.vectors (contains l.set) f ≡ true

@@ -15,9 +15,13 @@ returns-clause-spans c =
     let v = vector_at vectors in
     let set = contains c.args.set.now in
     let f = c.args.f in
-    let same : c.rest-left.result ≡ reduced c.fill.new.rows.items (v f) = c.rest-left.ensures ∙ ap (λ (q : List Row). reduced q (v f)) c.deref.ensures.value in
-    let told = told_whole v (length vectors) set (λ _. false) c.fill.new.rows.items (v f) c.rest-left.result c.fill.ensures.eliminated.told same in
+    let same : c.rest-left.result ≡ reduced c.fill.new.rows.items (v f) =
+    c.rest-left.ensures ∙ ap (λ (q : List Row). reduced q (v f)) c.deref.ensures.value in
+    let told = told_whole v (length vectors) set (λ _. false) c.fill.new.rows.items
+    (v f) c.rest-left.result c.fill.ensures.eliminated.told same in
     elim (cases_eq c.rest-left.result 0) [
       | inl e ↦ eq-eqb _ _ e ∙ sym (left_zero vectors set f c.rest-left.result told.0 told.1 e)
-      | inr d ↦ ne_eqb _ _ d ∙ sym (left_some vectors set f c.rest-left.result c.fill.new.rows.items c.fill.ensures.eliminated same d)
+      | inr d ↦ ne_eqb _ _ d
+          ∙ sym (left_some vectors set f c.rest-left.result c.fill.new.rows.items
+          c.fill.ensures.eliminated same d)
     ]

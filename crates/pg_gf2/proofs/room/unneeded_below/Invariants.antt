@@ -10,7 +10,10 @@ invariant-loop-low l = record {
   order : l.low ≤ l.high;
   limit : l.high ≤ l.n;
   room : length l.vectors ≤ vec_capacity l.rows;
-  unneeded : (d : ℕ) → d < l.low → contains l.candidates d ≡ true → vector_spans l.vectors (minus (contains l.set) d) l.x ≡ true;
+  unneeded : (d : ℕ)
+      → d < l.low
+      → contains l.candidates d ≡ true
+      → vector_spans l.vectors (minus (contains l.set) d) l.x ≡ true;
 }
 
 abbrev pub decreases-loop-low : goal.decreases-loop-low

@@ -5,4 +5,5 @@ use Rattle.pg_base.proofs.PointSetLaws.{contains-remove_minus}
 use Rattle.pg_gf2.proofs.room.without.Goals as goal
 
 pub returns : goal.returns
-returns c = ap (λ (s : FinSet nat_cmp). contains s) c.take.ensures ∙ contains-remove_minus c.args.set.now c.args.d
+returns c = ap (λ (s : FinSet nat_cmp). contains s) c.take.ensures
+    ∙ contains-remove_minus c.args.set.now c.args.d

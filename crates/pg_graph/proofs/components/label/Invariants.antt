@@ -5,4 +5,5 @@ use Rattle.pg_graph.specs.Labels.{IsLabelling}
 use Rattle.pg_graph.proofs.components.label.Given as goal
 
 abbrev pub invariant-loop-k : goal.invariant-loop-k
-invariant-loop-k l = IsLabelling (first_end_of l.g) (second_end_of l.g) (below (contains l.set) l.k) l.parents
+invariant-loop-k l =
+    IsLabelling (first_end_of l.g) (second_end_of l.g) (below (contains l.set) l.k) l.parents

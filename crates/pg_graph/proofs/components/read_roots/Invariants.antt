@@ -7,5 +7,8 @@ invariant-loop-v l = record {
   size : length l.names ≡ length l.parents;
   upward : IsUpward l.parents;
   same : SameRoots l.initial.parents l.parents;
-  read : (w : ℕ) → w < l.v → (slice_index l.names w ≡ root_of l.initial.parents w) × (slice_index l.names w < length l.initial.parents);
+  read : (w : ℕ)
+      → w < l.v
+      → (slice_index l.names w ≡ root_of l.initial.parents w)
+      × (slice_index l.names w < length l.initial.parents);
 }

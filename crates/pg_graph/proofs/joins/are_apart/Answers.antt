@@ -15,8 +15,11 @@ returns-then-has_one_root c =
     let i = c.loop-k.invariant in
     let member : contains c.args.members.now k ≡ true = cc in
     let range = ends_in_range g k c.requires.graph (omega arith) in
-    let one = c.has_one_root.ensures.one.0 c.if-has_one_root.true in
-    (λ h. absurd (cc), λ all. absurd (all k member (sym (i.same (first_end_of g k) (omega (arith, range.0))) ∙ (one ∙ i.same (second_end_of g k) (omega (arith, range.1))))))
+    let one = c.has_one_root.ensures.one.0 c.if-has_one_root.true in (
+      λ h. absurd (cc),
+      λ all. absurd (all k member (sym (i.same (first_end_of g k) (omega (arith, range.0)))
+          ∙ (one ∙ i.same (second_end_of g k) (omega (arith, range.1))))),
+    )
 
 pub loop-k-preserved : goal.loop-k-preserved
 loop-k-preserved c =
@@ -29,17 +32,29 @@ loop-k-preserved c =
     elim c.if-has.branch [
       | then-has+else-has_one_root w ↦
           let range = ends_in_range g k c.requires.graph (omega arith) in
-          let here : HaveOneRoot g old k → ⊥ = λ e. both_ways _ w.if-has_one_root.false (w.has_one_root.ensures.one.1 (i.same (a k) (omega (arith, range.0)) ∙ (e ∙ sym (i.same (b k) (omega (arith, range.1)))))) in
+          let here : HaveOneRoot g old k → ⊥ = λ e. both_ways _ w.if-has_one_root.false
+          (w.has_one_root.ensures.one.1 (i.same (a k) (omega (
+            arith,
+            range.0,
+          )) ∙ (e ∙ sym (i.same (b k) (omega (arith, range.1)))))) in
           record {
             upward = subst (λ new. IsUpward new) (sym w.parents-is) w.has_one_root.ensures.upward;
-            same = subst (λ new. SameRoots old new) (sym w.parents-is) (λ v l. w.has_one_root.ensures.same v (omega arith) ∙ i.same v l);
-            each = λ f l m. elim (cases_eq f k) [ inl e ↦ subst (λ (z : ℕ). HaveOneRoot g old z → ⊥) (sym e) here | inr d ↦ i.each f (omega arith) m ];
+            same = subst (λ new. SameRoots old new) (sym w.parents-is)
+                (λ v l. w.has_one_root.ensures.same v (omega arith) ∙ i.same v l);
+            each = λ f l m. elim (cases_eq f k) [
+              | inl e ↦ subst (λ (z : ℕ). HaveOneRoot g old z → ⊥) (sym e) here
+              | inr d ↦ i.each f (omega arith) m
+            ];
           }
       | else-has w ↦
           let absent : contains c.args.members.now k ≡ false = cc in
           record {
             upward = subst (λ new. IsUpward new) (sym w.parents-is) i.upward;
             same = subst (λ new. SameRoots old new) (sym w.parents-is) i.same;
-            each = λ f l m. elim (cases_eq f k) [ inl e ↦ absurd (both_ways _ absent (subst (λ (z : ℕ). contains c.args.members.now z ≡ true) e m)) | inr d ↦ i.each f (omega arith) m ];
+            each = λ f l m. elim (cases_eq f k) [
+              | inl e ↦ absurd
+                  (both_ways _ absent (subst (λ (z : ℕ). contains c.args.members.now z ≡ true) e m))
+              | inr d ↦ i.each f (omega arith) m
+            ];
           }
     ]

@@ -7,6 +7,11 @@ use Rattle.pg_graph.proofs.joins.bridges_all.Given as goal
 
 abbrev pub invariant-loop-k : goal.invariant-loop-k
 invariant-loop-k l = record {
-  labelled : IsLabelling (first_end_of l.g) (second_end_of l.g) (united (contains l.set) (contains l.members) l.k) l.parents;
-  bridges : (f : ℕ) → f < l.k → contains l.set f ≡ true → contains l.members f ≡ true → IsBridge l.g (united (contains l.set) (contains l.members) l.k) f;
+  labelled : IsLabelling (first_end_of l.g) (second_end_of l.g)
+      (united (contains l.set) (contains l.members) l.k) l.parents;
+  bridges : (f : ℕ)
+      → f < l.k
+      → contains l.set f ≡ true
+      → contains l.members f ≡ true
+      → IsBridge l.g (united (contains l.set) (contains l.members) l.k) f;
 }

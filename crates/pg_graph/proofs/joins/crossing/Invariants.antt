@@ -10,5 +10,9 @@ abbrev pub invariant-loop-k : goal.invariant-loop-k
 invariant-loop-k l = record {
   labelled : IsLabelling (first_end_of l.g) (second_end_of l.g) (contains l.set) l.parents;
   inside : root_of l.parents l.u ≡ l.inside;
-  none : (j : ℕ) → j < l.k → contains l.candidates j ≡ true → Crosses l.g (contains l.set) l.u j → ⊥;
+  none : (j : ℕ)
+      → j < l.k
+      → contains l.candidates j ≡ true
+      → Crosses l.g (contains l.set) l.u j
+      → ⊥;
 }

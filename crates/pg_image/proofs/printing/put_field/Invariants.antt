@@ -9,7 +9,8 @@ use Rattle.pg_image.proofs.printing.put_field.Given as goal
 abbrev pub invariant-loop-v : goal.invariant-loop-v
 invariant-loop-v l = record {
   next : l.next ≤ 1024;
-  out : string_bytes l.out ≡ string_bytes l.fn.out ++ spaced (map decimal (points_below l.set l.next));
+  out : string_bytes l.out
+      ≡ string_bytes l.fn.out ++ spaced (map decimal (points_below l.set l.next));
   begun : nat_lt 0 l.next ≡ is_begun (points_below l.set l.next);
 }
 

@@ -6,7 +6,8 @@ use Rattle.pg_io.proofs.reading.pour_open.Given as goal
 abbrev pub invariant-loop-spare : goal.invariant-loop-spare
 invariant-loop-spare g l = (0 < length l.buf)
     × g.S.Sink.ready l.sink
-    × HasPoured g.S.Sink.took l.initial.sink l.sink (g.F.Files.told l.initial.files).left (g.F.Files.told l.files).left l.limit l.spare
+    × HasPoured g.S.Sink.took l.initial.sink l.sink (g.F.Files.told l.initial.files).left
+    (g.F.Files.told l.files).left l.limit l.spare
     × ReadsOnly (g.F.Files.told l.initial.files) (g.F.Files.told l.files)
     × ((g.F.Files.told l.files).faults ≡ (g.F.Files.told l.initial.files).faults)
 

@@ -9,9 +9,16 @@ returns c =
     record {
       number = c.in_ok-push.ensures.items ∙ ap (λ n. c.args.numbers.now.items ++ n ∷ []) len;
       taken = λ _. (
-        record { x = c.args.node.now.x; y = c.args.node.now.y; turn = c.args.node.now.turn; left = c.args.node.now.left; body = c.in_ok-body.body },
+        record {
+          x = c.args.node.now.x;
+          y = c.args.node.now.y;
+          turn = c.args.node.now.turn;
+          left = c.args.node.now.left;
+          body = c.in_ok-body.body;
+        },
         refl,
-        subst (λ (ns : List ℕ). Renumbers ns c.args.node.now.body c.in_ok-body.body) c.as_slice.ensures.value c.in_ok-body.ensures,
+        subst (λ (ns : List ℕ). Renumbers ns c.args.node.now.body c.in_ok-body.body)
+            c.as_slice.ensures.value c.in_ok-body.ensures,
         c.in_ok-push-2.ensures.items,
       );
       left = λ off. absurd (false≢true (sym off ∙ c.if-not-marked.false));

@@ -11,5 +11,8 @@ pub loop-r-preserved : goal.loop-r-preserved
 unfolding none
 loop-r-preserved c =
     let r = get_or c.args.replies.now c.loop-r.r-index none in
-    let at = slice_get-get_or c.args.numbers.now r.child 0 (c.requires c.loop-r.r-index none c.loop-r-test.true) in
-    rw c.in_ok-push.ensures.items (reply-renumbered c.args.numbers.now c.args.replies.now c.loop-r.new.items c.loop-r.r-index (get_or c.args.numbers.now r.child 0) none c.loop-r-test.true at c.loop-r.invariant)
+    let at = slice_get-get_or c.args.numbers.now r.child 0
+    (c.requires c.loop-r.r-index none c.loop-r-test.true) in
+    rw c.in_ok-push.ensures.items
+    (reply-renumbered c.args.numbers.now c.args.replies.now c.loop-r.new.items c.loop-r.r-index
+    (get_or c.args.numbers.now r.child 0) none c.loop-r-test.true at c.loop-r.invariant)

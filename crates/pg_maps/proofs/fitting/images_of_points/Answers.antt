@@ -4,7 +4,7 @@ use Rattle.pg_maps.specs.GridMaps.{image_of}
 use Rattle.pg_maps.proofs.fitting.images_of_points.Goals as goal
 
 pub loop-v-preserved : goal.loop-v-preserved
-loop-v-preserved c =
-    c.in_ok-push.ensures.items
+loop-v-preserved c = c.in_ok-push.ensures.items
     ∙ ap₂ (λ (xs : List ℕ) (v : ℕ). xs ++ v ∷ []) c.loop-v.invariant c.image_of.ensures.image
-    ∙ sym (map-range_with_len_more (image_of c.args.m c.args.grid) 0 c.loop-v.v c.loop-v.v (omega arith))
+    ∙ sym
+    (map-range_with_len_more (image_of c.args.m c.args.grid) 0 c.loop-v.v c.loop-v.v (omega arith))

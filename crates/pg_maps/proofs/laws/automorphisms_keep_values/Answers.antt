@@ -6,5 +6,6 @@ returns c = record {
   over = λ g f back p q fits h. over-image g f back fits p q h;
   outcome = λ g f back p q fits h. outcome-image g f back fits p q h;
   value = λ g f back p q fits h. value-image g f back fits p q h;
-  forces = λ g f back p q side goal fits h forced. Forces-image g f back fits p q side goal h forced;
+  forces =
+      λ g f back p q side goal fits h forced. Forces-image g f back fits p q side goal h forced;
 }

@@ -5,12 +5,25 @@ use Rattle.pg_picture.specs.Svg.{escaped, filled, head, inside_of, picture_text,
 use Rattle.pg_picture.specs.declared.style.TheConstants.{STYLE}
 use Rattle.pg_picture.proofs.printing.print_picture.Goals as goal
 
-joined : (begin end title style shapes close : Bytes) → ((((([] ++ begin) ++ end) ++ title) ++ style) ++ shapes) ++ close ≡ begin ++ (end ++ ((title ++ (style ++ shapes)) ++ close))
+joined : (begin end title style shapes close : Bytes)
+    → ((((([] ++ begin) ++ end) ++ title) ++ style) ++ shapes) ++ close
+    ≡ begin ++ (end ++ ((title ++ (style ++ shapes)) ++ close))
 joined begin end title style shapes close = simp append_assoc
 
 pub returns : goal.returns
 unfolding picture_text inside_of
 returns c =
     let p = c.args.picture.now in
-    rw (c.in_ok-push_str-2.ensures.bytes, c.in_ok-put_shapes.ensures, c.as_slice.ensures, c.in_ok-put_style.ensures, c.in_ok-put_title.ensures, c.as_str.ensures, c.in_ok-push_str.ensures.bytes, c.in_ok-put_head.ensures, c.new-out.ensures.bytes)
-    (joined (head p.width p.height) (codes ">\n") (filled (codes "title") [] (escaped p.title)) (filled (codes "style") [] STYLE.now) (flat_map shape_text p.shapes) (codes "</svg>\n"))
+    rw (
+      c.in_ok-push_str-2.ensures.bytes,
+      c.in_ok-put_shapes.ensures,
+      c.as_slice.ensures,
+      c.in_ok-put_style.ensures,
+      c.in_ok-put_title.ensures,
+      c.as_str.ensures,
+      c.in_ok-push_str.ensures.bytes,
+      c.in_ok-put_head.ensures,
+      c.new-out.ensures.bytes,
+    )
+    (joined (head p.width p.height) (codes ">\n") (filled (codes "title") [] (escaped p.title))
+    (filled (codes "style") [] STYLE.now) (flat_map shape_text p.shapes) (codes "</svg>\n"))

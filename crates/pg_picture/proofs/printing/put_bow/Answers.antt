@@ -5,4 +5,9 @@ use Rattle.pg_picture.proofs.printing.put_bow.Goals as goal
 
 pub returns : goal.returns
 unfolding shape_text
-returns c = rw (c.in_ok-push_str-2.ensures.bytes, c.in_ok-put_path.ensures, c.in_ok-put_paint.ensures, c.in_ok-push_str.ensures.bytes) (simp (append_assoc, append-nil))
+returns c = rw (
+  c.in_ok-push_str-2.ensures.bytes,
+  c.in_ok-put_path.ensures,
+  c.in_ok-put_paint.ensures,
+  c.in_ok-push_str.ensures.bytes,
+) (simp (append_assoc, append-nil))

@@ -5,4 +5,10 @@ use Rattle.pg_picture.proofs.printing.put_disc.Goals as goal
 
 pub returns : goal.returns
 unfolding shape_text
-returns c = rw (c.in_ok-push_str-2.ensures.bytes, c.in_ok-put_number.ensures, c.in_ok-put_place.ensures, c.in_ok-put_paint.ensures, c.in_ok-push_str.ensures.bytes) (simp (append_assoc, append-nil))
+returns c = rw (
+  c.in_ok-push_str-2.ensures.bytes,
+  c.in_ok-put_number.ensures,
+  c.in_ok-put_place.ensures,
+  c.in_ok-put_paint.ensures,
+  c.in_ok-push_str.ensures.bytes,
+) (simp (append_assoc, append-nil))

@@ -4,4 +4,10 @@ use Rattle.pg_picture.proofs.printing.put_path.Goals as goal
 
 pub returns : goal.returns
 unfolding attribute_text
-returns c = rw (c.in_ok-push_str-2.ensures.bytes, c.in_ok-put_step-3.ensures, c.in_ok-put_step-2.ensures, c.in_ok-put_step.ensures, c.in_ok-push_str.ensures.bytes) (simp append_assoc)
+returns c = rw (
+  c.in_ok-push_str-2.ensures.bytes,
+  c.in_ok-put_step-3.ensures,
+  c.in_ok-put_step-2.ensures,
+  c.in_ok-put_step.ensures,
+  c.in_ok-push_str.ensures.bytes,
+) (simp append_assoc)

@@ -3,4 +3,5 @@ use Rattle.pg_picture.specs.Svg.{escaped}
 use Rattle.pg_picture.proofs.printing.put_words.Given as goal
 
 abbrev pub invariant-loop-byte : goal.invariant-loop-byte
-invariant-loop-byte l = string_bytes l.out ≡ string_bytes l.fn.out ++ escaped (take l.byte-index l.byte-items)
+invariant-loop-byte l =
+    string_bytes l.out ≡ string_bytes l.fn.out ++ escaped (take l.byte-index l.byte-items)

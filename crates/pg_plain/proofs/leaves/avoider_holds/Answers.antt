@@ -6,4 +6,5 @@ pub full_weight-requires : goal.full_weight-requires
 full_weight-requires c = IsBaseOf-two c.args.g.now
 
 pub returns : goal.returns
-returns c = avoider_holds-is c.args.g.now c.args.p.now c.avoider_risk.result c.full_weight.result c.avoider_risk.ensures c.full_weight.ensures
+returns c = avoider_holds-is c.args.g.now c.args.p.now c.avoider_risk.result c.full_weight.result
+    c.avoider_risk.ensures c.full_weight.ensures

@@ -17,7 +17,9 @@ abbrev pub decreases-is_rest : goal.decreases-is_rest
 decreases-is_rest l = 4 * length l.others.now + 1
 
 abbrev pub invariant-has_pair-loop-a : goal.invariant-has_pair-loop-a
-invariant-has_pair-loop-a l = PassesNone (is_lesser l.own l.others (contains l.free) l.line) (contains l.free) l.line l.a-index
+invariant-has_pair-loop-a l = PassesNone (is_lesser l.own l.others (contains l.free) l.line)
+    (contains l.free) l.line l.a-index
 
 abbrev pub invariant-has_greater-loop-b : goal.invariant-has_greater-loop-b
-invariant-has_greater-loop-b l = PassesNone (is_pair l.own l.others (contains l.free) l.a) (contains l.free) l.line l.b-index
+invariant-has_greater-loop-b l =
+    PassesNone (is_pair l.own l.others (contains l.free) l.a) (contains l.free) l.line l.b-index

@@ -9,4 +9,5 @@ pub loop-m-init : goal.loop-m-init
 loop-m-init c = λ opened. absurd (omega (arith, opened.1.1))
 
 pub returns-clause-none : goal.returns-clause-none
-returns-clause-none c = passed-all c.args.moves.now c.args.answers.now c.loop-m.m-index (omega arith) c.loop-m.invariant
+returns-clause-none c =
+    passed-all c.args.moves.now c.args.answers.now c.loop-m.m-index (omega arith) c.loop-m.invariant

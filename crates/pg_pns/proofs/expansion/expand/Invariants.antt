@@ -7,4 +7,7 @@ use Rattle.pg_pns.proofs.expansion.expand.Given as goal
 
 -- the moves to the points so far are met
 abbrev pub invariant-loop-v : goal.invariant-loop-v
-invariant-loop-v l = (l.board ≡ l.fn.board) × Fits l.cache (lines_of l.fn.g) × ((list : List Position) → (p : Position) → CanGrow l.fn.g l.question list l.fn.table l.k p → IsGrowing l.fn.g l.question list l.k l.p l.v l.table l.nexts)
+invariant-loop-v l = (l.board ≡ l.fn.board)
+    × Fits l.cache (lines_of l.fn.g)
+    × ((list : List Position) → (p : Position) → CanGrow l.fn.g l.question list l.fn.table l.k p
+    → IsGrowing l.fn.g l.question list l.k l.p l.v l.table l.nexts)

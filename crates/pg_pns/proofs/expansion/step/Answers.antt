@@ -17,79 +17,167 @@ use Rattle.pg_base.proofs.Stands.{one_at, contains_at, at_old, at_new}
 use Rattle.pg_pns.proofs.expansion.step.Goals as goal
 
 -- the place that was chosen, with the position read there
-chosen : (g : Game) (t : Score) (list ps : List Position) (s : Table) (k : ℕ) (p : Position) → IsSearch g t [] list s → IsNext s k → ps ≡ s.positions.items → p ≡ get_or ps k p → CanGrow g t list s k p
+chosen : (g : Game) (t : Score) (list ps : List Position) (s : Table) (k : ℕ) (p : Position)
+    → IsSearch g t [] list s
+    → IsNext s k
+    → ps ≡ s.positions.items
+    → p ≡ get_or ps k p
+    → CanGrow g t list s k p
 chosen g t list ps s k p is next e read =
     let inside = next-in g t list s k is next in
-    can-grow g t list s k p is next (slice_get_read s.positions.items (length s.positions.items) k p refl inside (read ∙ ap (λ (qs : List Position). get_or qs k p) e))
+    can-grow g t list s k p is next
+    (slice_get_read s.positions.items (length s.positions.items) k p refl inside
+    (read ∙ ap (λ (qs : List Position). get_or qs k p) e))
 
 pub go_down-k-requires-clause-search : goal.go_down-k-requires-clause-search
-go_down-k-requires-clause-search c = (c.args.question, keys_of c.args.work.now.entries, subst (λ (g : Game). IsSearch g c.args.question [] (keys_of c.args.work.now.entries) c.args.table.now) (sym c.requires.starts.game) c.requires.search)
+go_down-k-requires-clause-search c = (
+  c.args.question,
+  keys_of c.args.work.now.entries,
+  subst
+      (λ (g : Game). IsSearch g c.args.question [] (keys_of c.args.work.now.entries)
+      c.args.table.now) (sym c.requires.starts.game) c.requires.search,
+)
 
 pub go_down-k-requires-clause-starts : goal.go_down-k-requires-clause-starts
-go_down-k-requires-clause-starts c = record { game = refl; position = c.requires.starts.position ∙ ap start (sym c.requires.starts.game); earlier = c.requires.starts.earlier }
+go_down-k-requires-clause-starts c = record {
+  game = refl;
+  position = c.requires.starts.position ∙ ap start (sym c.requires.starts.game);
+  earlier = c.requires.starts.earlier;
+}
 
 pub expand-requires-clause-stands : goal.expand-requires-clause-stands
 expand-requires-clause-stands c = λ p at. record {
   game = c.go_down-k.ensures.game ∙ c.requires.starts.game;
-  position = one_at c.args.table.now.positions.items c.go_down-k.result c.go_down-k.new.board.stand.position p c.go_down-k.ensures.stands at;
+  position = one_at c.args.table.now.positions.items c.go_down-k.result
+      c.go_down-k.new.board.stand.position p c.go_down-k.ensures.stands at;
 }
 
 pub returns-clause-starts : goal.returns-clause-starts
 returns-clause-starts c =
     let kept = c.in_ok-expand.ensures.kept in
-    back-at-start c.args.g.now c.args.board.now c.go_down-k.new.board c.go_up.new.board c.requires.starts c.go_down-k.ensures.game c.go_down-k.ensures.first
-    (c.go_up.ensures.game ∙ ap (λ (b : View). b.game) kept) (c.go_up.ensures.stand ∙ ap first_stand kept) c.go_up.ensures.earlier
+    back-at-start c.args.g.now c.args.board.now c.go_down-k.new.board c.go_up.new.board
+    c.requires.starts c.go_down-k.ensures.game c.go_down-k.ensures.first
+    (c.go_up.ensures.game ∙ ap (λ (b : View). b.game) kept)
+    (c.go_up.ensures.stand ∙ ap first_stand kept) c.go_up.ensures.earlier
 
 pub bounds-positions-k : goal.bounds-positions-k
-bounds-positions-k c = let inside = next-in c.args.g.now c.args.question (keys_of c.args.work.now.entries) c.args.table.now c.go_down-k.result c.requires.search c.go_down-k.ensures.next in subst (λ (ps : List Position). c.go_down-k.result < length ps) (sym c.as_slice-positions.ensures.value) inside
+bounds-positions-k c =
+    let inside = next-in c.args.g.now c.args.question (keys_of c.args.work.now.entries)
+    c.args.table.now c.go_down-k.result c.requires.search c.go_down-k.ensures.next in
+    subst (λ (ps : List Position). c.go_down-k.result < length ps)
+    (sym c.as_slice-positions.ensures.value) inside
 
 -- a position that can be expanded wasn't
-unlisted : (g : Game) (t : Score) (list : List Position) (s : Table) (k : ℕ) (p : Position) → CanGrow g t list s k p → Contains list p → ⊥
+unlisted : (g : Game) (t : Score) (list : List Position) (s : Table) (k : ℕ) (p : Position)
+    → CanGrow g t list s k p
+    → Contains list p
+    → ⊥
 unlisted g t list s k p can c =
     let at = contains_at list p c in
     let within = slice_get_within list at.0 p at.1 in
-    let same = can.rules.different at.0 (length list) p (at_old list p p at.0 at.1) (at_new list p) in
+    let same =
+    can.rules.different at.0 (length list) p (at_old list p p at.0 at.1) (at_new list p) in
     omega (arith, within, same)
 
 pub keep-requires : goal.keep-requires
 keep-requires c = record {
-  fresh = unlisted c.args.g.now c.args.question (keys_of c.args.work.now.entries) c.args.table.now c.go_down-k.result c.index-positions-k.result
-      (chosen c.args.g.now c.args.question (keys_of c.args.work.now.entries) c.as_slice-positions.result.now c.args.table.now c.go_down-k.result c.index-positions-k.result c.requires.search c.go_down-k.ensures.next c.as_slice-positions.ensures.value c.index-positions-k.is);
+  fresh = unlisted c.args.g.now c.args.question (keys_of c.args.work.now.entries) c.args.table.now
+      c.go_down-k.result c.index-positions-k.result
+      (chosen c.args.g.now c.args.question
+      (keys_of c.args.work.now.entries) c.as_slice-positions.result.now c.args.table.now
+      c.go_down-k.result c.index-positions-k.result c.requires.search c.go_down-k.ensures.next
+      c.as_slice-positions.ensures.value c.index-positions-k.is);
 }
 
 pub expand-requires-clause-grows : goal.expand-requires-clause-grows
-expand-requires-clause-grows c = ((keys_of c.args.work.now.entries), c.index-positions-k.result, chosen c.args.g.now c.args.question (keys_of c.args.work.now.entries) c.as_slice-positions.result.now c.args.table.now c.go_down-k.result c.index-positions-k.result c.requires.search c.go_down-k.ensures.next c.as_slice-positions.ensures.value c.index-positions-k.is, c.requires.few)
+expand-requires-clause-grows c = (
+  (keys_of c.args.work.now.entries),
+  c.index-positions-k.result,
+  chosen c.args.g.now c.args.question
+      (keys_of c.args.work.now.entries) c.as_slice-positions.result.now c.args.table.now
+      c.go_down-k.result c.index-positions-k.result c.requires.search c.go_down-k.ensures.next
+      c.as_slice-positions.ensures.value c.index-positions-k.is,
+  c.requires.few,
+)
 
 pub returns-in_err-expand-clause-rules : goal.returns-in_err-expand-clause-rules
-returns-in_err-expand-clause-rules c = subst (λ (w : List Position). IsTable c.args.g.now c.args.question w) (sym c.in_ok-keep.ensures.kept)
-    (chosen c.args.g.now c.args.question (keys_of c.args.work.now.entries) c.as_slice-positions.result.now c.args.table.now c.go_down-k.result c.index-positions-k.result c.requires.search c.go_down-k.ensures.next c.as_slice-positions.ensures.value c.index-positions-k.is).rules
+returns-in_err-expand-clause-rules c = subst
+    (λ (w : List Position). IsTable c.args.g.now c.args.question w) (sym c.in_ok-keep.ensures.kept)
+    (chosen c.args.g.now c.args.question
+    (keys_of c.args.work.now.entries) c.as_slice-positions.result.now c.args.table.now
+    c.go_down-k.result c.index-positions-k.result c.requires.search c.go_down-k.ensures.next
+    c.as_slice-positions.ensures.value c.index-positions-k.is).rules
 
 pub settle_table-requires-clause-some : goal.settle_table-requires-clause-some
-settle_table-requires-clause-some c = ((keys_of c.args.work.now.entries) ++ c.index-positions-k.result ∷ [], (c.in_ok-expand.ensures.grows (keys_of c.args.work.now.entries) c.index-positions-k.result (chosen c.args.g.now c.args.question (keys_of c.args.work.now.entries) c.as_slice-positions.result.now c.args.table.now c.go_down-k.result c.index-positions-k.result c.requires.search c.go_down-k.ensures.next c.as_slice-positions.ensures.value c.index-positions-k.is)))
+settle_table-requires-clause-some c = (
+  (keys_of c.args.work.now.entries) ++ c.index-positions-k.result ∷ [],
+  (c.in_ok-expand.ensures.grows (keys_of c.args.work.now.entries) c.index-positions-k.result
+      (chosen c.args.g.now c.args.question
+      (keys_of c.args.work.now.entries) c.as_slice-positions.result.now c.args.table.now
+      c.go_down-k.result c.index-positions-k.result c.requires.search c.go_down-k.ensures.next
+      c.as_slice-positions.ensures.value c.index-positions-k.is)),
+)
 
 pub settle_table-requires-clause-few : goal.settle_table-requires-clause-few
-settle_table-requires-clause-few c = few-from c.args.g.now c.args.question (c.go_down-k.result ∷ []) (keys_of c.args.work.now.entries) c.index-positions-k.result c.expand.new.table (c.in_ok-expand.ensures.grows (keys_of c.args.work.now.entries) c.index-positions-k.result (chosen c.args.g.now c.args.question (keys_of c.args.work.now.entries) c.as_slice-positions.result.now c.args.table.now c.go_down-k.result c.index-positions-k.result c.requires.search c.go_down-k.ensures.next c.as_slice-positions.ensures.value c.index-positions-k.is)) c.requires.few
+settle_table-requires-clause-few c = few-from c.args.g.now c.args.question (c.go_down-k.result ∷ [])
+    (keys_of c.args.work.now.entries) c.index-positions-k.result c.expand.new.table
+    (c.in_ok-expand.ensures.grows (keys_of c.args.work.now.entries) c.index-positions-k.result
+    (chosen c.args.g.now c.args.question
+    (keys_of c.args.work.now.entries) c.as_slice-positions.result.now c.args.table.now
+    c.go_down-k.result c.index-positions-k.result c.requires.search c.go_down-k.ensures.next
+    c.as_slice-positions.ensures.value c.index-positions-k.is)) c.requires.few
 
 pub returns-in_err-settle_table-clause-rules : goal.returns-in_err-settle_table-clause-rules
-returns-in_err-settle_table-clause-rules c = subst (λ (w : List Position). IsTable c.args.g.now c.args.question w) (sym c.in_ok-keep.ensures.kept)
-    (chosen c.args.g.now c.args.question (keys_of c.args.work.now.entries) c.as_slice-positions.result.now c.args.table.now c.go_down-k.result c.index-positions-k.result c.requires.search c.go_down-k.ensures.next c.as_slice-positions.ensures.value c.index-positions-k.is).rules
+returns-in_err-settle_table-clause-rules c = subst
+    (λ (w : List Position). IsTable c.args.g.now c.args.question w) (sym c.in_ok-keep.ensures.kept)
+    (chosen c.args.g.now c.args.question
+    (keys_of c.args.work.now.entries) c.as_slice-positions.result.now c.args.table.now
+    c.go_down-k.result c.index-positions-k.result c.requires.search c.go_down-k.ensures.next
+    c.as_slice-positions.ensures.value c.index-positions-k.is).rules
 
 pub returns-in_err-order-clause-rules : goal.returns-in_err-order-clause-rules
-returns-in_err-order-clause-rules c = subst (λ (w : List Position). IsTable c.args.g.now c.args.question w) (sym c.in_ok-keep.ensures.kept)
-    (chosen c.args.g.now c.args.question (keys_of c.args.work.now.entries) c.as_slice-positions.result.now c.args.table.now c.go_down-k.result c.index-positions-k.result c.requires.search c.go_down-k.ensures.next c.as_slice-positions.ensures.value c.index-positions-k.is).rules
+returns-in_err-order-clause-rules c = subst
+    (λ (w : List Position). IsTable c.args.g.now c.args.question w) (sym c.in_ok-keep.ensures.kept)
+    (chosen c.args.g.now c.args.question
+    (keys_of c.args.work.now.entries) c.as_slice-positions.result.now c.args.table.now
+    c.go_down-k.result c.index-positions-k.result c.requires.search c.go_down-k.ensures.next
+    c.as_slice-positions.ensures.value c.index-positions-k.is).rules
 
 pub update-requires : goal.update-requires
-update-requires c = few-from c.args.g.now c.args.question [] (keys_of c.args.work.now.entries) c.index-positions-k.result c.settle_table.new.table
-    (c.in_ok-settle_table.ensures ((keys_of c.args.work.now.entries) ++ c.index-positions-k.result ∷ []) (c.in_ok-expand.ensures.grows (keys_of c.args.work.now.entries) c.index-positions-k.result (chosen c.args.g.now c.args.question (keys_of c.args.work.now.entries) c.as_slice-positions.result.now c.args.table.now c.go_down-k.result c.index-positions-k.result c.requires.search c.go_down-k.ensures.next c.as_slice-positions.ensures.value c.index-positions-k.is))) c.requires.few
+update-requires c = few-from c.args.g.now c.args.question []
+    (keys_of c.args.work.now.entries) c.index-positions-k.result c.settle_table.new.table
+    (c.in_ok-settle_table.ensures
+    ((keys_of c.args.work.now.entries) ++ c.index-positions-k.result ∷ [])
+    (c.in_ok-expand.ensures.grows (keys_of c.args.work.now.entries) c.index-positions-k.result
+    (chosen c.args.g.now c.args.question
+    (keys_of c.args.work.now.entries) c.as_slice-positions.result.now c.args.table.now
+    c.go_down-k.result c.index-positions-k.result c.requires.search c.go_down-k.ensures.next
+    c.as_slice-positions.ensures.value c.index-positions-k.is))) c.requires.few
 
 pub returns-in_err-update-clause-rules : goal.returns-in_err-update-clause-rules
-returns-in_err-update-clause-rules c = subst (λ (w : List Position). IsTable c.args.g.now c.args.question w) (sym c.in_ok-keep.ensures.kept)
-    (chosen c.args.g.now c.args.question (keys_of c.args.work.now.entries) c.as_slice-positions.result.now c.args.table.now c.go_down-k.result c.index-positions-k.result c.requires.search c.go_down-k.ensures.next c.as_slice-positions.ensures.value c.index-positions-k.is).rules
+returns-in_err-update-clause-rules c = subst
+    (λ (w : List Position). IsTable c.args.g.now c.args.question w) (sym c.in_ok-keep.ensures.kept)
+    (chosen c.args.g.now c.args.question
+    (keys_of c.args.work.now.entries) c.as_slice-positions.result.now c.args.table.now
+    c.go_down-k.result c.index-positions-k.result c.requires.search c.go_down-k.ensures.next
+    c.as_slice-positions.ensures.value c.index-positions-k.is).rules
 
 pub returns-clause-rules : goal.returns-clause-rules
-returns-clause-rules c = subst (λ (w : List Position). IsTable c.args.g.now c.args.question w) (sym c.in_ok-keep.ensures.kept)
-    (chosen c.args.g.now c.args.question (keys_of c.args.work.now.entries) c.as_slice-positions.result.now c.args.table.now c.go_down-k.result c.index-positions-k.result c.requires.search c.go_down-k.ensures.next c.as_slice-positions.ensures.value c.index-positions-k.is).rules
+returns-clause-rules c = subst (λ (w : List Position). IsTable c.args.g.now c.args.question w)
+    (sym c.in_ok-keep.ensures.kept)
+    (chosen c.args.g.now c.args.question
+    (keys_of c.args.work.now.entries) c.as_slice-positions.result.now c.args.table.now
+    c.go_down-k.result c.index-positions-k.result c.requires.search c.go_down-k.ensures.next
+    c.as_slice-positions.ensures.value c.index-positions-k.is).rules
 
 pub returns-clause-search : goal.returns-clause-search
-returns-clause-search c = subst (λ (w : List Position). IsSearch c.args.g.now c.args.question [] w c.settle_table.new.table) (sym c.in_ok-keep.ensures.kept)
-    (c.in_ok-settle_table.ensures ((keys_of c.args.work.now.entries) ++ c.index-positions-k.result ∷ []) (c.in_ok-expand.ensures.grows (keys_of c.args.work.now.entries) c.index-positions-k.result (chosen c.args.g.now c.args.question (keys_of c.args.work.now.entries) c.as_slice-positions.result.now c.args.table.now c.go_down-k.result c.index-positions-k.result c.requires.search c.go_down-k.ensures.next c.as_slice-positions.ensures.value c.index-positions-k.is)))
+returns-clause-search c = subst
+    (λ (w : List Position). IsSearch c.args.g.now c.args.question [] w c.settle_table.new.table)
+    (sym c.in_ok-keep.ensures.kept)
+    (c.in_ok-settle_table.ensures
+    ((keys_of c.args.work.now.entries) ++ c.index-positions-k.result ∷ [])
+    (c.in_ok-expand.ensures.grows (keys_of c.args.work.now.entries) c.index-positions-k.result
+    (chosen c.args.g.now c.args.question
+    (keys_of c.args.work.now.entries) c.as_slice-positions.result.now c.args.table.now
+    c.go_down-k.result c.index-positions-k.result c.requires.search c.go_down-k.ensures.next
+    c.as_slice-positions.ensures.value c.index-positions-k.is)))

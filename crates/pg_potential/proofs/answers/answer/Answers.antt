@@ -10,38 +10,58 @@ use Rattle.pg_potential.proofs.PotentialLaws.{kept-answer_breaker, kept-answer_d
 use Rattle.pg_potential.proofs.answers.answer.Goals as goal
 
 pub returns-clause-rule : goal.returns-clause-rule
-returns-clause-rule c = answer-is c.args.g.now c.args.p.now c.args.side c.weights_for-weights.result.points c.greatest_free-greatest.result c.lowest_with.result c.requires.lines c.weights_for-weights.ensures.points c.greatest_free-greatest.ensures c.lowest_with.ensures
+returns-clause-rule c =
+    answer-is c.args.g.now c.args.p.now c.args.side c.weights_for-weights.result.points
+    c.greatest_free-greatest.result c.lowest_with.result c.requires.lines
+    c.weights_for-weights.ensures.points c.greatest_free-greatest.ensures c.lowest_with.ensures
 
 pub returns-clause-within : goal.returns-clause-within
 returns-clause-within c =
     let g = c.args.g.now in
     let p = c.args.p.now in
-    let is = answer-is g p c.args.side c.weights_for-weights.result.points c.greatest_free-greatest.result c.lowest_with.result c.requires.lines c.weights_for-weights.ensures.points c.greatest_free-greatest.ensures c.lowest_with.ensures in
-    subst (λ (n : ℕ). n < point_count g) (sym is) (member-within g p (potential_answer g p c.args.side) (answer-good g p c.args.side c.requires.some_free).0)
+    let is = answer-is g p c.args.side c.weights_for-weights.result.points
+    c.greatest_free-greatest.result c.lowest_with.result c.requires.lines
+    c.weights_for-weights.ensures.points c.greatest_free-greatest.ensures c.lowest_with.ensures in
+    subst (λ (n : ℕ). n < point_count g) (sym is)
+    (member-within g p (potential_answer g p c.args.side)
+    (answer-good g p c.args.side c.requires.some_free).0)
 
 pub returns-clause-free : goal.returns-clause-free
 returns-clause-free c =
     let g = c.args.g.now in
     let p = c.args.p.now in
-    let is = answer-is g p c.args.side c.weights_for-weights.result.points c.greatest_free-greatest.result c.lowest_with.result c.requires.lines c.weights_for-weights.ensures.points c.greatest_free-greatest.ensures c.lowest_with.ensures in
-    subst (λ (n : ℕ). is_free p n ≡ true) (sym is) (member-free g p (potential_answer g p c.args.side) (answer-good g p c.args.side c.requires.some_free).0)
+    let is = answer-is g p c.args.side c.weights_for-weights.result.points
+    c.greatest_free-greatest.result c.lowest_with.result c.requires.lines
+    c.weights_for-weights.ensures.points c.greatest_free-greatest.ensures c.lowest_with.ensures in
+    subst (λ (n : ℕ). is_free p n ≡ true) (sym is)
+    (member-free g p (potential_answer g p c.args.side)
+    (answer-good g p c.args.side c.requires.some_free).0)
 
 pub returns-clause-keeps_breaker : goal.returns-clause-keeps_breaker
 returns-clause-keeps_breaker c = λ kind is_y mine holds.
     let g = c.args.g.now in
     let p = c.args.p.now in
-    let is = answer-is g p c.args.side c.weights_for-weights.result.points c.greatest_free-greatest.result c.lowest_with.result c.requires.lines c.weights_for-weights.ensures.points c.greatest_free-greatest.ensures c.lowest_with.ensures in
+    let is = answer-is g p c.args.side c.weights_for-weights.result.points
+    c.greatest_free-greatest.result c.lowest_with.result c.requires.lines
+    c.weights_for-weights.ensures.points c.greatest_free-greatest.ensures c.lowest_with.ensures in
     let good = answer-good g p Y c.requires.some_free in
-    let same : potential_answer g p Y ≡ c.lowest_with.result = ap (λ (s : Side). potential_answer g p s) (sym is_y) ∙ sym is in
-    subst (λ (n : ℕ). PotentialHolds g (after g p n) c.args.side) same (subst (λ (s : Side). PotentialHolds g (after g p (potential_answer g p Y)) s) (sym is_y)
-    (kept-answer_breaker g p (potential_answer g p Y) kind c.requires.position (subst (λ (s : Side). PotentialHolds g p s) is_y holds) (mine ∙ is_y) (member-free g p (potential_answer g p Y) good.0) good.1))
+    let same : potential_answer g p Y ≡ c.lowest_with.result =
+    ap (λ (s : Side). potential_answer g p s) (sym is_y) ∙ sym is in
+    subst (λ (n : ℕ). PotentialHolds g (after g p n) c.args.side) same
+    (subst (λ (s : Side). PotentialHolds g (after g p (potential_answer g p Y)) s) (sym is_y)
+    (kept-answer_breaker g p (potential_answer g p Y) kind c.requires.position
+    (subst (λ (s : Side). PotentialHolds g p s) is_y holds) (mine ∙ is_y)
+    (member-free g p (potential_answer g p Y) good.0) good.1))
 
 pub returns-clause-keeps_draw : goal.returns-clause-keeps_draw
 returns-clause-keeps_draw c = λ kind mine holds.
     let g = c.args.g.now in
     let p = c.args.p.now in
     let side = c.args.side in
-    let is = answer-is g p side c.weights_for-weights.result.points c.greatest_free-greatest.result c.lowest_with.result c.requires.lines c.weights_for-weights.ensures.points c.greatest_free-greatest.ensures c.lowest_with.ensures in
+    let is = answer-is g p side c.weights_for-weights.result.points c.greatest_free-greatest.result
+    c.lowest_with.result c.requires.lines c.weights_for-weights.ensures.points
+    c.greatest_free-greatest.ensures c.lowest_with.ensures in
     let good = answer-good g p side c.requires.some_free in
     subst (λ (n : ℕ). PotentialHolds g (after g p n) side) (sym is)
-    (kept-answer_draw g p side (potential_answer g p side) kind c.requires.position holds mine (member-free g p (potential_answer g p side) good.0) good.1)
+    (kept-answer_draw g p side (potential_answer g p side) kind c.requires.position holds mine
+    (member-free g p (potential_answer g p side) good.0) good.1)

@@ -13,6 +13,9 @@ returns c =
     let side = c.args.side in
     record {
       exact = c.is_low.ensures;
-      breaker = λ on kind is_y. subst (λ (s : Side). Forces g p s Win) (sym is_y) (Forces-potential_breaker g p kind c.requires.position (subst (λ (s : Side). PotentialHolds g p s) is_y (c.is_low.ensures.0 on)));
-      draw = λ on kind. Forces-potential_draw g p side kind c.requires.position (c.is_low.ensures.0 on);
+      breaker = λ on kind is_y. subst (λ (s : Side). Forces g p s Win) (sym is_y)
+          (Forces-potential_breaker g p kind c.requires.position
+          (subst (λ (s : Side). PotentialHolds g p s) is_y (c.is_low.ensures.0 on)));
+      draw = λ on kind. Forces-potential_draw g p side kind c.requires.position
+          (c.is_low.ensures.0 on);
     }

@@ -9,18 +9,35 @@ use Rattle.pg_potential.proofs.condition.is_low.Goals as goal
 pub returns-then-total-limit : goal.returns-then-total-limit
 returns-then-total-limit c = (
   λ f. absurd (false≢true f),
-  λ h. absurd (omega (arith, h, c.if-total-limit.true, c.total_for-total.ensures.total, c.limit-limit.ensures)),
+  λ h. absurd (omega (
+    arith,
+    h,
+    c.if-total-limit.true,
+    c.total_for-total.ensures.total,
+    c.limit-limit.ensures,
+  )),
 )
 
 pub overflow_mul-times : goal.overflow_mul-times
 overflow_mul-times c =
-    let times : c.from-times.result ≤ 7 = omega (arith, c.from-times.ensures, c.times_counted.ensures.few) in
-    omega (arith, mul-le c.from-times.result c.total_for-total.result 7 (2 ^ 115) times c.total_for-total.ensures.few)
+    let times : c.from-times.result ≤ 7 =
+    omega (arith, c.from-times.ensures, c.times_counted.ensures.few) in
+    omega (
+      arith,
+      mul-le c.from-times.result c.total_for-total.result 7
+          (2 ^ 115) times c.total_for-total.ensures.few,
+    )
 
 pub overflow_add-total : goal.overflow_add-total
 overflow_add-total c =
-    let times : c.from-times.result ≤ 7 = omega (arith, c.from-times.ensures, c.times_counted.ensures.few) in
-    omega (arith, mul-le c.from-times.result c.total_for-total.result 7 (2 ^ 115) times c.total_for-total.ensures.few, c.total_for-total.ensures.few)
+    let times : c.from-times.result ≤ 7 =
+    omega (arith, c.from-times.ensures, c.times_counted.ensures.few) in
+    omega (
+      arith,
+      mul-le c.from-times.result c.total_for-total.result 7
+          (2 ^ 115) times c.total_for-total.ensures.few,
+      c.total_for-total.ensures.few,
+    )
 
 pub returns-then-total-times : goal.returns-then-total-times
 returns-then-total-times c =
@@ -29,18 +46,40 @@ returns-then-total-times c =
     let side = c.args.side in
     let t = c.from-times.result in
     let le = mul-le-mul_left t (greatest_weight-le g p side) in
-    let low = subst₂ (λ (a b : ℕ). a + t * a < b) c.total_for-total.ensures.total c.limit-limit.ensures c.if-total-times.true in
-    let all : total g p side + t * greatest_weight g p side < limit g = omega (arith, low, le) in
-    (λ on. subst (λ (k : ℕ). total g p side + k * greatest_weight g p side < limit g) (c.from-times.ensures ∙ c.times_counted.ensures.times) all, λ h. refl)
+    let low = subst₂ (λ (a b : ℕ). a + t * a < b) c.total_for-total.ensures.total
+    c.limit-limit.ensures c.if-total-times.true in
+    let all : total g p side + t * greatest_weight g p side < limit g = omega (arith, low, le) in (
+      λ on. subst (λ (k : ℕ). total g p side + k * greatest_weight g p side < limit g)
+          (c.from-times.ensures ∙ c.times_counted.ensures.times) all,
+      λ h. refl,
+    )
 
 pub overflow_mul-result : goal.overflow_mul-result
 overflow_mul-result c =
-    let times : c.from-times.result ≤ 7 = omega (arith, c.from-times.ensures, c.times_counted.ensures.few) in
-    let few : c.greatest_weight.result ≤ 2 ^ 115 = omega (arith, c.greatest_weight.ensures, greatest_weight-le c.args.g.now c.args.p.now c.args.side, c.total_for-total.ensures.total, c.total_for-total.ensures.few) in
+    let times : c.from-times.result ≤ 7 =
+    omega (arith, c.from-times.ensures, c.times_counted.ensures.few) in
+    let few : c.greatest_weight.result ≤ 2 ^ 115 = omega (
+      arith,
+      c.greatest_weight.ensures,
+      greatest_weight-le c.args.g.now c.args.p.now c.args.side,
+      c.total_for-total.ensures.total,
+      c.total_for-total.ensures.few,
+    ) in
     omega (arith, mul-le c.from-times.result c.greatest_weight.result 7 (2 ^ 115) times few)
 
 pub overflow_add-result : goal.overflow_add-result
 overflow_add-result c =
-    let times : c.from-times.result ≤ 7 = omega (arith, c.from-times.ensures, c.times_counted.ensures.few) in
-    let few : c.greatest_weight.result ≤ 2 ^ 115 = omega (arith, c.greatest_weight.ensures, greatest_weight-le c.args.g.now c.args.p.now c.args.side, c.total_for-total.ensures.total, c.total_for-total.ensures.few) in
-    omega (arith, mul-le c.from-times.result c.greatest_weight.result 7 (2 ^ 115) times few, c.total_for-total.ensures.few)
+    let times : c.from-times.result ≤ 7 =
+    omega (arith, c.from-times.ensures, c.times_counted.ensures.few) in
+    let few : c.greatest_weight.result ≤ 2 ^ 115 = omega (
+      arith,
+      c.greatest_weight.ensures,
+      greatest_weight-le c.args.g.now c.args.p.now c.args.side,
+      c.total_for-total.ensures.total,
+      c.total_for-total.ensures.few,
+    ) in
+    omega (
+      arith,
+      mul-le c.from-times.result c.greatest_weight.result 7 (2 ^ 115) times few,
+      c.total_for-total.ensures.few,
+    )

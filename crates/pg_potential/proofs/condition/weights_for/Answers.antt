@@ -8,4 +8,8 @@ weigh-requires c = IsBaseOf-bias c.args.g.now c.from.result c.from.ensures
 pub returns-clause-few : goal.returns-clause-few
 returns-clause-few c =
     let base = IsBaseOf-bias c.args.g.now c.from.result c.from.ensures in
-    omega (arith, c.weigh.ensures.total, total-few _ c.args.g.now c.points_of.result.now c.args.p.now base.some base.few)
+    omega (
+      arith,
+      c.weigh.ensures.total,
+      total-few _ c.args.g.now c.points_of.result.now c.args.p.now base.some base.few,
+    )

@@ -16,4 +16,7 @@ returns-clause-play c g events v =
     λ i. record { moves = moves i; position = position i }
 
 pub returns-clause-back : goal.returns-clause-back
-returns-clause-back c g before v since same = ap (λ (ms : List ℕ). record { moves = ms; position = position_after g ms }) (back-undoes before since v same)
+returns-clause-back c g before v since same = ap (λ (ms : List ℕ). record {
+  moves = ms;
+  position = position_after g ms;
+}) (back-undoes before since v same)

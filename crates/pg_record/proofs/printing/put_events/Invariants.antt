@@ -6,4 +6,5 @@ use Rattle.pg_record.specs.Print.{event_words}
 use Rattle.pg_record.proofs.printing.put_events.Given as goal
 
 abbrev pub invariant-loop-event : goal.invariant-loop-event
-invariant-loop-event l = string_bytes l.out ≡ string_bytes l.fn.out ++ flat_map (λ e. spelled (event_words e)) (take l.event-index l.events)
+invariant-loop-event l = string_bytes l.out
+    ≡ string_bytes l.fn.out ++ flat_map (λ e. spelled (event_words e)) (take l.event-index l.events)

@@ -5,6 +5,13 @@ use Rattle.pg_record.proofs.reading.read_record.Goals as goal
 
 pub read_events-requires : goal.read_events-requires
 read_events-requires c =
-    let rest : c.of-lines.result ≡ c.in-Some.first.now ∷ c.next.new.self = c.in-Some.ensures.steps in
+    let rest : c.of-lines.result ≡ c.in-Some.first.now ∷ c.next.new.self =
+    c.in-Some.ensures.steps in
     let whole : c.of-lines.result ≡ lines c.args.bytes.now = c.of-lines.ensures in
-    omega (arith, ap length rest, ap length whole, lines_few c.args.bytes.now, c.if-bytes-gt-MAX_RECORD_BYTES.false)
+    omega (
+      arith,
+      ap length rest,
+      ap length whole,
+      lines_few c.args.bytes.now,
+      c.if-bytes-gt-MAX_RECORD_BYTES.false,
+    )

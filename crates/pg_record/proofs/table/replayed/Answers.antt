@@ -9,14 +9,19 @@ use Rattle.pg_record.proofs.table.replayed.Goals as goal
 
 pub after-position-requires : goal.after-position-requires
 after-position-requires c =
-    let low : slice_index_or c.args.moves.now c.loop-v.v-index 0 < point_count c.args.g.now = legal-point c.args.g.now (start c.args.g.now) c.args.moves.now c.loop-v.v-index c.requires c.loop-v-test.true in
+    let low : slice_index_or c.args.moves.now c.loop-v.v-index 0 < point_count c.args.g.now =
+    legal-point c.args.g.now
+    (start c.args.g.now) c.args.moves.now c.loop-v.v-index c.requires c.loop-v-test.true in
     omega (arith, low, point_count-le c.args.g.now)
 
 pub loop-v-preserved : goal.loop-v-preserved
 loop-v-preserved c =
     let v = slice_index_or c.args.moves.now c.loop-v.v-index 0 in
-    let more : take (c.loop-v.v-index + 1) c.args.moves.now ≡ take c.loop-v.v-index c.args.moves.now ++ v ∷ [] = take_more c.args.moves.now c.loop-v.v-index 0 c.loop-v-test.true in
+    let more : take (c.loop-v.v-index + 1) c.args.moves.now
+    ≡ take c.loop-v.v-index c.args.moves.now ++ v ∷ [] =
+    take_more c.args.moves.now c.loop-v.v-index 0 c.loop-v-test.true in
     c.after-position.ensures
     ∙ (ap (λ (p : Position). after c.args.g.now p v) c.loop-v.invariant
-    ∙ (sym (played-more c.args.g.now (start c.args.g.now) (take c.loop-v.v-index c.args.moves.now) v)
+    ∙ (sym
+    (played-more c.args.g.now (start c.args.g.now) (take c.loop-v.v-index c.args.moves.now) v)
     ∙ sym (ap (position_after c.args.g.now) more)))

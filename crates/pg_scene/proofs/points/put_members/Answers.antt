@@ -16,8 +16,11 @@ pub loop-v-preserved : goal.loop-v-preserved
 unfolding points_below
 loop-v-preserved c =
     elim c.if-has.branch [
-      | then-has+in_ok-push w ↦
-          passed (λ v. Member v c.args.set) (contains c.args.edges.now) c.loop-v.v c.args.items.now.items _ _ _ (sym c.has.ensures ∙ w.if-has.true) (ap (λ (v : Vec Item). v.items) w.items-is ∙ w.in_ok-push.ensures.items) c.loop-v.invariant refl
-      | else-has w ↦
-          failed (λ v. Member v c.args.set) (contains c.args.edges.now) c.loop-v.v c.args.items.now.items _ _ (sym c.has.ensures ∙ w.if-has.false) (ap (λ (v : Vec Item). v.items) w.items-is) c.loop-v.invariant
+      | then-has+in_ok-push w ↦ passed (λ v. Member v c.args.set) (contains c.args.edges.now)
+          c.loop-v.v c.args.items.now.items _ _ _ (sym c.has.ensures ∙ w.if-has.true)
+          (ap (λ (v : Vec Item). v.items) w.items-is ∙ w.in_ok-push.ensures.items)
+          c.loop-v.invariant refl
+      | else-has w ↦ failed (λ v. Member v c.args.set) (contains c.args.edges.now) c.loop-v.v
+          c.args.items.now.items _ _ (sym c.has.ensures ∙ w.if-has.false)
+          (ap (λ (v : Vec Item). v.items) w.items-is) c.loop-v.invariant
     ]

@@ -17,13 +17,25 @@ pub loop-v-preserved : goal.loop-v-preserved
 loop-v-preserved c =
     elim c.if-is_free.branch [
       | then-is_free+in_ok-weight+in_ok-push w ↦
-          passed (λ v. Weight v (decimal (units c.args.g.now c.args.p.now c.args.side v))) (is_free c.args.p.now) c.loop-v.v c.args.items.now.items _ _ _ (sym c.is_free.ensures ∙ w.if-is_free.true)
-          (ap (λ (v : Vec Item). v.items) w.items-is ∙ w.in_ok-push.ensures.items) c.loop-v.invariant
-          (ap (Weight c.loop-v.v) (w.in_ok-weight.ensures ∙ ap decimal (ap₂ (λ all one. all / one)
-          (ap (λ i. get_or c.weights_for-weights.result.points i 0) w.from.ensures ∙ c.weights_for-weights.ensures.points c.loop-v.v (omega (arith, c.requires, c.points-v-end.ensures.count))) c.unit_weight-unit.ensures.unit
-          ∙ units_by-weight (base_of c.args.g.now.kind c.args.g.now.bias) c.args.g.now (own_of c.args.g.now.kind c.args.p.now c.args.side) c.args.p.now c.loop-v.v (base_some c.args.g.now (base_of c.args.g.now.kind c.args.g.now.bias) refl))))
+          passed (λ v. Weight v (decimal (units c.args.g.now c.args.p.now c.args.side v)))
+          (is_free c.args.p.now) c.loop-v.v c.args.items.now.items _ _ _
+          (sym c.is_free.ensures ∙ w.if-is_free.true)
+          (ap (λ (v : Vec Item). v.items) w.items-is ∙ w.in_ok-push.ensures.items)
+          c.loop-v.invariant (ap (Weight c.loop-v.v) (w.in_ok-weight.ensures
+          ∙ ap decimal (ap₂ (λ all one. all / one)
+          (ap (λ i. get_or c.weights_for-weights.result.points i 0) w.from.ensures
+          ∙ c.weights_for-weights.ensures.points c.loop-v.v (omega (
+            arith,
+            c.requires,
+            c.points-v-end.ensures.count,
+          ))) c.unit_weight-unit.ensures.unit
+          ∙ units_by-weight (base_of c.args.g.now.kind c.args.g.now.bias) c.args.g.now
+          (own_of c.args.g.now.kind c.args.p.now c.args.side) c.args.p.now c.loop-v.v
+          (base_some c.args.g.now (base_of c.args.g.now.kind c.args.g.now.bias) refl))))
       | else-is_free w ↦
-          failed (λ v. Weight v (decimal (units c.args.g.now c.args.p.now c.args.side v))) (is_free c.args.p.now) c.loop-v.v c.args.items.now.items _ _ (sym c.is_free.ensures ∙ w.if-is_free.false)
+          failed (λ v. Weight v (decimal (units c.args.g.now c.args.p.now c.args.side v)))
+          (is_free c.args.p.now) c.loop-v.v c.args.items.now.items _ _
+          (sym c.is_free.ensures ∙ w.if-is_free.false)
           (ap (λ (v : Vec Item). v.items) w.items-is) c.loop-v.invariant
     ]
 
@@ -31,4 +43,7 @@ pub returns : goal.returns
 unfolding free_points
 returns c =
     let end : c.loop-v.v ≡ point_count c.args.g.now = omega (arith, c.points-v-end.ensures.count) in
-    c.loop-v.invariant ∙ ap (λ n. c.args.items.now.items ++ map (λ v. Weight v (decimal (units c.args.g.now c.args.p.now c.args.side v))) (filter (is_free c.args.p.now) (range_with_len 0 n))) end
+    c.loop-v.invariant
+    ∙ ap (λ n. c.args.items.now.items
+    ++ map (λ v. Weight v (decimal (units c.args.g.now c.args.p.now c.args.side v)))
+    (filter (is_free c.args.p.now) (range_with_len 0 n))) end

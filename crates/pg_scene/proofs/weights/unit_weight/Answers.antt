@@ -15,15 +15,19 @@ overflow_cast-steps c =
 pub pow-requires : goal.pow-requires
 pow-requires c =
     let length = c.greatest_length.ensures ∙ ap greatest_length c.lines.ensures.lines in
-    base_power c.args.g.now c.from.result (c.greatest_length.result - c.most_free.result) (c.from.ensures ∙ c.base_of.ensures) (omega (arith, length))
+    base_power c.args.g.now c.from.result (c.greatest_length.result - c.most_free.result)
+    (c.from.ensures ∙ c.base_of.ensures) (omega (arith, length))
 
 pub returns-clause-unit : goal.returns-clause-unit
 unfolding unit_weight
 returns-clause-unit c =
     let length = c.greatest_length.ensures ∙ ap greatest_length c.lines.ensures.lines in
-    c.pow.ensures ∙ ap₂ (λ base steps. base ^ steps) (c.from.ensures ∙ c.base_of.ensures) (ap₂ (λ all most. all - most) length c.most_free.ensures.most)
+    c.pow.ensures
+    ∙ ap₂ (λ base steps. base ^ steps) (c.from.ensures ∙ c.base_of.ensures)
+    (ap₂ (λ all most. all - most) length c.most_free.ensures.most)
 
 pub returns-clause-some : goal.returns-clause-some
 returns-clause-some c =
     let some = base_some c.args.g.now c.from.result (c.from.ensures ∙ c.base_of.ensures) in
-    subst (λ n. 1 ≤ n) (sym c.pow.ensures) (one-le-pow (c.greatest_length.result - c.most_free.result) c.from.result (omega (arith, some)))
+    subst (λ n. 1 ≤ n) (sym c.pow.ensures)
+    (one-le-pow (c.greatest_length.result - c.most_free.result) c.from.result (omega (arith, some)))

@@ -10,6 +10,16 @@ pub loop-k-preserved : goal.loop-k-preserved
 loop-k-preserved c =
     let few = c.loop-k.invariant.1 in
     elim c.if-crosses.branch [
-      | then-crosses w ↦ (w.crossing-is ∙ (ap (λ n. n + 1) c.loop-k.invariant.0 ∙ sym (count-more _ c.loop-k.k (sym c.crosses.ensures ∙ w.if-crosses.true))), let is = w.crossing-is in omega (arith, few, is))
-      | else-crosses w ↦ (w.crossing-is ∙ (c.loop-k.invariant.0 ∙ sym (count-as_before _ c.loop-k.k (sym c.crosses.ensures ∙ w.if-crosses.false))), let is = w.crossing-is in omega (arith, few, is))
+      | then-crosses w ↦ (
+        w.crossing-is
+            ∙ (ap (λ n. n + 1) c.loop-k.invariant.0
+            ∙ sym (count-more _ c.loop-k.k (sym c.crosses.ensures ∙ w.if-crosses.true))),
+        let is = w.crossing-is in omega (arith, few, is),
+      )
+      | else-crosses w ↦ (
+        w.crossing-is
+            ∙ (c.loop-k.invariant.0
+            ∙ sym (count-as_before _ c.loop-k.k (sym c.crosses.ensures ∙ w.if-crosses.false))),
+        let is = w.crossing-is in omega (arith, few, is),
+      )
     ]

@@ -4,4 +4,5 @@ use Rattle.pg_graph.specs.Graph.{IsJoinedIn}
 use Rattle.pg_span.proofs.judge.joins_each.Given as goal
 
 abbrev pub invariant-loop-v : goal.invariant-loop-v
-invariant-loop-v l = (l.joiner ≡ l.fn.joiner) × ((q : ℕ) → q < l.v → IsJoinedIn l.graph (contains l.set) 0 q)
+invariant-loop-v l =
+    (l.joiner ≡ l.fn.joiner) × ((q : ℕ) → q < l.v → IsJoinedIn l.graph (contains l.set) 0 q)

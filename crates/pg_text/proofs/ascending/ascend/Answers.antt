@@ -7,7 +7,7 @@ use Rattle.pg_text.proofs.Rising.{is_below, ascends}
 use Rattle.pg_text.proofs.ascending.ascend.Goals as goal
 
 pub returns : goal.returns
-returns c =
-    ascends (λ (n : ℕ). n) c.args.numbers.now _ (c.is_sorted_by.ensures.cases (is_below (λ (n : ℕ). n))
-    (always_returns_same _ (λ a r. r ≡ is_below (λ (n : ℕ). n) a.0.now a.1.0.now) _ (λ a r f' k. search (rules, tests))))
+returns c = ascends (λ (n : ℕ). n) c.args.numbers.now _
+    (c.is_sorted_by.ensures.cases (is_below (λ (n : ℕ). n)) (always_returns_same _
+    (λ a r. r ≡ is_below (λ (n : ℕ). n) a.0.now a.1.0.now) _ (λ a r f' k. search (rules, tests))))
     ∙ ap (ascend_from 0) (map-id c.args.numbers.now)

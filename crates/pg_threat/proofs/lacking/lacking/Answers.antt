@@ -16,8 +16,10 @@ pub loop-next-init : goal.loop-next-init
 loop-next-init c =
     let g = c.args.b.now.game in
     let p = c.args.b.now.stand.position in
-    let on = subst (λ (s : Side). IsNextLive g p s 0 c.first_live-next.result) c.other-enemy.ensures (first-live g p c.other-enemy.result c.first_live-next.result c.first_live-next.ensures.line) in
-    rw (c.empty.ensures, c.empty-2.ensures) (twice-first g p c.args.side c.args.missing c.first_live-next.result on)
+    let on = subst (λ (s : Side). IsNextLive g p s 0 c.first_live-next.result) c.other-enemy.ensures
+    (first-live g p c.other-enemy.result c.first_live-next.result c.first_live-next.ensures.line) in
+    rw (c.empty.ensures, c.empty-2.ensures)
+    (twice-first g p c.args.side c.args.missing c.first_live-next.result on)
 
 pub count-requires : goal.count-requires
 count-requires c = (c.loop-next.invariant.scan.within c.in-Some.line c.in-Some.is).0
@@ -27,26 +29,40 @@ next_live-next-requires c =
     let g = c.args.b.now.game in
     let p = c.args.b.now.stand.position in
     let within = c.loop-next.invariant.scan.within c.in-Some.line c.in-Some.is in
-    subst (λ (s : Side). Contains (live_lines g p s) c.in-Some.line) (sym c.other-enemy.ensures) (live-listed g p (other c.args.side) c.in-Some.line within.0 within.1)
+    subst (λ (s : Side). Contains (live_lines g p s) c.in-Some.line) (sym c.other-enemy.ensures)
+    (live-listed g p (other c.args.side) c.in-Some.line within.0 within.1)
 
 pub loop-next-preserved : goal.loop-next-preserved
 loop-next-preserved c =
     let g = c.args.b.now.game in
     let p = c.args.b.now.stand.position in
     let line = c.in-Some.line in
-    let on = subst (λ (s : Side). IsNextLive g p s (line + 1) c.next_live-next.result) c.other-enemy.ensures (next-live g p c.other-enemy.result line c.next_live-next.result c.next_live-next.ensures) in
+    let on =
+    subst (λ (s : Side). IsNextLive g p s (line + 1) c.next_live-next.result) c.other-enemy.ensures
+    (next-live g p c.other-enemy.result line c.next_live-next.result c.next_live-next.ensures) in
     let scan = rw c.in-Some.is at c.loop-next.invariant in
     let lines = c.count.ensures in
     elim c.if-count-missing.branch [
       | then-count-missing w ↦ rw w.lacked-is
-          (twice-lacked g p c.args.side c.args.missing c.loop-next.lacked.points c.loop-next.lacked.twice line c.next_live-next.result scan on w.put_open.new.lacked.points w.put_open.new.lacked.twice
-          (omega (arith, lines, c.line_len.ensures, w.if-count-missing.true)) w.put_open.ensures.points w.put_open.ensures.kept w.put_open.ensures.again)
+          (twice-lacked g p c.args.side c.args.missing c.loop-next.lacked.points
+          c.loop-next.lacked.twice line c.next_live-next.result scan on w.put_open.new.lacked.points
+          w.put_open.new.lacked.twice (omega (
+            arith,
+            lines,
+            c.line_len.ensures,
+            w.if-count-missing.true,
+          )) w.put_open.ensures.points w.put_open.ensures.kept w.put_open.ensures.again)
       | else-count-missing w ↦ rw w.lacked-is
-          (twice-other g p c.args.side c.args.missing c.loop-next.lacked.points c.loop-next.lacked.twice line c.next_live-next.result scan on (λ e. w.if-count-missing.false (omega (arith, lines, c.line_len.ensures, e))))
+          (twice-other g p c.args.side c.args.missing c.loop-next.lacked.points
+          c.loop-next.lacked.twice line c.next_live-next.result scan on
+          (λ e. w.if-count-missing.false (omega (arith, lines, c.line_len.ensures, e))))
     ]
 
 pub returns-clause-points : goal.returns-clause-points
-returns-clause-points c = let over = rw c.in_default.is at c.loop-next.invariant in scan-over c.args.b.now.game c.args.b.now.stand.position c.args.side c.args.missing c.loop-next.lacked.points over.scan
+returns-clause-points c =
+    let over = rw c.in_default.is at c.loop-next.invariant in
+    scan-over c.args.b.now.game c.args.b.now.stand.position c.args.side c.args.missing
+    c.loop-next.lacked.points over.scan
 
 pub returns-clause-twice : goal.returns-clause-twice
 returns-clause-twice c = let over = rw c.in_default.is at c.loop-next.invariant in over.again
@@ -56,8 +72,11 @@ loop-next-smaller c =
     let g = c.args.b.now.game in
     let p = c.args.b.now.stand.position in
     let line = c.in-Some.line in
-    let on = subst (λ (s : Side). IsNextLive g p s (line + 1) c.next_live-next.result) c.other-enemy.ensures (next-live g p c.other-enemy.result line c.next_live-next.result c.next_live-next.ensures) in
-    scan-falls g p c.args.side c.args.missing line c.loop-next.next c.next_live-next.result (c.loop-next.invariant.scan.within line c.in-Some.is).0 c.in-Some.is on
+    let on =
+    subst (λ (s : Side). IsNextLive g p s (line + 1) c.next_live-next.result) c.other-enemy.ensures
+    (next-live g p c.other-enemy.result line c.next_live-next.result c.next_live-next.ensures) in
+    scan-falls g p c.args.side c.args.missing line c.loop-next.next c.next_live-next.result
+    (c.loop-next.invariant.scan.within line c.in-Some.is).0 c.in-Some.is on
 
 -- ---- where the board counts no such line
 
@@ -65,12 +84,18 @@ pub returns-then-live_with-eq0-clause-points : goal.returns-then-live_with-eq0-c
 returns-then-live_with-eq0-clause-points c =
     let g = c.args.b.now.game in
     let p = c.args.b.now.stand.position in
-    let none = subst (λ (s : Side). live_with g p s c.args.missing ≡ 0) c.other-enemy.ensures (sym c.live_with.ensures ∙ c.if-live_with-eq0.true) in
-    λ v. ap (λ (s : FinSet nat_cmp). contains s v) c.empty.ensures ∙ contains-empty nat_cmp v ∙ sym (none-lacking g p c.args.side c.args.missing none v)
+    let none = subst (λ (s : Side). live_with g p s c.args.missing ≡ 0) c.other-enemy.ensures
+    (sym c.live_with.ensures ∙ c.if-live_with-eq0.true) in
+    λ v. ap (λ (s : FinSet nat_cmp). contains s v) c.empty.ensures
+    ∙ contains-empty nat_cmp v
+    ∙ sym (none-lacking g p c.args.side c.args.missing none v)
 
 pub returns-then-live_with-eq0-clause-twice : goal.returns-then-live_with-eq0-clause-twice
 returns-then-live_with-eq0-clause-twice c =
     let g = c.args.b.now.game in
     let p = c.args.b.now.stand.position in
-    let none = subst (λ (s : Side). live_with g p s c.args.missing ≡ 0) c.other-enemy.ensures (sym c.live_with.ensures ∙ c.if-live_with-eq0.true) in
-    λ v t. absurd (twice-none g p c.args.side c.args.missing (none-lacking g p c.args.side c.args.missing none) v t)
+    let none = subst (λ (s : Side). live_with g p s c.args.missing ≡ 0) c.other-enemy.ensures
+    (sym c.live_with.ensures ∙ c.if-live_with-eq0.true) in
+    λ v t. absurd
+    (twice-none g p c.args.side c.args.missing
+    (none-lacking g p c.args.side c.args.missing none) v t)

@@ -17,76 +17,114 @@ use Rattle.pg_threat.proofs.search.+attacks_and_replies.Goals as goal
 
 -- ---- what the replies are
 
-pub answered-partners-replies-requires-clause-few : goal.answered-partners-replies-requires-clause-few
-answered-partners-replies-requires-clause-few t c = omega (arith, c.requires.attack.range, point_count-le c.args.b.now.game)
+pub answered-partners-replies-requires-clause-few :
+    goal.answered-partners-replies-requires-clause-few
+answered-partners-replies-requires-clause-few t c =
+    omega (arith, c.requires.attack.range, point_count-le c.args.b.now.game)
 
 pub answered-returns-in_default-clause-found : goal.answered-returns-in_default-clause-found
 answered-returns-in_default-clause-found t c =
     let g = c.args.b.now.game in
     let p = c.args.b.now.stand.position in
     let v = c.args.v in
-    let are : (x : ℕ) → contains c.partners-replies.result x ≡ is_lacking g (after g p v) c.args.side 1 x = λ x. c.partners-replies.ensures x ∙ replies-are g p c.args.side v c.requires.attacking c.requires.far c.requires.attack x in
-    reply-none g (after g p v) c.args.side c.requires.single c.requires.answering c.partners-replies.result are c.args.depth c.in_default.ensures.none
+    let are : (x : ℕ)
+    → contains c.partners-replies.result x ≡ is_lacking g (after g p v) c.args.side 1 x =
+    λ x. c.partners-replies.ensures x
+    ∙ replies-are g p c.args.side v c.requires.attacking c.requires.far c.requires.attack x in
+    reply-none g (after g p v) c.args.side c.requires.single c.requires.answering
+    c.partners-replies.result are c.args.depth c.in_default.ensures.none
 
-pub answered-returns-in-Some-first_from-clause-found : goal.answered-returns-in-Some-first_from-clause-found
+pub answered-returns-in-Some-first_from-clause-found :
+    goal.answered-returns-in-Some-first_from-clause-found
 answered-returns-in-Some-first_from-clause-found t c =
     let g = c.args.b.now.game in
     let p = c.args.b.now.stand.position in
     let v = c.args.v in
-    let are : (x : ℕ) → contains c.partners-replies.result x ≡ is_lacking g (after g p v) c.args.side 1 x = λ x. c.partners-replies.ensures x ∙ replies-are g p c.args.side v c.requires.attacking c.requires.far c.requires.attack x in
-    subst (λ (n : ℕ). IsFound (Replied g (after g p v) c.args.side) n (Some c.behind.result)) (sym c.if-depth-eq1.true)
-    (reply-two g (after g p v) c.args.side c.requires.single c.requires.answering c.partners-replies.result are c.in-Some.u c.in-Some.ensures.found
-    c.in-Some-first_from.w c.behind.result c.in-Some-first_from.ensures.found (c.behind.ensures.points ∙ ap (λ xs. c.in-Some.u ∷ xs) c.last.ensures.points))
+    let are : (x : ℕ)
+    → contains c.partners-replies.result x ≡ is_lacking g (after g p v) c.args.side 1 x =
+    λ x. c.partners-replies.ensures x
+    ∙ replies-are g p c.args.side v c.requires.attacking c.requires.far c.requires.attack x in
+    subst (λ (n : ℕ). IsFound (Replied g (after g p v) c.args.side) n (Some c.behind.result))
+    (sym c.if-depth-eq1.true)
+    (reply-two g (after g p v) c.args.side c.requires.single c.requires.answering
+    c.partners-replies.result are c.in-Some.u c.in-Some.ensures.found c.in-Some-first_from.w
+    c.behind.result c.in-Some-first_from.ensures.found
+    (c.behind.ensures.points ∙ ap (λ xs. c.in-Some.u ∷ xs) c.last.ensures.points))
 
 pub answered-returns-in-None-clause-found : goal.answered-returns-in-None-clause-found
 answered-returns-in-None-clause-found t c =
     let g = c.args.b.now.game in
     let p = c.args.b.now.stand.position in
     let v = c.args.v in
-    let are : (x : ℕ) → contains c.partners-replies.result x ≡ is_lacking g (after g p v) c.args.side 1 x = λ x. c.partners-replies.ensures x ∙ replies-are g p c.args.side v c.requires.attacking c.requires.far c.requires.attack x in
-    subst (λ (n : ℕ). IsFound (Replied g (after g p v) c.args.side) n None) (sym c.if-depth-eq1.true)
-    (reply-one g (after g p v) c.args.side c.requires.single c.requires.answering c.partners-replies.result are c.in-Some.u c.in-Some.ensures.found c.in-None.ensures.none)
+    let are : (x : ℕ)
+    → contains c.partners-replies.result x ≡ is_lacking g (after g p v) c.args.side 1 x =
+    λ x. c.partners-replies.ensures x
+    ∙ replies-are g p c.args.side v c.requires.attacking c.requires.far c.requires.attack x in
+    subst (λ (n : ℕ). IsFound (Replied g (after g p v) c.args.side) n None)
+    (sym c.if-depth-eq1.true)
+    (reply-one g (after g p v) c.args.side c.requires.single c.requires.answering
+    c.partners-replies.result are c.in-Some.u c.in-Some.ensures.found c.in-None.ensures.none)
 
 pub answered-leaves_none-requires-clause-reply : goal.answered-leaves_none-requires-clause-reply
-answered-leaves_none-requires-clause-reply t c = sym (c.partners-replies.ensures c.in-Some.u) ∙ c.in-Some.ensures.found.member
+answered-leaves_none-requires-clause-reply t c =
+    sym (c.partners-replies.ensures c.in-Some.u) ∙ c.in-Some.ensures.found.member
 
-pub answered-returns-then-leaves_none-clause-found : goal.answered-returns-then-leaves_none-clause-found
+pub answered-returns-then-leaves_none-clause-found :
+    goal.answered-returns-then-leaves_none-clause-found
 answered-returns-then-leaves_none-clause-found t c =
     let g = c.args.b.now.game in
     let p = c.args.b.now.stand.position in
     let v = c.args.v in
-    let are : (x : ℕ) → contains c.partners-replies.result x ≡ is_lacking g (after g p v) c.args.side 1 x = λ x. c.partners-replies.ensures x ∙ replies-are g p c.args.side v c.requires.attacking c.requires.far c.requires.attack x in
+    let are : (x : ℕ)
+    → contains c.partners-replies.result x ≡ is_lacking g (after g p v) c.args.side 1 x =
+    λ x. c.partners-replies.ensures x
+    ∙ replies-are g p c.args.side v c.requires.attacking c.requires.far c.requires.attack x in
     let deeper : 2 ≤ c.args.depth = omega arith in
-    reply-barren g (after g p v) c.args.side c.requires.single c.requires.answering c.partners-replies.result are c.in-Some.u c.in-Some.ensures.found
-    c.args.depth deeper c.requires.least (c.leaves_none.ensures c.if-leaves_none.true)
+    reply-barren g (after g p v) c.args.side c.requires.single c.requires.answering
+    c.partners-replies.result are c.in-Some.u c.in-Some.ensures.found c.args.depth deeper
+    c.requires.least (c.leaves_none.ensures c.if-leaves_none.true)
 
 pub answered-returns-then-is_idle-clause-found : goal.answered-returns-then-is_idle-clause-found
 answered-returns-then-is_idle-clause-found t c =
     let g = c.args.b.now.game in
     let p = c.args.b.now.stand.position in
     let v = c.args.v in
-    let are : (x : ℕ) → contains c.partners-replies.result x ≡ is_lacking g (after g p v) c.args.side 1 x = λ x. c.partners-replies.ensures x ∙ replies-are g p c.args.side v c.requires.attacking c.requires.far c.requires.attack x in
+    let are : (x : ℕ)
+    → contains c.partners-replies.result x ≡ is_lacking g (after g p v) c.args.side 1 x =
+    λ x. c.partners-replies.ensures x
+    ∙ replies-are g p c.args.side v c.requires.attacking c.requires.far c.requires.attack x in
     let deeper : 2 ≤ c.args.depth = omega arith in
-    reply-idle g p c.args.side c.requires.single c.requires.attacking v c.in-Some.u c.args.depth deeper c.requires.attack c.requires.answering c.partners-replies.result are c.in-Some.ensures.found
-    c.requires.least c.requires.whole (subst (λ (n : ℕ). IsIdle g p c.args.side v c.in-Some.u n) c.from.ensures (c.is_idle.ensures c.if-is_idle.true))
+    reply-idle g p c.args.side c.requires.single c.requires.attacking v c.in-Some.u c.args.depth
+    deeper c.requires.attack c.requires.answering c.partners-replies.result are
+    c.in-Some.ensures.found c.requires.least c.requires.whole
+    (subst (λ (n : ℕ). IsIdle g p c.args.side v c.in-Some.u n) c.from.ensures
+    (c.is_idle.ensures c.if-is_idle.true))
 
 pub answered-play-requires-2-clause-range : goal.answered-play-requires-2-clause-range
 answered-play-requires-2-clause-range t c =
     let g = c.args.b.now.game in
     let p = c.args.b.now.stand.position in
     let v = c.args.v in
-    let are : (x : ℕ) → contains c.partners-replies.result x ≡ is_lacking g (after g p v) c.args.side 1 x = λ x. c.partners-replies.ensures x ∙ replies-are g p c.args.side v c.requires.attacking c.requires.far c.requires.attack x in
+    let are : (x : ℕ)
+    → contains c.partners-replies.result x ≡ is_lacking g (after g p v) c.args.side 1 x =
+    λ x. c.partners-replies.ensures x
+    ∙ replies-are g p c.args.side v c.requires.attacking c.requires.far c.requires.attack x in
     subst (λ (h : Game). c.in-Some.u < point_count h) (sym c.play.ensures.game)
-    (reply-free g (after g p v) c.args.side c.requires.single c.requires.answering c.partners-replies.result are c.in-Some.u c.in-Some.ensures.found.member).0
+    (reply-free g (after g p v) c.args.side c.requires.single c.requires.answering
+    c.partners-replies.result are c.in-Some.u c.in-Some.ensures.found.member).0
 
 pub answered-play-requires-2-clause-free : goal.answered-play-requires-2-clause-free
 answered-play-requires-2-clause-free t c =
     let g = c.args.b.now.game in
     let p = c.args.b.now.stand.position in
     let v = c.args.v in
-    let are : (x : ℕ) → contains c.partners-replies.result x ≡ is_lacking g (after g p v) c.args.side 1 x = λ x. c.partners-replies.ensures x ∙ replies-are g p c.args.side v c.requires.attacking c.requires.far c.requires.attack x in
+    let are : (x : ℕ)
+    → contains c.partners-replies.result x ≡ is_lacking g (after g p v) c.args.side 1 x =
+    λ x. c.partners-replies.ensures x
+    ∙ replies-are g p c.args.side v c.requires.attacking c.requires.far c.requires.attack x in
     subst (λ (x : Position). is_free x c.in-Some.u ≡ true) (sym c.play.ensures.position)
-    (reply-free g (after g p v) c.args.side c.requires.single c.requires.answering c.partners-replies.result are c.in-Some.u c.in-Some.ensures.found.member).1
+    (reply-free g (after g p v) c.args.side c.requires.single c.requires.answering
+    c.partners-replies.result are c.in-Some.u c.in-Some.ensures.found.member).1
 
 pub answered-first_of_depth-found-requires : goal.answered-first_of_depth-found-requires
 answered-first_of_depth-found-requires t c =
@@ -94,30 +132,48 @@ answered-first_of_depth-found-requires t c =
     let p = c.args.b.now.stand.position in
     let q = after g p c.args.v in
     let u = c.in-Some.u in
-    let are : (x : ℕ) → contains c.partners-replies.result x ≡ is_lacking g (after g p c.args.v) c.args.side 1 x = λ x. c.partners-replies.ensures x ∙ replies-are g p c.args.side c.args.v c.requires.attacking c.requires.far c.requires.attack x in
+    let are : (x : ℕ)
+    → contains c.partners-replies.result x ≡ is_lacking g (after g p c.args.v) c.args.side 1 x =
+    λ x. c.partners-replies.ensures x
+    ∙ replies-are g p c.args.side c.args.v c.requires.attacking c.requires.far c.requires.attack
+    x in
     let least = c.in-Some.ensures.found in
     let member = least.member in
     let all = c.attacks_at-attacks.result.all in
     let forks = c.attacks_at-attacks.result.forks in
     let deeper : 2 ≤ c.args.depth = omega arith in
     let some : 1 ≤ c.args.depth - 1 = omega arith in
-    let attacking = reply-attacking g q c.args.side c.requires.single c.requires.answering c.partners-replies.result are u member in
-    let none = reply-least g q c.args.side c.requires.single c.requires.answering c.partners-replies.result are u least c.args.depth deeper c.requires.least in
-    let played = two-played c.args.b.now c.play.new.self c.play-2.new.self c.args.v u c.play.ensures.game c.play.ensures.position c.play-2.ensures.game c.play-2.ensures.position in
-    let at = λ (P : Game → Position → Type 0) (h : P g (after g q u)). at_same P g c.play-2.new.self.game (after g q u) c.play-2.new.self.stand.position played.0 played.1 h in
-    let from = λ (P : Game → Position → Type 0) (h : P c.play-2.new.self.game c.play-2.new.self.stand.position). at_same P c.play-2.new.self.game g c.play-2.new.self.stand.position (after g q u) (sym played.0) (sym played.1) h in
-    let tried = from (λ h x. (v : ℕ) → (contains all v ≡ true) ↔ IsTried h x c.args.side v) c.attacks_at-attacks.ensures.all in
-    let twice = from (λ h x. (v : ℕ) → contains all v ≡ true → IsLackedTwice h x c.args.side 2 (length (lines_of h)) v → contains forks v ≡ true) c.attacks_at-attacks.ensures.twice in (
+    let attacking = reply-attacking g q c.args.side c.requires.single c.requires.answering
+    c.partners-replies.result are u member in
+    let none = reply-least g q c.args.side c.requires.single c.requires.answering
+    c.partners-replies.result are u least c.args.depth deeper c.requires.least in
+    let played = two-played c.args.b.now c.play.new.self c.play-2.new.self c.args.v u
+    c.play.ensures.game c.play.ensures.position c.play-2.ensures.game c.play-2.ensures.position in
+    let at = λ (P : Game → Position → Type 0) (h : P g (after g q u)). at_same P g
+    c.play-2.new.self.game (after g q u) c.play-2.new.self.stand.position played.0 played.1 h in
+    let from = λ (P : Game → Position → Type 0)
+    (h : P c.play-2.new.self.game c.play-2.new.self.stand.position). at_same P
+    c.play-2.new.self.game g c.play-2.new.self.stand.position (after g q u) (sym played.0)
+    (sym played.1) h in
+    let tried = from (λ h x. (v : ℕ) → (contains all v ≡ true) ↔ IsTried h x c.args.side v)
+    c.attacks_at-attacks.ensures.all in
+    let twice = from (λ h x. (v : ℕ) → contains all v ≡ true
+    → IsLackedTwice h x c.args.side 2 (length (lines_of h)) v
+    → contains forks v ≡ true) c.attacks_at-attacks.ensures.twice in (
       omega (arith, c.decreases),
       (
         at (λ h x. IsAttacking h x c.args.side) attacking,
         (
           at (λ h x. h.bias ≡ 1) c.requires.single,
           (
-            tried-depth c.play-2.new.self.game c.play-2.new.self.stand.position c.args.side (c.args.depth - 1) all forks c.of_depth.result.now c.of_depth.ensures c.attacks_at-attacks.ensures.all c.attacks_at-attacks.ensures.forks,
+            tried-depth c.play-2.new.self.game c.play-2.new.self.stand.position c.args.side
+                (c.args.depth - 1) all forks c.of_depth.result.now c.of_depth.ensures
+                c.attacks_at-attacks.ensures.all c.attacks_at-attacks.ensures.forks,
             (
               at (λ h x. Begins h x c.args.side (c.args.depth - 1) c.of_depth.result.now)
-                  (begins-depth g (after g q u) c.args.side c.requires.single attacking (c.args.depth - 1) some none all forks c.of_depth.result.now c.of_depth.ensures tried twice),
+                  (begins-depth g (after g q u) c.args.side c.requires.single attacking
+                  (c.args.depth - 1) some none all forks c.of_depth.result.now c.of_depth.ensures
+                  tried twice),
               (
                 at (λ h x. NoneBelow (LeadsToLine h x c.args.side) (c.args.depth - 1)) none,
                 (some, omega arith),
@@ -134,13 +190,21 @@ answered-returns-in-Some-found-clause-found t c =
     let p = c.args.b.now.stand.position in
     let q = after g p c.args.v in
     let u = c.in-Some.u in
-    let are : (x : ℕ) → contains c.partners-replies.result x ≡ is_lacking g (after g p c.args.v) c.args.side 1 x = λ x. c.partners-replies.ensures x ∙ replies-are g p c.args.side c.args.v c.requires.attacking c.requires.far c.requires.attack x in
+    let are : (x : ℕ)
+    → contains c.partners-replies.result x ≡ is_lacking g (after g p c.args.v) c.args.side 1 x =
+    λ x. c.partners-replies.ensures x
+    ∙ replies-are g p c.args.side c.args.v c.requires.attacking c.requires.far c.requires.attack
+    x in
     let deeper : 2 ≤ c.args.depth = omega arith in
-    let played = two-played c.args.b.now c.play.new.self c.play-2.new.self c.args.v u c.play.ensures.game c.play.ensures.position c.play-2.ensures.game c.play-2.ensures.position in
-    reply-found g q c.args.side c.requires.single c.requires.answering c.partners-replies.result are u c.in-Some.ensures.found
-    c.args.depth deeper c.requires.least c.in-Some-found.line c.behind-in-Some-found.result
-    (at_same (λ h x. IsFound (LeadsToLine h x c.args.side) (c.args.depth - 1) (Some c.in-Some-found.line)) c.play-2.new.self.game g c.play-2.new.self.stand.position (after g q u)
-    (sym played.0) (sym played.1) c.in-Some-found.ensures.found) c.behind-in-Some-found.ensures.points
+    let played = two-played c.args.b.now c.play.new.self c.play-2.new.self c.args.v u
+    c.play.ensures.game c.play.ensures.position c.play-2.ensures.game c.play-2.ensures.position in
+    reply-found g q c.args.side c.requires.single c.requires.answering c.partners-replies.result are
+    u c.in-Some.ensures.found c.args.depth deeper c.requires.least c.in-Some-found.line
+    c.behind-in-Some-found.result
+    (at_same
+    (λ h x. IsFound (LeadsToLine h x c.args.side) (c.args.depth - 1) (Some c.in-Some-found.line))
+    c.play-2.new.self.game g c.play-2.new.self.stand.position (after g q u) (sym played.0)
+    (sym played.1) c.in-Some-found.ensures.found) c.behind-in-Some-found.ensures.points
 
 pub answered-returns-in-None-found-clause-found : goal.answered-returns-in-None-found-clause-found
 answered-returns-in-None-found-clause-found t c =
@@ -148,21 +212,30 @@ answered-returns-in-None-found-clause-found t c =
     let p = c.args.b.now.stand.position in
     let q = after g p c.args.v in
     let u = c.in-Some.u in
-    let are : (x : ℕ) → contains c.partners-replies.result x ≡ is_lacking g (after g p c.args.v) c.args.side 1 x = λ x. c.partners-replies.ensures x ∙ replies-are g p c.args.side c.args.v c.requires.attacking c.requires.far c.requires.attack x in
+    let are : (x : ℕ)
+    → contains c.partners-replies.result x ≡ is_lacking g (after g p c.args.v) c.args.side 1 x =
+    λ x. c.partners-replies.ensures x
+    ∙ replies-are g p c.args.side c.args.v c.requires.attacking c.requires.far c.requires.attack
+    x in
     let deeper : 2 ≤ c.args.depth = omega arith in
-    let played = two-played c.args.b.now c.play.new.self c.play-2.new.self c.args.v u c.play.ensures.game c.play.ensures.position c.play-2.ensures.game c.play-2.ensures.position in
-    reply-fails g q c.args.side c.requires.single c.requires.answering c.partners-replies.result are u c.in-Some.ensures.found
-    c.args.depth deeper c.requires.least
-    (at_same (λ h x. IsFound (LeadsToLine h x c.args.side) (c.args.depth - 1) None) c.play-2.new.self.game g c.play-2.new.self.stand.position (after g q u)
-    (sym played.0) (sym played.1) c.in-None-found.ensures.found)
+    let played = two-played c.args.b.now c.play.new.self c.play-2.new.self c.args.v u
+    c.play.ensures.game c.play.ensures.position c.play-2.ensures.game c.play-2.ensures.position in
+    reply-fails g q c.args.side c.requires.single c.requires.answering c.partners-replies.result are
+    u c.in-Some.ensures.found c.args.depth deeper c.requires.least
+    (at_same (λ h x. IsFound (LeadsToLine h x c.args.side) (c.args.depth - 1) None)
+    c.play-2.new.self.game g c.play-2.new.self.stand.position (after g q u) (sym played.0)
+    (sym played.1) c.in-None-found.ensures.found)
 
 -- ---- the attacks
 
 pub first_of_depth-loop-next-init : goal.first_of_depth-loop-next-init
 first_of_depth-loop-next-init t c = (
   refl,
-  search-next c.args.b.now.game c.args.b.now.stand.position c.args.side c.requires.attacking c.args.depth c.requires.some c.requires.least c.args.attacks.now c.requires.tried c.requires.begins 0 c.first_from-next.result
-      (λ w points below deep leads. absurd (omega arith)) c.first_from-next.ensures.found c.first_from-next.ensures.range c.first_from-next.ensures.none,
+  search-next c.args.b.now.game c.args.b.now.stand.position c.args.side c.requires.attacking
+      c.args.depth c.requires.some c.requires.least c.args.attacks.now c.requires.tried
+      c.requires.begins 0 c.first_from-next.result
+      (λ w points below deep leads. absurd (omega arith)) c.first_from-next.ensures.found
+      c.first_from-next.ensures.range c.first_from-next.ensures.none,
 )
 
 pub first_of_depth-answered-requires : goal.first_of_depth-answered-requires
@@ -171,24 +244,37 @@ first_of_depth-answered-requires t c =
     let p = c.args.b.now.stand.position in
     let v = c.in-Some.v in
     let member = (c.loop-next.invariant.1.tried v c.in-Some.is).0 in
-    let at = λ (P : View → Type 0) (h : P c.args.b.now). subst P (sym c.loop-next.invariant.0) h in (
+    let at =
+    λ (P : View → Type 0) (h : P c.args.b.now). subst P (sym c.loop-next.invariant.0) h in (
       omega (arith, c.decreases),
       (
         at (λ b. IsAttacking b.game b.stand.position c.args.side) c.requires.attacking,
         (
-          at (λ b. (u : ℕ) → is_lacking b.game b.stand.position c.args.side 1 u ≡ false) (far-lacked g p c.args.side c.requires.attacking c.args.depth c.requires.some c.requires.least),
+          at (λ b. (u : ℕ) → is_lacking b.game b.stand.position c.args.side 1 u ≡ false)
+              (far-lacked g p c.args.side c.requires.attacking c.args.depth c.requires.some
+              c.requires.least),
           (
-            at (λ b. IsAttack b.game b.stand.position v) (attack-free g p c.args.side c.requires.attacking c.args.depth c.requires.some c.requires.least c.args.attacks.now c.requires.tried c.requires.begins v member),
+            at (λ b. IsAttack b.game b.stand.position v)
+                (attack-free g p c.args.side c.requires.attacking c.args.depth c.requires.some
+                c.requires.least c.args.attacks.now c.requires.tried c.requires.begins v member),
             (
               at (λ b. IsAnswering b.game (after b.game b.stand.position v) c.args.side)
-                  (attack-answering g p c.args.side c.requires.attacking c.args.depth c.requires.some c.requires.least c.args.attacks.now c.requires.tried c.requires.begins c.requires.single v member),
+                  (attack-answering g p c.args.side c.requires.attacking c.args.depth
+                  c.requires.some c.requires.least c.args.attacks.now c.requires.tried
+                  c.requires.begins c.requires.single v member),
               (
                 at (λ b. b.game.bias ≡ 1) c.requires.single,
                 (
-                  at (λ b. NoneBelow (Replied b.game (after b.game b.stand.position v) c.args.side) c.args.depth)
-                      (attack-least g p c.args.side c.requires.attacking c.args.depth c.requires.some c.requires.least c.args.attacks.now c.requires.tried c.requires.begins c.requires.single v member),
+                  at
+                      (λ b. NoneBelow (Replied b.game (after b.game b.stand.position v) c.args.side)
+                      c.args.depth)
+                      (attack-least g p c.args.side c.requires.attacking c.args.depth
+                      c.requires.some c.requires.least c.args.attacks.now c.requires.tried
+                      c.requires.begins c.requires.single v member),
                   (
-                    at (λ b. NoneBelow (LeadsToLine b.game b.stand.position c.args.side) c.args.depth) c.requires.least,
+                    at
+                        (λ b. NoneBelow (LeadsToLine b.game b.stand.position c.args.side)
+                        c.args.depth) c.requires.least,
                     (c.requires.some, c.requires.few),
                   ),
                 ),
@@ -199,61 +285,98 @@ first_of_depth-answered-requires t c =
       ),
     )
 
-pub first_of_depth-returns-in-Some-answered-clause-found : goal.first_of_depth-returns-in-Some-answered-clause-found
+pub first_of_depth-returns-in-Some-answered-clause-found :
+    goal.first_of_depth-returns-in-Some-answered-clause-found
 first_of_depth-returns-in-Some-answered-clause-found t c =
     let v = c.in-Some.v in
-    let searching = subst (λ (b : View). IsSearching b.game b.stand.position c.args.side c.args.depth c.args.attacks.now c.loop-next.next) c.loop-next.invariant.0 c.loop-next.invariant.1 in
-    attack-found c.args.b.now.game c.args.b.now.stand.position c.args.side c.requires.attacking c.args.depth c.requires.some c.requires.least c.args.attacks.now c.requires.tried c.requires.begins c.requires.single v (searching.tried v c.in-Some.is).0
-    c.loop-next.next c.in-Some-answered.line c.behind.result c.in-Some.is searching
-    (subst (λ (b : View). IsFound (Replied b.game (after b.game b.stand.position v) c.args.side) c.args.depth (Some c.in-Some-answered.line)) c.loop-next.invariant.0 c.in-Some-answered.ensures.found) c.behind.ensures.points
+    let searching = subst
+    (λ (b : View). IsSearching b.game b.stand.position c.args.side c.args.depth c.args.attacks.now
+    c.loop-next.next) c.loop-next.invariant.0 c.loop-next.invariant.1 in
+    attack-found c.args.b.now.game c.args.b.now.stand.position c.args.side c.requires.attacking
+    c.args.depth c.requires.some c.requires.least c.args.attacks.now c.requires.tried
+    c.requires.begins c.requires.single v (searching.tried v c.in-Some.is).0 c.loop-next.next
+    c.in-Some-answered.line c.behind.result c.in-Some.is searching
+    (subst (λ (b : View). IsFound (Replied b.game (after b.game b.stand.position v) c.args.side)
+    c.args.depth (Some c.in-Some-answered.line)) c.loop-next.invariant.0
+    c.in-Some-answered.ensures.found) c.behind.ensures.points
 
 pub first_of_depth-overflow_add-v : goal.first_of_depth-overflow_add-v
-first_of_depth-overflow_add-v t c = let small = (c.loop-next.invariant.1.tried c.in-Some.v c.in-Some.is).1 in omega (arith, small)
+first_of_depth-overflow_add-v t c =
+    let small = (c.loop-next.invariant.1.tried c.in-Some.v c.in-Some.is).1 in
+    omega (arith, small)
 
 pub first_of_depth-loop-next-smaller : goal.first_of_depth-loop-next-smaller
-first_of_depth-loop-next-smaller t c =
-    attack-falls c.args.attacks.now c.in-Some.v c.loop-next.next c.first_from-next-in-Some.result (c.loop-next.invariant.1.tried c.in-Some.v c.in-Some.is).1 c.in-Some.is c.first_from-next-in-Some.ensures.found
+first_of_depth-loop-next-smaller t c = attack-falls c.args.attacks.now c.in-Some.v c.loop-next.next
+    c.first_from-next-in-Some.result (c.loop-next.invariant.1.tried c.in-Some.v c.in-Some.is).1
+    c.in-Some.is c.first_from-next-in-Some.ensures.found
 
 pub first_of_depth-loop-next-preserved : goal.first_of_depth-loop-next-preserved
 first_of_depth-loop-next-preserved t c =
     let v = c.in-Some.v in
-    let searching = subst (λ (b : View). IsSearching b.game b.stand.position c.args.side c.args.depth c.args.attacks.now c.loop-next.next) c.loop-next.invariant.0 c.loop-next.invariant.1 in
+    let searching = subst
+    (λ (b : View). IsSearching b.game b.stand.position c.args.side c.args.depth c.args.attacks.now
+    c.loop-next.next) c.loop-next.invariant.0 c.loop-next.invariant.1 in
     let back = c.in_default-answered.ensures.kept ∙ c.loop-next.invariant.0 in
-    let fails = subst (λ (b : View). IsFound (Replied b.game (after b.game b.stand.position v) c.args.side) c.args.depth None) c.loop-next.invariant.0 c.in_default-answered.ensures.found in
+    let fails = subst
+    (λ (b : View). IsFound (Replied b.game (after b.game b.stand.position v) c.args.side)
+    c.args.depth None) c.loop-next.invariant.0 c.in_default-answered.ensures.found in
     let member = (searching.tried v c.in-Some.is).0 in
     let next = c.first_from-next-in-Some.result in (
       back,
-      subst (λ (b : View). IsSearching b.game b.stand.position c.args.side c.args.depth c.args.attacks.now next) (sym back)
-          (search-next c.args.b.now.game c.args.b.now.stand.position c.args.side c.requires.attacking c.args.depth c.requires.some c.requires.least c.args.attacks.now c.requires.tried c.requires.begins (v + 1) next
-          (attack-fails c.args.b.now.game c.args.b.now.stand.position c.args.side c.requires.attacking c.args.depth c.requires.some c.requires.least c.args.attacks.now c.requires.tried c.requires.begins c.requires.single v member c.loop-next.next c.in-Some.is searching fails)
-          c.first_from-next-in-Some.ensures.found c.first_from-next-in-Some.ensures.range c.first_from-next-in-Some.ensures.none),
+      subst
+          (λ (b : View). IsSearching b.game b.stand.position c.args.side c.args.depth
+          c.args.attacks.now next) (sym back)
+          (search-next c.args.b.now.game c.args.b.now.stand.position c.args.side
+          c.requires.attacking c.args.depth c.requires.some c.requires.least c.args.attacks.now
+          c.requires.tried c.requires.begins (v + 1) next
+          (attack-fails c.args.b.now.game c.args.b.now.stand.position c.args.side
+          c.requires.attacking c.args.depth c.requires.some c.requires.least c.args.attacks.now
+          c.requires.tried c.requires.begins c.requires.single v member c.loop-next.next
+          c.in-Some.is searching fails) c.first_from-next-in-Some.ensures.found
+          c.first_from-next-in-Some.ensures.range c.first_from-next-in-Some.ensures.none),
     )
 
 pub first_of_depth-returns-clause-found : goal.first_of_depth-returns-clause-found
 first_of_depth-returns-clause-found t c =
-    let searching = subst (λ (b : View). IsSearching b.game b.stand.position c.args.side c.args.depth c.args.attacks.now c.loop-next.next) c.loop-next.invariant.0 c.loop-next.invariant.1 in
-    search-over c.args.b.now.game c.args.b.now.stand.position c.args.side c.requires.attacking c.args.depth c.requires.some c.requires.least c.args.attacks.now c.requires.tried c.requires.begins (rw c.in_default.is at searching)
+    let searching = subst
+    (λ (b : View). IsSearching b.game b.stand.position c.args.side c.args.depth c.args.attacks.now
+    c.loop-next.next) c.loop-next.invariant.0 c.loop-next.invariant.1 in
+    search-over c.args.b.now.game c.args.b.now.stand.position c.args.side c.requires.attacking
+    c.args.depth c.requires.some c.requires.least c.args.attacks.now c.requires.tried
+    c.requires.begins (rw c.in_default.is at searching)
 
 -- ---- the board afterwards
 
 pub answered-undo-requires : goal.answered-undo-requires
 answered-undo-requires t c =
-    one-earlier c.first_of_depth-found.new.b.earlier c.play.new.self.earlier c.play.new.self.stand (ap (λ (b : View). b.earlier) c.first_of_depth-found.ensures.kept ∙ c.play-2.ensures.earlier)
+    one-earlier c.first_of_depth-found.new.b.earlier c.play.new.self.earlier c.play.new.self.stand
+    (ap (λ (b : View). b.earlier) c.first_of_depth-found.ensures.kept ∙ c.play-2.ensures.earlier)
 
 pub answered-undo-requires-2 : goal.answered-undo-requires-2
 answered-undo-requires-2 t c =
-    let back = taken-back c.play.new.self c.play-2.new.self c.first_of_depth-found.new.b c.undo.new.self c.play-2.ensures.game c.play-2.ensures.earlier c.first_of_depth-found.ensures.kept c.undo.ensures.game c.undo.ensures.earlier in
-    one-earlier c.undo.new.self.earlier c.args.b.now.earlier c.args.b.now.stand (ap (λ (b : View). b.earlier) back ∙ c.play.ensures.earlier)
+    let back = taken-back c.play.new.self c.play-2.new.self c.first_of_depth-found.new.b
+    c.undo.new.self c.play-2.ensures.game c.play-2.ensures.earlier
+    c.first_of_depth-found.ensures.kept c.undo.ensures.game c.undo.ensures.earlier in
+    one-earlier c.undo.new.self.earlier c.args.b.now.earlier c.args.b.now.stand
+    (ap (λ (b : View). b.earlier) back ∙ c.play.ensures.earlier)
 
 pub answered-returns-in-Some-found-clause-kept : goal.answered-returns-in-Some-found-clause-kept
 answered-returns-in-Some-found-clause-kept t c =
-    let back = taken-back c.play.new.self c.play-2.new.self c.first_of_depth-found.new.b c.undo.new.self c.play-2.ensures.game c.play-2.ensures.earlier c.in-Some-found.ensures.kept c.undo.ensures.game c.undo.ensures.earlier in
-    taken-back c.args.b.now c.play.new.self c.undo.new.self c.undo-2.new.self c.play.ensures.game c.play.ensures.earlier back c.undo-2.ensures.game c.undo-2.ensures.earlier
+    let back = taken-back c.play.new.self c.play-2.new.self c.first_of_depth-found.new.b
+    c.undo.new.self c.play-2.ensures.game c.play-2.ensures.earlier c.in-Some-found.ensures.kept
+    c.undo.ensures.game c.undo.ensures.earlier in
+    taken-back c.args.b.now c.play.new.self c.undo.new.self c.undo-2.new.self c.play.ensures.game
+    c.play.ensures.earlier back c.undo-2.ensures.game c.undo-2.ensures.earlier
 
 pub answered-returns-in-None-found-clause-kept : goal.answered-returns-in-None-found-clause-kept
 answered-returns-in-None-found-clause-kept t c =
-    let back = taken-back c.play.new.self c.play-2.new.self c.first_of_depth-found.new.b c.undo.new.self c.play-2.ensures.game c.play-2.ensures.earlier c.in-None-found.ensures.kept c.undo.ensures.game c.undo.ensures.earlier in
-    taken-back c.args.b.now c.play.new.self c.undo.new.self c.undo-2.new.self c.play.ensures.game c.play.ensures.earlier back c.undo-2.ensures.game c.undo-2.ensures.earlier
+    let back = taken-back c.play.new.self c.play-2.new.self c.first_of_depth-found.new.b
+    c.undo.new.self c.play-2.ensures.game c.play-2.ensures.earlier c.in-None-found.ensures.kept
+    c.undo.ensures.game c.undo.ensures.earlier in
+    taken-back c.args.b.now c.play.new.self c.undo.new.self c.undo-2.new.self c.play.ensures.game
+    c.play.ensures.earlier back c.undo-2.ensures.game c.undo-2.ensures.earlier
 
-pub first_of_depth-returns-in-Some-answered-clause-kept : goal.first_of_depth-returns-in-Some-answered-clause-kept
-first_of_depth-returns-in-Some-answered-clause-kept t c = c.in-Some-answered.ensures.kept ∙ c.loop-next.invariant.0
+pub first_of_depth-returns-in-Some-answered-clause-kept :
+    goal.first_of_depth-returns-in-Some-answered-clause-kept
+first_of_depth-returns-in-Some-answered-clause-kept t c =
+    c.in-Some-answered.ensures.kept ∙ c.loop-next.invariant.0

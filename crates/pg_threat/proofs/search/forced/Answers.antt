@@ -6,54 +6,74 @@ use Rattle.pg_threat.proofs.Searching.{forced-far, begins-depth, forced-attackin
 use Rattle.pg_threat.proofs.search.forced.Goals as goal
 
 pub returns-then-is_far-clause-answer : goal.returns-then-is_far-clause-answer
-returns-then-is_far-clause-answer c =
-    forced-far c.args.b.now.game c.args.b.now.stand.position c.args.side c.args.depth c.requires.may c.is_far.ensures.fits.disjoint c.requires.going c.requires.turn (c.is_far.ensures.one c.if-is_far.true) (c.is_far.ensures.two c.if-is_far.true)
+returns-then-is_far-clause-answer c = forced-far c.args.b.now.game c.args.b.now.stand.position
+    c.args.side c.args.depth c.requires.may c.is_far.ensures.fits.disjoint c.requires.going
+    c.requires.turn (c.is_far.ensures.one c.if-is_far.true) (c.is_far.ensures.two c.if-is_far.true)
 
 pub returns-in-Some-clause-answer : goal.returns-in-Some-clause-answer
-returns-in-Some-clause-answer c =
-    forced-near c.args.b.now.game c.args.b.now.stand.position c.args.side c.requires.single c.requires.may c.lacking.ensures.fits c.requires.going c.requires.turn
-    c.args.depth c.lacking.result.points c.in-Some.v c.last.result c.lacking.ensures.points c.in-Some.ensures.found c.last.ensures.points c.last.ensures.len
+returns-in-Some-clause-answer c = forced-near c.args.b.now.game c.args.b.now.stand.position
+    c.args.side c.requires.single c.requires.may c.lacking.ensures.fits c.requires.going
+    c.requires.turn c.args.depth c.lacking.result.points c.in-Some.v c.last.result
+    c.lacking.ensures.points c.in-Some.ensures.found c.last.ensures.points c.last.ensures.len
 
 pub loop-least-init : goal.loop-least-init
 loop-least-init c = (
   refl,
   omega arith,
-  forced-deeper c.args.b.now.game c.args.b.now.stand.position c.args.side c.requires.single c.requires.may c.attacks_at-attacks.ensures.fits c.requires.going c.requires.turn c.lacking.result.points c.lacking.ensures.points c.in_default.ensures.none,
+  forced-deeper c.args.b.now.game c.args.b.now.stand.position c.args.side c.requires.single
+      c.requires.may c.attacks_at-attacks.ensures.fits c.requires.going c.requires.turn
+      c.lacking.result.points c.lacking.ensures.points c.in_default.ensures.none,
 )
 
 pub first_of_depth-requires-clause-attacking : goal.first_of_depth-requires-clause-attacking
-first_of_depth-requires-clause-attacking c =
-    subst (λ (b : View). IsAttacking b.game b.stand.position c.args.side) (sym c.loop-least.invariant.0)
-    (forced-attacking c.args.b.now.game c.args.b.now.stand.position c.args.side c.requires.single c.requires.may c.attacks_at-attacks.ensures.fits c.requires.going c.requires.turn)
+first_of_depth-requires-clause-attacking c = subst
+    (λ (b : View). IsAttacking b.game b.stand.position c.args.side) (sym c.loop-least.invariant.0)
+    (forced-attacking c.args.b.now.game c.args.b.now.stand.position c.args.side c.requires.single
+    c.requires.may c.attacks_at-attacks.ensures.fits c.requires.going c.requires.turn)
 
 pub first_of_depth-requires-clause-least : goal.first_of_depth-requires-clause-least
-first_of_depth-requires-clause-least c =
-    subst (λ (b : View). NoneBelow (LeadsToLine b.game b.stand.position c.args.side) c.loop-least.least) (sym c.loop-least.invariant.0) c.loop-least.invariant.2
+first_of_depth-requires-clause-least c = subst
+    (λ (b : View). NoneBelow (LeadsToLine b.game b.stand.position c.args.side) c.loop-least.least)
+    (sym c.loop-least.invariant.0) c.loop-least.invariant.2
 
 pub returns-in-Some-first_of_depth-clause-answer : goal.returns-in-Some-first_of_depth-clause-answer
 returns-in-Some-first_of_depth-clause-answer c =
-    let found = subst (λ (b : View). IsFound (LeadsToLine b.game b.stand.position c.args.side) c.loop-least.least (Some c.in-Some-first_of_depth.line)) c.loop-least.invariant.0 c.in-Some-first_of_depth.ensures.found in
-    forced-found c.args.b.now.game c.args.b.now.stand.position c.args.side c.requires.single c.requires.may c.attacks_at-attacks.ensures.fits c.requires.going c.requires.turn
-    c.args.depth c.loop-least.least c.in-Some-first_of_depth.line (omega (arith, c.loop-least-test.true)) c.in-Some-first_of_depth.ensures.len c.loop-least.invariant.2 found
+    let found = subst
+    (λ (b : View). IsFound (LeadsToLine b.game b.stand.position c.args.side) c.loop-least.least
+    (Some c.in-Some-first_of_depth.line)) c.loop-least.invariant.0
+    c.in-Some-first_of_depth.ensures.found in
+    forced-found c.args.b.now.game c.args.b.now.stand.position c.args.side c.requires.single
+    c.requires.may c.attacks_at-attacks.ensures.fits c.requires.going c.requires.turn c.args.depth
+    c.loop-least.least c.in-Some-first_of_depth.line (omega (arith, c.loop-least-test.true))
+    c.in-Some-first_of_depth.ensures.len c.loop-least.invariant.2 found
 
 pub loop-least-preserved : goal.loop-least-preserved
 loop-least-preserved c =
-    let none = subst (λ (b : View). IsFound (LeadsToLine b.game b.stand.position c.args.side) c.loop-least.least None) c.loop-least.invariant.0 c.in_default-first_of_depth.ensures.found in (
+    let none = subst (λ (b : View). IsFound (LeadsToLine b.game b.stand.position c.args.side)
+    c.loop-least.least None) c.loop-least.invariant.0 c.in_default-first_of_depth.ensures.found in (
       c.in_default-first_of_depth.ensures.kept ∙ c.loop-least.invariant.0,
       omega arith,
-      next-depth (LeadsToLine c.args.b.now.game c.args.b.now.stand.position c.args.side) c.loop-least.least c.loop-least.invariant.2 none,
+      next-depth (LeadsToLine c.args.b.now.game c.args.b.now.stand.position c.args.side)
+          c.loop-least.least c.loop-least.invariant.2 none,
     )
 
 pub first_of_depth-requires-clause-begins : goal.first_of_depth-requires-clause-begins
 first_of_depth-requires-clause-begins c =
     let g = c.args.b.now.game in
     let p = c.args.b.now.stand.position in
-    let attacking = forced-attacking g p c.args.side c.requires.single c.requires.may c.attacks_at-attacks.ensures.fits c.requires.going c.requires.turn in
+    let attacking = forced-attacking g p c.args.side c.requires.single c.requires.may
+    c.attacks_at-attacks.ensures.fits c.requires.going c.requires.turn in
     let found = c.attacks_at-attacks in
-    subst (λ (b : View). Begins b.game b.stand.position c.args.side c.loop-least.least c.of_depth.result.now) (sym c.loop-least.invariant.0)
-    (begins-depth g p c.args.side c.requires.single attacking c.loop-least.least c.loop-least.invariant.1 c.loop-least.invariant.2 found.result.all found.result.forks c.of_depth.result.now c.of_depth.ensures found.ensures.all found.ensures.twice)
+    subst
+    (λ (b : View). Begins b.game b.stand.position c.args.side c.loop-least.least
+    c.of_depth.result.now) (sym c.loop-least.invariant.0)
+    (begins-depth g p c.args.side c.requires.single attacking c.loop-least.least
+    c.loop-least.invariant.1 c.loop-least.invariant.2 found.result.all found.result.forks
+    c.of_depth.result.now c.of_depth.ensures found.ensures.all found.ensures.twice)
 
 pub returns-in_default-first_from-clause-answer : goal.returns-in_default-first_from-clause-answer
-returns-in_default-first_from-clause-answer c =
-    forced-none c.args.b.now.game c.args.b.now.stand.position c.args.side c.args.depth c.requires.may c.lacking.ensures.fits.disjoint c.requires.going c.requires.turn
-    c.lacking.result.points c.lacking.ensures.points c.in_default.ensures.none c.attacks_at-attacks.result.all c.attacks_at-attacks.ensures.all c.in_default-first_from.ensures.none
+returns-in_default-first_from-clause-answer c = forced-none c.args.b.now.game
+    c.args.b.now.stand.position c.args.side c.args.depth c.requires.may
+    c.lacking.ensures.fits.disjoint c.requires.going c.requires.turn c.lacking.result.points
+    c.lacking.ensures.points c.in_default.ensures.none c.attacks_at-attacks.result.all
+    c.attacks_at-attacks.ensures.all c.in_default-first_from.ensures.none

@@ -7,4 +7,5 @@ pub loop-v-init : goal.loop-v-init
 loop-v-init c = λ q. ap (λ s. contains s q) c.empty-set.ensures ∙ all_below-none q
 
 pub loop-v-preserved : goal.loop-v-preserved
-loop-v-preserved c = λ q. ap (λ s. contains s q) c.put.ensures ∙ all_below-more c.loop-v.set c.loop-v.v q (c.loop-v.invariant q)
+loop-v-preserved c = λ q. ap (λ s. contains s q) c.put.ensures
+    ∙ all_below-more c.loop-v.set c.loop-v.v q (c.loop-v.invariant q)

@@ -11,11 +11,14 @@ use Rattle.pg_base.specs.declared.limits.TheConstants.{MAX_MEMBERS}
 pub returns-clause-none : goal.returns-clause-none
 returns-clause-none c q above = elim (cases_lt q MAX_MEMBERS) [
   | inl within ↦ c.loop-row.invariant q above (omega arith)
-  | inr beyond ↦ ap (λ s. contains s q) (sym c.self.view_is) ∙ members-beyond c.self.inside.words q beyond
+  | inr beyond ↦
+      ap (λ s. contains s q) (sym c.self.view_is) ∙ members-beyond c.self.inside.words q beyond
 ]
 
 pub returns-then-is_some-clause-limit : goal.returns-then-is_some-clause-limit
-returns-then-is_some-clause-limit c = subst (λ (s : FinSet nat_cmp). AreBelow s MAX_MEMBERS) c.self.view_is (AreBelow-words c.self.inside.words)
+returns-then-is_some-clause-limit c = subst (λ (s : FinSet nat_cmp). AreBelow s MAX_MEMBERS)
+    c.self.view_is (AreBelow-words c.self.inside.words)
 
 pub returns-clause-limit : goal.returns-clause-limit
-returns-clause-limit c = subst (λ (s : FinSet nat_cmp). AreBelow s MAX_MEMBERS) c.self.view_is (AreBelow-words c.self.inside.words)
+returns-clause-limit c = subst (λ (s : FinSet nat_cmp). AreBelow s MAX_MEMBERS) c.self.view_is
+    (AreBelow-words c.self.inside.words)

@@ -7,4 +7,5 @@ pub invariant_of-self : goal.invariant_of-self
 invariant_of-self c = AreWords-with c.self.inside.words c.args.p c.self.invariant c.requires
 
 pub returns : goal.returns
-returns c = members-with c.self.inside.words c.args.p c.self.invariant c.requires ∙ ap (λ s. insert s c.args.p) c.self.view_is
+returns c = members-with c.self.inside.words c.args.p c.self.invariant c.requires
+    ∙ ap (λ s. insert s c.args.p) c.self.view_is

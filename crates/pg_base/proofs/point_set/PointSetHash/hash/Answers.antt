@@ -6,4 +6,6 @@ use Rattle.pg_base.specs.PointLemmas.{words_hash_input}
 use Rattle.pg_base.proofs.point_set.PointSetHash.hash.Goals as goal
 
 pub returns : goal.returns
-returns g c = c.hash.ensures ∙ ap (λ ws. fold g.H.Hasher.write c.args.state.now (words_hash_input ws)) (sym (words_of-members c.self.inside.words c.self.invariant) ∙ ap words_of c.self.view_is)
+returns g c = c.hash.ensures
+    ∙ ap (λ ws. fold g.H.Hasher.write c.args.state.now (words_hash_input ws))
+    (sym (words_of-members c.self.inside.words c.self.invariant) ∙ ap words_of c.self.view_is)

@@ -12,9 +12,8 @@ pub returns : goal.returns
 returns c = same_from_decides c.eq.result (equal c.args.self.now c.args.other.now)
     (Decides-like c.eq.result
     (λ words. sym c.self.view_is ∙ ap (λ ws. members_below ws MAX_MEMBERS) words ∙ c.other.view_is)
-    (λ points.
-    sym (words_of-members c.self.inside.words c.self.invariant)
+    (λ points. sym (words_of-members c.self.inside.words c.self.invariant)
     ∙ ap words_of (c.self.view_is ∙ points ∙ sym c.other.view_is)
     ∙ words_of-members c.other.inside.words c.other.invariant)
-    (slice_eq-Decides unsigned_Decides c.self.inside.words c.other.inside.words c.eq.result c.eq.ensures))
-    (equal-decides c.args.self.now c.args.other.now)
+    (slice_eq-Decides unsigned_Decides c.self.inside.words c.other.inside.words c.eq.result
+    c.eq.ensures)) (equal-decides c.args.self.now c.args.other.now)

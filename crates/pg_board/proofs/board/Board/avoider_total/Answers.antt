@@ -15,6 +15,10 @@ total-requires-clause-fits c = base-two _ _ _ _ _ (fit-first _ _ _ _ _ _ c.self.
 
 pub returns : goal.returns
 returns c =
-    let shape : c.self.inside.layout ≡ shape_of c.args.self.now.game = c.self.invariant.layout ∙ ap (λ v. shape_of v.game) c.self.view_is in
-    let at : position_of c.self.inside.layout c.self.inside.trail.cells ≡ c.args.self.now.stand.position = ap (λ v. v.stand.position) c.self.view_is in
-    c.total.ensures.exact ∙ ((λ i. total_in 2 (shape i) (at i) Y) ∙ avoider-total-of c.args.self.now.game c.args.self.now.stand.position)
+    let shape : c.self.inside.layout ≡ shape_of c.args.self.now.game =
+    c.self.invariant.layout ∙ ap (λ v. shape_of v.game) c.self.view_is in
+    let at : position_of c.self.inside.layout c.self.inside.trail.cells
+    ≡ c.args.self.now.stand.position = ap (λ v. v.stand.position) c.self.view_is in
+    c.total.ensures.exact
+    ∙ ((λ i. total_in 2 (shape i) (at i) Y)
+    ∙ avoider-total-of c.args.self.now.game c.args.self.now.stand.position)

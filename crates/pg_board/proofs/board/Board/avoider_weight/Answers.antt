@@ -16,11 +16,16 @@ weight-requires-clause-fits c = base-two _ _ _ _ _ (fit-first _ _ _ _ _ _ c.self
 
 pub weight-requires-clause-range : goal.weight-requires-clause-range
 weight-requires-clause-range c =
-    let shape : c.self.inside.layout ≡ shape_of c.args.self.now.game = c.self.invariant.layout ∙ ap (λ v. shape_of v.game) c.self.view_is in
+    let shape : c.self.inside.layout ≡ shape_of c.args.self.now.game =
+    c.self.invariant.layout ∙ ap (λ v. shape_of v.game) c.self.view_is in
     subst (λ (s : Shape). c.args.v < s.points) (sym shape) c.requires
 
 pub returns : goal.returns
 returns c =
-    let shape : c.self.inside.layout ≡ shape_of c.args.self.now.game = c.self.invariant.layout ∙ ap (λ v. shape_of v.game) c.self.view_is in
-    let at : position_of c.self.inside.layout c.self.inside.trail.cells ≡ c.args.self.now.stand.position = ap (λ v. v.stand.position) c.self.view_is in
-    c.weight.ensures.exact ∙ ((λ i. weight_in 2 (shape i) (at i) Y c.args.v) ∙ avoider-weight-of c.args.self.now.game c.args.self.now.stand.position c.args.v)
+    let shape : c.self.inside.layout ≡ shape_of c.args.self.now.game =
+    c.self.invariant.layout ∙ ap (λ v. shape_of v.game) c.self.view_is in
+    let at : position_of c.self.inside.layout c.self.inside.trail.cells
+    ≡ c.args.self.now.stand.position = ap (λ v. v.stand.position) c.self.view_is in
+    c.weight.ensures.exact
+    ∙ ((λ i. weight_in 2 (shape i) (at i) Y c.args.v)
+    ∙ avoider-weight-of c.args.self.now.game c.args.self.now.stand.position c.args.v)

@@ -18,7 +18,12 @@ point_of-requires c =
 pub returns : goal.returns
 returns c =
     let fits = fit-first _ _ _ _ _ _ c.self.invariant.fit in
-    let shape : c.self.inside.layout ≡ shape_of c.args.self.now.game = c.self.invariant.layout ∙ ap (λ v. shape_of v.game) c.self.view_is in
-    let at : position_of c.self.inside.layout c.self.inside.trail.cells ≡ c.args.self.now.stand.position = ap (λ v. v.stand.position) c.self.view_is in
-    let free : present c.self.inside.free ≡ free_points c.args.self.now.game c.args.self.now.stand.position = fits.free_is ∙ ((λ i. free_points_in (shape i) (at i)) ∙ free-points-of c.args.self.now.game c.args.self.now.stand.position) in
+    let shape : c.self.inside.layout ≡ shape_of c.args.self.now.game =
+    c.self.invariant.layout ∙ ap (λ v. shape_of v.game) c.self.view_is in
+    let at : position_of c.self.inside.layout c.self.inside.trail.cells
+    ≡ c.args.self.now.stand.position = ap (λ v. v.stand.position) c.self.view_is in
+    let free : present c.self.inside.free
+    ≡ free_points c.args.self.now.game c.args.self.now.stand.position = fits.free_is
+    ∙ ((λ i. free_points_in (shape i) (at i))
+    ∙ free-points-of c.args.self.now.game c.args.self.now.stand.position) in
     c.point_of.ensures ∙ (c.first.ensures ∙ ap (λ xs. slice_get xs 0) free)

@@ -21,11 +21,20 @@ pub returns : goal.returns
 returns c =
     let g = c.args.self.now.game in
     let p = c.args.self.now.stand.position in
-    let shape : c.self.inside.layout ≡ shape_of c.args.self.now.game = c.self.invariant.layout ∙ ap (λ v. shape_of v.game) c.self.view_is in
-    let at : position_of c.self.inside.layout c.self.inside.trail.cells ≡ c.args.self.now.stand.position = ap (λ v. v.stand.position) c.self.view_is in
-    let x_is : c.has_filled.result ≡ has_filled g p X = c.has_filled.ensures ∙ (λ i. list_any (is_filled (points_of (at i) X)) (shape i).lines) in
-    let y_is : c.has_filled-2.result ≡ has_filled g p Y = c.has_filled-2.ensures ∙ (λ i. list_any (is_filled (points_of (at i) Y)) (shape i).lines) in
-    let touched : c.is_none.result ≡ all_touched g p = none-first c.first_live.result (live_lines g p Y) c.is_none.result c.is_none.ensures c.first_live.ensures.line ∙ touched-of g p in
-    let full : c.is_none-2.result ≡ is_full g p = none-first c.first_free.result (free_points g p) c.is_none-2.result c.is_none-2.ensures c.first_free.ensures in
+    let shape : c.self.inside.layout ≡ shape_of c.args.self.now.game =
+    c.self.invariant.layout ∙ ap (λ v. shape_of v.game) c.self.view_is in
+    let at : position_of c.self.inside.layout c.self.inside.trail.cells
+    ≡ c.args.self.now.stand.position = ap (λ v. v.stand.position) c.self.view_is in
+    let x_is : c.has_filled.result ≡ has_filled g p X =
+    c.has_filled.ensures ∙ (λ i. list_any (is_filled (points_of (at i) X)) (shape i).lines) in
+    let y_is : c.has_filled-2.result ≡ has_filled g p Y =
+    c.has_filled-2.ensures ∙ (λ i. list_any (is_filled (points_of (at i) Y)) (shape i).lines) in
+    let touched : c.is_none.result ≡ all_touched g p = none-first c.first_live.result
+    (live_lines g p Y) c.is_none.result c.is_none.ensures c.first_live.ensures.line
+    ∙ touched-of g p in
+    let full : c.is_none-2.result ≡ is_full g p = none-first c.first_free.result
+    (free_points g p) c.is_none-2.result c.is_none-2.ensures c.first_free.ensures in
     let kind = ap (λ v. v.game.kind) c.self.view_is in
-    over-is g p c.self.inside.game.now.kind c.has_filled.result c.has_filled-2.result c.is_none.result c.is_none-2.result c.is_over_by.result kind x_is y_is touched full c.is_over_by.ensures (λ e. c.self.invariant.has_lines (kind ∙ e))
+    over-is g p c.self.inside.game.now.kind c.has_filled.result c.has_filled-2.result
+    c.is_none.result c.is_none-2.result c.is_over_by.result kind x_is y_is touched full
+    c.is_over_by.ensures (λ e. c.self.invariant.has_lines (kind ∙ e))

@@ -6,10 +6,13 @@ use Rattle.pg_board.proofs.Fitting.{fit-first, some-cells}
 use Rattle.pg_board.proofs.board.Board.position.Goals as goal
 
 pub left-left-requires-clause-width : goal.left-left-requires-clause-width
-left-left-requires-clause-width c = some-cells _ _ _ _ _ (fit-first _ _ _ _ _ _ c.self.invariant.fit)
+left-left-requires-clause-width c =
+    some-cells _ _ _ _ _ (fit-first _ _ _ _ _ _ c.self.invariant.fit)
 
 pub left-left-requires-clause-few : goal.left-left-requires-clause-few
-left-left-requires-clause-few c = let fits = fit-first _ _ _ _ _ _ c.self.invariant.fit in omega (arith, fits.turn, fits.few_bias)
+left-left-requires-clause-few c =
+    let fits = fit-first _ _ _ _ _ _ c.self.invariant.fit in
+    omega (arith, fits.turn, fits.few_bias)
 
 pub marked-requires-clause-width : goal.marked-requires-clause-width
 marked-requires-clause-width c = (fit-first _ _ _ _ _ _ c.self.invariant.fit).counted.width
@@ -28,7 +31,15 @@ turn-requires c = some-cells _ _ _ _ _ (fit-first _ _ _ _ _ _ c.self.invariant.f
 
 pub returns : goal.returns
 returns c =
-    let exact = (λ i. record { x = c.marked.ensures i; y = c.marked-2.ensures i; turn = c.turn.ensures i; left = c.left-left.ensures i })
-    ∙ (sym (position-is c.self.inside.layout c.self.inside.trail.cells) ∙ ap (λ v. v.stand.position) c.self.view_is) in
-    let fits = subst (λ v. IsPosition v.game v.stand.position) c.self.view_is (position-fits c.self.inside.game.now c.self.inside.layout _ _ _ _ c.self.invariant.layout (fit-first _ _ _ _ _ _ c.self.invariant.fit)) in
+    let exact = (λ i. record {
+      x = c.marked.ensures i;
+      y = c.marked-2.ensures i;
+      turn = c.turn.ensures i;
+      left = c.left-left.ensures i;
+    })
+    ∙ (sym (position-is c.self.inside.layout c.self.inside.trail.cells)
+    ∙ ap (λ v. v.stand.position) c.self.view_is) in
+    let fits = subst (λ v. IsPosition v.game v.stand.position) c.self.view_is
+    (position-fits c.self.inside.game.now c.self.inside.layout _ _ _ _ c.self.invariant.layout
+    (fit-first _ _ _ _ _ _ c.self.invariant.fit)) in
     record { exact = exact; fits = subst (IsPosition c.args.self.now.game) (sym exact) fits }

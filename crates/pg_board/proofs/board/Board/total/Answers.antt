@@ -10,11 +10,16 @@ pub total-requires-clause-agrees : goal.total-requires-clause-agrees
 total-requires-clause-agrees c = agree-is _ _ _ _ _ (fit-first _ _ _ _ _ _ c.self.invariant.fit)
 
 pub total-requires-clause-fits : goal.total-requires-clause-fits
-total-requires-clause-fits c = base-is _ _ _ _ _ c.from-base.result (fit-first _ _ _ _ _ _ c.self.invariant.fit) c.from-base.ensures
+total-requires-clause-fits c = base-is _ _ _ _ _ c.from-base.result
+    (fit-first _ _ _ _ _ _ c.self.invariant.fit) c.from-base.ensures
 
 pub returns : goal.returns
 returns c =
-    let shape : c.self.inside.layout ≡ shape_of c.args.self.now.game = c.self.invariant.layout ∙ ap (λ v. shape_of v.game) c.self.view_is in
-    let at : position_of c.self.inside.layout c.self.inside.trail.cells ≡ c.args.self.now.stand.position = ap (λ v. v.stand.position) c.self.view_is in
+    let shape : c.self.inside.layout ≡ shape_of c.args.self.now.game =
+    c.self.invariant.layout ∙ ap (λ v. shape_of v.game) c.self.view_is in
+    let at : position_of c.self.inside.layout c.self.inside.trail.cells
+    ≡ c.args.self.now.stand.position = ap (λ v. v.stand.position) c.self.view_is in
     let bias = c.from-base.ensures ∙ ap (λ v. v.game.bias) c.self.view_is in
-    c.total.ensures.exact ∙ ((λ i. total_in (1 + bias i) (shape i) (at i) c.args.side) ∙ total-of c.args.self.now.game c.args.self.now.stand.position c.args.side)
+    c.total.ensures.exact
+    ∙ ((λ i. total_in (1 + bias i) (shape i) (at i) c.args.side)
+    ∙ total-of c.args.self.now.game c.args.self.now.stand.position c.args.side)

@@ -9,5 +9,6 @@ turn-requires c = some-cells _ _ _ _ _ (fit-first _ _ _ _ _ _ c.self.invariant.f
 
 pub returns : goal.returns
 returns c =
-    let at : position_of c.self.inside.layout c.self.inside.trail.cells ≡ c.args.self.now.stand.position = ap (λ v. v.stand.position) c.self.view_is in
+    let at : position_of c.self.inside.layout c.self.inside.trail.cells
+    ≡ c.args.self.now.stand.position = ap (λ v. v.stand.position) c.self.view_is in
     c.turn.ensures ∙ (turn-is c.self.inside.layout c.self.inside.trail.cells ∙ ap (λ p. p.turn) at)

@@ -11,16 +11,22 @@ pub weight-requires-clause-agrees : goal.weight-requires-clause-agrees
 weight-requires-clause-agrees c = agree-is _ _ _ _ _ (fit-first _ _ _ _ _ _ c.self.invariant.fit)
 
 pub weight-requires-clause-fits : goal.weight-requires-clause-fits
-weight-requires-clause-fits c = base-is _ _ _ _ _ c.from-base.result (fit-first _ _ _ _ _ _ c.self.invariant.fit) c.from-base.ensures
+weight-requires-clause-fits c = base-is _ _ _ _ _ c.from-base.result
+    (fit-first _ _ _ _ _ _ c.self.invariant.fit) c.from-base.ensures
 
 pub weight-requires-clause-range : goal.weight-requires-clause-range
 weight-requires-clause-range c =
-    let shape : c.self.inside.layout ≡ shape_of c.args.self.now.game = c.self.invariant.layout ∙ ap (λ v. shape_of v.game) c.self.view_is in
+    let shape : c.self.inside.layout ≡ shape_of c.args.self.now.game =
+    c.self.invariant.layout ∙ ap (λ v. shape_of v.game) c.self.view_is in
     subst (λ (s : Shape). c.args.v < s.points) (sym shape) c.requires
 
 pub returns : goal.returns
 returns c =
-    let shape : c.self.inside.layout ≡ shape_of c.args.self.now.game = c.self.invariant.layout ∙ ap (λ v. shape_of v.game) c.self.view_is in
-    let at : position_of c.self.inside.layout c.self.inside.trail.cells ≡ c.args.self.now.stand.position = ap (λ v. v.stand.position) c.self.view_is in
+    let shape : c.self.inside.layout ≡ shape_of c.args.self.now.game =
+    c.self.invariant.layout ∙ ap (λ v. shape_of v.game) c.self.view_is in
+    let at : position_of c.self.inside.layout c.self.inside.trail.cells
+    ≡ c.args.self.now.stand.position = ap (λ v. v.stand.position) c.self.view_is in
     let bias = c.from-base.ensures ∙ ap (λ v. v.game.bias) c.self.view_is in
-    c.weight.ensures.exact ∙ ((λ i. weight_in (1 + bias i) (shape i) (at i) c.args.side c.args.v) ∙ weight-of c.args.self.now.game c.args.self.now.stand.position c.args.side c.args.v)
+    c.weight.ensures.exact
+    ∙ ((λ i. weight_in (1 + bias i) (shape i) (at i) c.args.side c.args.v)
+    ∙ weight-of c.args.self.now.game c.args.self.now.stand.position c.args.side c.args.v)

@@ -6,4 +6,5 @@ use Rattle.pg_draw.specs.declared.measures.TheConstants.{MAX_MIDDLE_REACH}
 use Rattle.pg_draw.proofs.courses.Courses.farthest.Given as goal
 
 abbrev pub invariant-loop-course : goal.invariant-loop-course
-invariant-loop-course l = (l.far ≡ fold farther (at 0 0) (take l.course-index l.course-items)) × IsWithin MAX_MIDDLE_REACH l.far
+invariant-loop-course l = (l.far ≡ fold farther (at 0 0) (take l.course-index l.course-items))
+    × IsWithin MAX_MIDDLE_REACH l.far

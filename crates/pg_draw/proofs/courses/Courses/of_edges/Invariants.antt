@@ -6,6 +6,7 @@ use Rattle.pg_draw.proofs.courses.Courses.of_edges.Given as goal
 abbrev pub invariant-loop-i : goal.invariant-loop-i
 invariant-loop-i l =
     record {
-      told : l.members.items ++ courses_behind l.plan (take l.i l.ends) (drop l.i l.ends) ≡ courses_behind l.plan [] l.ends;
+      told : l.members.items ++ courses_behind l.plan (take l.i l.ends) (drop l.i l.ends)
+          ≡ courses_behind l.plan [] l.ends;
       near : All HasNearMiddle l.members.items;
     }

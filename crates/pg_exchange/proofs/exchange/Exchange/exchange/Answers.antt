@@ -7,45 +7,64 @@ use Rattle.pg_exchange.proofs.exchange.Exchange.exchange.Goals as goal
 use Rattle.pg_exchange.proofs.exchange.Exchange.exchange.Goals.{then-second-at, else-second-at}
 
 pub loop-i-init : goal.loop-i-init
-loop-i-init g c = record { kept = refl; kept_second = refl; shift = SomeShift-begin _ _ _ _ _ _ _ c.requires.tree }
+loop-i-init g c = record {
+  kept = refl;
+  kept_second = refl;
+  shift = SomeShift-begin _ _ _ _ _ _ _ c.requires.tree;
+}
 
 pub swap-requires-clause-element : goal.swap-requires-clause-element
 unfolding reads_up reads_test
 swap-requires-clause-element g c =
     let i = c.loop-i.invariant in
-    let k = link_second _ _ _ _ _ _ _ _ _ _ _ i.shift (cc (c.has.ensures, c.if-has.false)) c.if-second-at.true in
-    subst (λ q. q.elements (reads_up c.args.up.now c.loop-i.at) ≡ true) (sym (i.kept_second ∙ sym c.args.self.now.same)) k.0
+    let k = link_second _ _ _ _ _ _ _ _ _ _ _ i.shift
+    (cc (c.has.ensures, c.if-has.false)) c.if-second-at.true in
+    subst (λ q. q.elements (reads_up c.args.up.now c.loop-i.at) ≡ true)
+    (sym (i.kept_second ∙ sym c.args.self.now.same)) k.0
 
 pub swap-requires-clause-outside : goal.swap-requires-clause-outside
 unfolding reads_up reads_test
 swap-requires-clause-outside g c =
-    let k = link_second _ _ _ _ _ _ _ _ _ _ _ c.loop-i.invariant.shift (cc (c.has.ensures, c.if-has.false)) c.if-second-at.true in k.1
+    let k = link_second _ _ _ _ _ _ _ _ _ _ _ c.loop-i.invariant.shift
+    (cc (c.has.ensures, c.if-has.false)) c.if-second-at.true in
+    k.1
 
 pub swap-requires-clause-exchanges : goal.swap-requires-clause-exchanges
 unfolding reads_up reads_test
 swap-requires-clause-exchanges g c =
     let i = c.loop-i.invariant in
-    let k = link_second _ _ _ _ _ _ _ _ _ _ _ i.shift (cc (c.has.ensures, c.if-has.false)) c.if-second-at.true in
-    subst (λ q. circuit q.spans (g.G.Ground.base c.loop-i.self.second) (reads_up c.args.up.now c.loop-i.at) c.loop-i.at ≡ true) (sym (i.kept_second ∙ sym c.args.self.now.same)) k.2
+    let k = link_second _ _ _ _ _ _ _ _ _ _ _ i.shift
+    (cc (c.has.ensures, c.if-has.false)) c.if-second-at.true in
+    subst
+    (λ q. circuit q.spans (g.G.Ground.base c.loop-i.self.second)
+    (reads_up c.args.up.now c.loop-i.at) c.loop-i.at ≡ true)
+    (sym (i.kept_second ∙ sym c.args.self.now.same)) k.2
 
 pub swap-requires-else-second-at-clause-element : goal.swap-requires-else-second-at-clause-element
 unfolding reads_up reads_test
 swap-requires-else-second-at-clause-element g c =
     let i = c.loop-i.invariant in
-    let k = link_first _ _ _ _ _ _ _ _ _ _ _ i.shift (cc (c.has.ensures, c.if-has.false)) c.if-second-at.false in
+    let k = link_first _ _ _ _ _ _ _ _ _ _ _ i.shift
+    (cc (c.has.ensures, c.if-has.false)) c.if-second-at.false in
     subst (λ q. q.elements (reads_up c.args.up.now c.loop-i.at) ≡ true) (sym i.kept) k.0
 
 pub swap-requires-else-second-at-clause-outside : goal.swap-requires-else-second-at-clause-outside
 unfolding reads_up reads_test
 swap-requires-else-second-at-clause-outside g c =
-    let k = link_first _ _ _ _ _ _ _ _ _ _ _ c.loop-i.invariant.shift (cc (c.has.ensures, c.if-has.false)) c.if-second-at.false in k.1
+    let k = link_first _ _ _ _ _ _ _ _ _ _ _ c.loop-i.invariant.shift
+    (cc (c.has.ensures, c.if-has.false)) c.if-second-at.false in
+    k.1
 
-pub swap-requires-else-second-at-clause-exchanges : goal.swap-requires-else-second-at-clause-exchanges
+pub swap-requires-else-second-at-clause-exchanges :
+    goal.swap-requires-else-second-at-clause-exchanges
 unfolding reads_up reads_test
 swap-requires-else-second-at-clause-exchanges g c =
     let i = c.loop-i.invariant in
-    let k = link_first _ _ _ _ _ _ _ _ _ _ _ i.shift (cc (c.has.ensures, c.if-has.false)) c.if-second-at.false in
-    subst (λ q. circuit q.spans (g.G.Ground.base c.loop-i.self.first) (reads_up c.args.up.now c.loop-i.at) c.loop-i.at ≡ true) (sym i.kept) k.2
+    let k = link_first _ _ _ _ _ _ _ _ _ _ _ i.shift
+    (cc (c.has.ensures, c.if-has.false)) c.if-second-at.false in
+    subst
+    (λ q. circuit q.spans (g.G.Ground.base c.loop-i.self.first)
+    (reads_up c.args.up.now c.loop-i.at) c.loop-i.at ≡ true) (sym i.kept) k.2
 
 pub loop-i-preserved : goal.loop-i-preserved
 unfolding reads_up reads_test
@@ -65,32 +84,46 @@ loop-i-preserved g c =
     let fa : from c.loop-i.at ≡ false = cc (c.has.ensures, c.if-has.false) in
     elim c.if-second-at.branch [
       | then-second-at w ↦
-          let same : g.G.Ground.matroid c.loop-i.self.second ≡ m = i.kept_second ∙ sym c.args.self.now.same in
-          let new = SomeShift-second m b d b2 d2 from up tests c.args.y c.loop-i.at left (g.met.G.Ground.spanning c.args.self.now.first) (g.met.G.Ground.small c.args.self.now.first)
-          (subst (λ q. IsBase q.spans q.elements d2) same (g.met.G.Ground.is_base c.loop-i.self.second)) fa w.if-second-at.true s in
+          let same : g.G.Ground.matroid c.loop-i.self.second ≡ m =
+          i.kept_second ∙ sym c.args.self.now.same in
+          let new = SomeShift-second m b d b2 d2 from up tests c.args.y c.loop-i.at left
+          (g.met.G.Ground.spanning c.args.self.now.first)
+          (g.met.G.Ground.small c.args.self.now.first)
+          (subst (λ q. IsBase q.spans q.elements d2) same
+          (g.met.G.Ground.is_base c.loop-i.self.second)) fa w.if-second-at.true s in
           record {
             kept = ap (λ q. g.G.Ground.matroid q.first) w.self-is ∙ i.kept;
-            kept_second = ap (λ q. g.G.Ground.matroid q.second) w.self-is ∙ (w.swap.ensures.kept ∙ i.kept_second);
-            shift = subst (λ q. SomeShift m b d (g.G.Ground.base q.first) (g.G.Ground.base q.second) from up tests c.args.y (up c.loop-i.at) left) (sym w.self-is)
-                (subst (λ q. SomeShift m b d b2 q from up tests c.args.y (up c.loop-i.at) left) (sym w.swap.ensures.exchanged) new);
+            kept_second = ap (λ q. g.G.Ground.matroid q.second) w.self-is
+                ∙ (w.swap.ensures.kept ∙ i.kept_second);
+            shift = subst (λ q. SomeShift m b d (g.G.Ground.base q.first) (g.G.Ground.base q.second)
+                from up tests c.args.y (up c.loop-i.at) left) (sym w.self-is)
+                (subst (λ q. SomeShift m b d b2 q from up tests c.args.y (up c.loop-i.at) left)
+                (sym w.swap.ensures.exchanged) new);
           }
       | else-second-at w ↦
-          let new = SomeShift-first m b d b2 d2 from up tests c.args.y c.loop-i.at left (g.met.G.Ground.spanning c.args.self.now.first) (g.met.G.Ground.small c.args.self.now.first)
-          (subst (λ q. IsBase q.spans q.elements b2) i.kept (g.met.G.Ground.is_base c.loop-i.self.first)) fa w.if-second-at.false s in
+          let new = SomeShift-first m b d b2 d2 from up tests c.args.y c.loop-i.at left
+          (g.met.G.Ground.spanning c.args.self.now.first)
+          (g.met.G.Ground.small c.args.self.now.first)
+          (subst (λ q. IsBase q.spans q.elements b2) i.kept
+          (g.met.G.Ground.is_base c.loop-i.self.first)) fa w.if-second-at.false s in
           record {
-            kept = ap (λ q. g.G.Ground.matroid q.first) w.self-is ∙ (w.swap-else-second-at.ensures.kept ∙ i.kept);
+            kept = ap (λ q. g.G.Ground.matroid q.first) w.self-is
+                ∙ (w.swap-else-second-at.ensures.kept ∙ i.kept);
             kept_second = ap (λ q. g.G.Ground.matroid q.second) w.self-is ∙ i.kept_second;
-            shift = subst (λ q. SomeShift m b d (g.G.Ground.base q.first) (g.G.Ground.base q.second) from up tests c.args.y (up c.loop-i.at) left) (sym w.self-is)
-                (subst (λ q. SomeShift m b d q d2 from up tests c.args.y (up c.loop-i.at) left) (sym w.swap-else-second-at.ensures.exchanged) new);
+            shift = subst (λ q. SomeShift m b d (g.G.Ground.base q.first) (g.G.Ground.base q.second)
+                from up tests c.args.y (up c.loop-i.at) left) (sym w.self-is)
+                (subst (λ q. SomeShift m b d q d2 from up tests c.args.y (up c.loop-i.at) left)
+                (sym w.swap-else-second-at.ensures.exchanged) new);
           }
     ]
 
 pub returns-clause-begins : goal.returns-clause-begins
-returns-clause-begins g c =
-    shift_ends _ _ _ _ _ _ _ _ _ _ _ (omega arith) (g.met.G.Ground.small c.args.self.now.first) c.loop-i.invariant.shift
+returns-clause-begins g c = shift_ends _ _ _ _ _ _ _ _ _ _ _ (omega arith)
+    (g.met.G.Ground.small c.args.self.now.first) c.loop-i.invariant.shift
 
 pub returns-clause-nearest : goal.returns-clause-nearest
 returns-clause-nearest g c =
     let i = c.loop-i.invariant in
     IsNearest-shift _ _ _ _ _ _ _ _ _ _ _
-    (shift_ends _ _ _ _ _ _ _ _ _ _ _ (omega arith) (g.met.G.Ground.small c.args.self.now.first) i.shift) i.shift
+    (shift_ends _ _ _ _ _ _ _ _ _ _ _ (omega arith)
+    (g.met.G.Ground.small c.args.self.now.first) i.shift) i.shift

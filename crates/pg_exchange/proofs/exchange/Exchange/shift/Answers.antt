@@ -15,11 +15,21 @@ pub loop-f-init : goal.loop-f-init
 loop-f-init g c = record {
   up_length = refl;
   second_length = refl;
-  search = subst (λ (k : ℕ → Bool). IsSearch (g.G.Ground.matroid c.args.self.now.first) (g.G.Ground.base c.args.self.now.first) (g.G.Ground.base c.args.self.now.second) (contains c.args.from.now) (contains c.args.from.now) k)
-      (either-none (contains c.args.from.now) (contains c.empty-later.result) (emptied c.empty-later.result c.empty-later.ensures)) (IsSearch-begin _ _ _ _ c.requires);
-  tree = IsTree-begin _ _ _ _ _ _ _ (λ z. false_from_ne_true _ (λ h. let p = outside_parts (contains c.args.from.now) (either (contains c.args.from.now) (contains c.empty-later.result)) z h in both_ways _ p.1 (either_left _ _ z p.0)));
-  levels = IsLevelled-begin _ _ _ _ _ (contains c.args.from.now) (contains c.empty-later.result) _ (emptied c.empty-later.result c.empty-later.ensures);
-  missed = λ z h. let p = outside_parts (contains c.args.from.now) (either (contains c.args.from.now) (contains c.empty-later.result)) z h in absurd (both_ways _ p.1 (either_left _ _ z p.0));
+  search = subst (λ (k : ℕ → Bool). IsSearch (g.G.Ground.matroid c.args.self.now.first)
+      (g.G.Ground.base c.args.self.now.first) (g.G.Ground.base c.args.self.now.second)
+      (contains c.args.from.now) (contains c.args.from.now) k)
+      (either-none (contains c.args.from.now) (contains c.empty-later.result)
+      (emptied c.empty-later.result c.empty-later.ensures)) (IsSearch-begin _ _ _ _ c.requires);
+  tree = IsTree-begin _ _ _ _ _ _ _ (λ z. false_from_ne_true _ (λ h.
+      let p = outside_parts (contains c.args.from.now)
+      (either (contains c.args.from.now) (contains c.empty-later.result)) z h in
+      both_ways _ p.1 (either_left _ _ z p.0)));
+  levels = IsLevelled-begin _ _ _ _ _ (contains c.args.from.now) (contains c.empty-later.result) _
+      (emptied c.empty-later.result c.empty-later.ensures);
+  missed = λ z h.
+      let p = outside_parts (contains c.args.from.now)
+      (either (contains c.args.from.now) (contains c.empty-later.result)) z h in
+      absurd (both_ways _ p.1 (either_left _ _ z p.0));
   kept = refl;
   kept_second = refl;
   kept_base = refl;
@@ -31,8 +41,12 @@ exchange-x-requires-clause-tree g c =
     let i = c.loop-f.invariant in
     let seen = contains c.loop-f.seen in
     let y = c.in-Some-first_from.y in
-    let hit = both_parts seen (contains c.args.to.now) y (subst (λ (k : ℕ → Bool). k y ≡ true) c.shared.ensures c.in-Some-first_from.ensures.found.member) in
-    let t : SomeTree (g.G.Ground.matroid c.args.self.now.first) (g.G.Ground.base c.args.self.now.first) (g.G.Ground.base c.args.self.now.second) (contains c.args.from.now) (reads_up c.loop-f.up) (reads_test c.loop-f.second) y = record {
+    let hit = both_parts seen (contains c.args.to.now) y
+    (subst (λ (k : ℕ → Bool). k y ≡ true) c.shared.ensures
+    c.in-Some-first_from.ensures.found.member) in
+    let t : SomeTree (g.G.Ground.matroid c.args.self.now.first)
+    (g.G.Ground.base c.args.self.now.first) (g.G.Ground.base c.args.self.now.second)
+    (contains c.args.from.now) (reads_up c.loop-f.up) (reads_test c.loop-f.second) y = record {
       seen = seen;
       done = outside seen (either (contains c.loop-f.level) (contains c.loop-f.later));
       known = λ z h. (outside_parts _ _ z h).0;
@@ -42,11 +56,20 @@ exchange-x-requires-clause-tree g c =
       depth = i.levels.depth;
       begun = i.levels.begun;
       deeper = i.levels.deeper;
-      near = level-near (g.G.Ground.matroid c.args.self.now.first) (g.G.Ground.base c.args.self.now.first) (g.G.Ground.base c.args.self.now.second) (contains c.args.from.now) (contains c.args.to.now) seen (contains c.loop-f.level) (contains c.loop-f.later) (reads_up c.loop-f.up) i.levels y hit.0;
+      near = level-near (g.G.Ground.matroid c.args.self.now.first)
+          (g.G.Ground.base c.args.self.now.first) (g.G.Ground.base c.args.self.now.second)
+          (contains c.args.from.now) (contains c.args.to.now) seen (contains c.loop-f.level)
+          (contains c.loop-f.later) (reads_up c.loop-f.up) i.levels y hit.0;
     } in
-    subst (λ q. SomeTree q (g.G.Ground.base c.loop-f.self.first) (g.G.Ground.base c.loop-f.self.second) (contains c.args.from.now) (reads_up c.loop-f.up) (reads_test c.loop-f.second) y) (sym i.kept)
-    (subst (λ q. SomeTree (g.G.Ground.matroid c.args.self.now.first) q (g.G.Ground.base c.loop-f.self.second) (contains c.args.from.now) (reads_up c.loop-f.up) (reads_test c.loop-f.second) y) (sym i.kept_base)
-    (subst (λ q. SomeTree (g.G.Ground.matroid c.args.self.now.first) (g.G.Ground.base c.args.self.now.first) q (contains c.args.from.now) (reads_up c.loop-f.up) (reads_test c.loop-f.second) y) (sym i.kept_second_base) t))
+    subst
+    (λ q. SomeTree q (g.G.Ground.base c.loop-f.self.first) (g.G.Ground.base c.loop-f.self.second)
+    (contains c.args.from.now) (reads_up c.loop-f.up) (reads_test c.loop-f.second) y) (sym i.kept)
+    (subst (λ q. SomeTree (g.G.Ground.matroid c.args.self.now.first) q
+    (g.G.Ground.base c.loop-f.self.second) (contains c.args.from.now) (reads_up c.loop-f.up)
+    (reads_test c.loop-f.second) y) (sym i.kept_base)
+    (subst (λ q. SomeTree (g.G.Ground.matroid c.args.self.now.first)
+    (g.G.Ground.base c.args.self.now.first) q (contains c.args.from.now) (reads_up c.loop-f.up)
+    (reads_test c.loop-f.second) y) (sym i.kept_second_base) t))
 
 pub loop-f-preserved : goal.loop-f-preserved
 loop-f-preserved g c =
@@ -60,39 +83,63 @@ loop-f-preserved g c =
     let level = contains c.take_next.new.level in
     let rest = contains c.take_next.new.later in
     let todo2 = either level (contains c.explore-in-Some.new.todo) in
-    let es : contains c.explore-in-Some.new.seen ≡ either (either seen (links m b f)) (links m d f) = cc in
+    let es : contains c.explore-in-Some.new.seen
+    ≡ either (either seen (links m b f)) (links m d f) = cc in
     let fresh = outside (links m b f) seen in
     let fresh2 = outside (links m d f) (either seen (links m b f)) in
     let later : contains c.explore-in-Some.new.todo ≡ either (either rest fresh) fresh2 = cc in
-    let et : todo2 ≡ either (either (minus todo f) fresh) fresh2 = ap (λ (k : ℕ → Bool). either level k) later ∙ (either-moved level rest fresh fresh2 ∙ ap (λ (k : ℕ → Bool). either (either k fresh) fresh2) c.in-Some.ensures.taken) in
-    let e1 : links (g.G.Ground.matroid c.loop-f.self.first) (g.G.Ground.base c.loop-f.self.first) f ≡ links m b f = cc in
-    let e2 : links (g.G.Ground.matroid c.loop-f.self.second) (g.G.Ground.base c.loop-f.self.second) f ≡ links m d f = cc in
+    let et : todo2 ≡ either (either (minus todo f) fresh) fresh2 =
+    ap (λ (k : ℕ → Bool). either level k) later
+    ∙ (either-moved level rest fresh fresh2
+    ∙ ap (λ (k : ℕ → Bool). either (either k fresh) fresh2) c.in-Some.ensures.taken) in
+    let e1 : links (g.G.Ground.matroid c.loop-f.self.first) (g.G.Ground.base c.loop-f.self.first) f
+    ≡ links m b f = cc in
+    let e2 : links (g.G.Ground.matroid c.loop-f.self.second)
+    (g.G.Ground.base c.loop-f.self.second) f ≡ links m d f = cc in
     let e3 : contains c.explore.new.seen ≡ either seen (links m b f) = cc in
     record {
       up_length = omega arith;
       second_length = omega arith;
-      search = IsSearch-next m b d (contains c.args.from.now) seen todo (contains c.explore-in-Some.new.seen) todo2 f
-          (g.met.G.Ground.is_base c.args.self.now.first).within (subst (λ k. IsWithin d k.elements) (sym c.args.self.now.same) (g.met.G.Ground.is_base c.args.self.now.second).within) i.search c.in-Some.ensures.found es et;
-      tree = IsTree-next m b d (contains c.args.from.now) seen todo (contains c.explore-in-Some.new.seen) todo2
-          (reads_up c.loop-f.up) (reads_up c.explore.new.up) (reads_up c.explore-in-Some.new.up) (reads_test c.loop-f.second) (reads_test c.explore.new.second) (reads_test c.explore-in-Some.new.second) f
-          i.search c.in-Some.ensures.found es et
+      search = IsSearch-next m b d (contains c.args.from.now) seen todo
+          (contains c.explore-in-Some.new.seen) todo2 f
+          (g.met.G.Ground.is_base c.args.self.now.first).within
+          (subst (λ k. IsWithin d k.elements) (sym c.args.self.now.same)
+          (g.met.G.Ground.is_base c.args.self.now.second).within) i.search c.in-Some.ensures.found
+          es et;
+      tree = IsTree-next m b d (contains c.args.from.now) seen todo
+          (contains c.explore-in-Some.new.seen) todo2 (reads_up c.loop-f.up)
+          (reads_up c.explore.new.up) (reads_up c.explore-in-Some.new.up)
+          (reads_test c.loop-f.second) (reads_test c.explore.new.second)
+          (reads_test c.explore-in-Some.new.second) f i.search c.in-Some.ensures.found es et
           (λ z h n. c.explore.ensures.noted z (subst (λ k. k z ≡ true) (sym e1) h) n)
           (λ z h. c.explore.ensures.others z h)
-          (λ z h n. c.explore-in-Some.ensures.noted z (subst (λ k. k z ≡ true) (sym e2) h) (subst (λ k. k z ≡ false) (sym e3) n))
-          (λ z h. c.explore-in-Some.ensures.others z (subst (λ k. k z ≡ true) (sym e3) h))
-          i.tree;
-      levels = IsLevelled-follow m b d (contains c.args.from.now) (contains c.args.to.now) seen (contains c.loop-f.level) (contains c.loop-f.later) (reads_up c.loop-f.up) i.levels i.search
-          (contains c.explore-in-Some.new.seen) level rest (contains c.explore-in-Some.new.todo) (reads_up c.explore.new.up) (reads_up c.explore-in-Some.new.up) f c.in-Some.ensures.levels (i.search.waiting f c.in-Some.ensures.found)
-          (λ z k. false_from_ne_true _ (λ h. both_ways _ (none_left c.shared.result c.in_default-first_from.ensures.none z) (subst (λ (j : ℕ → Bool). j z ≡ true) (sym c.shared.ensures) (both_from _ _ z k h))))
+          (λ z h n. c.explore-in-Some.ensures.noted z (subst (λ k. k z ≡ true) (sym e2) h)
+          (subst (λ k. k z ≡ false) (sym e3) n))
+          (λ z h. c.explore-in-Some.ensures.others z (subst (λ k. k z ≡ true) (sym e3) h)) i.tree;
+      levels = IsLevelled-follow m b d (contains c.args.from.now) (contains c.args.to.now) seen
+          (contains c.loop-f.level) (contains c.loop-f.later)
+          (reads_up c.loop-f.up) i.levels i.search (contains c.explore-in-Some.new.seen) level rest
+          (contains c.explore-in-Some.new.todo) (reads_up c.explore.new.up)
+          (reads_up c.explore-in-Some.new.up) f c.in-Some.ensures.levels
+          (i.search.waiting f c.in-Some.ensures.found)
+          (λ z k. false_from_ne_true _
+          (λ h. both_ways _ (none_left c.shared.result c.in_default-first_from.ensures.none z)
+          (subst (λ (j : ℕ → Bool). j z ≡ true) (sym c.shared.ensures) (both_from _ _ z k h))))
           (λ z k o. (outside_parts _ _ _ (i.tree.parent z k o).0).0) es later
           (λ z h n. (c.explore.ensures.noted z (subst (λ k. k z ≡ true) (sym e1) h) n).0)
-          (λ z h. (c.explore.ensures.others z h).0)
-          (λ z h n. (c.explore-in-Some.ensures.noted z (subst (λ k. k z ≡ true) (sym e2) h) (subst (λ k. k z ≡ false) (sym e3) n)).0)
+          (λ z h. (c.explore.ensures.others z h).0) (λ z h n.
+          (c.explore-in-Some.ensures.noted z (subst (λ k. k z ≡ true) (sym e2) h)
+          (subst (λ k. k z ≡ false) (sym e3) n)).0)
           (λ z h. (c.explore-in-Some.ensures.others z (subst (λ k. k z ≡ true) (sym e3) h)).0);
-      missed = λ z h. elim (done_cases m b d seen todo (contains c.explore-in-Some.new.seen) todo2 f es et z h) [
-        | inl k ↦ i.missed z k
-        | inr e ↦ subst (λ k. contains c.args.to.now k ≡ false) e (false_from_ne_true _ (λ h. both_ways _ (none_left c.shared.result c.in_default-first_from.ensures.none f) (subst (λ (k : ℕ → Bool). k f ≡ true) (sym c.shared.ensures) (both_from _ _ f (i.search.waiting f c.in-Some.ensures.found) h))))
-      ];
+      missed = λ z h. elim (done_cases m b d seen todo
+          (contains c.explore-in-Some.new.seen) todo2 f es et z h) [
+            | inl k ↦ i.missed z k
+            | inr e ↦ subst (λ k. contains c.args.to.now k ≡ false) e
+                (false_from_ne_true _
+                (λ h. both_ways _ (none_left c.shared.result c.in_default-first_from.ensures.none f)
+                (subst (λ (k : ℕ → Bool). k f ≡ true) (sym c.shared.ensures)
+                (both_from _ _ f (i.search.waiting f c.in-Some.ensures.found) h))))
+          ];
       kept = cc;
       kept_second = cc;
       kept_base = cc;
@@ -111,17 +158,25 @@ loop-f-smaller g c =
     let level = contains c.take_next.new.level in
     let rest = contains c.take_next.new.later in
     let todo2 = either level (contains c.explore-in-Some.new.todo) in
-    let es : contains c.explore-in-Some.new.seen ≡ either (either seen (links m b f)) (links m d f) = cc in
+    let es : contains c.explore-in-Some.new.seen
+    ≡ either (either seen (links m b f)) (links m d f) = cc in
     let fresh = outside (links m b f) seen in
     let fresh2 = outside (links m d f) (either seen (links m b f)) in
     let later : contains c.explore-in-Some.new.todo ≡ either (either rest fresh) fresh2 = cc in
-    let et : todo2 ≡ either (either (minus todo f) fresh) fresh2 = ap (λ (k : ℕ → Bool). either level k) later ∙ (either-moved level rest fresh fresh2 ∙ ap (λ (k : ℕ → Bool). either (either k fresh) fresh2) c.in-Some.ensures.taken) in
-    IsSearch-fewer m b d (contains c.args.from.now) seen todo (contains c.explore-in-Some.new.seen) todo2 f 1024 (g.met.G.Ground.small c.args.self.now.first) i.search c.in-Some.ensures.found es et
+    let et : todo2 ≡ either (either (minus todo f) fresh) fresh2 =
+    ap (λ (k : ℕ → Bool). either level k) later
+    ∙ (either-moved level rest fresh fresh2
+    ∙ ap (λ (k : ℕ → Bool). either (either k fresh) fresh2) c.in-Some.ensures.taken) in
+    IsSearch-fewer m b d (contains c.args.from.now) seen todo (contains c.explore-in-Some.new.seen)
+    todo2 f 1024 (g.met.G.Ground.small c.args.self.now.first) i.search c.in-Some.ensures.found es et
 
 pub returns-clause-none : goal.returns-clause-none
 returns-clause-none g c = λ y r.
     let i = c.loop-f.invariant in
-    i.missed y (outside_from _ _ y (Leads-seen _ _ _ _ _ _ i.search c.in_default.ensures.none r.chain (i.search.begun r.start r.starts)) (c.in_default.ensures.none y))
+    i.missed y
+    (outside_from _ _ y
+    (Leads-seen _ _ _ _ _ _ i.search c.in_default.ensures.none r.chain
+    (i.search.begun r.start r.starts)) (c.in_default.ensures.none y))
 
 pub returns-clause-closed : goal.returns-clause-closed
 returns-clause-closed g c =
@@ -141,18 +196,25 @@ returns-in-Some-first_from-clause-some g c =
     let b2 = g.G.Ground.base c.exchange-x.new.self.first in
     let d2 = g.G.Ground.base c.exchange-x.new.self.second in
     let y = c.in-Some-first_from.y in
-    let hit = both_parts (contains c.loop-f.seen) (contains c.args.to.now) y (subst (λ (k : ℕ → Bool). k y ≡ true) c.shared.ensures c.in-Some-first_from.ensures.found.member) in
+    let hit = both_parts (contains c.loop-f.seen) (contains c.args.to.now) y
+    (subst (λ (k : ℕ → Bool). k y ≡ true) c.shared.ensures
+    c.in-Some-first_from.ensures.found.member) in
     record {
       begins = c.exchange-x.ensures.begins;
       ends = hit.1;
-      moved = subst (λ (k : ℕ → Bool). IsMoved k (g.G.Ground.base s.second) b2 d2 c.exchange-x.result y) i.kept_base
-          (subst (λ (k : ℕ → Bool). IsMoved (g.G.Ground.base c.loop-f.self.first) k b2 d2 c.exchange-x.result y) i.kept_second_base c.exchange-x.ensures.members);
+      moved =
+          subst (λ (k : ℕ → Bool). IsMoved k (g.G.Ground.base s.second) b2 d2 c.exchange-x.result y)
+          i.kept_base
+          (subst (λ (k : ℕ → Bool). IsMoved (g.G.Ground.base c.loop-f.self.first) k b2 d2
+          c.exchange-x.result y) i.kept_second_base c.exchange-x.ensures.members);
     }
 
 pub returns-in-Some-first_from-clause-leads : goal.returns-in-Some-first_from-clause-leads
 returns-in-Some-first_from-clause-leads g c =
     let y = c.in-Some-first_from.y in
-    let hit = both_parts (contains c.loop-f.seen) (contains c.args.to.now) y (subst (λ (k : ℕ → Bool). k y ≡ true) c.shared.ensures c.in-Some-first_from.ensures.found.member) in
+    let hit = both_parts (contains c.loop-f.seen) (contains c.args.to.now) y
+    (subst (λ (k : ℕ → Bool). k y ≡ true) c.shared.ensures
+    c.in-Some-first_from.ensures.found.member) in
     c.loop-f.invariant.search.reached y hit.0
 
 pub returns-in-Some-first_from-clause-shortest : goal.returns-in-Some-first_from-clause-shortest
@@ -164,9 +226,13 @@ returns-in-Some-first_from-clause-shortest g c =
     let from = contains c.args.from.now in
     let x = c.exchange-x.result in
     let y = c.in-Some-first_from.y in
-    let hit = both_parts (contains c.loop-f.seen) (contains c.args.to.now) y (subst (λ (k : ℕ → Bool). k y ≡ true) c.shared.ensures c.in-Some-first_from.ensures.found.member) in
-    let near : IsNearest m b d from x y =
-    subst (λ q. IsNearest q b d from x y) i.kept
-    (subst (λ q. IsNearest (g.G.Ground.matroid c.loop-f.self.first) q d from x y) i.kept_base
-    (subst (λ q. IsNearest (g.G.Ground.matroid c.loop-f.self.first) (g.G.Ground.base c.loop-f.self.first) q from x y) i.kept_second_base c.exchange-x.ensures.nearest)) in
-    IsShortest-level m b d from (contains c.args.to.now) (contains c.loop-f.seen) (contains c.loop-f.level) (contains c.loop-f.later) (reads_up c.loop-f.up) i.levels x y hit.0 hit.1 near
+    let hit = both_parts (contains c.loop-f.seen) (contains c.args.to.now) y
+    (subst (λ (k : ℕ → Bool). k y ≡ true) c.shared.ensures
+    c.in-Some-first_from.ensures.found.member) in
+    let near : IsNearest m b d from x y = subst (λ q. IsNearest q b d from x y) i.kept
+    (subst (λ q. IsNearest (g.G.Ground.matroid c.loop-f.self.first) q d from x y) i.kept_base (subst
+    (λ q. IsNearest (g.G.Ground.matroid c.loop-f.self.first) (g.G.Ground.base c.loop-f.self.first) q
+    from x y) i.kept_second_base c.exchange-x.ensures.nearest)) in
+    IsShortest-level m b d from (contains c.args.to.now) (contains c.loop-f.seen)
+    (contains c.loop-f.level) (contains c.loop-f.later)
+    (reads_up c.loop-f.up) i.levels x y hit.0 hit.1 near

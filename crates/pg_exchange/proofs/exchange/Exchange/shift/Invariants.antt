@@ -8,10 +8,20 @@ abbrev pub invariant-loop-f : goal.invariant-loop-f
 invariant-loop-f g l = record {
   up_length : length l.up ≡ 1024;
   second_length : length l.second ≡ 1024;
-  search : IsSearch (g.G.Ground.matroid l.initial.self.first) (g.G.Ground.base l.initial.self.first) (g.G.Ground.base l.initial.self.second) (contains l.from) (contains l.seen) (either (contains l.level) (contains l.later));
-  tree : IsTree (g.G.Ground.matroid l.initial.self.first) (g.G.Ground.base l.initial.self.first) (g.G.Ground.base l.initial.self.second) (contains l.from) (contains l.seen) (outside (contains l.seen) (either (contains l.level) (contains l.later))) (reads_up l.up) (reads_test l.second);
-  levels : IsLevelled (g.G.Ground.matroid l.initial.self.first) (g.G.Ground.base l.initial.self.first) (g.G.Ground.base l.initial.self.second) (contains l.from) (contains l.to) (contains l.seen) (contains l.level) (contains l.later) (reads_up l.up);
-  missed : (z : ℕ) → outside (contains l.seen) (either (contains l.level) (contains l.later)) z ≡ true → contains l.to z ≡ false;
+  search : IsSearch (g.G.Ground.matroid l.initial.self.first) (g.G.Ground.base l.initial.self.first)
+      (g.G.Ground.base l.initial.self.second) (contains l.from) (contains l.seen)
+      (either (contains l.level) (contains l.later));
+  tree : IsTree (g.G.Ground.matroid l.initial.self.first) (g.G.Ground.base l.initial.self.first)
+      (g.G.Ground.base l.initial.self.second) (contains l.from) (contains l.seen)
+      (outside (contains l.seen) (either (contains l.level) (contains l.later))) (reads_up l.up)
+      (reads_test l.second);
+  levels : IsLevelled (g.G.Ground.matroid l.initial.self.first)
+      (g.G.Ground.base l.initial.self.first) (g.G.Ground.base l.initial.self.second)
+      (contains l.from) (contains l.to) (contains l.seen) (contains l.level) (contains l.later)
+      (reads_up l.up);
+  missed : (z : ℕ)
+      → outside (contains l.seen) (either (contains l.level) (contains l.later)) z ≡ true
+      → contains l.to z ≡ false;
   kept : g.G.Ground.matroid l.self.first ≡ g.G.Ground.matroid l.initial.self.first;
   kept_second : g.G.Ground.matroid l.self.second ≡ g.G.Ground.matroid l.initial.self.second;
   kept_base : g.G.Ground.base l.self.first ≡ g.G.Ground.base l.initial.self.first;
@@ -19,4 +29,5 @@ invariant-loop-f g l = record {
 }
 
 abbrev pub decreases-loop-f : goal.decreases-loop-f
-decreases-loop-f g l = count (outside (g.G.Ground.matroid l.initial.self.first).elements (outside (contains l.seen) (either (contains l.level) (contains l.later)))) 1024
+decreases-loop-f g l = count (outside (g.G.Ground.matroid l.initial.self.first).elements
+    (outside (contains l.seen) (either (contains l.level) (contains l.later)))) 1024

@@ -24,34 +24,68 @@ invariant_of-result c =
     let avoided = contains c.args.avoided.now in
     let none = emptied c.empty.result c.empty.ensures in
     let made : vectors ≡ g.vectors ++ (g.target ∷ []) = c.in_ok-vectors.ensures in
-    let small : IsBelow elements n = λ z h.
-    subst (λ (vs : List ℕ). z < length vs) (sym made) (elements_range x (contains g.y) g.vectors g.target z (subst (λ (s : ℕ → Bool). s z ≡ true) c.elements_of-elements.ensures h)) in
-    let begun : IsEliminated (vector_at vectors) n x (contains c.empty.result) (either x (contains c.empty.result)) c.in_ok-rows.rows.items =
+    let small : IsBelow elements n = λ z h. subst (λ (vs : List ℕ). z < length vs) (sym made)
+    (elements_range x (contains g.y) g.vectors g.target z
+    (subst (λ (s : ℕ → Bool). s z ≡ true) c.elements_of-elements.ensures h)) in
+    let begun : IsEliminated (vector_at vectors) n x (contains c.empty.result)
+    (either x (contains c.empty.result)) c.in_ok-rows.rows.items =
     eliminated_start (vector_at vectors) n x (contains c.empty.result) c.in_ok-rows.rows.items none
-    (subst (λ (vs : List ℕ). IsEliminated (vector_at vs) (length vs) x (λ _. false) x c.in_ok-rows.rows.items) c.deref.ensures.value c.in_ok-rows.ensures) in
-    let there : (vs : List ℕ) (base : ℕ → Bool) (rows : List Row) → vs ≡ vectors → IsEliminated (vector_at vectors) n x base (either x base) rows → IsEliminated (vector_at vs) (length vs) x base (either x base) rows =
-    λ vs base rows e i. subst (λ (q : List ℕ). IsEliminated (vector_at q) (length q) x base (either x base) rows) (sym e) i in
-    let grown = c.in_ok-grow.ensures.grown x (there c.deref-2.result.now (contains c.empty.result) c.in_ok-rows.rows.items c.deref-2.ensures.value begun) (λ f h. absurd (both_ways _ (none f) h)) in
-    let first_rows : IsEliminated (vector_at vectors) n x (contains c.grow.new.solved.base) (either x (contains c.grow.new.solved.base)) c.grow.new.solved.rows.items =
-    subst (λ (q : List ℕ). IsEliminated (vector_at q) (length q) x (contains c.grow.new.solved.base) (either x (contains c.grow.new.solved.base)) c.grow.new.solved.rows.items) c.deref-2.ensures.value
-    (c.in_ok-grow.ensures.eliminated x (there c.deref-2.result.now (contains c.empty.result) c.in_ok-rows.rows.items c.deref-2.ensures.value begun)) in
-    let grown_free = subst (λ (q : List ℕ). IsFree (spans_over q x) (contains c.grow.new.solved.base)) (c.deref-2.ensures.value ∙ sym c.deref-3.ensures.value) grown.free in
-    let more = c.in_ok-grow-2.ensures.grown x (there c.deref-3.result.now (contains c.grow.new.solved.base) c.grow.new.solved.rows.items c.deref-3.ensures.value first_rows) grown_free in
-    let others = of_outside c.elements_of-elements.result c.args.avoided.now c.without-others.result c.without-others.ensures.difference in
-    let rest = of_outside c.elements_of-elements.result c.without-others.result c.without.result c.without.ensures.difference ∙ (ap (λ (s : ℕ → Bool). outside elements s) others ∙ outside-outside elements avoided) in
-    let first : IsGrown (spans_over vectors x) (contains c.empty.result) (below (outside elements avoided) n) (contains c.grow.new.solved.base) =
-    subst (λ (s : ℕ → Bool). IsGrown (spans_over vectors x) (contains c.empty.result) (below s n) (contains c.grow.new.solved.base)) others
-    (subst (λ (q : List ℕ). IsGrown (spans_over q x) (contains c.empty.result) (below (contains c.without-others.result) (length q)) (contains c.grow.new.solved.base)) c.deref-2.ensures.value grown) in
-    let second : IsGrown (spans_over vectors x) (contains c.grow.new.solved.base) (below (both elements avoided) n) (contains c.grow-2.new.solved.base) =
-    subst (λ (s : ℕ → Bool). IsGrown (spans_over vectors x) (contains c.grow.new.solved.base) (below s n) (contains c.grow-2.new.solved.base)) rest
-    (subst (λ (q : List ℕ). IsGrown (spans_over q x) (contains c.grow.new.solved.base) (below (contains c.without.result) (length q)) (contains c.grow-2.new.solved.base)) c.deref-3.ensures.value more) in
-    let count : n ≡ length g.vectors + 1 = ap length made ∙ length-append g.vectors (g.target ∷ []) in
+    (subst (λ (vs : List ℕ). IsEliminated (vector_at vs) (length vs) x
+    (λ _. false) x c.in_ok-rows.rows.items) c.deref.ensures.value c.in_ok-rows.ensures) in
+    let there : (vs : List ℕ) (base : ℕ → Bool) (rows : List Row) → vs ≡ vectors
+    → IsEliminated (vector_at vectors) n x base (either x base) rows
+    → IsEliminated (vector_at vs) (length vs) x base (either x base) rows =
+    λ vs base rows e i. subst
+    (λ (q : List ℕ). IsEliminated (vector_at q) (length q) x base (either x base) rows) (sym e) i in
+    let grown = c.in_ok-grow.ensures.grown x
+    (there c.deref-2.result.now (contains c.empty.result) c.in_ok-rows.rows.items
+    c.deref-2.ensures.value begun) (λ f h. absurd (both_ways _ (none f) h)) in
+    let first_rows : IsEliminated (vector_at vectors) n x (contains c.grow.new.solved.base)
+    (either x (contains c.grow.new.solved.base)) c.grow.new.solved.rows.items = subst
+    (λ (q : List ℕ). IsEliminated (vector_at q) (length q) x (contains c.grow.new.solved.base)
+    (either x (contains c.grow.new.solved.base)) c.grow.new.solved.rows.items)
+    c.deref-2.ensures.value
+    (c.in_ok-grow.ensures.eliminated x (there c.deref-2.result.now
+    (contains c.empty.result) c.in_ok-rows.rows.items c.deref-2.ensures.value begun)) in
+    let grown_free =
+    subst (λ (q : List ℕ). IsFree (spans_over q x) (contains c.grow.new.solved.base))
+    (c.deref-2.ensures.value ∙ sym c.deref-3.ensures.value) grown.free in
+    let more = c.in_ok-grow-2.ensures.grown x
+    (there c.deref-3.result.now (contains c.grow.new.solved.base) c.grow.new.solved.rows.items
+    c.deref-3.ensures.value first_rows) grown_free in
+    let others = of_outside c.elements_of-elements.result c.args.avoided.now c.without-others.result
+    c.without-others.ensures.difference in
+    let rest = of_outside c.elements_of-elements.result c.without-others.result c.without.result
+    c.without.ensures.difference
+    ∙ (ap (λ (s : ℕ → Bool). outside elements s) others ∙ outside-outside elements avoided) in
+    let first : IsGrown (spans_over vectors x) (contains c.empty.result)
+    (below (outside elements avoided) n) (contains c.grow.new.solved.base) = subst
+    (λ (s : ℕ → Bool). IsGrown (spans_over vectors x) (contains c.empty.result) (below s n)
+    (contains c.grow.new.solved.base)) others
+    (subst (λ (q : List ℕ). IsGrown (spans_over q x) (contains c.empty.result)
+    (below (contains c.without-others.result) (length q)) (contains c.grow.new.solved.base))
+    c.deref-2.ensures.value grown) in
+    let second : IsGrown (spans_over vectors x) (contains c.grow.new.solved.base)
+    (below (both elements avoided) n) (contains c.grow-2.new.solved.base) = subst
+    (λ (s : ℕ → Bool). IsGrown (spans_over vectors x) (contains c.grow.new.solved.base) (below s n)
+    (contains c.grow-2.new.solved.base)) rest
+    (subst (λ (q : List ℕ). IsGrown (spans_over q x) (contains c.grow.new.solved.base)
+    (below (contains c.without.result) (length q)) (contains c.grow-2.new.solved.base))
+    c.deref-3.ensures.value more) in
+    let count : n ≡ length g.vectors + 1 =
+    ap length made ∙ length-append g.vectors (g.target ∷ []) in
     record {
       few = omega (arith, g.fits.few_vectors, count);
       element_range = small;
-      is_base = IsBase-apart (spans_over vectors x) (IsSpan-over_vectors vectors x) elements avoided (contains c.empty.result) (contains c.grow.new.solved.base) (contains c.grow-2.new.solved.base) n small none first second;
-      eliminated = subst (λ (q : List ℕ). IsEliminated (vector_at q) (length q) x (contains c.grow-2.new.solved.base) (either x (contains c.grow-2.new.solved.base)) c.grow-2.new.solved.rows.items) c.deref-3.ensures.value
-          (c.in_ok-grow-2.ensures.eliminated x (there c.deref-3.result.now (contains c.grow.new.solved.base) c.grow.new.solved.rows.items c.deref-3.ensures.value first_rows));
+      is_base = IsBase-apart (spans_over vectors x) (IsSpan-over_vectors vectors x) elements avoided
+          (contains c.empty.result) (contains c.grow.new.solved.base)
+          (contains c.grow-2.new.solved.base) n small none first second;
+      eliminated = subst (λ (q : List ℕ). IsEliminated (vector_at q) (length q) x
+          (contains c.grow-2.new.solved.base) (either x (contains c.grow-2.new.solved.base))
+          c.grow-2.new.solved.rows.items) c.deref-3.ensures.value
+          (c.in_ok-grow-2.ensures.eliminated x
+          (there c.deref-3.result.now (contains c.grow.new.solved.base) c.grow.new.solved.rows.items
+          c.deref-3.ensures.value first_rows));
     }
 
 pub returns-clause-apart : goal.returns-clause-apart
@@ -64,25 +98,54 @@ returns-clause-apart c =
     let avoided = contains c.args.avoided.now in
     let none = emptied c.empty.result c.empty.ensures in
     let made : vectors ≡ g.vectors ++ (g.target ∷ []) = c.in_ok-vectors.ensures in
-    let small : IsBelow elements n = λ z h.
-    subst (λ (vs : List ℕ). z < length vs) (sym made) (elements_range x (contains g.y) g.vectors g.target z (subst (λ (s : ℕ → Bool). s z ≡ true) c.elements_of-elements.ensures h)) in
-    let begun : IsEliminated (vector_at vectors) n x (contains c.empty.result) (either x (contains c.empty.result)) c.in_ok-rows.rows.items =
+    let small : IsBelow elements n = λ z h. subst (λ (vs : List ℕ). z < length vs) (sym made)
+    (elements_range x (contains g.y) g.vectors g.target z
+    (subst (λ (s : ℕ → Bool). s z ≡ true) c.elements_of-elements.ensures h)) in
+    let begun : IsEliminated (vector_at vectors) n x (contains c.empty.result)
+    (either x (contains c.empty.result)) c.in_ok-rows.rows.items =
     eliminated_start (vector_at vectors) n x (contains c.empty.result) c.in_ok-rows.rows.items none
-    (subst (λ (vs : List ℕ). IsEliminated (vector_at vs) (length vs) x (λ _. false) x c.in_ok-rows.rows.items) c.deref.ensures.value c.in_ok-rows.ensures) in
-    let there : (vs : List ℕ) (base : ℕ → Bool) (rows : List Row) → vs ≡ vectors → IsEliminated (vector_at vectors) n x base (either x base) rows → IsEliminated (vector_at vs) (length vs) x base (either x base) rows =
-    λ vs base rows e i. subst (λ (q : List ℕ). IsEliminated (vector_at q) (length q) x base (either x base) rows) (sym e) i in
-    let grown = c.in_ok-grow.ensures.grown x (there c.deref-2.result.now (contains c.empty.result) c.in_ok-rows.rows.items c.deref-2.ensures.value begun) (λ f h. absurd (both_ways _ (none f) h)) in
-    let first_rows : IsEliminated (vector_at vectors) n x (contains c.grow.new.solved.base) (either x (contains c.grow.new.solved.base)) c.grow.new.solved.rows.items =
-    subst (λ (q : List ℕ). IsEliminated (vector_at q) (length q) x (contains c.grow.new.solved.base) (either x (contains c.grow.new.solved.base)) c.grow.new.solved.rows.items) c.deref-2.ensures.value
-    (c.in_ok-grow.ensures.eliminated x (there c.deref-2.result.now (contains c.empty.result) c.in_ok-rows.rows.items c.deref-2.ensures.value begun)) in
-    let grown_free = subst (λ (q : List ℕ). IsFree (spans_over q x) (contains c.grow.new.solved.base)) (c.deref-2.ensures.value ∙ sym c.deref-3.ensures.value) grown.free in
-    let more = c.in_ok-grow-2.ensures.grown x (there c.deref-3.result.now (contains c.grow.new.solved.base) c.grow.new.solved.rows.items c.deref-3.ensures.value first_rows) grown_free in
-    let others = of_outside c.elements_of-elements.result c.args.avoided.now c.without-others.result c.without-others.ensures.difference in
-    let rest = of_outside c.elements_of-elements.result c.without-others.result c.without.result c.without.ensures.difference ∙ (ap (λ (s : ℕ → Bool). outside elements s) others ∙ outside-outside elements avoided) in
-    let first : IsGrown (spans_over vectors x) (contains c.empty.result) (below (outside elements avoided) n) (contains c.grow.new.solved.base) =
-    subst (λ (s : ℕ → Bool). IsGrown (spans_over vectors x) (contains c.empty.result) (below s n) (contains c.grow.new.solved.base)) others
-    (subst (λ (q : List ℕ). IsGrown (spans_over q x) (contains c.empty.result) (below (contains c.without-others.result) (length q)) (contains c.grow.new.solved.base)) c.deref-2.ensures.value grown) in
-    let second : IsGrown (spans_over vectors x) (contains c.grow.new.solved.base) (below (both elements avoided) n) (contains c.grow-2.new.solved.base) =
-    subst (λ (s : ℕ → Bool). IsGrown (spans_over vectors x) (contains c.grow.new.solved.base) (below s n) (contains c.grow-2.new.solved.base)) rest
-    (subst (λ (q : List ℕ). IsGrown (spans_over q x) (contains c.grow.new.solved.base) (below (contains c.without.result) (length q)) (contains c.grow-2.new.solved.base)) c.deref-3.ensures.value more) in
-    spanned-apart (spans_over vectors x) (IsSpan-over_vectors vectors x) elements avoided (contains c.empty.result) (contains c.grow.new.solved.base) (contains c.grow-2.new.solved.base) n small none first second
+    (subst (λ (vs : List ℕ). IsEliminated (vector_at vs) (length vs) x
+    (λ _. false) x c.in_ok-rows.rows.items) c.deref.ensures.value c.in_ok-rows.ensures) in
+    let there : (vs : List ℕ) (base : ℕ → Bool) (rows : List Row) → vs ≡ vectors
+    → IsEliminated (vector_at vectors) n x base (either x base) rows
+    → IsEliminated (vector_at vs) (length vs) x base (either x base) rows =
+    λ vs base rows e i. subst
+    (λ (q : List ℕ). IsEliminated (vector_at q) (length q) x base (either x base) rows) (sym e) i in
+    let grown = c.in_ok-grow.ensures.grown x
+    (there c.deref-2.result.now (contains c.empty.result) c.in_ok-rows.rows.items
+    c.deref-2.ensures.value begun) (λ f h. absurd (both_ways _ (none f) h)) in
+    let first_rows : IsEliminated (vector_at vectors) n x (contains c.grow.new.solved.base)
+    (either x (contains c.grow.new.solved.base)) c.grow.new.solved.rows.items = subst
+    (λ (q : List ℕ). IsEliminated (vector_at q) (length q) x (contains c.grow.new.solved.base)
+    (either x (contains c.grow.new.solved.base)) c.grow.new.solved.rows.items)
+    c.deref-2.ensures.value
+    (c.in_ok-grow.ensures.eliminated x (there c.deref-2.result.now
+    (contains c.empty.result) c.in_ok-rows.rows.items c.deref-2.ensures.value begun)) in
+    let grown_free =
+    subst (λ (q : List ℕ). IsFree (spans_over q x) (contains c.grow.new.solved.base))
+    (c.deref-2.ensures.value ∙ sym c.deref-3.ensures.value) grown.free in
+    let more = c.in_ok-grow-2.ensures.grown x
+    (there c.deref-3.result.now (contains c.grow.new.solved.base) c.grow.new.solved.rows.items
+    c.deref-3.ensures.value first_rows) grown_free in
+    let others = of_outside c.elements_of-elements.result c.args.avoided.now c.without-others.result
+    c.without-others.ensures.difference in
+    let rest = of_outside c.elements_of-elements.result c.without-others.result c.without.result
+    c.without.ensures.difference
+    ∙ (ap (λ (s : ℕ → Bool). outside elements s) others ∙ outside-outside elements avoided) in
+    let first : IsGrown (spans_over vectors x) (contains c.empty.result)
+    (below (outside elements avoided) n) (contains c.grow.new.solved.base) = subst
+    (λ (s : ℕ → Bool). IsGrown (spans_over vectors x) (contains c.empty.result) (below s n)
+    (contains c.grow.new.solved.base)) others
+    (subst (λ (q : List ℕ). IsGrown (spans_over q x) (contains c.empty.result)
+    (below (contains c.without-others.result) (length q)) (contains c.grow.new.solved.base))
+    c.deref-2.ensures.value grown) in
+    let second : IsGrown (spans_over vectors x) (contains c.grow.new.solved.base)
+    (below (both elements avoided) n) (contains c.grow-2.new.solved.base) = subst
+    (λ (s : ℕ → Bool). IsGrown (spans_over vectors x) (contains c.grow.new.solved.base) (below s n)
+    (contains c.grow-2.new.solved.base)) rest
+    (subst (λ (q : List ℕ). IsGrown (spans_over q x) (contains c.grow.new.solved.base)
+    (below (contains c.without.result) (length q)) (contains c.grow-2.new.solved.base))
+    c.deref-3.ensures.value more) in
+    spanned-apart (spans_over vectors x) (IsSpan-over_vectors vectors x) elements avoided
+    (contains c.empty.result) (contains c.grow.new.solved.base)
+    (contains c.grow-2.new.solved.base) n small none first second

@@ -5,7 +5,8 @@ use Rattle.pg_graph.proofs.graph.Graph.ends_of.Goals as goal
 pub returns-then-k-edge_count : goal.returns-then-k-edge_count
 returns-then-k-edge_count c =
     let g = c.args.self.now in
-    let is = ap (λ (ends : List (ℕ × ℕ)). get_or ends c.args.k (0, 0)) c.as_slice.ensures ∙ ends-edge g c.args.k (omega arith) in
+    let is = ap (λ (ends : List (ℕ × ℕ)). get_or ends c.args.k (0, 0)) c.as_slice.ensures
+    ∙ ends-edge g c.args.k (omega arith) in
     let range = ends_in_range g c.args.k c.requires.graph c.requires.edge in
     record {
       ends = is;

@@ -13,11 +13,18 @@ loop-m-preserved c =
     let at = slice_get-get_or c.args.moves.now c.loop-m.m-index (0, 0) c.loop-m-test.true in
     let next = c.saturating_add-k.ensures in
     elim c.if-v-lt-MAX_POINTS.branch [
-      | then-v-lt-MAX_POINTS w ↦ rw w.left-is (noted-more c.args.moves.now c.loop-m.m-index c.loop-m.k c.loop-m.left c.loop-m.invariant _ _ c.saturating_add-k.result at w.if-v-lt-MAX_POINTS.true (λ few. omega (arith, few, next)) (λ many. omega (arith, many, next)))
-      | else-v-lt-MAX_POINTS w ↦ rw w.left-is (noted-over c.args.moves.now c.loop-m.m-index c.loop-m.k c.loop-m.left c.loop-m.invariant _ _ c.saturating_add-k.result at w.if-v-lt-MAX_POINTS.false (λ few. omega (arith, few, next)) (λ many. omega (arith, many, next)))
+      | then-v-lt-MAX_POINTS w ↦ rw w.left-is
+          (noted-more c.args.moves.now c.loop-m.m-index c.loop-m.k c.loop-m.left c.loop-m.invariant
+          _ _ c.saturating_add-k.result at w.if-v-lt-MAX_POINTS.true
+          (λ few. omega (arith, few, next)) (λ many. omega (arith, many, next)))
+      | else-v-lt-MAX_POINTS w ↦ rw w.left-is
+          (noted-over c.args.moves.now c.loop-m.m-index c.loop-m.k c.loop-m.left c.loop-m.invariant
+          _ _ c.saturating_add-k.result at w.if-v-lt-MAX_POINTS.false
+          (λ few. omega (arith, few, next)) (λ many. omega (arith, many, next)))
     ]
 
 pub returns : goal.returns
-returns c =
-    subst (λ (members : List ℕ). IsTaking c.args.moves.now members c.loop-m.left) (sym c.in_ok-members.ensures.items)
-    (none-taken c.args.moves.now c.loop-m.m-index c.loop-m.k c.loop-m.left c.loop-m-test.false c.loop-m.auto.m-index-end c.loop-m.invariant)
+returns c = subst (λ (members : List ℕ). IsTaking c.args.moves.now members c.loop-m.left)
+    (sym c.in_ok-members.ensures.items)
+    (none-taken c.args.moves.now c.loop-m.m-index c.loop-m.k c.loop-m.left c.loop-m-test.false
+    c.loop-m.auto.m-index-end c.loop-m.invariant)

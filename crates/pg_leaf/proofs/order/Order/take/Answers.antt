@@ -7,8 +7,10 @@ use Rattle.pg_leaf.proofs.order.Order.take.Goals as goal
 pub returns-clause-takes : goal.returns-clause-takes
 returns-clause-takes c =
     let left = c.args.self.now.left in
-    let at = slice_get-get_or left c.args.v 0 (omega (arith, c.if-i-ge-MAX_POINTS.false)) in record {
-      keeps = λ moves is. rw c.in_ok-push.ensures.items (one-taken moves c.args.self.now.members.items left c.args.v _ is at c.if-k.false);
+    let at = slice_get-get_or left c.args.v 0 (omega (arith, c.if-i-ge-MAX_POINTS.false)) in
+    record {
+      keeps = λ moves is. rw c.in_ok-push.ensures.items
+          (one-taken moves c.args.self.now.members.items left c.args.v _ is at c.if-k.false);
       gone = λ w gone. stays-gone left c.args.v w _ at gone;
     }
 

@@ -11,7 +11,9 @@ pub loop-v-init : goal.loop-v-init
 loop-v-init c = record {
   next = omega arith;
   into = λ v lt on. absurd (omega (arith, lt));
-  from = λ w on. absurd (both_ways _ (ap (λ (s : FinSet nat_cmp). contains s w) c.empty-image.ensures ∙ contains-empty nat_cmp w) on);
+  from = λ w on. absurd (both_ways _
+      (ap (λ (s : FinSet nat_cmp). contains s w) c.empty-image.ensures ∙ contains-empty nat_cmp w)
+      on);
 }
 
 pub loop-v-preserved : goal.loop-v-preserved
@@ -21,17 +23,28 @@ loop-v-preserved c =
     let found = c.in-Some.ensures.found in
     let range : at < 1024 = c.in-Some.ensures.range in
     let f : ℕ → ℕ = image_of c.args.self c.args.grid in
-    let now : (w : ℕ) → contains c.put.new.self w ≡ (eqb w c.image_of.result || contains c.loop-v.image w) = λ w. ap (λ (s : FinSet nat_cmp). contains s w) c.put.ensures ∙ in_insert c.loop-v.image c.image_of.result w in
+    let now : (w : ℕ)
+    → contains c.put.new.self w ≡ (eqb w c.image_of.result || contains c.loop-v.image w) =
+    λ w. ap (λ (s : FinSet nat_cmp). contains s w) c.put.ensures
+    ∙ in_insert c.loop-v.image c.image_of.result w in
     record {
       next = omega arith;
       into = λ v lt on. elim (cases_eq v at) [
-        | inl e ↦ now (f v) ∙ or_left _ _ (eq-eqb (f v) c.image_of.result (ap f e ∙ sym c.image_of.ensures.image))
+        | inl e ↦ now (f v)
+            ∙ or_left _ _ (eq-eqb (f v) c.image_of.result (ap f e ∙ sym c.image_of.ensures.image))
         | inr ne ↦
-            let before : v < c.loop-v.next = elim (cases_lt v c.loop-v.next) [ inl less ↦ less | inr ge ↦ absurd (let least : at ≤ v = found.least v ge on in omega arith) ] in
+            let before : v < c.loop-v.next = elim (cases_lt v c.loop-v.next) [
+              | inl less ↦ less
+              | inr ge ↦ absurd (let least : at ≤ v = found.least v ge on in omega arith)
+            ] in
             now (f v) ∙ or_right _ _ (i.into v before on)
       ];
       from = λ w on. elim (or_cases _ _ (sym (now w) ∙ on)) [
-        | inl same ↦ (at, found.member, sym c.image_of.ensures.image ∙ sym (eqb-true w c.image_of.result same))
+        | inl same ↦ (
+          at,
+          found.member,
+          sym c.image_of.ensures.image ∙ sym (eqb-true w c.image_of.result same),
+        )
         | inr old ↦ i.from w old
       ];
     }
@@ -39,6 +52,8 @@ loop-v-preserved c =
 pub returns : goal.returns
 returns c =
     let i = c.loop-v.invariant in
-    image_set-from (image_of c.args.self c.args.grid) c.args.set.now c.loop-v.image c.in_default.ensures.limit
-    (λ v on. i.into v (elim (cases_lt v c.loop-v.next) [ inl lt ↦ lt | inr ge ↦ absurd (both_ways _ (c.in_default.ensures.none v ge) on) ]) on)
-    i.from
+    image_set-from (image_of c.args.self c.args.grid) c.args.set.now c.loop-v.image
+    c.in_default.ensures.limit (λ v on. i.into v (elim (cases_lt v c.loop-v.next) [
+      | inl lt ↦ lt
+      | inr ge ↦ absurd (both_ways _ (c.in_default.ensures.none v ge) on)
+    ]) on) i.from

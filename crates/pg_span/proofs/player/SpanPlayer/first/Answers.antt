@@ -12,5 +12,8 @@ make_move-requires c =
     let g = a.game.now in
     let side = a.claim.now.side in
     let plan = plan_of a.claim.now.body a.trees in
-    let going = over-known (span_rules_of g) a.position a.ending false c.self.invariant.known (sym (sym c.is_some.ensures ∙ c.if-is_some.false)) in
-    subst (λ (play : SpanPlay). IsDue play.game play.side a.position play.plan None) c.self.view_is (due-first g side a.position plan c.self.invariant.on going (c.is_same.ensures.0 c.if-not-is_same.false))
+    let going = over-known (span_rules_of g) a.position a.ending false c.self.invariant.known
+    (sym (sym c.is_some.ensures ∙ c.if-is_some.false)) in
+    subst (λ (play : SpanPlay). IsDue play.game play.side a.position play.plan None) c.self.view_is
+    (due-first g side a.position plan c.self.invariant.on going
+    (c.is_same.ensures.0 c.if-not-is_same.false))

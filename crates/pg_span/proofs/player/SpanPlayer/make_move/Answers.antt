@@ -16,8 +16,11 @@ after-next-requires c =
     let plan = plan_of a.claim.now.body a.trees in
     let later = plan_of a.claim.now.body c.own_move-made.result.trees in
     let v = c.own_move-made.result.edge in
-    let due = subst (λ (play : SpanPlay). IsDue play.game play.side c.args.p.now play.plan c.args.last) (sym c.self.view_is) c.requires in
-    small g v (kept g side c.args.p.now plan later c.args.last v due c.own_move-made.ensures.own).free.0
+    let due =
+    subst (λ (play : SpanPlay). IsDue play.game play.side c.args.p.now play.plan c.args.last)
+    (sym c.self.view_is) c.requires in
+    small g v
+    (kept g side c.args.p.now plan later c.args.last v due c.own_move-made.ensures.own).free.0
 
 pub ending-self-inside-requires-clause-range : goal.ending-self-inside-requires-clause-range
 ending-self-inside-requires-clause-range c =
@@ -27,7 +30,9 @@ ending-self-inside-requires-clause-range c =
     let plan = plan_of a.claim.now.body a.trees in
     let later = plan_of a.claim.now.body c.own_move-made.result.trees in
     let v = c.own_move-made.result.edge in
-    let due = subst (λ (play : SpanPlay). IsDue play.game play.side c.args.p.now play.plan c.args.last) (sym c.self.view_is) c.requires in
+    let due =
+    subst (λ (play : SpanPlay). IsDue play.game play.side c.args.p.now play.plan c.args.last)
+    (sym c.self.view_is) c.requires in
     let k = kept g side c.args.p.now plan later c.args.last v due c.own_move-made.ensures.own in
     range-next g c.args.p.now c.after-next.result v due.place k.free c.after-next.ensures
 
@@ -39,12 +44,17 @@ invariant_of-self c =
     let plan = plan_of a.claim.now.body a.trees in
     let later = plan_of a.claim.now.body c.own_move-made.result.trees in
     let v = c.own_move-made.result.edge in
-    let due = subst (λ (play : SpanPlay). IsDue play.game play.side c.args.p.now play.plan c.args.last) (sym c.self.view_is) c.requires in
+    let due =
+    subst (λ (play : SpanPlay). IsDue play.game play.side c.args.p.now play.plan c.args.last)
+    (sym c.self.view_is) c.requires in
     let k = kept g side c.args.p.now plan later c.args.last v due c.own_move-made.ensures.own in
     let judge : SpanJudge = record { joiner = c.own_move-made.new.joiner; whole = a.judge.whole } in
-    playing-next g side (moved (span_rules_of g) c.args.p.now v) c.after-next.result later c.ending-self-inside.result judge c.ending-self-inside.new.self
-    (on-own g side c.args.p.now plan later c.args.last v due k) c.after-next.ensures c.ending-self-inside.ensures.ending
-    (judge-kept g a.judge judge c.own_move-made.new.joiner c.self.invariant.judged c.own_move-made.ensures.kept refl) c.ending-self-inside.ensures.kept
+    playing-next g side (moved (span_rules_of g) c.args.p.now v) c.after-next.result later
+    c.ending-self-inside.result judge c.ending-self-inside.new.self
+    (on-own g side c.args.p.now plan later c.args.last v due k) c.after-next.ensures
+    c.ending-self-inside.ensures.ending
+    (judge-kept g a.judge judge c.own_move-made.new.joiner c.self.invariant.judged
+    c.own_move-made.ensures.kept refl) c.ending-self-inside.ensures.kept
 
 pub returns : goal.returns
 returns c =
@@ -54,10 +64,21 @@ returns c =
     let plan = plan_of a.claim.now.body a.trees in
     let later = plan_of a.claim.now.body c.own_move-made.result.trees in
     let v = c.own_move-made.result.edge in
-    let due = subst (λ (play : SpanPlay). IsDue play.game play.side c.args.p.now play.plan c.args.last) (sym c.self.view_is) c.requires in
+    let due =
+    subst (λ (play : SpanPlay). IsDue play.game play.side c.args.p.now play.plan c.args.last)
+    (sym c.self.view_is) c.requires in
     let k = kept g side c.args.p.now plan later c.args.last v due c.own_move-made.ensures.own in
-    subst (λ (play : SpanPlay). MakesSpanMove (record { game = play.game; side = play.side; position = c.args.p.now; plan = play.plan }) (record { game = g; side = side; position = c.after-next.result; plan = later }) c.args.last v) c.self.view_is
-    (record {
+    subst (λ (play : SpanPlay). MakesSpanMove (record {
+      game = play.game;
+      side = play.side;
+      position = c.args.p.now;
+      plan = play.plan;
+    }) (record {
+      game = g;
+      side = side;
+      position = c.after-next.result;
+      plan = later;
+    }) c.args.last v) c.self.view_is (record {
       going = due.going;
       turn = due.turn;
       within = k.free.0;

@@ -10,8 +10,13 @@ invariant_of-result c =
     let g = c.args.c.game.now in
     let claim = c.in-Some.claim.now in
     let plan = plan_of claim.body c.trees_of.result in
-    playing-next g claim.side (span_start g) (span_start g) plan c.ending-ending.result c.in-Ok.judge c.ending-ending.new.self
-    (on-start g c.args.c.cert.now c.args.side claim plan c.args.c.valid (sym c.in-Some.ensures) c.trees_of.ensures) refl c.ending-ending.ensures.ending c.in-Ok.ensures c.ending-ending.ensures.kept
+    playing-next g claim.side (span_start g)
+    (span_start g) plan c.ending-ending.result c.in-Ok.judge c.ending-ending.new.self
+    (on-start g c.args.c.cert.now c.args.side claim plan c.args.c.valid
+    (sym c.in-Some.ensures) c.trees_of.ensures) refl c.ending-ending.ensures.ending c.in-Ok.ensures
+    c.ending-ending.ensures.kept
 
 pub returns-clause-side : goal.returns-clause-side
-returns-clause-side c = (chosen-is c.args.c.game.now c.args.c.cert.now c.args.side c.in-Some.claim.now (sym c.in-Some.ensures)).side_is
+returns-clause-side c =
+    (chosen-is c.args.c.game.now c.args.c.cert.now c.args.side c.in-Some.claim.now
+    (sym c.in-Some.ensures)).side_is

@@ -9,7 +9,8 @@ loop-i-preserved c =
     let count : length c.loop-i.points ≡ 7 = c.loop-i.invariant.0 in
     let room : c.loop-i.i + 1 < length c.loop-i.points = omega arith in (
       simp length-set count,
-      take_more_set c.loop-i.points (c.loop-i.i + 1) (get_or c.args.self.now.points c.loop-i.i 0) room
+      take_more_set c.loop-i.points (c.loop-i.i + 1)
+          (get_or c.args.self.now.points c.loop-i.i 0) room
           ∙ ap (λ xs. xs ++ get_or c.args.self.now.points c.loop-i.i 0 ∷ []) c.loop-i.invariant.1
           ∙ ap (λ xs. c.args.v ∷ xs) (sym (take_more c.args.self.now.points c.loop-i.i 0 lt)),
     )

@@ -7,11 +7,16 @@ use Rattle.pg_undo.proofs.ring.Ring.next.Goals as goal
 
 pub index-requires : goal.index-requires
 index-requires c =
-    let at = member-at c.self.inside.end (reverse c.self.inside.unlinked.items) c.args.self.now c.args.i c.self.view_is c.requires in
+    let at = member-at c.self.inside.end
+    (reverse c.self.inside.unlinked.items) c.args.self.now c.args.i c.self.view_is c.requires in
     let low : c.args.i < c.self.inside.end = at.0 in
-    let place = in_arrays c.self.inside.end c.self.inside.next.items c.self.inside.previous.items (reverse c.self.inside.unlinked.items) c.args.i c.self.invariant.0 (omega arith) in
+    let place = in_arrays c.self.inside.end c.self.inside.next.items c.self.inside.previous.items
+    (reverse c.self.inside.unlinked.items) c.args.i c.self.invariant.0 (omega arith) in
     let len : vec_len c.self.inside.next ≡ length c.self.inside.next.items = search rules in
     omega (arith, place.next_low)
 
 pub returns : goal.returns
-returns c = c.below.ensures ∙ next-is c.self.inside.end c.self.inside.next.items c.self.inside.previous.items (reverse c.self.inside.unlinked.items) c.args.self.now c.args.i c.index.result.now c.self.invariant.0 c.self.view_is c.requires c.index.ensures
+returns c = c.below.ensures
+    ∙ next-is c.self.inside.end c.self.inside.next.items c.self.inside.previous.items
+    (reverse c.self.inside.unlinked.items) c.args.self.now c.args.i c.index.result.now
+    c.self.invariant.0 c.self.view_is c.requires c.index.ensures

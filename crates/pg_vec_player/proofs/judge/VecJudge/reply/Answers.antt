@@ -24,15 +24,28 @@ returns-in-Some-clause-reply c =
     elim c.match-side.branch [
       | in-X w ↦
           let set = either (contains p.x) (contains (remove c.args.one.now c.args.x)) in
-          let found = found-x vs ws k n (contains w.joined.result) set c.args.other.now w.lowest_unspanned-found.result same count w.joined.ensures w.lowest_unspanned-found.ensures.lowest in
-          subst (λ (s : Side). c.in-Some.v ≡ reply_vector (vector_spans ws) n s p c.args.one.now c.args.other.now c.args.x) (sym w.in-X.is)
-          (reply-some c.match-side.found (lowest_unspanned (vector_spans ws) n set c.args.other.now) c.in-Some.v (lowest_free n p) (w.found-is ∙ found) c.in-Some.is)
+          let found = found-x vs ws k n
+          (contains w.joined.result) set c.args.other.now w.lowest_unspanned-found.result same count
+          w.joined.ensures w.lowest_unspanned-found.ensures.lowest in
+          subst
+          (λ (s : Side). c.in-Some.v
+          ≡ reply_vector (vector_spans ws) n s p c.args.one.now c.args.other.now c.args.x)
+          (sym w.in-X.is)
+          (reply-some c.match-side.found (lowest_unspanned (vector_spans ws) n set c.args.other.now)
+          c.in-Some.v (lowest_free n p) (w.found-is ∙ found) c.in-Some.is)
       | in-Y w ↦
           let wide = left_without n p c.args.one.now in
-          let found = found-y vs ws k n (contains w.left_without.result) wide c.args.x c.args.other.now w.lowest_needed-found.result same count
-          (w.left_without.ensures ∙ ap (λ (m : ℕ). left_without m p c.args.one.now) count) w.lowest_needed-found.ensures.lowest in
-          subst (λ (s : Side). c.in-Some.v ≡ reply_vector (vector_spans ws) n s p c.args.one.now c.args.other.now c.args.x) (sym w.in-Y.is)
-          (reply-some c.match-side.found (lowest_needed (vector_spans ws) n wide c.args.x c.args.other.now) c.in-Some.v (lowest_free n p) (w.found-is ∙ found) c.in-Some.is)
+          let found = found-y vs ws k n (contains w.left_without.result) wide c.args.x
+          c.args.other.now w.lowest_needed-found.result same count
+          (w.left_without.ensures ∙ ap (λ (m : ℕ). left_without m p c.args.one.now) count)
+          w.lowest_needed-found.ensures.lowest in
+          subst
+          (λ (s : Side). c.in-Some.v
+          ≡ reply_vector (vector_spans ws) n s p c.args.one.now c.args.other.now c.args.x)
+          (sym w.in-Y.is)
+          (reply-some c.match-side.found
+          (lowest_needed (vector_spans ws) n wide c.args.x c.args.other.now) c.in-Some.v
+          (lowest_free n p) (w.found-is ∙ found) c.in-Some.is)
     ]
 
 pub returns-in-None-clause-reply : goal.returns-in-None-clause-reply
@@ -49,13 +62,26 @@ returns-in-None-clause-reply c =
     elim c.match-side.branch [
       | in-X w ↦
           let set = either (contains p.x) (contains (remove c.args.one.now c.args.x)) in
-          let found = found-x vs ws k n (contains w.joined.result) set c.args.other.now w.lowest_unspanned-found.result same count w.joined.ensures w.lowest_unspanned-found.ensures.lowest in
-          subst (λ (s : Side). c.lowest_free.result ≡ reply_vector (vector_spans ws) n s p c.args.one.now c.args.other.now c.args.x) (sym w.in-X.is)
-          (reply-none c.match-side.found (lowest_unspanned (vector_spans ws) n set c.args.other.now) c.lowest_free.result (lowest_free n p) (w.found-is ∙ found) c.in-None.is lowest)
+          let found = found-x vs ws k n
+          (contains w.joined.result) set c.args.other.now w.lowest_unspanned-found.result same count
+          w.joined.ensures w.lowest_unspanned-found.ensures.lowest in
+          subst
+          (λ (s : Side). c.lowest_free.result
+          ≡ reply_vector (vector_spans ws) n s p c.args.one.now c.args.other.now c.args.x)
+          (sym w.in-X.is)
+          (reply-none c.match-side.found (lowest_unspanned (vector_spans ws) n set c.args.other.now)
+          c.lowest_free.result (lowest_free n p) (w.found-is ∙ found) c.in-None.is lowest)
       | in-Y w ↦
           let wide = left_without n p c.args.one.now in
-          let found = found-y vs ws k n (contains w.left_without.result) wide c.args.x c.args.other.now w.lowest_needed-found.result same count
-          (w.left_without.ensures ∙ ap (λ (m : ℕ). left_without m p c.args.one.now) count) w.lowest_needed-found.ensures.lowest in
-          subst (λ (s : Side). c.lowest_free.result ≡ reply_vector (vector_spans ws) n s p c.args.one.now c.args.other.now c.args.x) (sym w.in-Y.is)
-          (reply-none c.match-side.found (lowest_needed (vector_spans ws) n wide c.args.x c.args.other.now) c.lowest_free.result (lowest_free n p) (w.found-is ∙ found) c.in-None.is lowest)
+          let found = found-y vs ws k n (contains w.left_without.result) wide c.args.x
+          c.args.other.now w.lowest_needed-found.result same count
+          (w.left_without.ensures ∙ ap (λ (m : ℕ). left_without m p c.args.one.now) count)
+          w.lowest_needed-found.ensures.lowest in
+          subst
+          (λ (s : Side). c.lowest_free.result
+          ≡ reply_vector (vector_spans ws) n s p c.args.one.now c.args.other.now c.args.x)
+          (sym w.in-Y.is)
+          (reply-none c.match-side.found
+          (lowest_needed (vector_spans ws) n wide c.args.x c.args.other.now) c.lowest_free.result
+          (lowest_free n p) (w.found-is ∙ found) c.in-None.is lowest)
     ]

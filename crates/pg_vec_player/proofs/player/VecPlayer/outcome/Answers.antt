@@ -9,5 +9,7 @@ use Rattle.pg_vec_player.proofs.player.VecPlayer.outcome.Goals as goal
 pub returns-clause-reached : goal.returns-clause-reached
 returns-clause-reached c =
     let a = c.self.inside in
-    subst (λ (play : VecPlay). IfSome a.ending (λ score. reaches play.side Win score ≡ true)) c.self.view_is
-    (outcome-reached (vector_rules a.game.now) a.position a.side a.ending c.self.invariant.on.forced c.self.invariant.known)
+    subst (λ (play : VecPlay). IfSome a.ending (λ score. reaches play.side Win score ≡ true))
+    c.self.view_is
+    (outcome-reached (vector_rules a.game.now) a.position a.side a.ending c.self.invariant.on.forced
+    c.self.invariant.known)
