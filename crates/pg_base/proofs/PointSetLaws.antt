@@ -101,13 +101,6 @@ remove-old s v q h = (and_parts (not (eqb q v)) (contains s q) (sym (in_remove s
 pub ruleset set_members =
     (insert-self, insert-old, insert-other, insert-cases, remove-self, remove-other, remove-old)
 
--- a point put where it wasn't, and taken again
-pub remove-insert : (s : FinSet nat_cmp) (v : ℕ) → contains s v ≡ false → remove (insert s v) v ≡ s
-remove-insert s v fresh = same_points _ _ (λ q. elim (cases_eq q v) [
-  | inl e ↦ rw e (remove-self (insert s v) v ∙ sym fresh)
-  | inr ne ↦ remove-other (insert s v) v q ne ∙ insert-other s v q ne
-])
-
 -- a point taken, and put again
 pub insert-remove : (s : FinSet nat_cmp) (v : ℕ) → contains s v ≡ true → insert (remove s v) v ≡ s
 insert-remove s v here = same_points _ _ (λ q. elim (cases_eq q v) [
@@ -129,46 +122,7 @@ AreBelow-insert s v n below fit q here = elim (insert-cases s v q here) [
   | inr old ↦ below q old
 ]
 
-pub AreBelow-within : (s t : FinSet nat_cmp) (n : ℕ) → AreWithin s t → AreBelow t n → AreBelow s n
-AreBelow-within s t n within below q here = below q (within q here)
-
-pub AreBelow-union : (s t : FinSet nat_cmp) (n : ℕ)
-    → AreBelow s n
-    → AreBelow t n
-    → AreBelow (union s t) n
-AreBelow-union s t n mine theirs q here = elim (or_cases (contains s q) (contains t q)
-    (sym (contains-union nat_cmp_total s t q) ∙ here)) [
-      | inl p ↦ mine q p
-      | inr p ↦ theirs q p
-    ]
-
 -- ---- sets without a common point
-
-pub ShareNone-sym : (s t : FinSet nat_cmp) → ShareNone s t → ShareNone t s
-ShareNone-sym s t none q here =
-    false_from_ne_true (contains s q) (λ there. both_ways _ (none q there) here)
-
-pub ShareNone-empty : (t : FinSet nat_cmp) → ShareNone empty t
-ShareNone-empty t q here = absurd (both_ways _ (contains-empty nat_cmp q) here)
-
-pub ShareNone-insert : (s t : FinSet nat_cmp) (v : ℕ)
-    → ShareNone s t
-    → contains t v ≡ false
-    → ShareNone (insert s v) t
-ShareNone-insert s t v none off q here = elim (insert-cases s v q here) [
-  | inl e ↦ ap (contains t) e ∙ off
-  | inr old ↦ none q old
-]
-
-pub ShareNone-insert_second : (s t : FinSet nat_cmp) (v : ℕ)
-    → ShareNone s t
-    → contains s v ≡ false
-    → ShareNone s (insert t v)
-ShareNone-insert_second s t v none off =
-    ShareNone-sym (insert t v) s (ShareNone-insert t s v (ShareNone-sym s t none) off)
-
-pub ShareNone-within : (s t r : FinSet nat_cmp) → AreWithin s t → ShareNone t r → ShareNone s r
-ShareNone-within s t r within none q here = none q (within q here)
 
 -- ---- how many points a set has
 
@@ -207,7 +161,3 @@ count-le a zero = omega arith
 count-le a (suc n) =
     let here = one_if_le (a n) true (λ _. refl) in
     omega (arith, count-le a n, here)
-
--- a set below a limit has no more points than numbers are below it
-pub len-below : (s : FinSet nat_cmp) (n : ℕ) → AreBelow s n → len s ≤ n
-len-below s n below = subst (λ (k : ℕ). k ≤ n) (sym (len-count s n below)) (count-le (contains s) n)

@@ -429,11 +429,3 @@ left_by-other s cells side v mover = rw (sym mover, is_others side) refl
 
 pub fewer-none : (k : ℕ) (lists : List (List ℕ)) → k ≡ 0 → lists ≡ fewer k lists
 fewer-none k lists none = sym (take_all (length lists - k) lists (omega arith))
-
-pub fewer-one : (lists after : List (List ℕ)) (last : List ℕ)
-    → lists ≡ after ++ last ∷ []
-    → after ≡ fewer 1 lists
-fewer-one lists after last is =
-    let more = ap length is ∙ length_push after last in
-    sym
-    (ap (take (length lists - 1)) is ∙ take_at after (last ∷ []) (length lists - 1) (omega arith))

@@ -93,9 +93,6 @@ one-fewer s bias p v low free =
 
 -- ---- sums over free points
 
-one_part : (b : Bool) (n : ℕ) → ℕ
-one_part b n = if b then n else 0
-
 pub summed-same : (f : ℕ → ℕ) (t u : ℕ → Bool) (n : ℕ)
     → ((q : ℕ) → q < n → u q ≡ t q)
     → summed f u n ≡ summed f t n

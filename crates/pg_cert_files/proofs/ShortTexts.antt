@@ -589,11 +589,6 @@ certificates_alike text short few fewer alike =
       fewer,
     )) ∙ ap says (sym (append-nil short))))
 
--- a text is like itself, a text like one that is like a third is like that, and bytes behind both
--- change nothing
-pub alike_none : (text : Bytes) → AreAlike text text
-alike_none text = λ more. refl
-
 pub alike_on : (text mid short : Bytes)
     → AreAlike text mid
     → AreAlike mid short

@@ -260,25 +260,6 @@ not_before old mid piece rest line behind fed is lacks text stands =
 
 -- ---- the end
 
-outcome_none : (s : Seen) (r : LineReader)
-    → s.fault ≡ r.fault
-    → s.count ≡ r.count
-    → IfNone r.fault (s.progress ≡ r.progress)
-    → (o : Option (Fault × ℕ)) → r.fault ≡ o
-    → o ≡ None
-    → outcome s ≡ at_number (r.count + 1) (end_fault r.progress r.progress.due)
-outcome_none s r fault count progress o is none =
-    let p : s.progress ≡ r.progress = at_none r.fault _ (is ∙ none) progress in
-    rw (fault, is, none, count, p) refl
-
--- the outcome where no fault has come
-pub outcome_at_none : (r : LineReader) (text : Bytes)
-    → StandsFor r text
-    → r.fault ≡ None
-    → outcome (told text) ≡ at_number (r.count + 1) (end_fault r.progress r.progress.due)
-outcome_at_none r text stands none =
-    outcome_none (told text) r stands.fault stands.count stands.progress r.fault refl none
-
 pub outcome_at_some : (r : LineReader) (text : Bytes) (bad : Fault × ℕ)
     → StandsFor r text
     → r.fault ≡ Some bad

@@ -70,25 +70,6 @@ grown text piece k few =
 
 -- ---- within the limit
 
-pub fed_within : (r n : CertReader) (text piece : Bytes) (used : ℕ)
-    → IsFed r text
-    → r.size + length piece ≤ MAX_CERT_BYTES
-    → used ≤ length piece
-    → n.size ≡ r.size + used
-    → (StandsFor r.lines text → StandsFor n.lines (text ++ take used piece))
-    → IsFed n (text ++ take used piece)
-fed_within r n text piece used fed few all size stands =
-    let within = is_within text r.size fed.size (omega arith) in
-    let len = grown text piece used all in
-    let still : length (text ++ take used piece) ≤ MAX_CERT_BYTES = omega (arith, len, within.1) in
-    record {
-      size = size
-          ∙ ap (λ n. n + used) within.1
-          ∙ sym len
-          ∙ sym (size_within (text ++ take used piece) still);
-      lines = λ _. stands (fed.lines within.0);
-    }
-
 pub parts_within : (r : CertReader) (text piece : Bytes) (used : ℕ) (part : Option Part)
     → IsFed r text
     → r.size + length piece ≤ MAX_CERT_BYTES
@@ -162,23 +143,6 @@ parts_past r text piece ps fed few more parts =
     ap (λ (t : Bytes). parts_told t) (whole_piece text piece)
     ∙ ap (λ (t : Bytes). (told t).parts) cut
     ∙ parts
-
--- the text is past the limit already
-pub fed_over : (r : CertReader) (text piece : Bytes)
-    → IsFed r text
-    → MAX_CERT_BYTES < r.size
-    → IsFed r (text ++ take (length piece) piece)
-fed_over r text piece fed more =
-    let past = is_past text r.size fed.size more in
-    let len = grown text piece (length piece) (omega arith) in
-    let still : MAX_CERT_BYTES < length (text ++ take (length piece) piece) =
-    omega (arith, len, past) in
-    record {
-      size = fed.size
-          ∙ size_past text past
-          ∙ sym (size_past (text ++ take (length piece) piece) still);
-      lines = λ few. absurd (omega (arith, still, few));
-    }
 
 pub parts_over : (r : CertReader) (text piece : Bytes)
     → IsFed r text

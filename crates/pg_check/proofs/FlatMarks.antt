@@ -338,20 +338,6 @@ pub eq-iff : (r : Bool) (xs ys : List ℕ)
 eq-iff true xs ys e = (λ _. same_text xs ys e, λ _. refl)
 eq-iff false xs ys e = (λ f. absurd (false≢true f), λ s. absurd (other_text xs ys e s))
 
--- what a test of two sides has told
-pub sides-same : (a b : Side) → is_same_side a b ≡ true → a ≡ b
-sides-same X X on = refl
-sides-same X Y on = absurd (false≢true on)
-sides-same Y X on = absurd (false≢true on)
-sides-same Y Y on = refl
-
-pub same-sides : (a b : Side) → a ≡ b → is_same_side a b ≡ true
-same-sides a b e = rw e (itself b)
-  where
-    itself : (s : Side) → is_same_side s s ≡ true
-    itself X = refl
-    itself Y = refl
-
 -- ---- words fit
 
 -- every number is that of a word

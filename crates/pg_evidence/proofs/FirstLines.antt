@@ -112,11 +112,6 @@ no_images text none rest =
 
 -- ---- what is kept
 
--- a text that has no images goes on
-pub still_none : (text piece : Bytes) → HasNoImages text → HasNoImages (text ++ piece)
-still_none text piece none rest =
-    ap has_images (append_assoc text piece rest) ∙ none (piece ++ rest)
-
 -- what was kept is dropped where it has no images
 pub dropped : (o : Option Bytes) (before after text piece : Bytes)
     → o ≡ Some before

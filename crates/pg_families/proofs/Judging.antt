@@ -22,13 +22,6 @@ use Rattle.pg_talk.proofs.Openings.{not_opened_two, opened_two}
 use Rattle.pg_talk.proofs.Runs.{performs_more, runs_halt, runs_read, silent, talked_texts}
 use Rattle.pg_families.specs.Judged.{AcceptsValid, PlaysValid, RefusesChecked, RefusesPlayed}
 
--- nothing was said before work was stopped
-pub stopped_here : (Against : Refusal → Type 0) (Act : List Entry → End → Type 0)
-    (console : ConsoleTold) (stop : Stop)
-    → Performs Against Act console console (Err (Stopped stop))
-stopped_here Against Act console stop =
-    ([], inl refl, silent (stop_end stop) console console refl refl)
-
 -- what stands against work was found, and nothing was said
 pub refused_here : (Against : Refusal → Type 0) (Act : List Entry → End → Type 0)
     (console : ConsoleTold) (refusal : Refusal)

@@ -47,9 +47,6 @@ abbrev pub Goes : Draft → List Bytes → Draft → Type 0
 Goes d ls next = (n : ℕ) (others : List Bytes)
     → (m : ℕ) × (reading after n d (ls ++ others) ≡ reading after m next others)
 
-goes_none : (d : Draft) → Goes d [] d
-goes_none d = λ n others. (n, refl)
-
 goes_one : (d next : Draft) (l : Bytes) → after d l ≡ Ok next → Goes d (l ∷ []) next
 unfolding reading
 goes_one d next l e = λ n others. (n + 1, rw e refl)

@@ -60,21 +60,6 @@ module _ (grid : Grid) (t : MapTable) (is : IsTable grid t) where
 
 -- ---- lists of tables
 
-pub tables-none : (grid : Grid) → AreTablesOf grid [] []
-tables-none grid = record { maps_are = refl; each = All-nil (IsTable grid) }
-
-pub tables-push : (grid : Grid) (maps : List GridMap) (m : GridMap) (tables : List MapTable)
-    (t : MapTable)
-    → AreTablesOf grid maps tables
-    → IsTable grid t
-    → t.map ≡ m
-    → AreTablesOf grid (maps ++ m ∷ []) (tables ++ t ∷ [])
-tables-push grid maps m tables t are is same = record {
-  maps_are = map_push (λ (s : MapTable). s.map) tables t
-      ∙ ap₂ (λ (ms : List GridMap) (h : GridMap). ms ++ h ∷ []) are.maps_are same;
-  each = All-push (IsTable grid) tables t are.each is;
-}
-
 pub map-at : (tables : List MapTable) (i : ℕ) (t : MapTable)
     → slice_get tables i ≡ Some t
     → slice_get (maps_of tables) i ≡ Some t.map
@@ -121,13 +106,6 @@ tables-fit g grid maps tables has fit are = record {
   });
 }
 
-pub tables-off : (g : Game) (tables : List MapTable)
-    → board_of g.field ≡ None
-    → tables ≡ []
-    → AreTables g tables
-tables-off g tables none empty =
-    record { off = λ e. empty; on = λ grid at. absurd (none-some grid (sym none ∙ at)) }
-
 pub tables-ordered : (grid : Grid) (maps : List GridMap) (tables : List MapTable)
     → AllPairs (λ a b. number_of a < number_of b) maps
     → AreTablesOf grid maps tables
@@ -137,9 +115,3 @@ tables-ordered grid maps tables up are = record {
       (sym are.maps_are) up;
   small = λ k d lt. (are.each k d lt).small;
 }
-
-pub empty-ordered : (tables : List MapTable) → tables ≡ [] → AreOrdered tables
-empty-ordered tables empty = subst AreOrdered (sym empty) (record {
-  ascending = λ i j d before inside. absurd (omega (arith, inside));
-  small = All-nil (λ (t : MapTable). All (λ u. u < 1024) t.sources.items);
-})

@@ -183,26 +183,7 @@ any-free_points-from g p t h =
     let w = any-filter-from (is_free p) t 0 (point_count g) h in
     (w.0, omega (arith, w.2), w.3, w.4)
 
--- where every free point passes, each does
-pub all-free_points-from : (g : Game) (p : Position) (t : ℕ → Bool)
-    → list_all t (free_points g p) ≡ true
-    → (v : ℕ) → v < point_count g
-    → is_free p v ≡ true
-    → t v ≡ true
-unfolding free_points
-all-free_points-from g p t h v within free =
-    all-filter-from (is_free p) t 0 (point_count g) h v (omega arith) (omega arith) free
-
 -- ---- where nothing is free
-
-pub no_free_points : (g : Game) (p : Position)
-    → length (free_points g p) ≡ 0
-    → is_empty (free_points g p) ≡ true
-no_free_points g p h = empty_of (free_points g p) h
-  where
-    empty_of : (qs : List ℕ) → length qs ≡ 0 → is_empty qs ≡ true
-    empty_of [] h = refl
-    empty_of (q ∷ qs) h = absurd (omega arith)
 
 -- a list that isn't empty has a free point
 pub first_free : (g : Game) (p : Position)

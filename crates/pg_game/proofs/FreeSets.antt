@@ -45,8 +45,3 @@ len-free_points g p s each =
     (λ v lt. each v ∙ ap (λ b. b && is_free p v) (lt-ltb v (point_count g) lt))
     ∙ count-passed (is_free p) (point_count g)
     ∙ passed-all g p (point_count g) refl
-
--- the first of a list is none where the list is empty
-pub none-empty : (qs : List ℕ) → is_none (find (λ v. true) qs) ≡ is_empty qs
-none-empty [] = refl
-none-empty (q ∷ qs) = refl

@@ -28,26 +28,6 @@ value-step g p going = value_by-step (rules_of g) (IsEnding-game g) p going
 
 -- ---- what a side forces by one step
 
--- whether the value is good for the mover: some move's is
-pub reaches-own : (g : Game) (p : Position) (side : Side) (goal : Goal)
-    → is_over g p ≡ false
-    → p.turn ≡ side
-    → reaches side goal (value g p)
-    ≡ list_any (λ v. reaches side goal (value g (after g p v))) (free_points g p)
-unfolding free_points free_below
-reaches-own g p side goal going mine =
-    reaches_by-own (rules_of g) (IsEnding-game g) p side goal going mine
-
--- whether the value is good for the side that waits: every move's is
-pub reaches-theirs : (g : Game) (p : Position) (side : Side) (goal : Goal)
-    → is_over g p ≡ false
-    → p.turn ≡ other side
-    → reaches side goal (value g p)
-    ≡ list_all (λ v. reaches side goal (value g (after g p v))) (free_points g p)
-unfolding free_points free_below
-reaches-theirs g p side goal going yours =
-    reaches_by-theirs (rules_of g) (IsEnding-game g) p side goal going yours
-
 -- where the game is over and the outcome is good
 pub Forces-over : (g : Game) (p : Position) (side : Side) (goal : Goal)
     → is_over g p ≡ true

@@ -18,16 +18,6 @@ use Rattle.pg_game.proofs.Members.{list_any-none}
 
 -- ---- the greatest length
 
-pub longest-more : (lines : List (List ℕ)) (i longest : ℕ) (line : List ℕ)
-    → i < length lines
-    → line ≡ get_or lines i line
-    → max longest (greatest_length (drop i lines)) ≡ greatest_length lines
-    → max (max longest (length line)) (greatest_length (drop (i + 1) lines)) ≡ greatest_length lines
-longest-more lines i longest line lt is before =
-    let here = at_drop_more greatest_length lines i line lt in
-    let same : length line ≡ length (get_or lines i line) = ap length is in
-    omega (arith, here, same, before)
-
 -- ---- the weights of the points of a line
 
 -- a later point of an ascending line isn't among the earlier ones

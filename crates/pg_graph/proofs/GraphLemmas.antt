@@ -179,23 +179,6 @@ pub spans_in-joins : (g : Graph) (set : ℕ → Bool) (f : ℕ)
 unfolding edge_spans
 spans_in-joins g set f = refl
 
--- the test of a bridge says what walks say
-pub is_bridge-sound : (g : Graph) (set : ℕ → Bool) (f : ℕ)
-    → IsBelow set (suc (edge_count g))
-    → is_bridge g set f ≡ true
-    → IsBridge g set f
-unfolding minus
-is_bridge-sound g set f small h p = both_ways _ (not-true _ h)
-    (joins_in-complete g (minus set f) (first_end_of g f) (second_end_of g f)
-    (λ z in_set. small z (and_parts _ _ in_set).0) p)
-
-pub is_bridge-complete : (g : Graph) (set : ℕ → Bool) (f : ℕ)
-    → IsBridge g set f
-    → is_bridge g set f ≡ true
-is_bridge-complete g set f h = not_from_false _
-    (false_from_ne_true _
-    (λ t. h (joins_in-sound g (minus set f) (first_end_of g f) (second_end_of g f) t)))
-
 -- ---- the ends as the code reads them
 
 pub ends-edge : (g : Graph) (k : ℕ)

@@ -13,7 +13,7 @@ use Rattle.pg_check.specs.Checking.{StandsFor as IsChecked}
 use Rattle.pg_cert_files.specs.CertFile.{listed}
 use Rattle.pg_cert_files.specs.Pieces.{IsFed, AreAllParts, parts_told, size_of}
 use Rattle.pg_cert_files.specs.Shortened.{HasBeenFed, IsFedShort}
-use Rattle.pg_cert_files.proofs.ShortTexts.{alike_more, alike_none, alike_on}
+use Rattle.pg_cert_files.proofs.ShortTexts.{alike_more, alike_on}
 use Rattle.pg_cert_files.specs.declared.cert_state.CertReader.{CertReader}
 use Rattle.pg_cert_files.proofs.PartsBegin.{begin_seen}
 use Rattle.pg_judge.specs.Heads.{head_of, heads_in, heads_of}
@@ -29,13 +29,6 @@ pub record HasFed (r : CertReader) (c : Told) (reader : CertReader) (told : Told
   pub front : Bytes
   pub cut : piece ≡ front ++ rest
   pub fed : (text : Bytes) → AreFed r c text → AreFed reader told (text ++ front)
-
-pub fed-none : (r : CertReader) (c : Told) (piece : Bytes) → HasFed r c r c piece piece
-fed-none r c piece = record {
-  front = [];
-  cut = refl;
-  fed = λ text h. subst (AreFed r c) (sym (append-nil text)) h;
-}
 
 -- some text has been fed
 pub been-fed : (r : CertReader) (c : Told) (reader : CertReader) (told : Told) (piece rest : Bytes)
@@ -123,23 +116,6 @@ fed-more r c reader told next more piece rest used o few h read parts stands =
     (take (length rest - used) (drop used rest)) cut h
     (fed-bytes reader told next more (take used rest) o read parts stands)
 
--- no part
-pub stands-none : (c : Told) (o : Option Part)
-    → o ≡ None
-    → (fed : List Part) → HasTold c fed
-    → HasTold c (fed ++ listed o)
-stands-none c o none fed s = subst (λ (q : Option Part). HasTold c (fed ++ listed q)) (sym none)
-    (subst (HasTold c) (sym (append-nil fed)) s)
-
--- a part
-pub stands-some : (c more : Told) (o : Option Part) (part : Part)
-    → o ≡ Some part
-    → ((fed : List Part) → HasTold c fed → HasTold more (fed ++ part ∷ []))
-    → (fed : List Part) → HasTold c fed
-    → HasTold more (fed ++ listed o)
-stands-some c more o part some step fed s =
-    subst (λ (q : Option Part). HasTold more (fed ++ listed q)) (sym some) (step fed s)
-
 -- the part that is whole with some bytes more is due, where there is one
 pub part-given : (reader : CertReader) (told : Told) (bytes : Bytes) (o : Option Part)
     → HaveBeenFed reader told
@@ -151,18 +127,6 @@ part-given reader told bytes (Some part) been parts =
     part-due reader told bytes (Some part) part refl been parts
 
 -- ---- the end
-
--- the last part is due, where there is one
-pub last-given : (reader : CertReader) (told : Told) (o : Option Part)
-    → HaveBeenFed reader told
-    → ((text : Bytes) → IsFed reader text → BeginCert (parts_told text ++ listed o))
-    → IfSome o (IsDue told)
-last-given reader told None been begin = tt
-last-given reader told (Some part) been begin = record {
-  fed = parts_told been.text;
-  told = been.fed.told;
-  begins = begin been.text been.fed.read;
-}
 
 -- all parts of the certificate were told
 pub complete : (told : Told) (text : Bytes) (all : List Part)
@@ -260,23 +224,5 @@ stands-more before reader next told size piece sizes feed cut text h =
           (alike_more text h.short piece h.alike) less.alike;
     }
 
--- the text to which nothing was fed
-pub stands-begun : (j : Judging)
-    → IsFed j.reader []
-    → parts_told [] ≡ []
-    → HasTold j.told []
-    → j.size ≡ 0
-    → StandsFor j []
-stands-begun j read parts told size = record {
-  short = [];
-  fed = record { read = read; told = subst (HasTold j.told) (sym parts) told };
-  size = size;
-  fewer = omega arith;
-  alike = alike_none [];
-}
-
 pub fed-short : (j : Judging) → IsReady j → HaveBeenFed j.reader j.told
 fed-short j ready = record { text = ready.stands.short; fed = ready.stands.fed }
-
-pub reader-fed : (reader : CertReader) (told : Told) → HaveBeenFed reader told → HasBeenFed reader
-reader-fed reader told been = record { text = been.text; fed = been.fed.read }

@@ -26,22 +26,6 @@ use Rattle.pg_base.proofs.Stands.{at_contains, contains_at, contains_push, conta
 
 -- ---- one mark more, and those of replies
 
-pub marks-set : (old : List Bool) (i : ℕ)
-    → i < length old
-    → MarksMore (λ j. i ≡ j) old (slice_set old i true)
-marks-set old i within = record {
-  count = length-set old i true;
-  kept = λ j on. elim (cases_eq j i) [
-    | inl e ↦ ap (slice_get (slice_set old i true)) e ∙ at_set_same old i true within
-    | inr ne ↦ at_set_other old i j true ne ∙ on
-  ];
-  marked = λ j e. ap (slice_get (slice_set old i true)) (sym e) ∙ at_set_same old i true within;
-  only = λ j on. elim (cases_eq j i) [
-    | inl e ↦ inr (sym e)
-    | inr ne ↦ inl (sym (at_set_other old i j true ne) ∙ on)
-  ];
-}
-
 pub marks-same : (named : ℕ → Type 0) (old : List Bool)
     → ((i : ℕ) → named i → ⊥)
     → MarksMore named old old
@@ -51,53 +35,6 @@ marks-same named old none = record {
   marked = λ i n. absurd (none i n);
   only = λ i on. inl on;
 }
-
-pub no-replies : (replies : List Reply) (i : ℕ) → length replies ≡ 0 → AreNamed replies i → ⊥
-no-replies replies i empty named = omega (arith, empty, named.1.1)
-
-named-old : (replies : List Reply) (r : Reply) (i : ℕ)
-    → AreNamed replies i
-    → AreNamed (replies ++ r ∷ []) i
-named-old replies r i named = (named.0, contains_old replies r named.0 named.1, named.2)
-
-named-parts : (replies : List Reply) (r : Reply) (i : ℕ)
-    → AreNamed (replies ++ r ∷ []) i
-    → AreNamed replies i ⊎ (r.child ≡ i)
-named-parts replies r i named = elim (contains_push replies r named.0 named.1) [
-  | inl old ↦ inl (named.0, old, named.2)
-  | inr new ↦ inr (ap (λ (s : Reply). s.child) new ∙ named.2)
-]
-
-pub marks-reply : (replies : List Reply) (k : ℕ) (d : Reply) (old mid new : List Bool)
-    → k < length replies
-    → MarksMore (AreNamed (take k replies)) old mid
-    → MarksMore (λ j. (get_or replies k d).child ≡ j) mid new
-    → MarksMore (AreNamed (take (k + 1) replies)) old new
-marks-reply replies k d old mid new within were more =
-    let r = get_or replies k d in
-    let is = take_more replies k d within in
-    record {
-      count = more.count ∙ were.count;
-      kept = λ i on. more.kept i (were.kept i on);
-      marked = λ i named. elim (named-parts (take k replies) r i
-          (subst (λ (rs : List Reply). AreNamed rs i) is named)) [
-            | inl before ↦ more.kept i (were.marked i before)
-            | inr here ↦ more.marked i here
-          ];
-      only = λ i on. elim (more.only i on) [
-        | inl mid_on ↦ elim (were.only i mid_on) [
-          | inl first ↦ inl first
-          | inr before ↦ inr (subst (λ (rs : List Reply). AreNamed rs i) (sym is)
-              (named-old (take k replies) r i before))
-        ]
-        | inr here ↦ inr (subst (λ (rs : List Reply). AreNamed rs i) (sym is) (
-          r,
-          at_contains (take k replies ++ r ∷ []) (length (take k replies)) r
-              (at_new (take k replies) r),
-          here,
-        ))
-      ];
-    }
 
 pub names-earlier : (body : Body) (k i : ℕ) → NamesEarlier k body → Names body i → i < k
 names-earlier Over k i e n = absurd n
@@ -113,30 +50,6 @@ names-earlier (Threat points) k i e n = absurd n
 names-earlier (Weaker child) k i e n = omega (arith, e, n)
 
 -- ---- all marks
-
-replicate-off : (n i : ℕ) → IsMarked (replicate n false) i → ⊥
-replicate-off n i on =
-    let within : i < n =
-    let low = slice_get_within (replicate n false) i true on in
-    omega (arith, low, length-replicate n false) in
-    false≢true (sym (get_or-replicate n i false true within)
-    ∙ get_or_from_slice_get (replicate n false) i true true on)
-
-pub marked-start : (nodes : List Node) (n : ℕ) (new : List Bool)
-    → length nodes ≡ suc n
-    → MarksMore (λ j. n ≡ j) (replicate (length nodes) false) new
-    → AreMarked nodes (length nodes) new
-marked-start nodes n new len more = record {
-  count = more.count ∙ length-replicate (length nodes) false;
-  last = λ m e. more.marked m (let same : n ≡ m = omega (arith, len, e) in same);
-  closed = λ j i m low on at names.
-      let high = slice_get_within nodes j m at in
-      absurd (omega (arith, low, high));
-  used = λ i on high. elim (more.only i on) [
-    | inl old ↦ absurd (replicate-off (length nodes) i old)
-    | inr e ↦ absurd (omega (arith, e, high, len))
-  ];
-}
 
 module _ (nodes : List Node) (k : ℕ) (node : Node) (old new : List Bool)
     (at : slice_get nodes k ≡ Some node) (earlier : NamesEarlier k node.body)
@@ -452,16 +365,6 @@ module _ (g : Game) (side : Side) (goal : Goal) (nodes out : List Node) (k : ℕ
   body-moved (Weaker child) new e each h = absurd (false≢true h.owes.version)
 
 -- ---- one node after the other
-
-pub pruned-none : (nodes : List Node) (marks : List Bool) → IsPruned nodes marks 0 [] []
-pruned-none nodes marks = record {
-  count = refl;
-  few = omega arith;
-  last = λ i d e on at. absurd (some≢none (sym at));
-  moved = λ i d n on at there. absurd (some≢none (sym at));
-  source = λ d m at. absurd (some≢none (sym at));
-  hold = λ g side goal h k n at. absurd (some≢none (sym at));
-}
 
 module _ (nodes : List Node) (marks : List Bool) (k : ℕ) (numbers : List ℕ) (out : List Node)
     (was : IsPruned nodes marks k numbers out) (n : Node) (at : slice_get nodes k ≡ Some n) where

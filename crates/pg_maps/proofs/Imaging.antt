@@ -45,13 +45,6 @@ list_all-not_any t (x ∷ xs) = elim (cases_Bool (t x)) [
   | inr off ↦ rw off refl
 ]
 
-pub list_all-IsPermutation : {A : Type 0} (t : A → Bool) (xs ys : List A)
-    → IsPermutation xs ys
-    → list_all t xs ≡ list_all t ys
-list_all-IsPermutation t xs ys h = list_all-not_any t xs
-    ∙ ap not (list_any-IsPermutation (λ x. not (t x)) xs ys h)
-    ∙ sym (list_all-not_any t ys)
-
 -- ---- tests of the lines
 
 module _ (g : Game) (f back : ℕ → ℕ) (fits : IsAutomorphism g f back) where

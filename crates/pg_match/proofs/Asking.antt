@@ -36,15 +36,6 @@ pub record AreNumbers (test : List ℕ → Bool) (lines : List (List ℕ)) (j : 
   pub below : All (λ i. i < j) wanted
   pub ascending : AllPairs (λ i k. i < k) wanted
 
-pub numbers-none : (test : List ℕ → Bool) (lines : List (List ℕ)) (wanted : List ℕ)
-    → wanted ≡ []
-    → AreNumbers test lines 0 wanted
-numbers-none test lines wanted none = subst (AreNumbers test lines 0) (sym none) (record {
-  passing = refl;
-  below = All-nil (λ i. i < 0);
-  ascending = λ i k d before inside. absurd (omega arith);
-})
-
 kept-one : (test : List ℕ → Bool) (lines : List (List ℕ)) (j : ℕ) → List (List ℕ)
 kept-one test lines j = cond (test (line_at lines j)) (line_at lines j ∷ []) []
 
@@ -84,25 +75,6 @@ numbers-without test lines j wanted new within off same h =
       ascending = h.ascending;
     })
 
-pub numbers-all : (test : List ℕ → Bool) (lines : List (List ℕ)) (j : ℕ) (wanted : List ℕ)
-    → j ≡ length lines
-    → AreNumbers test lines j wanted
-    → map (line_at lines) wanted ≡ filter test lines
-numbers-all test lines j wanted end h =
-    h.passing ∙ ap (filter test) (take_all j lines (omega (arith, end)))
-
-pub numbers-can : (test : List ℕ → Bool) (lines : List (List ℕ)) (j : ℕ) (wanted : List ℕ)
-    → j ≡ length lines
-    → All (All (λ v. v < 1024)) lines
-    → AreNumbers test lines j wanted
-    → CanMatch lines wanted
-numbers-can test lines j wanted end points h = record {
-  range =
-      All-weaker (λ i. i < j) (λ i. i < length lines) (λ i lt. omega (arith, end)) wanted h.below;
-  different = λ i k d before inside e. let lt = h.ascending i k d before inside in omega (arith, e);
-  points = points;
-}
-
 -- ---- free points
 
 pub free-all : (p : Position) (free : FinSet nat_cmp) (n v : ℕ)
@@ -117,18 +89,6 @@ pub free-in_game : (g : Game) (p : Position) (free : FinSet nat_cmp)
 free-in_game g p free each v lt = free-all p free (point_count g) v each lt
 
 -- ---- pairs of points, one after the other
-
-pub pairs_on-wait : (pairs : List Pair) (v : ℕ) → PairsOn (v ∷ []) pairs pairs (Some v)
-pairs_on-wait pairs v = record { more = []; added = sym (append-nil pairs); all = refl }
-
-pub pairs_on-pair : (pairs new : List Pair) (u v : ℕ)
-    → new ≡ pairs ++ record { a = u; b = v } ∷ []
-    → PairsOn (u ∷ v ∷ []) pairs new None
-pairs_on-pair pairs new u v pushed = record {
-  more = record { a = u; b = v } ∷ [];
-  added = pushed;
-  all = refl;
-}
 
 -- one point more, after those so far
 pub pairs_on-more : (points : List ℕ) (v : ℕ) (old mid new : List Pair) (waiting next : Option ℕ)

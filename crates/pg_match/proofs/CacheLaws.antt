@@ -16,9 +16,6 @@ use Rattle.pg_match.specs.Private.{Answer, told, IsAnswer}
 use Rattle.pg_match.specs.Cache.{Asked, Kept, Cache, Fits, IsFor, keeps, leaves, Remembers, Keeps, stays, puts, same_asked, same_asked-decides, kept_of, one_more}
 use Rattle.pg_match.proofs.PrivateLaws.{Contains-parts}
 
-Entries : Type 0
-Entries = List (Asked × Matching)
-
 -- the cache with these entries
 abbrev pub seen : ℕ → ℕ → List (Asked × Matching) → Cache
 seen cap hits es = record { capacity = cap; hits = hits; kept = map kept_of es }

@@ -184,13 +184,6 @@ CanTake-at g p xs i d points taken h pairs count is =
         get_or_default xs c.0 d t (omega arith) ∙ sym (get_or-take i xs c.0 t below) ∙ c.2 in
         subst (λ (u : Pair). SharesNone u (get_or xs i d)) at (pairs.disjoint c.0 i d below h)
 
-pub AreOpenPairs-all : (g : Game) (p : Position) (xs : List Pair) (i : ℕ)
-    → length xs ≤ i
-    → AreOpenPairs g p (take i xs)
-    → AreOpenPairs g p xs
-AreOpenPairs-all g p xs i h pairs =
-    subst (λ (ys : List Pair). AreOpenPairs g p ys) (take_all i xs h) pairs
-
 -- all the facts of the condition
 pub PairsHold-from : (g : Game) (p : Position) (side : Side) (pairs : List Pair)
     → AreOpenPairs g p pairs
@@ -203,20 +196,7 @@ PairsHold-from g p side pairs open_pairs lines leaves = record {
   avoider = leaves;
 }
 
-pub AreOpenPairs-of : (g : Game) (p : Position) (side : Side) (pairs : List Pair)
-    → PairsHold g p side pairs
-    → AreOpenPairs g p pairs
-AreOpenPairs-of g p side pairs h = h.apart
-
 -- ---- the count of the points left out
-
--- two sets that agree leave the same points out
-pub unpaired-is : (g : Game) (p : Position) (pairs : List Pair) (paired : FinSet nat_cmp)
-    → ((q : ℕ) → contains paired q ≡ is_paired pairs q)
-    → length (filter (λ v. not (contains paired v)) (free_points g p)) ≡ length (unpaired g p pairs)
-unpaired-is g p pairs paired is = ap length
-    (filter_agree (λ v. not (contains paired v)) (λ v. not (is_paired pairs v)) (λ q. ap not (is q))
-    (free_points g p))
 
 -- ---- the points of open pairs
 
@@ -247,36 +227,6 @@ Contains-any line q on =
 
 pub any-Contains : (line : List ℕ) (q : ℕ) → Contains line q → list_any (λ v. eqb v q) line ≡ true
 any-Contains line q c = list_any-one (λ v. eqb v q) line q c (eq-eqb q q refl)
-
--- some pair has both points among those of the line exactly where the line holds it
-pub holds-iff : (points : FinSet nat_cmp) (line : List ℕ) (pairs : List Pair) (r : Bool)
-    → ((q : ℕ) → contains points q ≡ list_any (λ v. eqb v q) line)
-    → r ≡ list_any (λ s. contains points s.a && contains points s.b) pairs
-    → (IsTrue r → Any (HoldsPair line) pairs) × (Any (HoldsPair line) pairs → IsTrue r)
-holds-iff points line pairs r is result = (
-  λ on.
-      let found =
-      member-from_any (λ s. contains points s.a && contains points s.b) pairs (sym result ∙ on) in
-      let s = found.0 in
-      let both = and_parts (contains points s.a) (contains points s.b) found.2 in
-      let c = found.1 in (
-        c.0,
-        s,
-        c.1,
-        c.2,
-        (
-          Contains-any line s.a (sym (is s.a) ∙ both.0),
-          Contains-any line s.b (sym (is s.b) ∙ both.1),
-        ),
-      ),
-  λ held.
-      let s = held.1 in
-      let member : Contains pairs s = (held.0, held.2, held.3) in
-      result
-      ∙ list_any-one (λ t. contains points t.a && contains points t.b) pairs s member
-      (and_from _ _ (is s.a ∙ any-Contains line s.a held.4.0)
-      (is s.b ∙ any-Contains line s.b held.4.1)),
-)
 
 -- the points of pairs of the game are below 1,024
 pub pairs-few : (g : Game) (pairs : List Pair)

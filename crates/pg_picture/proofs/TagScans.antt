@@ -67,11 +67,6 @@ decimal-value : (n : ℕ) → IsValue (decimal n)
 unfolding digits
 decimal-value n = digits-value 64 n [] (record { stays = λ name tags. refl })
 
-literal : (t : Bytes)
-    → ((name : Bytes) (tags : List Bytes) → scan (Quoted name tags) t ≡ Quoted name tags)
-    → IsValue t
-literal t h = record { stays = h }
-
 class-value : (paint : Paint) → IsValue (class_name paint)
 unfolding class_name
 class-value Free = record { stays = λ name tags. refl }

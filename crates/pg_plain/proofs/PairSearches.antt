@@ -17,18 +17,6 @@ use Rattle.pg_game.proofs.Lowest.{any_both}
 abbrev pub PassesNone : (ℕ → Bool) → (ℕ → Bool) → List ℕ → ℕ → Type 0
 PassesNone t f line i = list_any (λ x. f x && t x) (take i line) ≡ false
 
-pub passes-none : (t f : ℕ → Bool) (line : List ℕ) → PassesNone t f line 0
-passes-none t f line = refl
-
-pub passes-none_more : (t f : ℕ → Bool) (line : List ℕ) (i : ℕ)
-    → i < length line
-    → PassesNone t f line i
-    → (f (get_or line i 0) && t (get_or line i 0)) ≡ false
-    → PassesNone t f line (i + 1)
-passes-none_more t f line i lt none here = list_any_more (λ x. f x && t x) line i 0 lt
-    ∙ ap (λ b. b || (f (get_or line i 0) && t (get_or line i 0))) none
-    ∙ here
-
 pub passes-none_all : (t f : ℕ → Bool) (line : List ℕ) (i : ℕ)
     → length line ≤ i
     → PassesNone t f line i

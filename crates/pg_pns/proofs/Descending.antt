@@ -174,9 +174,6 @@ module _ (g : Game) (t : Score) (list : List Position) (s : Table)
       → IsNext s k
   way-end k on none = ends k (get_or s.moves.items k []) on (moves-at k (way-range k on)) none
 
-pub at-root : (s : Table) → answer_at s.answers.items 0 ≡ None → IsOnWay s 0
-at-root s opened = record { unanswered = opened; link = inl refl }
-
 -- ---- on the board
 
 first-pushed : (stands : List Stand) (s d : Stand)
@@ -184,27 +181,11 @@ first-pushed : (stands : List Stand) (s d : Stand)
 first-pushed [] s d = refl
 first-pushed (e ∷ stands) s d = refl
 
--- where no play stands, the board is as it was before all plays
-first-alone : (b : View) → b.earlier ≡ [] → first_stand b ≡ b.stand
-first-alone b none = ap (λ es. get_or es 0 b.stand) none
-
 first-played : (now next : View)
     → next.earlier ≡ now.earlier ++ now.stand ∷ []
     → first_stand next ≡ first_stand now
 first-played now next push =
     ap (λ es. get_or es 0 next.stand) push ∙ first-pushed now.earlier now.stand next.stand
-
-pub starts-down : (s : Table) (b : View)
-    → answer_at s.answers.items 0 ≡ None
-    → slice_get s.positions.items 0 ≡ Some (start b.game)
-    → IsAtStart b.game b
-    → GoesDown s b b 0
-starts-down s b opened root at = record {
-  on = at-root s opened;
-  game = refl;
-  stands = root ∙ ap Some (sym at.position);
-  first_is = first-alone b at.earlier;
-}
 
 pub goes-down : (s : Table) (first now next : View) (k : ℕ) (m : ℕ × ℕ)
     → GoesDown s first now k
@@ -221,17 +202,6 @@ goes-down s first now next k m down step same moved push = record {
       ∙ ap Some (sym moved);
   first_is = first-played now next push ∙ down.first_is;
 }
-
-pub goes-up : (first now next : View)
-    → GoesUp first now
-    → next.game ≡ now.game
-    → now.earlier ≡ next.earlier ++ next.stand ∷ []
-    → GoesUp first next
-goes-up first now next up same pop =
-    record { game = same ∙ up.game; first_is = sym (first-played next now pop) ∙ up.first_is }
-
-pub is-up : (first now : View) → GoesUp first now → now.earlier ≡ [] → now.stand ≡ first_stand first
-is-up first now up none = sym (first-alone now none) ∙ up.first_is
 
 -- the board that went down, met all moves and went up stands where it stood
 pub back-at-start : (g : Game) (old down up : View)

@@ -146,45 +146,6 @@ module _ {X : Type 0} {Met : X → Type 0} {position : X → Position} {answer :
 nexts : Game → Position → List (ℕ × Position)
 nexts g q = map (λ v. (v, after g q v)) (free_points g q)
 
-abbrev nexts_of : Game → Position → List ℕ → List (ℕ × Position)
-nexts_of g q vs = map (λ v. (v, after g q v)) vs
-
-in_nexts : (g : Game) (q : Position) (vs : List ℕ) (r : ℕ × Position)
-    → Contains (nexts_of g q vs) r
-    → r.1 ≡ after g q r.0
-in_nexts g q vs r c = at vs c.0 c.1 c.2
-  where
-    at : (us : List ℕ) (k : ℕ)
-        → k < length (nexts_of g q us)
-        → get_or (nexts_of g q us) k r ≡ r
-        → r.1 ≡ after g q r.0
-    at [] k h e = absurd (omega arith)
-    at (u ∷ us) zero h e =
-        ap (λ (s : ℕ × Position). s.1) (sym e) ∙ ap (λ (s : ℕ × Position). after g q s.0) e
-    at (u ∷ us) (suc k) h e = at us k (omega arith) e
-
 map-same : {X : Type 0} (xs : List X) → map (λ x. x) xs ≡ xs
 map-same [] = refl
 map-same (x ∷ xs) = ap (λ ys. x ∷ ys) (map-same xs)
-
-pub settle-more : (g : Game) (t : Score) (table more : List Position)
-    → ((q : Position) → is_listed table q ≡ true → is_listed more q ≡ true)
-    → (p : Position) (b : Bool) → settled g t table p ≡ Some b
-    → settled g t more p ≡ Some b
-unfolding nexts
-settle-more g t table more longer p b so = answered g t table closed p tt b so
-  where
-    closed : Closed g t table Position (λ _. Unit {0}) (λ q. q) (settled g t more) (nexts g)
-    closed = record {
-      decisions = λ q met a is. settle-decided g t more q a is;
-      points = λ q met un listed.
-          map-map (λ (r : ℕ × Position). r.0) (λ v. (v, after g q v)) (free_points g q)
-          ∙ map-same (free_points g q);
-      leads = λ q met un listed r c. (tt, in_nexts g q (free_points g q) r c);
-      known = λ q met un listed a by. settle-listed g t more q un (longer q listed)
-          ∙ ap (by_moves q.turn) (sym (map-map (λ (r : ℕ × Position). settled g t more r.1) (λ v. (
-            v,
-            after g q v,
-          )) (free_points g q)))
-          ∙ by;
-    }

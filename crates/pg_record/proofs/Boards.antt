@@ -45,20 +45,6 @@ ends-in : (earlier : List Stand) (stand : Stand)
     → map place (earlier ++ stand ∷ []) ≡ map place earlier ++ stand.position ∷ []
 ends-in earlier stand = map-append place earlier (stand ∷ [])
 
--- the board that was opened
-pub board-opened : (g : Game) (b : View)
-    → g.kind ≢ Switching
-    → b.game ≡ g
-    → b.stand.position ≡ start g
-    → b.earlier ≡ []
-    → IsBoardAfter g [] b
-board-opened g b lines same position earlier = record {
-  lines = lines;
-  same = same;
-  played = ap (λ (es : List Stand). map place (es ++ b.stand ∷ [])) earlier
-      ∙ ap (λ (p : Position). p ∷ []) position;
-}
-
 -- the position
 pub board-position : (g : Game) (moves : List ℕ) (b : View)
     → IsBoardAfter g moves b

@@ -68,17 +68,6 @@ opens_moves {A} view g h name text r single whole is = go h
       go (Some held) opens = subst (λ (read : Result (List ℕ) Halt). IsReadAs view read r)
           (sym (moves-single g single (held name))) opens
 
--- what ends the reading of a text early raises no number of faults
-pub text_causes : {T : Type 0} (absent : Type 0) (before now : Faults) (r : Result T Halt)
-    → now ≡ before
-    → IfErr r IsTextHalt
-    → HaltCauses absent before now r
-text_causes absent before now (Ok x) same halts = same
-text_causes absent before now (Err (Refused refusal)) same halts = same
-text_causes absent before now (Err (Stopped Read)) same halts = absurd halts
-text_causes absent before now (Err (Stopped Write)) same halts = absurd halts
-text_causes absent before now (Err (Stopped Memory)) same halts = same
-
 -- ---- a review of a record
 
 module _ {A : Type 0} (view : A → List ℕ) (g : Game) (name : Bytes) (positions : ℕ)

@@ -78,13 +78,6 @@ event_goes_on events refusals room =
     let test : nat_lt (length events) MAX_EVENTS ≡ true = grind (arith, nat_tests, room) in
     rw test refl
 
-pub event_ends : (events : List Event) (refusals : ℕ)
-    → MAX_EVENTS ≤ length events
-    → after_event events refusals ≡ Closes events
-event_ends events refusals full =
-    let test : nat_lt (length events) MAX_EVENTS ≡ false = grind (arith, nat_tests, full) in
-    rw test refl
-
 pub refusal_goes_on : (events : List Event) (refusals : ℕ)
     → refusals + 1 ≢ MAX_REFUSALS
     → after_refusal events refusals ≡ Listens events (refusals + 1)

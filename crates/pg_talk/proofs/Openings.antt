@@ -83,13 +83,6 @@ unfolding certificate
 certificate_cut all =
     cut_same MAX_CERT_BYTES certificate (Err (Size, 0)) (λ text long. rw long refl) all
 
-pub whole_certificate : (o : Option Bytes) (text : Bytes)
-    → IsWhole o MAX_CERT_BYTES text
-    → certificate_held o ≡ certificate_held (Some text)
-whole_certificate o text whole =
-    whole_read MAX_CERT_BYTES (λ (text : Bytes). certificate_held (Some text))
-    (λ all. rw (certificate_cut all) refl) o text whole
-
 pub opens_certificate : (h : Option Holding) (name text : Bytes) (r : Result Cert Halt)
     → IsFile h name MAX_CERT_BYTES text
     → IsReadAs (λ x. x) (certificate_held (Some text)) r

@@ -139,10 +139,3 @@ delivers_first Act file texts files files' before after halt h = go files.held h
   go (Some held) (Stopped stop) (done, inr act, changes) = (done, inr (more done stop act), changes)
 
 -- ---- files
-
-pub keep_more : (g c : Bytes) (before after : Option Holding)
-    → KeepOthers (g ∷ []) before after
-    → KeepOthers (g ∷ c ∷ []) before after
-keep_more g c None after keep = tt
-keep_more g c (Some held) None keep = absurd keep
-keep_more g c (Some held) (Some now) keep = λ other none. keep other (none.0, tt)

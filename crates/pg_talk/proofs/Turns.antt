@@ -107,31 +107,6 @@ reason_of Taken = IsTaken
 reason_of Range = NoPoint
 reason_of OverNow = NoPoint
 
-pub refused_stage : (old : Contender) (v refused : ℕ) (fault : Illegal)
-    → old.contest.rules.over old.position ≡ false
-    → judged_by old.contest.rules old.position v ≡ Err fault
-    → answered old refused (Some v) ≡ Owes old.position refused (reason_of fault)
-refused_stage old v refused fault going e = go (nat_lt v old.contest.rules.points)
-    (old.contest.rules.over old.position) (is_free old.position v) going e where
-      go : (within over free : Bool)
-          → over ≡ false
-          → (if within
-          then (if over
-          then Err OverNow
-          else (if free then Ok (moved old.contest.rules old.position v) else Err Taken))
-          else Err Range) ≡ Err fault
-          → after_reply old.contest old.position refused
-          (if within then (if free then Ok v else Err IsTaken) else Err NoPoint)
-          ≡ Owes old.position refused (reason_of fault)
-      go true false true goes e = absurd (cc e)
-      go true false false goes e =
-          let same : Taken ≡ fault = cc e in
-          ap (λ (f : Illegal). Owes old.position refused (reason_of f)) same
-      go true true free goes e = absurd (cc goes)
-      go false over free goes e =
-          let same : Range ≡ fault = cc e in
-          ap (λ (f : Illegal). Owes old.position refused (reason_of f)) same
-
 -- a number that is no point is refused
 pub beyond_stage : (old : Contender) (o : Option ℕ) (n refused : ℕ)
     → o ≡ Some n
@@ -201,17 +176,6 @@ pub is_over_at : (c : Contender) (score : Score)
     → (c.contest.rules.over c.position ≡ true) × (score ≡ c.contest.rules.outcome c.position)
 is_over_at c score is =
     over_at (c.contest.rules.over c.position) (c.contest.rules.outcome c.position) score is
-
--- where none is given, it goes on
-pub goes_at : (c : Contender)
-    → None ≡ ending_by c.contest.rules c.position
-    → c.contest.rules.over c.position ≡ false
-goes_at c is = go (c.contest.rules.over c.position) is where
-  go : (over : Bool)
-      → None ≡ (if over then Some (c.contest.rules.outcome c.position) else None)
-      → over ≡ false
-  go true e = absurd (cc e)
-  go false e = refl
 
 -- the result is said
 pub result_step : (c : Contender) (refused : ℕ) (kind : Kind) (score : Score)

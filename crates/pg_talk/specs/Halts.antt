@@ -18,10 +18,6 @@ stop_status Read = READ_FAILED
 stop_status Write = WRITE_FAILED
 stop_status Memory = NO_MEMORY
 
-abbrev pub halt_status : Halt → ℕ
-halt_status (Refused refusal) = refusal_status refusal
-halt_status (Stopped stop) = stop_status stop
-
 -- what can end early a command, or a part of one, that reads nothing: a failed write, or want of
 -- memory
 abbrev pub IsWriteHalt : Halt → Type 0

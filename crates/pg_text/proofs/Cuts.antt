@@ -24,11 +24,6 @@ first_is p text end e =
     let found = position-Some p text end 0 e in
     (found.0, position_or_len_is p text end 0 (omega (arith, found.0)) found.2 (λ lt. found.1))
 
-pub first_is_past : (p : ℕ → Bool) (text : Bytes)
-    → position p text ≡ None
-    → length text ≤ position_or_len p text
-first_is_past p text e = grind (arith, nat_tests, e)
-
 -- no sign stands before the first
 front_lacks : (sign : ℕ) (text : Bytes) (end : ℕ)
     → end ≤ length text

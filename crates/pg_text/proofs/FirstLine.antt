@@ -8,7 +8,7 @@ use Rattle.std.proofs.lemmas.List.{take_all, drop_all, length-append, length-dro
 use Rattle.std.proofs.lemmas.List.Splits.{slice_split_at, slice_split_first, slice_split_none, length-slice_split}
 use Rattle.std.proofs.lemmas.List.Sums.{fails_before_first}
 use Rattle.pg_base.specs.declared.signs.TheConstants.{LINE_FEED}
-use Rattle.pg_text.proofs.Cuts.{first_is, first_is_past}
+use Rattle.pg_text.proofs.Cuts.{first_is}
 use Rattle.pg_text.specs.Text.{Bytes, Lacks, without_empty_end, lines}
 
 abbrev pub is_feed : ℕ → Bool
@@ -27,22 +27,6 @@ without_empty_end-append (part ∷ front) last = without_empty_end-cons part (fr
     (omega (arith, length-append front (last ∷ [])))
     ∙ ap (λ (x : List Bytes). part ∷ x) (without_empty_end-append front last)
 
-pub feed_some : (text : Bytes) (end : ℕ)
-    → position is_feed text ≡ Some end
-    → (end < length text)
-    × (before_first is_feed text ≡ take end text)
-    × (after_first is_feed text ≡ drop (end + 1) text)
-feed_some text end e =
-    let found = first_is is_feed text end e in
-    (found.0, ap (λ i. take i text) found.1, ap (λ i. drop (i + 1) text) found.1)
-
-pub feed_none : (text : Bytes)
-    → position is_feed text ≡ None
-    → (before_first is_feed text ≡ text) × (after_first is_feed text ≡ [])
-feed_none text e =
-    let past = first_is_past is_feed text e in
-    (take_all _ _ past, drop_all (position_or_len is_feed text + 1) text (omega arith))
-
 no_feed : (text : Bytes)
     → length text ≤ position_or_len is_feed text
     → All (λ b. is_feed b ≡ false) text
@@ -53,26 +37,6 @@ one_line [] h = absurd (omega arith)
 one_line (b ∷ bs) h =
     let e : eqb (length (b ∷ bs)) 0 ≡ false = grind (arith, nat_tests) in
     rw e refl
-
-pub lines_cut : (text : Bytes)
-    → 0 < length text
-    → lines text ≡ before_first is_feed text ∷ lines (after_first is_feed text)
-unfolding lines
-lines_cut text some =
-    elim (cases_lt (position_or_len is_feed text) (length text)) [
-      | inl lt ↦ ap without_empty_end (slice_split_first is_feed text 0 lt)
-          ∙ without_empty_end-cons (before_first is_feed text)
-          (slice_split is_feed (after_first is_feed text))
-          (omega (arith, length-slice_split is_feed (after_first is_feed text)))
-      | inr le ↦
-          let front : before_first is_feed text ≡ text = take_all _ _ le in
-          let behind : after_first is_feed text ≡ [] =
-          drop_all (position_or_len is_feed text + 1) text (omega arith) in
-          let whole : lines text ≡ text ∷ [] =
-          ap without_empty_end (slice_split_none is_feed text (no_feed text le))
-          ∙ one_line text some in
-          whole ∙ rw (front, behind) refl
-    ]
 
 -- a whole line, and then the text behind its line feed
 pub lines_feed : (line behind : Bytes)

@@ -14,18 +14,6 @@ extends-none t = record {
   width = refl;
 }
 
-pub extends-more : (few more : ℕ) (t now : Cells)
-    → Extends few t now
-    → few ≤ more
-    → Extends more t now
-extends-more few more t now h order = record {
-  levels = h.levels;
-  more = h.more;
-  bound = omega (arith, h.bound);
-  spare = h.spare;
-  width = h.width;
-}
-
 pub extends-both : (one two : ℕ) (a b d : Cells)
     → Extends one a b
     → Extends two b d

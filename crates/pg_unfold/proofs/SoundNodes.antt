@@ -26,16 +26,6 @@ pub usable-fitting : (g : Game) (grid : Grid) (maps : List GridMap)
 usable-fitting g grid maps has fit m =
     (λ c. record { grid = grid; on_grid = has; fits = (fit m).0 c }, λ u. (fit m).1 u.fits)
 
--- without a board none is
-pub usable-none : (g : Game) (maps : List GridMap)
-    → board_of g.field ≡ None
-    → length maps ≡ 0
-    → AreUsable g maps
-usable-none g maps none few m = (
-  λ c. absurd (let lt = c.1 in omega (arith, few, lt)),
-  λ u. absurd (none-some u.grid (sym none ∙ u.on_grid)),
-)
-
 module _ (g : Game) (nodes : List ImageNode) (node : ImageNode) (x y : FinSet nat_cmp) (turn : Side)
     (left : ℕ) (m : GridMap) (child : ℕ) (is : node ≡ Image x y turn left m child) (grid : Grid)
     (has : board_of g.field ≡ Some grid) (other : ImageNode)
