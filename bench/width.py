@@ -71,7 +71,7 @@ def limit(kind: str, line: str) -> int | None:
     """
     if kind == "docs" and line.startswith("|"):
         return TABLE_COLUMNS
-    if kind == "sources" and re.match(r"\s*(((pub|ghost) )?use \S|#\[)", line):
+    if kind == "sources" and re.match(r"\s*((unfoldable )?((pub|ghost) )?use \S|#\[)", line):
         return None
     if kind == "examples" and not line.startswith("#"):
         return None

@@ -1,36 +1,22 @@
 -- Avoider's potential, where it holds, forces a win of Avoider.
 use Rattle.std.proofs.Common.{◌≡◌, ◌≢◌, ℕ, ◌+◌, ◌*◌, ◌<◌, ◌≤◌, Bool, true, false, ◌==◌, if◌then◌else◌, List, [], ◌∷◌, map, length, get_or, unwrap_or, eqb-true, eq-eqb, refl, sym, ap, ap₂, ◌∙◌, subst, inl, inr, ◌⊎◌, arith}
-use Rattle.std.proofs.lemmas.Bool.{cases_Bool, cases_lt, false≢true}
-use Rattle.std.specs.List.{Contains, find, list_any}
+use Rattle.pg_avoider.proofs.Common.{cases_Bool, cases_lt, false≢true, Contains, find, list_any, Win, AvoiderEnforcer, Switching, XWins, X, Y, Game, Position, is_free, point_count, bias_of, free_points, has_filled, is_filled, is_empty, is_full, is_over, outcome, outcome_by, short_joins, after, lines_of, IsPosition, x_takes_last, avoider_ends, avoider_total, avoider_weight, avoider_limit, AvoiderHolds, least, avoider_answer, reaches, Forces, length-free_points-after, first_free, free-member, member-free, member-within, few_points-lines}
 use Rattle.std.specs.FinSet.{FinSet}
 use Rattle.std.specs.Ordering.{nat_cmp}
-use Rattle.pg_base.specs.declared.goal.Goal.TheVariants.{Win}
 use Rattle.pg_base.specs.declared.kind.Kind.{Kind}
-use Rattle.pg_base.specs.declared.kind.Kind.TheVariants.{AvoiderEnforcer, Switching}
-use Rattle.pg_base.specs.declared.score.Score.TheVariants.{XWins}
 use Rattle.pg_base.specs.declared.side.Side.{Side}
-use Rattle.pg_base.specs.declared.side.Side.TheVariants.{X, Y}
 use Rattle.pg_base.specs.Side.{other}
-use Rattle.pg_game.specs.declared.game.Game.{Game}
-use Rattle.pg_game.specs.declared.position.Position.{Position}
-use Rattle.pg_game.specs.Position.{is_free}
-use Rattle.pg_game.specs.Game.{point_count, bias_of, free_points, has_filled, is_filled, is_empty, is_full, is_over, outcome, outcome_by, short_joins, after, lines_of, IsPosition}
 use Rattle.pg_game.specs.Potential.{total_weight, point_weight}
-use Rattle.pg_game.specs.Avoider.{x_takes_last, avoider_ends, avoider_total, avoider_weight, avoider_limit, AvoiderHolds, least, avoider_answer}
 use Rattle.pg_game.specs.Strategy.{Keeps}
-use Rattle.pg_game.specs.Value.{reaches, Forces}
-use Rattle.pg_game.proofs.FreePoints.{length-free_points-after, first_free}
 use Rattle.pg_game.proofs.Moves.{points_of-mover, points_of-waiter, turn-stays, left-falls, turn-passes, left-passes, turn-after_x, free-was, ShareNone-after, IsPosition-after}
 use Rattle.pg_game.proofs.Strategy.{Forces-from_keeps, free_point}
 use Rattle.pg_game.proofs.LineSums.{weight-le-total}
 use Rattle.pg_game.proofs.Unfilled.{unfilled-avoider}
 use Rattle.pg_game.proofs.LineWeights.{stand_once, total-grown, total-taken, weight-rises, unfilled-below}
-use Rattle.pg_game.proofs.Greatest.{free-member, member-free, member-within}
 use Rattle.pg_game.proofs.Lowest.{find-some}
 use Rattle.pg_game.proofs.LastPoint.{last-within_turn, last-after_y, last-after_x, last-only}
 use Rattle.pg_avoider.proofs.Least.{least-le, least-at, least-same}
 use Rattle.pg_game.proofs.Lowest.{find_same}
-use Rattle.pg_game.proofs.WeightBounds.{few_points-lines}
 
 -- ---- what holding means
 

@@ -1,14 +1,6 @@
 -- The least of the values of a function at the members of a list.
 use Rattle.std.proofs.Common.{◌≡◌, ℕ, zero, suc, ◌+◌, ◌<◌, ◌≤◌, min, Bool, true, false, if◌then◌else◌, List, [], ◌∷◌, map, refl, sym, ap, ◌∙◌, inl, inr, arith}
-use Rattle.std.proofs.lemmas.Bool.{cases_lt, cases_eq, cases_Bool}
-use Rattle.std.specs.List.{Contains}
-use Rattle.pg_game.specs.declared.game.Game.{Game}
-use Rattle.pg_game.specs.declared.position.Position.{Position}
-use Rattle.pg_game.specs.Position.{is_free}
-use Rattle.pg_game.specs.Game.{point_count, free_points, is_full}
-use Rattle.pg_game.specs.Avoider.{least}
-use Rattle.pg_game.proofs.FreePoints.{first_free}
-use Rattle.pg_game.proofs.Greatest.{free-member, member-free, member-within}
+use Rattle.pg_avoider.proofs.Common.{cases_lt, cases_eq, cases_Bool, Contains, Game, Position, is_free, point_count, free_points, is_full, least, first_free, free-member, member-free, member-within}
 use Rattle.pg_game.proofs.Members.{Contains-head, Contains-tail}
 
 pub least-le : (f : ℕ → ℕ) (xs : List ℕ) (x : ℕ) → Contains xs x → least (map f xs) ≤ f x

@@ -1,2 +1,3 @@
+mod Common
 pub mod Least
 pub mod AvoiderLaws

@@ -1,11 +1,6 @@
 //! The answer by Avoider's potential.
 ghost use Rattle.std.specs.Prelude.{◌≡◌, ◌≢◌, ◌<◌, ◌^◌, ◌-◌, ℕ, length, get_or, map, false, true, if◌then◌else◌};
-ghost use Rattle.pg_base.specs.declared.kind.Kind.TheVariants.{AvoiderEnforcer, Switching};
-ghost use Rattle.pg_base.specs.declared.score.Score.TheVariants.{XWins};
-ghost use Rattle.pg_base.specs.declared.side.Side.TheVariants.{X};
-ghost use Rattle.pg_game.specs.Position.{is_free};
-ghost use Rattle.pg_game.specs.Game.{point_count, free_points, is_full, is_over, outcome, after, IsPosition};
-ghost use Rattle.pg_game.specs.Avoider.{least, avoider_answer, AvoiderHolds};
+ghost use Rattle.pg_avoider.specs.Prelude.{AvoiderEnforcer, Switching, XWins, X, is_free, point_count, free_points, is_full, is_over, outcome, after, IsPosition, least, avoider_answer, AvoiderHolds};
 
 use pg_game::{Game, MAX_POINTS, Position, lowest_with, weigh};
 

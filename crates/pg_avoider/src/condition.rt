@@ -1,7 +1,6 @@
 //! Whether Avoider's potential holds.
 ghost use Rattle.std.specs.Prelude.{◌≡◌, ◌↔◌, IsTrue};
-ghost use Rattle.pg_game.specs.Game.{IsPosition};
-ghost use Rattle.pg_game.specs.Avoider.{avoider_ends, AvoiderHolds};
+ghost use Rattle.pg_avoider.specs.Prelude.{IsPosition, avoider_ends, AvoiderHolds};
 
 use pg_game::{Game, Position, full_weight, total_weight, x_takes_last};
 

@@ -1,14 +1,6 @@
 //! What Avoider's potential forces where it holds, as laws.
 ghost use Rattle.std.specs.Prelude.{◌≡◌, ◌<◌, ℕ, true};
-ghost use Rattle.pg_base.specs.declared.goal.Goal.TheVariants.{Win};
-ghost use Rattle.pg_base.specs.declared.kind.Kind.TheVariants.{AvoiderEnforcer};
-ghost use Rattle.pg_base.specs.declared.side.Side.TheVariants.{X, Y};
-ghost use Rattle.pg_game.specs.declared.game.Game.{Game};
-ghost use Rattle.pg_game.specs.declared.position.Position.{Position};
-ghost use Rattle.pg_game.specs.Position.{is_free};
-ghost use Rattle.pg_game.specs.Game.{point_count, after, IsPosition};
-ghost use Rattle.pg_game.specs.Avoider.{AvoiderHolds};
-ghost use Rattle.pg_game.specs.Value.{Forces};
+ghost use Rattle.pg_avoider.specs.Prelude.{Win, AvoiderEnforcer, X, Y, Game, Position, is_free, point_count, after, IsPosition, AvoiderHolds, Forces};
 
 /// In Avoider-Enforcer, Avoider's potential where it holds is a win for Avoider, whoever is to move
 /// and however many points Enforcer claims a turn.

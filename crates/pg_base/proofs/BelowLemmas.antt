@@ -1,7 +1,6 @@
 -- The members of a set that are below a number, a number at a time.
 use Rattle.std.proofs.Common.{◌≡◌, ℕ, ◌<◌, ◌+◌, Bool, true, false, ltb, arith}
-use Rattle.std.proofs.Math.Path.{fun_ext}
-use Rattle.std.proofs.lemmas.Bool.{both_ways, and_parts, and_from, ltb-true, lt-ltb}
+use Rattle.pg_base.proofs.Common.{fun_ext, both_ways, and_parts, and_from, ltb-true, lt-ltb}
 use Rattle.pg_base.specs.Sets.{plus, below, IsWithin}
 use Rattle.pg_base.specs.PointLemmas.{same_bit}
 use Rattle.pg_base.proofs.SetLemmas.{sets}

@@ -1,13 +1,6 @@
 -- Points in order, and points that stand twice.
 use Rattle.std.proofs.Common.{◌≡◌, ℕ, zero, suc, ◌+◌, ◌<◌, ◌≤◌, ◌==◌, true, false, cond, List, [], ◌∷◌, length, get_or, ltb, refl, sym, ap, subst, arith, Bool, ne_eqb, inl, inr, eq-eqb, ltb-true, ltb-false}
-use Rattle.std.proofs.lemmas.List.Sums.{get_or-le-sum_by, sum_by-cons}
-use Rattle.std.proofs.lemmas.List.Sorted.{sum_by-IsPermutation}
-use Rattle.std.proofs.lemmas.List.Kept.{AllPairs-from_increasing}
-use Rattle.std.proofs.lemmas.Bool.{cases_eq}
-use Rattle.std.specs.List.{All, AllPairs, count_by, AllAdjacentBelow}
-use Rattle.std.specs.List.Sorted.{IsPermutation, IsSorted, IsStrictlyIncreasing}
-use Rattle.std.specs.Ordering.{nat_cmp, is_lt}
-use Rattle.std.proofs.lemmas.Bool.Decides.{nat_tests}
+use Rattle.pg_base.proofs.Common.{get_or-le-sum_by, sum_by-cons, sum_by-IsPermutation, AllPairs-from_increasing, cases_eq, All, AllPairs, count_by, AllAdjacentBelow, IsPermutation, IsSorted, IsStrictlyIncreasing, nat_cmp, is_lt, nat_tests}
 use Rattle.pg_base.specs.Line.{StandsTwice}
 
 not_below : (a b : ℕ) → is_lt (nat_cmp b a) ≡ false → a ≤ b

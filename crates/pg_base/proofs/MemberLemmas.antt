@@ -1,16 +1,7 @@
 -- The members of a set in ascending order.
 use Rattle.std.proofs.Common.{◌≡◌, ◌≢◌, ℕ, zero, suc, ◌+◌, ◌<◌, ◌≤◌, Bool, true, false, ◌&&◌, List, [], ◌∷◌, ◌++◌, length, add-one, refl, sym, ap, ◌∙◌, arith, ltb, inl, inr}
 use Rattle.std.specs.Prelude.{nat_lt, nat_eq, nat_le, filter}
-use Rattle.std.specs.List.{list_any, range_with_len, AllByRecursion}
-use Rattle.std.specs.List.Sorted.{IsStrictlyIncreasing}
-use Rattle.std.specs.FinSet.{FinSet, contains, from_list, contains-from_list_nat}
-use Rattle.std.specs.Ordering.{nat_cmp}
-use Rattle.std.proofs.lemmas.Bool.{cases_Bool, cases_eq, eq-eqb, ne_eqb, and_right}
-use Rattle.std.proofs.lemmas.Bool.Decides.{nat_tests}
-use Rattle.std.proofs.lemmas.List.{append-nil}
-use Rattle.std.proofs.lemmas.List.Sums.{length-filter, count_by-le-length}
-use Rattle.std.proofs.lemmas.List.Kept.{IsStrictlyIncreasing-filter}
-use Rattle.std.proofs.lemmas.List.FromFn.{length-range_with_len, get_or-range_with_len}
+use Rattle.pg_base.proofs.Common.{list_any, range_with_len, AllByRecursion, IsStrictlyIncreasing, FinSet, contains, from_list, contains-from_list_nat, nat_cmp, cases_Bool, cases_eq, eq-eqb, ne_eqb, and_right, nat_tests, append-nil, length-filter, count_by-le-length, IsStrictlyIncreasing-filter, length-range_with_len, get_or-range_with_len}
 use Rattle.pg_base.specs.Points.{points_below, one_where, AreBelow}
 use Rattle.pg_base.specs.WordLemmas.{same_points}
 

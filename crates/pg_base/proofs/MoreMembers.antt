@@ -1,12 +1,6 @@
 -- Sets that are filled point by point: from a list, or with all points below a number.
 use Rattle.std.proofs.Common.{◌≡◌, ℕ, ◌+◌, ◌<◌, ◌≤◌, ◌||◌, ◌==◌, eqb, ltb, List, [], ◌∷◌, length, take, get_or, sym, ap, ap₂, ◌∙◌, inl, inr, arith, eq-eqb, ne_eqb}
-use Rattle.std.proofs.lemmas.Bool.{cases_eq, le-ltb}
-use Rattle.std.proofs.lemmas.Bool.Decides.{nat_tests}
-use Rattle.std.proofs.lemmas.List.{take_more, take_all}
-use Rattle.std.specs.List.{list_any}
-use Rattle.std.specs.FinSet.{FinSet, contains, insert, empty, from_list, from_list_push, contains-empty, nat_cmp-IsAntisymmetric}
-use Rattle.std.specs.Ordering.{nat_cmp}
-use Rattle.std.specs.Cmp.{nat_cmp_total}
+use Rattle.pg_base.proofs.Common.{cases_eq, le-ltb, nat_tests, take_more, take_all, list_any, FinSet, contains, insert, empty, from_list, from_list_push, contains-empty, nat_cmp-IsAntisymmetric, nat_cmp, nat_cmp_total}
 use Rattle.pg_base.specs.WordLemmas.{in_insert}
 
 -- the set of one more point of the list

@@ -1,11 +1,6 @@
 -- Sets of points a row of 64 at a time: a word's bits are the points of its row.
 use Rattle.std.proofs.Common.{◌≡◌, ◌≢◌, ℕ, ◌+◌, ◌*◌, ◌/◌, ◌%◌, ◌^◌, ◌<◌, ◌≤◌, ◌-◌, Bool, true, false, not, ◌&&◌, ◌||◌, List, get_or, nat_eq, bit_and, bit_or, refl, sym, ap, subst, ◌∙◌, inl, inr, ◌⊎◌, arith, w64, lt-ltb, min, max, lit<}
-use Rattle.std.proofs.lemmas.Bool.{cases_lt, both_ways}
-use Rattle.std.proofs.lemmas.Nat.{and_le_l, pow-add}
-use Rattle.std.proofs.Math.Nat.{div-div-eq-div-mul, div-le_self}
-use Rattle.std.proofs.lemmas.Nat.Bits.{bit_at-lt, bit_at-zero, bit_at_and, bit_at_or, bit_at_not, bit_at_above, bit_at-trailing_zeros, same_from_bits_below}
-use Rattle.std.specs.Int.{bit_at, bit_not, trailing_zeros}
-use Rattle.std.specs.FinSet.{contains}
+use Rattle.pg_base.proofs.Common.{cases_lt, both_ways, and_le_l, pow-add, div-div-eq-div-mul, div-le_self, bit_at-lt, bit_at-zero, bit_at_and, bit_at_or, bit_at_not, bit_at_above, bit_at-trailing_zeros, same_from_bits_below, bit_at, bit_not, trailing_zeros, contains}
 use Rattle.pg_base.specs.Words.{has_bit, members_below, AreWords}
 use Rattle.pg_base.specs.WordLemmas.{in_members_below, has_bit-at, members-beyond}
 use Rattle.pg_base.specs.Points.{IsLeastFrom, AreBelow, ShareNone, AreWithin}

@@ -1,7 +1,6 @@
 //! Lines, and lists of lines.
 ghost use Rattle.std.specs.Prelude.{◌≡◌, ℕ, ◌<◌, length, slice_index, IfOk, List, IsTrue, ◌↔◌};
-ghost use Rattle.std.specs.List.{Contains};
-ghost use Rattle.std.specs.List.Sorted.{IsPermutation, IsStrictlyIncreasing};
+ghost use Rattle.pg_base.specs.Prelude.{Contains, IsPermutation, IsStrictlyIncreasing};
 ghost use Rattle.pg_base.specs.Line.{StandsTwice};
 
 use std::alloc::{AllocError, Global};

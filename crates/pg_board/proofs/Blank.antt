@@ -1,17 +1,6 @@
 -- The board of the empty position.
 use Rattle.std.proofs.Common.{◌≡◌, ◌≢◌, ℕ, ◌+◌, ◌^◌, ◌<◌, ◌≤◌, Bool, true, false, ◌&&◌, List, [], ◌∷◌, length, get_or, set, replicate, eqb, refl, sym, ap, ◌∙◌, arith, inl, inr, subst, length-append}
-use Rattle.std.proofs.lemmas.Bool.{cases_Bool, cases_eq, cases_lt, eq-eqb, ne_eqb, le-ltb, and_left, and_right}
-use Rattle.std.proofs.lemmas.List.{get_or-set_same, get_or-set_other, length-set, get_or-replicate, length-replicate}
-use Rattle.std.proofs.lemmas.List.Sums.{length-filter}
-use Rattle.std.specs.List.{count_by, filter, range_with_len}
-use Rattle.std.specs.FinSet.{contains}
-use Rattle.pg_base.specs.Sets.{one_if}
-use Rattle.pg_base.specs.declared.side.Side.{Side}
-use Rattle.pg_base.specs.declared.side.Side.TheVariants.{X, Y}
-use Rattle.pg_game.specs.declared.position.Position.{Position}
-use Rattle.pg_game.specs.Position.{is_free, points_of}
-use Rattle.pg_undo.specs.Ring.{present}
-use Rattle.pg_undo.specs.Trail.{Cells}
+use Rattle.pg_board.proofs.Common.{cases_Bool, cases_eq, cases_lt, eq-eqb, ne_eqb, le-ltb, and_left, and_right, get_or-set_same, get_or-set_other, length-set, get_or-replicate, length-replicate, length-filter, count_by, filter, range_with_len, contains, one_if, Side, X, Y, Position, is_free, points_of, present, Cells}
 use Rattle.pg_board.specs.Shape.{Shape, IsShape, line_in, mark_cell, count_cell, free_cell, cell_count}
 use Rattle.pg_board.specs.Counts.{count_in, lines_in, lines_with, has_free, is_clear, clear_lines, free_by}
 use Rattle.pg_board.specs.Fits.{Rules, pick, has_mark, mark_of, position_of, entries_of, free_points_in}

@@ -1,20 +1,8 @@
 -- Whether a potential decides, and whether the game is over, by counts.
 use Rattle.std.proofs.Common.{◌≡◌, ℕ, zero, suc, ◌+◌, ◌-◌, ◌*◌, ◌^◌, ◌<◌, ◌≤◌, Bool, true, false, not, ◌&&◌, List, [], ◌∷◌, Option, length, get_or, eqb, nat_lt, if◌then◌else◌, refl, sym, ap, ◌∙◌, arith, inl, inr}
-use Rattle.std.proofs.lemmas.Bool.{cases_Bool, ne_eqb, le-ltb, lt-ltb, and_right, false≢true}
 use Rattle.std.specs.Prelude.{slice_get}
+use Rattle.pg_board.proofs.Common.{cases_Bool, ne_eqb, le-ltb, lt-ltb, and_right, false≢true, count_by, filter, range_with_len, list_all, list_any, contains, ShareNone, one_if, Side, X, Y, other, Position, is_free, points_of, is_touched, is_filled, is_empty, is_same_side, x_takes_last}
 use Rattle.std.specs.Option.{is_some}
-use Rattle.std.specs.List.{count_by, filter, range_with_len, list_all, list_any}
-use Rattle.std.specs.FinSet.{contains}
-use Rattle.pg_base.specs.Points.{ShareNone}
-use Rattle.pg_base.specs.Sets.{one_if}
-use Rattle.pg_base.specs.declared.side.Side.{Side}
-use Rattle.pg_base.specs.declared.side.Side.TheVariants.{X, Y}
-use Rattle.pg_base.specs.Side.{other}
-use Rattle.pg_game.specs.declared.position.Position.{Position}
-use Rattle.pg_game.specs.Position.{is_free, points_of}
-use Rattle.pg_game.specs.Game.{is_touched, is_filled, is_empty}
-use Rattle.pg_base.specs.Side.{is_same_side}
-use Rattle.pg_game.specs.Avoider.{x_takes_last}
 use Rattle.pg_board.specs.Shape.{Shape, turn_cell, line_in}
 use Rattle.pg_board.specs.Fits.{Rules, position_of, turn_of, left_of, live_lines_in, free_points_in}
 use Rattle.pg_board.specs.Board.{is_live_with}

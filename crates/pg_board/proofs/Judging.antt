@@ -1,24 +1,8 @@
 -- A board's answers in the words of its game.
 use Rattle.std.proofs.Common.{◌≡◌, ◌≢◌, ℕ, zero, suc, ◌+◌, ◌^◌, ◌<◌, ◌≤◌, Bool, true, false, ltb, List, [], ◌∷◌, length, get_or, refl, sym, ap, ◌∙◌, arith, subst}
-use Rattle.std.proofs.lemmas.Bool.{ne_eqb, and_parts, and_right, ltb-true}
-use Rattle.std.proofs.lemmas.List.Sums.{count_by-le-length, length-filter}
-use Rattle.std.proofs.Math.Nat.{pow-le-pow_left}
-use Rattle.std.specs.List.{All, count_by, range_with_len}
-use Rattle.std.specs.FinSet.{contains}
-use Rattle.pg_base.specs.Sets.{one_if}
-use Rattle.pg_base.specs.declared.side.Side.{Side}
-use Rattle.pg_base.specs.declared.side.Side.TheVariants.{X, Y}
-use Rattle.pg_game.specs.declared.game.Game.{Game}
-use Rattle.pg_game.specs.declared.position.Position.{Position}
-use Rattle.pg_game.specs.Position.{is_free, points_of, claims_in_turn}
-use Rattle.pg_game.specs.Game.{point_count, lines_of, IsPosition, is_empty, is_full, all_touched, has_filled, short_joins, can_join, is_over_by, is_over, outcome_by, outcome}
+use Rattle.pg_board.proofs.Common.{ne_eqb, and_parts, and_right, ltb-true, count_by-le-length, length-filter, pow-le-pow_left, All, count_by, range_with_len, contains, one_if, Side, X, Y, Game, Position, is_free, points_of, claims_in_turn, point_count, lines_of, IsPosition, is_empty, is_full, all_touched, has_filled, short_joins, can_join, is_over_by, is_over, outcome_by, outcome, Switching, is_on, total, weight, greatest_weight, potential_holds, total_weight, point_weight, full_weight, avoider_total, avoider_weight, avoider_holds, free_points, Cells}
 use Rattle.pg_base.specs.declared.kind.Kind.{Kind}
-use Rattle.pg_base.specs.declared.kind.Kind.TheVariants.{Switching}
 use Rattle.pg_base.specs.declared.score.Score.{Score}
-use Rattle.pg_game.specs.Potential.{is_on, total, weight, greatest_weight, potential_holds, total_weight, point_weight, full_weight}
-use Rattle.pg_game.specs.Avoider.{avoider_total, avoider_weight, avoider_holds}
-use Rattle.pg_game.specs.Game.{free_points}
-use Rattle.pg_undo.specs.Trail.{Cells}
 use Rattle.pg_board.specs.Shape.{Shape, IsShape, shape_of, lines_holding, lines_through, degree_in, turn_cell}
 use Rattle.pg_board.specs.Fits.{Rules, Fits, rules_of, position_of, turn_of, left_of, live_lines_in, free_points_in}
 use Rattle.pg_board.specs.Board.{line_at, degree, live_lines, is_live_with, live_with}

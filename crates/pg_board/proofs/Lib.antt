@@ -1,3 +1,4 @@
+mod Common
 pub mod CellPlaces
 pub mod Ranges
 pub mod Moving

@@ -1,17 +1,6 @@
 -- Lines that lack one point.
 use Rattle.std.proofs.Common.{◌≡◌, ℕ, ◌+◌, ◌<◌, ◌≤◌, Bool, true, false, not, ◌&&◌, ◌||◌, List, [], ◌∷◌, Some, None, length, get_or, drop, eqb, refl, sym, ap, ◌∙◌, arith, inl, inr}
-use Rattle.std.proofs.lemmas.Bool.{cases_Bool, cases_eq, eq-eqb, ne_eqb, eqb-true, lt-ltb, and_parts, and_from, or_left, or_right, or_cases, false≢true, not-true}
-use Rattle.std.proofs.lemmas.List.{drop_more}
-use Rattle.std.specs.List.{count_by, find, list_any, list_all}
-use Rattle.std.specs.List.Sorted.{IsStrictlyIncreasing}
-use Rattle.std.specs.FinSet.{contains}
-use Rattle.pg_base.specs.Sets.{one_if}
-use Rattle.pg_base.specs.declared.side.Side.{Side}
-use Rattle.pg_base.specs.declared.side.Side.TheVariants.{X, Y}
-use Rattle.pg_game.specs.declared.position.Position.{Position}
-use Rattle.pg_game.specs.Position.{is_free, points_of}
-use Rattle.pg_game.specs.Potential.{is_on}
-use Rattle.pg_game.specs.Threat.{is_near}
+use Rattle.pg_board.proofs.Common.{cases_Bool, cases_eq, eq-eqb, ne_eqb, eqb-true, lt-ltb, and_parts, and_from, or_left, or_right, or_cases, false≢true, not-true, drop_more, count_by, find, list_any, list_all, IsStrictlyIncreasing, contains, one_if, Side, X, Y, Position, is_free, points_of, is_on, is_near}
 use Rattle.pg_board.specs.Shape.{Shape}
 use Rattle.pg_board.specs.Fits.{has_mark, position_of}
 use Rattle.pg_board.specs.Near.{has_none}

@@ -1,22 +1,10 @@
 -- The board that was opened.
 use Rattle.std.proofs.Common.{◌≡◌, ℕ, zero, suc, ◌<◌, ◌≤◌, Bool, true, false, ◌&&◌, List, length, get_or, set, ltb, refl, ap, ◌∙◌, arith}
 use Rattle.std.proofs.Common.{[]}
-use Rattle.std.proofs.lemmas.List.Sums.{length-filter}
-use Rattle.std.specs.List.{range_with_len}
-use Rattle.pg_game.specs.Position.{is_free}
-use Rattle.pg_undo.specs.Ring.{present}
+use Rattle.pg_board.proofs.Common.{length-filter, range_with_len, is_free, present, lt-ltb, get_or-set_same, contains, same_points, Side, X, Y, Position, claims_in_turn, Cells, with_set, settled}
 use Rattle.pg_board.specs.declared.plays.Played.{Played}
 use Rattle.pg_board.specs.Fits.{AreFit, earlier_of, free_points_in}
 use Rattle.pg_board.proofs.Ranges.{count-few}
-use Rattle.std.proofs.lemmas.Bool.{lt-ltb}
-use Rattle.std.proofs.lemmas.List.{get_or-set_same}
-use Rattle.std.specs.FinSet.{contains}
-use Rattle.pg_base.specs.WordLemmas.{same_points}
-use Rattle.pg_base.specs.declared.side.Side.{Side}
-use Rattle.pg_base.specs.declared.side.Side.TheVariants.{X, Y}
-use Rattle.pg_game.specs.declared.position.Position.{Position}
-use Rattle.pg_game.specs.Position.{claims_in_turn}
-use Rattle.pg_undo.specs.Trail.{Cells, with_set, settled}
 use Rattle.pg_board.specs.Shape.{Shape, turn_cell}
 use Rattle.pg_board.specs.Fits.{Rules, Fits, position_of, turn_of, left_of}
 use Rattle.pg_board.specs.Opening.{Opens, turn_code}

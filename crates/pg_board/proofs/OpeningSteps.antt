@@ -1,17 +1,6 @@
 -- A board while it is opened.
 use Rattle.std.proofs.Common.{◌≡◌, ℕ, zero, suc, ◌+◌, ◌-◌, ◌<◌, ◌≤◌, Bool, true, false, not, ◌&&◌, ◌||◌, List, length, get_or, set, eqb, ltb, refl, sym, ap, ◌∙◌, arith, inl, inr, subst}
-use Rattle.std.proofs.lemmas.Bool.{cases_eq, cases_lt, eq-eqb, ne_eqb, eqb-true, lt-ltb, le-ltb, and_right, false≢true, cases_eq}
-use Rattle.std.proofs.lemmas.List.{get_or-set_same, get_or-set_other, length-set}
-use Rattle.std.specs.List.{count_by, filter, range_with_len}
-use Rattle.std.specs.FinSet.{FinSet, contains}
-use Rattle.std.specs.Ordering.{nat_cmp}
-use Rattle.pg_base.specs.declared.side.Side.{Side}
-use Rattle.pg_base.specs.declared.side.Side.TheVariants.{X, Y}
-use Rattle.pg_base.specs.Side.{other}
-use Rattle.pg_game.specs.declared.position.Position.{Position}
-use Rattle.pg_game.specs.Position.{is_free, points_of, after_with}
-use Rattle.pg_base.specs.Side.{is_same_side}
-use Rattle.pg_undo.specs.Trail.{Cells, with_set}
+use Rattle.pg_board.proofs.Common.{cases_eq, cases_lt, eq-eqb, ne_eqb, eqb-true, lt-ltb, le-ltb, and_right, false≢true, cases_eq, get_or-set_same, get_or-set_other, length-set, count_by, filter, range_with_len, FinSet, contains, nat_cmp, Side, X, Y, other, Position, is_free, points_of, after_with, is_same_side, Cells, with_set}
 use Rattle.pg_board.specs.Shape.{Shape, line_in, turn_cell, mark_cell}
 use Rattle.pg_board.specs.Counts.{is_clear, clear_lines}
 use Rattle.pg_board.specs.Fits.{Rules, Fits, Leads, has_mark, mark_of, turn_of, position_of, set_below, summed, entries_of, free_points_in}

@@ -1,21 +1,7 @@
 -- Free points, sums over them, and points in lines, before and after a play.
 use Rattle.std.proofs.Common.{◌≡◌, ◌≢◌, ℕ, zero, suc, ◌+◌, ◌<◌, ◌≤◌, Bool, true, false, not, ◌&&◌, ◌||◌, List, [], ◌∷◌, length, eqb, if◌then◌else◌, refl, sym, ap, ◌∙◌, arith, inl, inr}
-use Rattle.std.proofs.lemmas.Bool.{cases_Bool, cases_eq, eq-eqb, ne_eqb, and_right, false≢true, or_cases, or_parts}
-use Rattle.std.proofs.lemmas.List.Sums.{length-filter}
-use Rattle.std.specs.List.{count_by, range_with_len, Contains}
-use Rattle.std.specs.List.Sorted.{IsStrictlyIncreasing}
-use Rattle.std.specs.FinSet.{FinSet, contains}
-use Rattle.std.specs.Ordering.{nat_cmp}
-use Rattle.pg_base.specs.Side.{is_same_side}
-use Rattle.pg_base.specs.WordLemmas.{in_insert}
-use Rattle.pg_base.specs.Sets.{one_if}
-use Rattle.pg_base.specs.declared.side.Side.{Side}
-use Rattle.pg_base.specs.declared.side.Side.TheVariants.{X, Y}
+use Rattle.pg_board.proofs.Common.{cases_Bool, cases_eq, eq-eqb, ne_eqb, and_right, false≢true, or_cases, or_parts, length-filter, count_by, range_with_len, Contains, IsStrictlyIncreasing, FinSet, contains, nat_cmp, is_same_side, in_insert, one_if, Side, X, Y, Position, is_free, points_of, after_with, x_after, y_after, is_on, without}
 use Rattle.pg_base.proofs.LineLemmas.{count-ascending}
-use Rattle.pg_game.specs.declared.position.Position.{Position}
-use Rattle.pg_game.specs.Position.{is_free, points_of, after_with, x_after, y_after}
-use Rattle.pg_game.specs.Potential.{is_on}
-use Rattle.pg_undo.specs.Ring.{without}
 use Rattle.pg_board.specs.Shape.{Shape}
 use Rattle.pg_board.specs.Fits.{summed, free_points_in}
 use Rattle.pg_board.proofs.Ranges.{count-one, filter-same, filter-both, in_filtered}

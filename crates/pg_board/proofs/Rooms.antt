@@ -1,8 +1,6 @@
 -- The room for a whole game.
 use Rattle.std.proofs.Common.{◌≡◌, ℕ, ◌+◌, ◌≤◌, true, length, refl, arith, add-one, ap}
-use Rattle.std.proofs.lemmas.List.Sums.{length-filter}
-use Rattle.std.specs.List.{range_with_len}
-use Rattle.pg_game.specs.Potential.{is_on}
+use Rattle.pg_board.proofs.Common.{length-filter, range_with_len, is_on}
 use Rattle.pg_board.specs.Shape.{Shape, degree_in, lines_through, lines_holding, line_in}
 use Rattle.pg_board.specs.Fits.{summed, entries_of}
 use Rattle.pg_board.specs.Opening.{whole_room}

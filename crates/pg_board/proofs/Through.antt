@@ -1,13 +1,7 @@
 -- The lines through a point.
 use Rattle.std.proofs.Common.{◌≡◌, ◌≢◌, ℕ, ◌+◌, ◌-◌, ◌<◌, ◌≤◌, Bool, true, false, List, length, get_or, take, eqb, refl, sym, ap, ◌∙◌, arith, inl, inr}
-use Rattle.std.proofs.lemmas.Bool.{cases_Bool, eqb-true, eq-eqb, false≢true}
-use Rattle.std.proofs.lemmas.List.Elements.{Contains-get_or}
-use Rattle.std.proofs.lemmas.List.{take-take, length-take-le}
+use Rattle.pg_board.proofs.Common.{cases_Bool, eqb-true, eq-eqb, false≢true, Contains-get_or, take-take, length-take-le, filter, range_with_len, list_any, count_by, IsStrictlyIncreasing, Side, is_on, and_right, take_at, length_push, take-append-drop, filter-append, length-filter, one_if, X, Y, is_same_side, Cells, or_left, or_right, or_cases}
 use Rattle.std.proofs.lemmas.List.Kept.{IsStrictlyIncreasing-filter}
-use Rattle.std.specs.List.{filter, range_with_len, list_any, count_by}
-use Rattle.std.specs.List.Sorted.{IsStrictlyIncreasing}
-use Rattle.pg_base.specs.declared.side.Side.{Side}
-use Rattle.pg_game.specs.Potential.{is_on}
 use Rattle.pg_board.specs.Shape.{Shape, line_in, lines_through, lines_holding}
 use Rattle.pg_board.specs.Counts.{count_in, is_clear}
 use Rattle.pg_board.specs.Lines.{clear_in}
@@ -15,17 +9,8 @@ use Rattle.pg_board.proofs.Ranges.{filtered-below, filtered-passes, in_filtered,
 use Rattle.pg_board.proofs.LineSteps.{clear_in-more}
 use Rattle.std.proofs.Common.{◌++◌, [], ◌∷◌, zero, suc}
 use Rattle.std.proofs.Common.{◌*◌, ◌&&◌, ne_eqb, drop, length-append}
-use Rattle.std.proofs.lemmas.Bool.{and_right}
-use Rattle.std.proofs.lemmas.List.{take_at, length_push, take-append-drop}
-use Rattle.std.proofs.lemmas.List.Elements.{filter-append}
-use Rattle.std.proofs.lemmas.List.Sums.{length-filter}
-use Rattle.pg_base.specs.Sets.{one_if}
-use Rattle.pg_base.specs.declared.side.Side.TheVariants.{X, Y}
-use Rattle.pg_base.specs.Side.{is_same_side}
-use Rattle.pg_undo.specs.Trail.{Cells}
 use Rattle.pg_board.specs.Lines.{Claims}
 use Rattle.pg_board.proofs.Ranges.{not_before}
-use Rattle.std.proofs.lemmas.Bool.{or_left, or_right, or_cases}
 
 pub through-ascends : (s : Shape) (v : ℕ) → IsStrictlyIncreasing (lines_through s v)
 unfolding lines_through lines_holding

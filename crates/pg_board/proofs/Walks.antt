@@ -1,20 +1,7 @@
 -- A walk over the lines without a point of the other side, in search of one that lacks one point.
 use Rattle.std.proofs.Common.{◌≡◌, ℕ, zero, suc, ◌+◌, ◌<◌, ◌≤◌, Bool, true, false, not, ◌&&◌, ◌||◌, List, [], ◌∷◌, Option, Some, None, length, eqb, ltb, refl, sym, ap, ◌∙◌, arith, inl, inr}
-use Rattle.std.proofs.lemmas.Bool.{cases_Bool, cases_eq, eqb-true, and_parts, and_right, and_cases, or_cases, false≢true, not-false, ltb-true}
-use Rattle.std.specs.List.{find, range_with_len, list_any, list_all, Contains}
-use Rattle.std.specs.FinSet.{contains}
-use Rattle.pg_base.specs.Points.{ShareNone}
-use Rattle.pg_base.specs.declared.side.Side.{Side}
-use Rattle.pg_base.specs.declared.side.Side.TheVariants.{X, Y}
-use Rattle.pg_base.specs.Side.{other}
-use Rattle.pg_game.specs.declared.position.Position.{Position}
-use Rattle.pg_game.specs.Position.{is_free, points_of}
-use Rattle.pg_game.specs.Game.{lines_of, is_touched}
-use Rattle.pg_game.specs.Threat.{is_near}
-use Rattle.pg_game.specs.Potential.{is_on}
+use Rattle.pg_board.proofs.Common.{cases_Bool, cases_eq, eqb-true, and_parts, and_right, and_cases, or_cases, false≢true, not-false, ltb-true, find, range_with_len, list_any, list_all, Contains, contains, ShareNone, Side, X, Y, other, Position, is_free, points_of, lines_of, is_touched, is_near, is_on, free-of, Game}
 use Rattle.pg_game.proofs.Lowest.{find_both}
-use Rattle.pg_game.proofs.Moves.{free-of}
-use Rattle.pg_game.specs.declared.game.Game.{Game}
 use Rattle.pg_board.specs.Shape.{Shape}
 use Rattle.pg_board.specs.Board.{line_at, live_lines}
 use Rattle.pg_board.specs.Fits.{position_of}

@@ -1,21 +1,6 @@
 -- The weights of a board's lines, by the cells.
 use Rattle.std.proofs.Common.{◌≡◌, ◌≢◌, ℕ, ◌+◌, ◌-◌, ◌*◌, ◌^◌, ◌<◌, ◌≤◌, max, map, ◌++◌, Bool, true, false, not, ◌&&◌, List, [], ◌∷◌, length, get_or, take, eqb, if◌then◌else◌, refl, sym, ap, ◌∙◌, arith, inl, inr}
-use Rattle.std.proofs.lemmas.Bool.{cases_Bool, eq-eqb, ne_eqb}
-use Rattle.std.proofs.lemmas.List.Sums.{sum_by-le, sum_by_more_le}
-use Rattle.std.proofs.Math.Nat.{pow-le-pow_right}
-use Rattle.std.specs.List.{All, count_by, sum_by, filter, range_with_len}
-use Rattle.std.specs.FinSet.{contains}
-use Rattle.pg_base.specs.Points.{ShareNone}
-use Rattle.pg_base.specs.Sets.{one_if}
-use Rattle.pg_base.specs.declared.side.Side.{Side}
-use Rattle.pg_base.specs.declared.side.Side.TheVariants.{X, Y}
-use Rattle.pg_base.specs.Side.{other}
-use Rattle.pg_game.specs.declared.position.Position.{Position}
-use Rattle.pg_game.specs.Position.{is_free, points_of}
-use Rattle.pg_game.specs.Game.{is_touched}
-use Rattle.pg_game.specs.Potential.{is_on, line_weight, greatest}
-use Rattle.pg_game.proofs.LineSums.{points-le}
-use Rattle.pg_game.proofs.WeightBounds.{line_weight-le}
+use Rattle.pg_board.proofs.Common.{cases_Bool, eq-eqb, ne_eqb, sum_by-le, sum_by_more_le, pow-le-pow_right, All, count_by, sum_by, filter, range_with_len, contains, ShareNone, one_if, Side, X, Y, other, Position, is_free, points_of, is_touched, is_on, line_weight, greatest, points-le, line_weight-le}
 use Rattle.pg_board.specs.Shape.{Shape, line_in, lines_through, lines_holding}
 use Rattle.pg_board.specs.Counts.{count_in, lines_in, lines_with, has_free, is_clear, free_by}
 use Rattle.pg_board.specs.Fits.{position_of, free_points_in}

@@ -1,14 +1,6 @@
 -- What a board is seen as, and the words in which it answers.
 use Rattle.std.specs.Prelude.{ℕ, Bool, not, ◌&&◌, ◌==◌, List, [], length, get_or}
-use Rattle.std.specs.List.{count_by, filter, range_with_len}
-use Rattle.std.specs.FinSet.{contains}
-use Rattle.pg_base.specs.declared.side.Side.{Side}
-use Rattle.pg_game.specs.declared.game.Game.{Game}
-use Rattle.pg_game.specs.declared.position.Position.{Position}
-use Rattle.pg_game.specs.Position.{is_free, points_of}
-use Rattle.pg_game.specs.Game.{lines_of, is_touched}
-use Rattle.pg_game.specs.Potential.{is_on}
-use Rattle.pg_undo.specs.Trail.{Cells}
+use Rattle.pg_board.specs.Prelude.{count_by, filter, range_with_len, contains, Side, Game, Position, is_free, points_of, lines_of, is_touched, is_on, Cells}
 
 -- a position with the trail that leads to it
 pub record Stand : Type 0 where

@@ -1,19 +1,6 @@
 -- How the fields of a board stand for what it is seen as.
 use Rattle.std.specs.Prelude.{◌≡◌, ◌≢◌, ℕ, zero, suc, ◌+◌, ◌-◌, ◌*◌, ◌^◌, ◌<◌, ◌≤◌, Bool, not, ◌==◌, List, [], ◌∷◌, ◌++◌, length, get_or, take, if◌then◌else◌}
-use Rattle.std.specs.List.{count_by, filter, range_with_len}
-use Rattle.std.specs.FinSet.{FinSet, empty, insert, contains}
-use Rattle.std.specs.Ordering.{nat_cmp}
-use Rattle.pg_game.specs.declared.bounds.TheConstants.{MAX_LINE_POINTS}
-use Rattle.pg_base.specs.declared.kind.Kind.TheVariants.{Switching}
-use Rattle.pg_base.specs.declared.side.Side.{Side}
-use Rattle.pg_base.specs.declared.side.Side.TheVariants.{X, Y}
-use Rattle.pg_game.specs.declared.game.Game.{Game}
-use Rattle.pg_game.specs.declared.position.Position.{Position}
-use Rattle.pg_game.specs.Position.{is_free, points_of, after_with}
-use Rattle.pg_game.specs.Game.{is_touched}
-use Rattle.pg_base.specs.Side.{is_same_side}
-use Rattle.pg_undo.specs.Ring.{present}
-use Rattle.pg_undo.specs.Trail.{Cells, back_to}
+use Rattle.pg_board.specs.Prelude.{count_by, filter, range_with_len, FinSet, empty, insert, contains, nat_cmp, MAX_LINE_POINTS, Switching, Side, X, Y, Game, Position, is_free, points_of, after_with, is_touched, is_same_side, present, Cells, back_to}
 use Rattle.pg_board.specs.Board.{Stand}
 use Rattle.pg_board.specs.Shape.{Shape, IsShape, shape_of, line_in, lines_through, degree_in, turn_cell, mark_cell}
 use Rattle.pg_board.specs.Counts.{AreCounted, count_in, clear_lines}

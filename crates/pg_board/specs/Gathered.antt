@@ -1,7 +1,6 @@
 -- The lines through each point, gathered line by line.
 use Rattle.std.specs.Prelude.{◌≡◌, ℕ, ◌<◌, Bool, List, [], length, get_or}
-use Rattle.std.specs.List.{filter, range_with_len}
-use Rattle.pg_game.specs.Potential.{is_on}
+use Rattle.pg_board.specs.Prelude.{filter, range_with_len, is_on}
 
 -- whether the line of that number holds the point
 abbrev pub holds : List (List ℕ) → ℕ → ℕ → Bool

@@ -1,14 +1,6 @@
 -- Lines that lack one point.
 use Rattle.std.specs.Prelude.{◌≡◌, ℕ, ◌<◌, Bool, true, false, not, ◌&&◌, List, length, Option, Some, None, IfSome}
-use Rattle.std.specs.List.{Contains}
-use Rattle.pg_base.specs.Points.{ShareNone}
-use Rattle.pg_base.specs.Side.{other}
-use Rattle.pg_base.specs.declared.side.Side.{Side}
-use Rattle.pg_game.specs.declared.position.Position.{Position}
-use Rattle.pg_game.specs.Threat.{is_near}
-use Rattle.pg_base.specs.declared.side.Side.TheVariants.{X, Y}
-use Rattle.pg_game.specs.declared.game.Game.{Game}
-use Rattle.pg_game.specs.Game.{lines_of}
+use Rattle.pg_board.specs.Prelude.{Contains, ShareNone, other, Side, Position, is_near, X, Y, Game, lines_of}
 use Rattle.pg_board.specs.Board.{line_at, live_lines}
 use Rattle.pg_board.specs.Fits.{has_mark}
 

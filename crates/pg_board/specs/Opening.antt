@@ -1,12 +1,6 @@
 -- A board while it is opened.
 use Rattle.std.specs.Prelude.{◌≡◌, ℕ, ◌+◌, ◌-◌, ◌<◌, ◌≤◌, true, ◌&&◌, ◌==◌, List, length, get_or, nat_lt}
-use Rattle.std.specs.List.{count_by, range_with_len}
-use Rattle.std.specs.FinSet.{contains}
-use Rattle.pg_base.specs.declared.side.Side.{Side}
-use Rattle.pg_base.specs.declared.side.Side.TheVariants.{X, Y}
-use Rattle.pg_game.specs.declared.position.Position.{Position}
-use Rattle.pg_game.specs.Position.{is_free, points_of}
-use Rattle.pg_undo.specs.Trail.{Cells}
+use Rattle.pg_board.specs.Prelude.{count_by, range_with_len, contains, Side, X, Y, Position, is_free, points_of, Cells}
 use Rattle.pg_board.specs.Shape.{Shape, line_in, cell_count}
 use Rattle.pg_board.specs.Counts.{lines_in}
 use Rattle.pg_board.specs.Fits.{Rules, Fits, position_of, summed, entries_of}

@@ -1,8 +1,6 @@
 -- A point that a side claims.
 use Rattle.std.specs.Prelude.{◌≡◌, ℕ, ◌-◌, List, [], ◌∷◌, ◌++◌, ◌==◌, if◌then◌else◌}
-use Rattle.pg_base.specs.declared.side.Side.{Side}
-use Rattle.pg_undo.specs.Ring.{present, without}
-use Rattle.pg_undo.specs.Trail.{Cells, with_set}
+use Rattle.pg_board.specs.Prelude.{Side, present, without, Cells, with_set}
 use Rattle.pg_board.specs.Shape.{Shape, lines_through, mark_cell}
 use Rattle.pg_board.specs.Lines.{Claims}
 use Rattle.pg_board.specs.Fits.{mark_of}

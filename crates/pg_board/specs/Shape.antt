@@ -1,13 +1,6 @@
 -- The lines of a game as a board keeps them, and the cells in which it counts.
 use Rattle.std.specs.Prelude.{◌≡◌, ℕ, ◌+◌, ◌<◌, ◌≤◌, List, [], length, get_or}
-use Rattle.std.specs.List.{All, filter, range_with_len}
-use Rattle.std.specs.List.Sorted.{IsStrictlyIncreasing}
-use Rattle.pg_game.specs.declared.bounds.TheConstants.{MAX_POINTS, MAX_LINES, MAX_LINE_POINTS}
-use Rattle.pg_base.specs.declared.side.Side.{Side}
-use Rattle.pg_base.specs.declared.side.Side.TheVariants.{X, Y}
-use Rattle.pg_game.specs.declared.game.Game.{Game}
-use Rattle.pg_game.specs.Game.{lines_of, point_count}
-use Rattle.pg_game.specs.Potential.{is_on, greatest_length}
+use Rattle.pg_board.specs.Prelude.{All, filter, range_with_len, IsStrictlyIncreasing, MAX_POINTS, MAX_LINES, MAX_LINE_POINTS, Side, X, Y, Game, lines_of, point_count, is_on, greatest_length}
 
 -- how many points there are, the length of the longest line, and the lines
 pub record Shape : Type 0 where

@@ -1,14 +1,6 @@
 -- The numbers of a board's live lines, and the weights of its lines and points.
 use Rattle.std.specs.Prelude.{◌≡◌, ℕ, zero, suc, ◌+◌, ◌*◌, ◌^◌, ◌<◌, ◌≤◌, Bool, nat_lt, List, length, map, ◌-◌, if◌then◌else◌}
-use Rattle.std.specs.List.{count_by, sum_by}
-use Rattle.pg_game.specs.declared.bounds.TheConstants.{MAX_LINE_POINTS}
-use Rattle.pg_base.specs.Side.{is_same_side}
-use Rattle.pg_base.specs.declared.side.Side.{Side}
-use Rattle.pg_base.specs.declared.side.Side.TheVariants.{Y}
-use Rattle.pg_game.specs.declared.position.Position.{Position}
-use Rattle.pg_game.specs.Position.{points_of}
-use Rattle.pg_game.specs.Potential.{is_on, line_weight, greatest}
-use Rattle.pg_game.specs.Avoider.{x_takes_last}
+use Rattle.pg_board.specs.Prelude.{count_by, sum_by, MAX_LINE_POINTS, is_same_side, Side, Y, Position, points_of, is_on, line_weight, greatest, x_takes_last}
 use Rattle.pg_board.specs.Board.{is_live_with}
 use Rattle.pg_board.specs.Shape.{Shape, IsShape}
 use Rattle.pg_board.specs.Counts.{AreCounted, count_in}

@@ -1,14 +1,6 @@
 //! Boards.
 ghost use Rattle.std.specs.Prelude.{◌≡◌, ◌≢◌, ◌<◌, ◌≤◌, ◌+◌, ◌*◌, ◌^◌, ◌++◌, ◌∷◌, [], true, length, get_or, nat_lt, ℕ, false, IfOk, IfSome, IfNone};
-ghost use Rattle.std.specs.List.{Contains, find, slice_get};
-ghost use Rattle.pg_base.specs.Points.{ShareNone};
-ghost use Rattle.pg_base.specs.Side.{other};
-ghost use Rattle.pg_base.specs.declared.kind.Kind.TheVariants.{Switching};
-ghost use Rattle.pg_game.specs.Position.{is_free};
-ghost use Rattle.pg_game.specs.Game.{point_count, lines_of, free_points, after, IsPosition, is_over, outcome};
-ghost use Rattle.pg_game.specs.Threat.{is_near};
-ghost use Rattle.pg_game.specs.Potential.{total, weight, greatest_weight, potential_holds};
-ghost use Rattle.pg_game.specs.Avoider.{avoider_total, avoider_weight, avoider_holds};
+ghost use Rattle.pg_board.specs.Prelude.{Contains, find, slice_get, ShareNone, other, Switching, is_free, point_count, lines_of, free_points, after, IsPosition, is_over, outcome, is_near, total, weight, greatest_weight, potential_holds, avoider_total, avoider_weight, avoider_holds};
 ghost use Rattle.pg_game.specs.Decided.{by_end, defends};
 ghost use Rattle.pg_board.specs.Board.{line_at, degree, count_of, live_lines, live_with};
 ghost use Rattle.pg_board.specs.Near.{IsNearest, NoneNear};

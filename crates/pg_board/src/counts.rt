@@ -1,10 +1,6 @@
 //! The counts of a board's lines, as cells of its trail.
 ghost use Rattle.std.specs.Prelude.{◌≡◌, ◌<◌, ◌≤◌, ◌+◌, ℕ, ◌==◌, ◌&&◌, length};
-ghost use Rattle.pg_base.specs.declared.side.Side.{Side};
-ghost use Rattle.pg_base.specs.declared.side.Side.TheVariants.{X, Y};
-ghost use Rattle.pg_base.specs.Side.{other};
-ghost use Rattle.pg_base.specs.Sets.{one_if};
-ghost use Rattle.pg_undo.specs.Extends.{Extends};
+ghost use Rattle.pg_board.specs.Prelude.{Side, X, Y, other, one_if, Extends};
 ghost use Rattle.pg_board.specs.Shape.{line_in, count_cell, free_cell, cell_count};
 ghost use Rattle.pg_board.specs.Counts.{AreCounted, IsCountedMore, IsMoved, count_in, lines_in};
 

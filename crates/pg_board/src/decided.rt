@@ -1,9 +1,6 @@
 //! Whether a potential decides a board's position, and whether the game is over, by counts.
 ghost use Rattle.std.specs.Prelude.{◌≡◌, ◌<◌, ◌≤◌, ◌+◌, length, get_or};
-ghost use Rattle.std.specs.List.{list_any};
-ghost use Rattle.pg_game.specs.Position.{points_of};
-ghost use Rattle.pg_game.specs.Game.{is_filled};
-ghost use Rattle.pg_game.specs.Avoider.{x_takes_last};
+ghost use Rattle.pg_board.specs.Prelude.{list_any, points_of, is_filled, x_takes_last};
 ghost use Rattle.pg_board.specs.Shape.{turn_cell};
 ghost use Rattle.pg_board.specs.Fits.{position_of, free_points_in};
 ghost use Rattle.pg_board.specs.Totals.{times_in, potential_in, avoider_in, Agree, IsBase};

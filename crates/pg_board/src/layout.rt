@@ -1,9 +1,7 @@
 //! The lines of a game and the lines through each point.
 ghost use Rattle.std.specs.Prelude.{◌≡◌, ◌≢◌, ◌<◌, ◌≤◌, ◌+◌, [], length, map, replicate, IfOk};
-ghost use Rattle.std.specs.List.{All, range_with_len};
-ghost use Rattle.std.specs.List.Sorted.{IsStrictlyIncreasing};
+ghost use Rattle.pg_board.specs.Prelude.{All, range_with_len, IsStrictlyIncreasing, Switching};
 ghost use Rattle.pg_board.specs.Gathered.{AreGathered};
-ghost use Rattle.pg_base.specs.declared.kind.Kind.TheVariants.{Switching};
 ghost use Rattle.pg_board.specs.Shape.{IsShape, shape_of, line_in, lines_through, mark_cell, count_cell, free_cell, cell_count, lines_holding};
 
 use crate::rows::{Row, Rows};

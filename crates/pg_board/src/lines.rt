@@ -1,8 +1,6 @@
 //! Claims of all lines through a point, and how they are taken back.
 ghost use Rattle.std.specs.Prelude.{◌≡◌, ◌<◌, ◌≤◌, ◌+◌, ◌-◌, ◌*◌, ℕ, true, [], ◌∷◌, length, take};
-ghost use Rattle.pg_base.specs.declared.side.Side.TheVariants.{X, Y};
-ghost use Rattle.pg_game.specs.Potential.{is_on};
-ghost use Rattle.pg_undo.specs.Ring.{present};
+ghost use Rattle.pg_board.specs.Prelude.{X, Y, is_on, present};
 ghost use Rattle.pg_board.specs.Shape.{line_in, lines_through, degree_in, cell_count};
 ghost use Rattle.pg_board.specs.Counts.{AreCounted, count_in, clear_lines};
 ghost use Rattle.pg_board.specs.Lines.{Claims, clear_in};

@@ -1,8 +1,6 @@
 //! A play, and how it is taken back.
 ghost use Rattle.std.specs.Prelude.{◌≡◌, ◌<◌, true};
-ghost use Rattle.pg_base.specs.declared.side.Side.TheVariants.{X, Y};
-ghost use Rattle.pg_game.specs.Position.{is_free};
-ghost use Rattle.pg_undo.specs.Trail.{back_to};
+ghost use Rattle.pg_board.specs.Prelude.{X, Y, is_free, back_to};
 ghost use Rattle.pg_board.specs.Fits.{Fits, IsPlayed, Leads, fewer, left_by, position_of};
 
 use crate::layout::Layout;

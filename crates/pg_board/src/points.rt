@@ -1,11 +1,7 @@
 //! A point that a side claims, and the turn that passes.
 ghost use Rattle.std.specs.Prelude.{◌≡◌, ◌<◌, ◌≤◌, ◌+◌, ◌*◌, ◌^◌, ℕ, true, length, get_or};
-ghost use Rattle.std.specs.List.{Contains, find};
+ghost use Rattle.pg_board.specs.Prelude.{Contains, find, X, Y, is_on, present, with_set};
 ghost use Rattle.pg_board.specs.Near.{has_none};
-ghost use Rattle.pg_base.specs.declared.side.Side.TheVariants.{X, Y};
-ghost use Rattle.pg_game.specs.Potential.{is_on};
-ghost use Rattle.pg_undo.specs.Ring.{present};
-ghost use Rattle.pg_undo.specs.Trail.{with_set};
 ghost use Rattle.pg_board.specs.Shape.{line_in, degree_in, turn_cell, mark_cell, cell_count};
 ghost use Rattle.pg_board.specs.Counts.{AreCounted, count_in, clear_lines};
 ghost use Rattle.pg_board.specs.Points.{ClaimsPoint, next_turn};

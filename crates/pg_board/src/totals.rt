@@ -1,9 +1,6 @@
 //! The weights of a board's lines and points.
 ghost use Rattle.std.specs.Prelude.{◌≡◌, ◌<◌, ◌≤◌, ◌+◌, ◌^◌, length, if◌then◌else◌};
-ghost use Rattle.pg_base.specs.declared.side.Side.TheVariants.{Y};
-ghost use Rattle.pg_base.specs.Side.{other};
-ghost use Rattle.pg_game.specs.Position.{is_free, points_of};
-ghost use Rattle.pg_game.specs.Potential.{line_weight};
+ghost use Rattle.pg_board.specs.Prelude.{Y, other, is_free, points_of, line_weight};
 ghost use Rattle.pg_board.specs.Shape.{line_in};
 ghost use Rattle.pg_board.specs.Fits.{position_of};
 ghost use Rattle.pg_board.specs.Totals.{live_with_in, total_in, weight_in, greatest_in, Agree, IsBase};

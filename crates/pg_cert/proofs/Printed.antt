@@ -1,12 +1,7 @@
 -- A printed text that grows at its end.
 use Rattle.std.proofs.Common.{◌≡◌, ℕ, ◌+◌, Bool, true, false, ◌||◌, List, [], ◌∷◌, ◌++◌, map, refl, sym, ap, ◌∙◌, append_assoc}
-use Rattle.std.proofs.lemmas.List.{append-nil}
-use Rattle.std.specs.FinSet.{FinSet, contains}
-use Rattle.std.specs.Fmt.{decimal}
-use Rattle.std.specs.Ordering.{nat_cmp}
-use Rattle.pg_base.specs.Points.{points_below, one_where}
+use Rattle.pg_cert.proofs.Common.{append-nil, FinSet, contains, decimal, nat_cmp, points_below, one_where, Bytes, spaced, behind_spaces}
 use Rattle.pg_base.proofs.MemberLemmas.{points_more}
-use Rattle.pg_text.specs.Text.{Bytes, spaced, behind_spaces}
 use Rattle.pg_cert.specs.Print.{separated}
 
 abbrev pub is_begun : List ℕ → Bool

@@ -1,14 +1,7 @@
 -- Certificates within the ranges, orders and limits of the format.
 use Rattle.std.specs.Prelude.{◌≡◌, ℕ, Bool, ◌%◌, ◌<◌, ◌≤◌, true, false, List, length, map, sum_by}
-use Rattle.std.specs.FinSet.{FinSet, contains}
-use Rattle.std.specs.List.{All}
-use Rattle.std.specs.Ordering.{nat_cmp}
-use Rattle.pg_base.specs.declared.pair.Pair.{Pair}
-use Rattle.pg_base.specs.declared.limits.TheConstants.{MAX_MEMBERS}
-use Rattle.pg_base.specs.declared.side.Side.{Side}
-use Rattle.pg_base.specs.declared.side.Side.TheVariants.{X, Y}
+use Rattle.pg_cert.specs.Prelude.{FinSet, contains, All, nat_cmp, Pair, MAX_MEMBERS, Side, X, Y, ascend_from}
 use Rattle.pg_game.specs.declared.bounds.TheConstants.{MAX_BIAS}
-use Rattle.pg_text.specs.Text.{ascend_from}
 use Rattle.pg_cert.specs.declared.limits.TheConstants.{MAX_CLAIMS, MAX_CLAIM_NODES, MAX_NODES}
 use Rattle.pg_cert.specs.declared.reply.Reply.{Reply}
 use Rattle.pg_cert.specs.declared.node.Body.{Body}

@@ -2,22 +2,10 @@
 -- where it stands after a reply. It plays in a position that it imagines, which `weaker` makes
 -- another than the true one.
 use Rattle.std.specs.Prelude.{ℕ, zero, suc, false, ◌==◌, List, [], ◌∷◌, Option, Some, None, find, slice_get, if◌then◌else◌}
+use Rattle.pg_cert.specs.Prelude.{FinSet, nat_cmp, Kind, AvoiderEnforcer, Side, Game, Position, after, pairs_answer, potential_answer, avoider_answer, Answered, trees_answer, cuts_answer, free_or_lowest}
 use Rattle.std.specs.Option.{option_map}
-use Rattle.std.specs.FinSet.{FinSet}
-use Rattle.std.specs.Ordering.{nat_cmp}
-use Rattle.pg_base.specs.declared.kind.Kind.{Kind}
-use Rattle.pg_base.specs.declared.kind.Kind.TheVariants.{AvoiderEnforcer}
-use Rattle.pg_base.specs.declared.side.Side.{Side}
 use Rattle.pg_game.specs.declared.field.Field.{Field}
 use Rattle.pg_game.specs.declared.field.Field.TheVariants.{Lines, Graph as OnGraph}
-use Rattle.pg_game.specs.declared.game.Game.{Game}
-use Rattle.pg_game.specs.declared.position.Position.{Position}
-use Rattle.pg_game.specs.Game.{after}
-use Rattle.pg_game.specs.Pairs.{pairs_answer}
-use Rattle.pg_game.specs.Potential.{potential_answer}
-use Rattle.pg_game.specs.Avoider.{avoider_answer}
-use Rattle.pg_game.specs.Trees.{Answered, trees_answer, cuts_answer}
-use Rattle.pg_game.specs.Weaker.{free_or_lowest}
 use Rattle.pg_cert.specs.Node.{position_of}
 use Rattle.pg_cert.specs.Valid.{with_e_named}
 use Rattle.pg_cert.specs.declared.node.Node.{Node}

@@ -1,16 +1,7 @@
 -- The printed text of a certificate.
 use Rattle.std.specs.Prelude.{ℕ, nat_lt, if◌then◌else◌, Bool, true, false, List, [], ◌∷◌, ◌++◌, length, map, codes}
-use Rattle.std.specs.FinSet.{FinSet}
-use Rattle.std.specs.Fmt.{decimal}
-use Rattle.std.specs.List.{flat_map}
-use Rattle.std.specs.Ordering.{nat_cmp}
-use Rattle.pg_base.specs.declared.signs.TheConstants.{BAR, LINE_FEED, SPACE}
-use Rattle.pg_base.specs.Side.{side_word}
-use Rattle.pg_base.specs.declared.side.Side.{Side}
+use Rattle.pg_cert.specs.Prelude.{FinSet, decimal, flat_map, nat_cmp, BAR, LINE_FEED, SPACE, side_word, Side, members, Pair, Bytes, spaced}
 use Rattle.pg_base.specs.Goal.{goal_word}
-use Rattle.pg_base.specs.Points.{members}
-use Rattle.pg_base.specs.declared.pair.Pair.{Pair}
-use Rattle.pg_text.specs.Text.{Bytes, spaced}
 use Rattle.pg_cert.specs.declared.reply.Reply.{Reply}
 use Rattle.pg_cert.specs.declared.node.Body.{Body}
 use Rattle.pg_cert.specs.declared.node.Body.TheVariants as bodies

@@ -1,27 +1,12 @@
 -- When a node is faulty, and when a certificate is valid for a game.
 use Rattle.std.specs.Prelude.{◌≡◌, ℕ, ◌+◌, ◌<◌, ◌≤◌, Bool, true, false, ◌&&◌, ◌==◌, List, length, map, slice_get, Some, if◌then◌else◌}
+use Rattle.pg_cert.specs.Prelude.{FinSet, insert, nat_cmp, AreBelow, other, Kind, MakerBreaker, MakerMaker, AvoiderEnforcer, Switching, Side, X, Y, Game, Position, point_count, bias_of, free_points, is_over, outcome, after, with_turn, PairsHold, PotentialHolds, AvoiderHolds, TreesHold, CutsHold, IsNoWorse}
 use Rattle.std.specs.List.{All as Each}
-use Rattle.std.specs.FinSet.{FinSet, insert}
-use Rattle.std.specs.Ordering.{nat_cmp}
-use Rattle.pg_base.specs.Points.{AreBelow}
-use Rattle.pg_base.specs.Side.{other}
 use Rattle.pg_base.specs.declared.goal.Goal.{Goal}
 use Rattle.pg_base.specs.declared.goal.Goal.TheVariants.{Win, Draw as AtLeastDraw}
-use Rattle.pg_base.specs.declared.kind.Kind.{Kind}
-use Rattle.pg_base.specs.declared.kind.Kind.TheVariants.{MakerBreaker, MakerMaker, AvoiderEnforcer, Switching}
-use Rattle.pg_base.specs.declared.side.Side.{Side}
-use Rattle.pg_base.specs.declared.side.Side.TheVariants.{X, Y}
-use Rattle.pg_game.specs.declared.game.Game.{Game}
-use Rattle.pg_game.specs.declared.position.Position.{Position}
 use Rattle.pg_game.specs.Position.{is_free}
-use Rattle.pg_game.specs.Game.{point_count, bias_of, free_points, is_over, outcome, after, with_turn}
 use Rattle.pg_game.specs.Value.{reaches}
-use Rattle.pg_game.specs.Pairs.{PairsHold}
-use Rattle.pg_game.specs.Potential.{PotentialHolds}
-use Rattle.pg_game.specs.Avoider.{AvoiderHolds}
-use Rattle.pg_game.specs.Trees.{TreesHold, CutsHold}
 use Rattle.pg_game.specs.Threat.{may_attack, IsThreatLine}
-use Rattle.pg_game.specs.Weaker.{IsNoWorse}
 use Rattle.pg_cert.specs.Node.{position_of}
 use Rattle.pg_cert.specs.NodeFault.{fault_number}
 use Rattle.pg_cert.specs.declared.cert.Cert.{Cert}

@@ -14,8 +14,7 @@ pub struct EdgeSet {
 /// The set of its edges.
 impl Model for EdgeSet {
     ghost use Rattle.std.specs.FinSet as set;
-    ghost use Rattle.std.specs.Ordering.{nat_cmp};
-    ghost use Rattle.std.specs.Coded.{coded_ℕ};
+    ghost use Rattle.pg_cert.specs.Prelude.{nat_cmp, coded_ℕ};
 
     ghost Value = { set.FinSet nat_cmp };
 

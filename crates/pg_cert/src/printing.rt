@@ -1,13 +1,7 @@
 //! The text of a certificate.
 
 ghost use Rattle.std.specs.Prelude.{◌≡◌, ◌<◌, ◌||◌, true, ◌++◌, ◌∷◌, [], map, OnOk, IfOk, string_bytes};
-ghost use Rattle.std.specs.FinSet.{contains};
-ghost use Rattle.std.specs.Fmt.{decimal};
-ghost use Rattle.std.specs.List.{flat_map};
-ghost use Rattle.pg_base.specs.Points.{one_where};
-ghost use Rattle.pg_base.specs.declared.limits.TheConstants.{MAX_MEMBERS};
-ghost use Rattle.pg_base.specs.declared.signs.TheConstants.{BAR};
-ghost use Rattle.pg_text.specs.Text.{spaced, behind_spaces};
+ghost use Rattle.pg_cert.specs.Prelude.{contains, decimal, flat_map, one_where, MAX_MEMBERS, BAR, spaced, behind_spaces};
 ghost use Rattle.pg_cert.specs.Limits.{IsNode, IsWithinLimits};
 ghost use Rattle.pg_cert.specs.Print.{separated, set_words, reply_word, pair_word, e_words, edge_words, body_name, body_words, body_text, turn_word, node_text, claim_text, header, printed_certificate};
 

@@ -1,21 +1,9 @@
 -- Numbers at the front of a text.
 use Rattle.std.proofs.Common.{◌≡◌, ℕ, zero, suc, ◌+◌, ◌-◌, ◌*◌, ◌^◌, ◌<◌, ◌≤◌, lit<, Bool, true, false, ◌||◌, [], ◌∷◌, ◌++◌, length, take, drop, get_or, arith, refl, sym, ap, subst, ◌∙◌, append_assoc, inl, inr, Option, Some, None}
 use Rattle.std.specs.Prelude.{◌==◌, ◌≢◌, not, nat_lt, nat_le, slice_index}
-use Rattle.std.specs.Char.{is_ascii_digit}
-use Rattle.std.specs.List.{list_all, AllByRecursion}
-use Rattle.std.specs.Str.Parse.{digits_value}
-use Rattle.std.proofs.lemmas.Bool.{cases_Bool, and_parts, eqb-true}
-use Rattle.std.proofs.lemmas.Bool.Decides.{nat_tests}
+use Rattle.pg_cert_files.proofs.Common.{is_ascii_digit, list_all, AllByRecursion, digits_value, cases_Bool, and_parts, eqb-true, nat_tests, take_all, length-take-le, length-drop, take-append-drop, All-from_recursion, list_all_more, drop-cons, Bytes, Lacks, parts, words_of, number, MAX_DIGITS, just_two, first_and_others, only_word, all_append}
 use Rattle.std.proofs.lemmas.Int.Digits.{digits_value_more, digits_value-lt}
-use Rattle.std.proofs.lemmas.List.{take_all, length-take-le, length-drop, take-append-drop}
-use Rattle.std.proofs.lemmas.List.Elements.{All-from_recursion}
-use Rattle.std.proofs.lemmas.List.Folds.{list_all_more}
 use Rattle.std.proofs.Math.Nat.{pow-le-pow_right}
-use Rattle.std.proofs.Math.Seq.{drop-cons}
-use Rattle.pg_text.specs.Text.{Bytes, Lacks, parts, words_of, number}
-use Rattle.pg_text.specs.declared.numbers.TheConstants.{MAX_DIGITS}
-use Rattle.pg_text.proofs.Cuts.{just_two, first_and_others, only_word}
-use Rattle.pg_text.proofs.Decimals.{all_append}
 use Rattle.pg_text.proofs.Digits.{digit, digit_value_is, digits_from}
 use Rattle.pg_cert_files.specs.Numerals.{BeginsWith, IsLeading, with_others, IsFirstNumber, IsNumberBefore, AreTwoNumbers}
 

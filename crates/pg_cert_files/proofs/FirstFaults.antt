@@ -1,15 +1,12 @@
 -- The first fault of a file.
 use Rattle.std.proofs.Common.{◌≡◌, ℕ, suc, ◌+◌, ◌⊎◌, inl, inr, List, [], ◌∷◌, ◌++◌, length, arith, refl, sym, ap, ◌∙◌, Option, Some, None, Result, Ok, Err}
 use Rattle.std.specs.Prelude.{fold, nat_lt}
-use Rattle.std.proofs.lemmas.Bool.{ltb-true}
-use Rattle.pg_text.specs.Text.{Bytes, lines}
+use Rattle.pg_cert_files.proofs.Common.{ltb-true, Bytes, lines}
 use Rattle.pg_cert_files.specs.CertFile.{Step, Seen, nothing, taken, after, seen, step, end_fault, at_number, or_at_end, fault_of, text_version, text_parts, unless_faulty, certificate}
 use Rattle.pg_cert_files.specs.FirstFault.{IsFaultOfLine, IsFaultOfEnd, IsFirstFault}
 use Rattle.pg_cert_files.specs.declared.fault.Fault.{Fault}
 use Rattle.pg_cert_files.specs.declared.fault.Fault.TheVariants as faults
-use Rattle.pg_cert.specs.declared.cert.Version.{Version}
-use Rattle.pg_cert.specs.declared.part.Part.{Part}
-use Rattle.pg_cert.specs.declared.cert.Cert.{Cert}
+use Rattle.pg_cert_files.proofs.Common.{Version, Part, Cert}
 use Rattle.pg_cert_files.proofs.NodeLimits.{chosen}
 use Rattle.pg_cert_files.proofs.Stands.{after_none, after_some}
 use Rattle.pg_cert_files.proofs.LeastFaults.{step_first}

@@ -1,17 +1,8 @@
 -- Points that are put into a set as they are read make the set of the list of these points.
 use Rattle.std.proofs.Common.{◌≡◌, ◌∙◌, append_assoc, ℕ, ◌+◌, Bool, true, false, not, ◌&&◌, ◌||◌, nat_lt, if◌then◌else◌, List, [], ◌∷◌, ◌++◌, Result, Ok, Err, refl, sym, ap, inl, inr, arith}
 use Rattle.std.specs.Prelude.{nat_le}
-use Rattle.std.specs.FinSet.{FinSet, contains, contains-empty, empty, insert, from_list, from_list_push, nat_cmp-IsAntisymmetric}
-use Rattle.std.specs.Ordering.{nat_cmp}
+use Rattle.pg_cert_files.proofs.Common.{FinSet, contains, contains-empty, empty, insert, from_list, from_list_push, nat_cmp-IsAntisymmetric, nat_cmp, cases_Bool, append-nil, nat_tests, and_then, onto, each_of, Bytes, ascend_from, is_touched, Body, Node}
 use Rattle.std.specs.Cmp.{nat_cmp_total}
-use Rattle.std.proofs.lemmas.Bool.{cases_Bool}
-use Rattle.std.proofs.lemmas.List.{append-nil}
-use Rattle.std.proofs.lemmas.Bool.Decides.{nat_tests}
-use Rattle.pg_text.specs.Faults.{and_then, onto, each_of}
-use Rattle.pg_text.specs.Text.{Bytes, ascend_from}
-use Rattle.pg_game.specs.Game.{is_touched}
-use Rattle.pg_cert.specs.declared.node.Body.{Body}
-use Rattle.pg_cert.specs.declared.node.Node.{Node}
 use Rattle.pg_cert_files.specs.Form.{Shape}
 use Rattle.pg_cert_files.specs.NodeLine.{point_of, if_ascending, ascending_of, field_words, node_with}
 use Rattle.pg_cert_files.specs.Outline.{gathered_from, read_fields}

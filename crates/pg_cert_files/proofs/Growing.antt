@@ -1,16 +1,10 @@
 -- How a text that grows is cut into lines.
 use Rattle.std.proofs.Common.{◌≡◌, ℕ, ◌<◌, length, arith, Bool, true, false, List, [], ◌∷◌, ◌++◌, refl, sym, ap, ◌∙◌, append_assoc}
 use Rattle.std.specs.Prelude.{◌==◌, fold}
-use Rattle.std.specs.List.{AllByRecursion, slice_split, onto_first}
-use Rattle.std.proofs.lemmas.List.Splits.{length-slice_split, slice_split-cons_yes, slice_split-cons_no}
-use Rattle.std.proofs.lemmas.List.{append-nil}
-use Rattle.std.proofs.lemmas.List.Sums.{fold-append}
-use Rattle.pg_text.specs.Text.{Bytes, Lacks}
-use Rattle.pg_text.proofs.FirstLine.{is_feed}
+use Rattle.pg_cert_files.proofs.Common.{AllByRecursion, slice_split, onto_first, length-slice_split, slice_split-cons_yes, slice_split-cons_no, append-nil, fold-append, Bytes, Lacks, is_feed, recursion_from_All}
 use Rattle.pg_cert_files.specs.Lines.{Cut, with_byte, cut}
 use Rattle.pg_cert_files.specs.CertFile.{Seen, nothing, after, seen}
 use Rattle.pg_cert_files.specs.Reader.{told}
-use Rattle.std.proofs.lemmas.List.Elements.{recursion_from_All}
 
 abbrev pub HasNoFeed : Bytes → Type 0
 HasNoFeed bytes = AllByRecursion (λ b. (b == 10) ≡ false) bytes

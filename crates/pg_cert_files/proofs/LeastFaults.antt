@@ -1,14 +1,7 @@
 -- The fault of a line is the first of its table that applies.
 use Rattle.std.proofs.Common.{◌≡◌, ℕ, ◌+◌, Bool, true, false, ◌||◌, inl, inr, List, [], ◌∷◌, map, refl, sym, ap, ◌∙◌, Option, Some, None, Result, Ok, Err}
 use Rattle.std.specs.Prelude.{◌==◌, nat_lt, nat_le, not, is_none, is_err}
-use Rattle.std.specs.FinSet.{from_list}
-use Rattle.std.proofs.lemmas.Bool.{cases_Bool}
-use Rattle.pg_text.specs.Faults.{and_then, each_of, onto, least}
-use Rattle.pg_text.specs.Text.{Bytes, pair_of, two_parts, number}
-use Rattle.pg_text.specs.Text.{ascend_from}
-use Rattle.pg_game.specs.Game.{is_touched}
-use Rattle.pg_cert.specs.declared.cert.Version.{Version}
-use Rattle.pg_cert.specs.declared.node.Body.{Body}
+use Rattle.pg_cert_files.proofs.Common.{from_list, cases_Bool, and_then, each_of, onto, least, Bytes, pair_of, two_parts, number, ascend_from, is_touched, Version, Body}
 use Rattle.pg_cert.specs.declared.node.Body.TheVariants as bodies
 use Rattle.pg_cert_files.specs.declared.signs.TheConstants.{COLON, HYPHEN}
 use Rattle.pg_cert_files.specs.Form.{has_bar, only_word, Shape, shape_of}

@@ -1,3 +1,4 @@
+mod Common
 pub mod Odd
 pub mod Growing
 pub mod Stands

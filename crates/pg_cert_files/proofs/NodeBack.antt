@@ -1,44 +1,23 @@
 -- A printed node line is read again as the same node.
 use Rattle.std.proofs.Common.{◌≡◌, ℕ, zero, suc, ◌+◌, ◌-◌, ◌%◌, ◌<◌, ◌≤◌, lit<, Bool, true, false, inl, inr, List, [], ◌∷◌, ◌++◌, length, map, arith, refl, sym, ap, subst, ◌∙◌, Option, Some, Result, Ok}
 use Rattle.std.specs.Prelude.{◌==◌, nat_lt, nat_le, codes, is_some, slice_index}
-use Rattle.std.specs.FinSet.{FinSet, contains, from_list}
-use Rattle.std.specs.Fmt.{decimal}
-use Rattle.std.specs.List.{list_any, AllByRecursion}
+use Rattle.pg_cert_files.proofs.Common.{FinSet, contains, from_list, decimal, list_any, AllByRecursion, nat_cmp, cases_Bool, or_right, false≢true, nat_tests, length-map, length-append, All-from_recursion, recursion_from_All, and_then, Side}
 use Rattle.std.specs.List.Sorted.{IsStrictlyIncreasing}
-use Rattle.std.specs.Ordering.{nat_cmp}
-use Rattle.std.proofs.lemmas.Bool.{cases_Bool, or_right, false≢true}
-use Rattle.std.proofs.lemmas.Bool.Decides.{nat_tests}
-use Rattle.std.proofs.lemmas.List.{length-map, length-append}
 use Rattle.std.proofs.lemmas.Fmt.{decimal_is_IsNumeral, decimal_digit}
-use Rattle.std.proofs.lemmas.List.Elements.{All-from_recursion, recursion_from_All}
-use Rattle.pg_text.specs.Faults.{and_then}
-use Rattle.pg_base.specs.declared.side.Side.{Side}
 use Rattle.pg_base.specs.declared.side.Side.TheVariants as sides
-use Rattle.pg_base.specs.declared.pair.Pair.{Pair}
+use Rattle.pg_cert_files.proofs.Common.{Pair, Bytes, Lacks, parts, two_parts, four_parts, spaced, behind_spaces, is_touched, ArePoints, IsReply, IsPair, IsBody, IsTurn, IsNode, has_body, ascend_from, side_word, set_words, reply_word, pair_word, edge_words, body_name, body_words, body_text, turn_word}
 use Rattle.pg_base.specs.Points.{members}
 use Rattle.pg_base.proofs.MemberLemmas.{points_below-each, points_below-small, points_below-ascend, from_list-points_below}
-use Rattle.pg_text.specs.Text.{Bytes, Lacks, parts, two_parts, four_parts, spaced, behind_spaces}
-use Rattle.pg_game.specs.Game.{is_touched}
 use Rattle.pg_cert_files.specs.Form.{has_form, named_form, of_version, form_of, are_odd, each_has_one, is_slash, has_one_slash, fits, Shape, with_fields, turn_of, shape_of}
 use Rattle.pg_cert_files.specs.NodeLine.{ascending_of, field_words, reply_of, points_pair, word_reply, word_pair, is_e, begins_with_e, after_e, before_slash, after_slash, edges_with, edges_of, body_of, node_of, node_line}
-use Rattle.pg_cert.specs.Limits.{ArePoints, IsReply, IsPair, IsBody, IsTurn, IsNode, has_body}
-use Rattle.pg_text.specs.Text.{ascend_from}
-use Rattle.pg_base.specs.Side.{side_word}
-use Rattle.pg_cert.specs.Print.{set_words, reply_word, pair_word, edge_words, body_name, body_words, body_text, turn_word}
 use Rattle.pg_cert_files.specs.declared.fault.Fault.{Fault}
 use Rattle.pg_cert_files.specs.declared.form.Form.{Form}
 use Rattle.pg_cert_files.specs.declared.form.Form.TheVariants as forms
-use Rattle.pg_cert.specs.declared.cert.Version.{Version}
-use Rattle.pg_cert.specs.declared.cert.Version.TheVariants.{One, Two}
-use Rattle.pg_cert.specs.declared.node.Body.{Body}
+use Rattle.pg_cert_files.proofs.Common.{Version, One, Two, Body}
 use Rattle.pg_cert.specs.declared.node.Body.TheVariants as bodies
-use Rattle.pg_cert.specs.declared.node.Node.{Node}
-use Rattle.pg_cert.specs.declared.reply.Reply.{Reply}
+use Rattle.pg_cert_files.proofs.Common.{Node, Reply, just_two, four_three, all_append, all_map, decimal_not, two_decimals, IsPlain, IsQuiet, IsWord, decimal_is_word, word_quiet, spaced_quiet, words_spaced, quiet_text}
 use Rattle.pg_cert_files.specs.declared.values.Edges.{Edges}
-use Rattle.pg_text.proofs.Cuts.{just_two, four_three}
 use Rattle.pg_cert_files.proofs.NodeLimits.{odd_len, set_from, IsRead}
-use Rattle.pg_text.proofs.Decimals.{all_append, all_map, decimal_not, two_decimals}
-use Rattle.pg_text.proofs.PlainWords.{IsPlain, IsQuiet, IsWord, decimal_is_word, word_quiet, spaced_quiet, words_spaced, quiet_text}
 use Rattle.pg_cert_files.proofs.Words.{lacks_bar, point_decimal, child_decimal, each_back, points_back}
 
 -- ---- sets

@@ -1,36 +1,20 @@
 -- A node that is read is within the limits.
 use Rattle.std.proofs.Common.{◌≡◌, ℕ, suc, ◌-◌, ◌%◌, ◌<◌, ◌≤◌, Bool, true, false, cond, ◌⊎◌, inl, inr, List, [], ◌∷◌, length, map, arith, refl, sym, ap, subst, ◌∙◌, Option, Some, None, Result, Ok, Err}
 use Rattle.std.specs.Prelude.{IfOk, nat_lt, nat_le, nat_eq, not, ◌&&◌, ◌==◌, codes}
-use Rattle.std.specs.FinSet.{FinSet, contains, from_list, contains-from_list_nat}
-use Rattle.std.specs.List.{list_any, All, AllByRecursion}
-use Rattle.std.specs.Ordering.{nat_cmp}
-use Rattle.std.specs.Str.{bytes_eq}
-use Rattle.std.proofs.lemmas.Bool.{cases_Bool, ltb-true, or_cases, or_parts, false≢true}
-use Rattle.std.proofs.lemmas.Bool.Decides.{nat_tests}
-use Rattle.std.proofs.lemmas.List.Elements.{All-from_recursion}
-use Rattle.std.specs.Global.{Vec}
-use Rattle.pg_text.specs.declared.error.LineError.{LineError}
-use Rattle.pg_text.specs.Faults.{Gives, and_then, each_of, onto}
+use Rattle.pg_cert_files.proofs.Common.{FinSet, contains, from_list, contains-from_list_nat, list_any, All, AllByRecursion, nat_cmp, bytes_eq, cases_Bool, ltb-true, or_cases, or_parts, false≢true, nat_tests, All-from_recursion, Vec, LineError, Gives, and_then, each_of, onto}
 use Rattle.pg_base.specs.declared.side.Side.TheVariants as sides
-use Rattle.pg_base.specs.declared.pair.Pair.{Pair}
-use Rattle.pg_text.specs.Text.{Bytes, Four, parts, pair_of, two_parts, four_parts, number}
-use Rattle.pg_game.specs.Game.{is_touched}
+use Rattle.pg_cert_files.proofs.Common.{Pair, Bytes, Four, parts, pair_of, two_parts, four_parts, number, is_touched, ArePoints, IsReply, IsPair, IsBody, IsTurn, IsNode, has_body, ascend_from}
 use Rattle.pg_cert_files.specs.declared.signs.TheConstants.{COLON, HYPHEN}
 use Rattle.pg_cert_files.specs.declared.turn.TheConstants.{FEWEST, LETTER, MOST, ZERO}
 use Rattle.pg_cert_files.specs.Form.{several_of, turn_of, has_form, named_form, of_version, form_of, only_word, are_odd, fits, Shape, with_form, with_body, with_fields, shape_of, has_bar}
 use Rattle.pg_cert_files.specs.NodeLine.{below, point_of, child_of, both_of, if_ascending, ascending_of, field_words, reply_of, points_pair, move_of, weaker_of, word_reply, word_pair, replies_of, begins_with_e, after_e, before_slash, after_slash, edges_of, body_of, node_with, node_of, formed, node_line}
-use Rattle.pg_cert.specs.Limits.{ArePoints, IsReply, IsPair, IsBody, IsTurn, IsNode, has_body}
-use Rattle.pg_text.specs.Text.{ascend_from}
 use Rattle.pg_cert_files.specs.declared.fault.Fault.{Fault}
 use Rattle.pg_cert_files.specs.declared.fault.Fault.TheVariants as faults
 use Rattle.pg_cert_files.specs.declared.form.Form.{Form}
 use Rattle.pg_cert_files.specs.declared.form.Form.TheVariants as forms
-use Rattle.pg_cert.specs.declared.cert.Version.{Version}
-use Rattle.pg_cert.specs.declared.cert.Version.TheVariants.{One, Two}
-use Rattle.pg_cert.specs.declared.node.Body.{Body}
+use Rattle.pg_cert_files.proofs.Common.{Version, One, Two, Body}
 use Rattle.pg_cert.specs.declared.node.Body.TheVariants as bodies
-use Rattle.pg_cert.specs.declared.node.Node.{Node}
-use Rattle.pg_cert.specs.declared.reply.Reply.{Reply}
+use Rattle.pg_cert_files.proofs.Common.{Node, Reply}
 use Rattle.pg_cert_files.specs.declared.turn.Turn.{Turn}
 use Rattle.pg_cert_files.specs.declared.values.Edges.{Edges}
 

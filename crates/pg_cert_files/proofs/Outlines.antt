@@ -1,24 +1,11 @@
 -- A line that is read by its outline is read as its form and its numbers say.
 use Rattle.std.proofs.Common.{◌≡◌, ◌∙◌, Bool, true, false, List, [], ◌∷◌, ◌++◌, ℕ, ◌+◌, ◌<◌, append_assoc, Result, Ok, Err, Option, Some, None, refl, sym, ap, subst, inl, inr, arith}
 use Rattle.std.specs.Prelude.{nat_lt, ◌||◌, ◌==◌, option_map, ◌&&◌, if◌then◌else◌}
-use Rattle.std.specs.List.{list_any, AllByRecursion}
-use Rattle.std.specs.Borrow.{Bor}
-use Rattle.std.specs.FinSet.{FinSet, contains, insert}
-use Rattle.std.specs.Ordering.{nat_cmp}
-use Rattle.std.proofs.lemmas.Bool.{cases_Bool, or_parts}
-use Rattle.std.proofs.lemmas.Bool.Decides.{nat_tests}
-use Rattle.std.proofs.lemmas.List.{append-nil}
-use Rattle.std.proofs.lemmas.List.Elements.{All-from_recursion}
-use Rattle.pg_cert.specs.declared.cert.Version.{Version}
-use Rattle.pg_cert.specs.declared.node.Body.{Body}
-use Rattle.pg_cert.specs.declared.node.Node.{Node}
-use Rattle.pg_cert.specs.declared.part.Part.{Part}
+use Rattle.pg_cert_files.proofs.Common.{list_any, AllByRecursion, Bor, FinSet, contains, insert, nat_cmp, cases_Bool, or_parts, nat_tests, append-nil, All-from_recursion, Version, Body, Node, Part}
 use Rattle.pg_cert.specs.declared.part.Part.TheVariants as part
-use Rattle.pg_text.specs.Faults.{Gives, and_then, onto, each_of, following}
-use Rattle.pg_text.specs.declared.error.LineError.{LineError}
+use Rattle.pg_cert_files.proofs.Common.{Gives, and_then, onto, each_of, following, LineError}
 use Rattle.pg_text.specs.declared.error.LineError.TheVariants as errors
-use Rattle.pg_text.proofs.Cuts.{four_none}
-use Rattle.pg_text.specs.Text.{Bytes, Four, parts, four_parts, words_of}
+use Rattle.pg_cert_files.proofs.Common.{four_none, Bytes, Four, parts, four_parts, words_of}
 use Rattle.pg_cert_files.specs.declared.signs.TheConstants.{COLON, HYPHEN}
 use Rattle.pg_cert_files.specs.Form.{has_bar, form_of, turn_of, each_has_one, fits, Shape, with_form, with_body, with_fields, shape_of}
 use Rattle.pg_cert_files.specs.NodeLine.{point_of, ascending_of, field_words, word_reply, word_pair, body_of, node_with, formed, node_line}

@@ -1,22 +1,8 @@
 -- Words that say pairs, one after the other.
 use Rattle.std.proofs.Common.{◌≡◌, ◌∙◌, ℕ, ◌<◌, Bool, true, false, List, [], ◌∷◌, ◌++◌, length, append_assoc, Result, Ok, Err, Some, refl, sym, ap, subst, inl, inr, arith}
 use Rattle.std.specs.Prelude.{◌||◌, ◌&&◌, ◌==◌, eqb}
-use Rattle.std.specs.FinSet.{FinSet, contains, empty, insert}
-use Rattle.std.specs.List.{list_any, list_all, AllByRecursion, slice_split, onto_first, join_with_byte}
-use Rattle.std.specs.Ordering.{nat_cmp}
-use Rattle.std.proofs.lemmas.Bool.{cases_Bool, or_left, or_right, eqb-true}
-use Rattle.std.proofs.lemmas.Bool.Decides.{nat_tests}
-use Rattle.std.specs.FinSet.{contains-empty}
+use Rattle.pg_cert_files.proofs.Common.{FinSet, contains, empty, insert, list_any, list_all, AllByRecursion, slice_split, onto_first, join_with_byte, nat_cmp, cases_Bool, or_left, or_right, eqb-true, nat_tests, contains-empty, length-append, All-from_recursion, list_all-append, list_any-append, join_with_byte-slice_split, slice_split-cons_yes, slice_split-cons_no, Pair, has_point, is_paired, onto, each_of, following, Bytes, parts, first_and_others, some_part}
 use Rattle.pg_base.specs.WordLemmas.{in_insert}
-use Rattle.std.proofs.lemmas.List.{length-append}
-use Rattle.std.proofs.lemmas.List.Elements.{All-from_recursion}
-use Rattle.std.proofs.lemmas.List.Folds.{list_all-append, list_any-append}
-use Rattle.std.proofs.lemmas.List.Splits.{join_with_byte-slice_split, slice_split-cons_yes, slice_split-cons_no}
-use Rattle.pg_base.specs.declared.pair.Pair.{Pair}
-use Rattle.pg_game.specs.Pairs.{has_point, is_paired}
-use Rattle.pg_text.specs.Faults.{onto, each_of, following}
-use Rattle.pg_text.specs.Text.{Bytes, parts}
-use Rattle.pg_text.proofs.Cuts.{first_and_others, some_part}
 use Rattle.pg_cert_files.specs.Form.{each_has_one}
 use Rattle.pg_cert_files.specs.NodeLine.{word_pair}
 use Rattle.pg_cert_files.specs.Numerals.{SaysFirst}

@@ -2,26 +2,10 @@
 -- are all of them.
 use Rattle.std.proofs.Common.{◌≡◌, ℕ, zero, suc, ◌+◌, ◌-◌, ◌<◌, ◌≤◌, cond, ◌||◌, inl, inr, List, [], ◌∷◌, ◌++◌, length, map, arith, refl, sym, ap, subst, ◌∙◌, append_assoc, Option, Some, None, Ok, Err}
 use Rattle.std.specs.Prelude.{◌==◌, nat_lt, nat_le, fold}
-use Rattle.std.specs.FinSet.{empty, contains-empty}
-use Rattle.std.specs.List.{AllByRecursion}
-use Rattle.std.specs.Ordering.{nat_cmp}
-use Rattle.std.proofs.lemmas.Bool.Decides.{nat_tests}
+use Rattle.pg_cert_files.proofs.Common.{empty, contains-empty, AllByRecursion, nat_cmp, nat_tests, append-nil, length-append, map-append, All-from_recursion, sum_by_push, fold-append, X, Bytes, number, lines, IsNode, IsClaim, IsOfVersion, IsWithinLimits, claim_parts, all_parts, BeginCert, Cert, Claim, Version, One, Two, Node, Part}
 use Rattle.std.proofs.lemmas.Grind.{flat_map-append}
-use Rattle.std.proofs.lemmas.List.{append-nil, length-append, map-append}
-use Rattle.std.proofs.lemmas.List.Elements.{All-from_recursion}
-use Rattle.std.proofs.lemmas.List.Sums.{sum_by_push, fold-append}
 use Rattle.pg_base.specs.declared.goal.Goal.TheVariants.{Win}
-use Rattle.pg_base.specs.declared.side.Side.TheVariants.{X}
-use Rattle.pg_text.specs.Text.{Bytes, number, lines}
-use Rattle.pg_cert.specs.Limits.{IsNode, IsClaim, IsOfVersion, IsWithinLimits}
-use Rattle.pg_cert.specs.Parts.{claim_parts, all_parts, BeginCert}
-use Rattle.pg_cert.specs.declared.cert.Cert.{Cert}
-use Rattle.pg_cert.specs.declared.cert.Claim.{Claim}
-use Rattle.pg_cert.specs.declared.cert.Version.{Version}
-use Rattle.pg_cert.specs.declared.cert.Version.TheVariants.{One, Two}
 use Rattle.pg_cert.specs.declared.node.Body.TheVariants.{Over}
-use Rattle.pg_cert.specs.declared.node.Node.{Node}
-use Rattle.pg_cert.specs.declared.part.Part.{Part}
 use Rattle.pg_cert.specs.declared.part.Part.TheVariants as parts
 use Rattle.pg_cert_files.specs.CertFile.{Step, headed, claimed, claim_step, numbered, counted, behind, node_step, step_due, step, Seen, nothing, listed, taken, goes_on, after, seen, end_fault, or_at_end, Gathered, last_claim, closed, with_part, none_gathered, gathered, fault_of, text_parts}
 use Rattle.pg_cert_files.specs.Form.{has_bar}

@@ -1,16 +1,9 @@
 -- A file that is read whole: a reader is fed all of it, and the parts are gathered.
 use Rattle.std.proofs.Common.{◌≡◌, ℕ, ◌-◌, ◌≤◌, List, ◌++◌, length, take, drop, arith, sym, ap, subst, ◌∙◌, append_assoc, Option, refl, Ok, Err}
 use Rattle.std.specs.Prelude.{fold}
-use Rattle.std.proofs.lemmas.List.{append-nil, nil_from_length, take_all, length-drop, take-append-drop}
-use Rattle.pg_text.specs.Text.{Bytes}
-use Rattle.pg_text.specs.declared.error.FileError.{FileError}
+use Rattle.pg_cert_files.proofs.Common.{append-nil, nil_from_length, take_all, length-drop, take-append-drop, Bytes, FileError}
 use Rattle.pg_text.specs.declared.error.FileError.TheVariants as outcomes
-use Rattle.pg_cert.specs.Limits.{IsWithinLimits}
-use Rattle.pg_cert.specs.Parts.{all_parts}
-use Rattle.pg_cert.specs.declared.cert.Claim.{Claim}
-use Rattle.pg_cert.specs.declared.cert.Version.{Version}
-use Rattle.pg_cert.specs.declared.cert.Cert.{Cert}
-use Rattle.pg_cert.specs.declared.part.Part.{Part}
+use Rattle.pg_cert_files.proofs.Common.{IsWithinLimits, all_parts, Claim, Version, Cert, Part}
 use Rattle.pg_cert_files.specs.CertFile.{Gathered, with_part, gathered, closed, listed, certificate}
 use Rattle.pg_cert_files.specs.Gatherer.{view}
 use Rattle.pg_cert_files.specs.Pieces.{parts_told, IsFed, AreAllParts, IsEnd}

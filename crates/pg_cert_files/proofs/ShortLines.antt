@@ -2,23 +2,11 @@
 -- common.
 use Rattle.std.proofs.Common.{◌≡◌, ◌∙◌, ◌⊎◌, ℕ, ◌-◌, Bool, true, false, List, [], ◌∷◌, ◌++◌, length, take, append_assoc, Result, Ok, Err, Option, Some, None, refl, sym, ap, subst, inl, inr, eqb-true, arith}
 use Rattle.std.specs.Prelude.{◌||◌, ◌&&◌, ◌==◌, if◌then◌else◌, codes}
-use Rattle.std.specs.FinSet.{from_list}
-use Rattle.std.specs.List.{list_any, AllByRecursion}
-use Rattle.std.proofs.lemmas.Bool.{cases_Bool, or_right}
-use Rattle.std.proofs.lemmas.List.{length-append}
-use Rattle.std.proofs.lemmas.List.Elements.{All-from_recursion, recursion_from_All}
-use Rattle.std.proofs.lemmas.List.Folds.{list_all-append, list_any-append}
-use Rattle.pg_base.specs.declared.pair.Pair.{Pair}
-use Rattle.pg_game.specs.Game.{is_touched}
-use Rattle.pg_cert.specs.declared.cert.Version.{Version}
-use Rattle.pg_cert.specs.declared.cert.Version.TheVariants.{One, Two}
+use Rattle.pg_cert_files.proofs.Common.{from_list, list_any, AllByRecursion, cases_Bool, or_right, length-append, All-from_recursion, recursion_from_All, list_all-append, list_any-append, Pair, is_touched, Version, One, Two}
 use Rattle.pg_cert.specs.declared.node.Body.TheVariants as bodies
 use Rattle.pg_cert.specs.declared.node.Node.{Node}
 use Rattle.pg_cert.specs.declared.part.Part.TheVariants as part
-use Rattle.pg_text.specs.Faults.{and_then, each_of, following}
-use Rattle.pg_text.specs.Text.{Bytes, Lacks, Four, parts, four_parts}
-use Rattle.pg_text.proofs.Cuts.{first_and_others, just_two, too_many, four_two, four_three}
-use Rattle.pg_text.proofs.Decimals.{all_append}
+use Rattle.pg_cert_files.proofs.Common.{and_then, each_of, following, Bytes, Lacks, Four, parts, four_parts, first_and_others, just_two, too_many, four_two, four_three, all_append}
 use Rattle.pg_cert_files.specs.CertFile.{behind, node_step}
 use Rattle.pg_cert_files.specs.Form.{has_bar, turn_of, each_has_one, Shape, with_form, with_body, shape_of}
 use Rattle.pg_cert_files.specs.NodeLine.{ascending_of, field_words, word_pair, node_with, node_of, formed, node_line}

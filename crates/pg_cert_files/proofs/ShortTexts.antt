@@ -1,20 +1,9 @@
 -- A text whose line in hand is cut short says the same, cut short, whatever comes behind it.
 use Rattle.std.proofs.Common.{◌≡◌, ◌∙◌, ℕ, ◌+◌, ◌-◌, ◌<◌, ◌≤◌, Bool, true, false, List, [], ◌∷◌, ◌++◌, length, map, append_assoc, Result, Ok, Err, Option, Some, None, refl, sym, ap, ap₂, subst, inl, inr, eqb-true, arith}
 use Rattle.std.specs.Prelude.{◌==◌, nat_lt, fold, option_map}
-use Rattle.std.specs.Global.{Vec}
-use Rattle.std.specs.List.{AllByRecursion}
-use Rattle.std.proofs.lemmas.Bool.{cases_Bool}
-use Rattle.std.proofs.lemmas.Bool.Decides.{nat_tests}
-use Rattle.std.proofs.lemmas.List.{append-nil, length-append, map-append, map_push}
-use Rattle.std.proofs.lemmas.List.Elements.{All-from_recursion}
-use Rattle.std.proofs.lemmas.List.Sums.{fold-append}
-use Rattle.pg_cert.specs.declared.cert.Claim.{Claim}
-use Rattle.pg_cert.specs.declared.cert.Version.{Version}
-use Rattle.pg_cert.specs.declared.node.Node.{Node}
-use Rattle.pg_cert.specs.declared.part.Part.{Part}
+use Rattle.pg_cert_files.proofs.Common.{Vec, AllByRecursion, cases_Bool, nat_tests, append-nil, length-append, map-append, map_push, All-from_recursion, fold-append, Claim, Version, Node, Part}
 use Rattle.pg_cert.specs.declared.part.Part.TheVariants as parts
-use Rattle.pg_text.specs.Text.{Bytes, Lacks, lines}
-use Rattle.pg_text.proofs.Decimals.{all_append}
+use Rattle.pg_cert_files.proofs.Common.{Bytes, Lacks, lines, all_append}
 use Rattle.pg_cert_files.specs.CertFile.{Step, Seen, nothing, step, node_step, taken, after, seen, listed, or_at_end, outcome, Gathered, last_claim, closed, with_part, none_gathered, gathered, unless_faulty, certificate, fault_of, text_version, text_parts}
 use Rattle.pg_cert_files.specs.Lines.{Cut, with_byte, cut}
 use Rattle.pg_cert_files.specs.Pieces.{IsFed, size_of}

@@ -1,11 +1,7 @@
 -- The version of a text whose end is reached is that of its whole lines.
 use Rattle.std.proofs.Common.{◌≡◌, ℕ, ◌+◌, ◌-◌, cond, ◌⊎◌, inl, inr, List, [], ◌∷◌, length, arith, refl, sym, ap, subst, ◌∙◌, Option, Some, None, Result, Ok, Err}
 use Rattle.std.specs.Prelude.{◌==◌, ◌||◌, nat_lt, nat_le}
-use Rattle.std.proofs.lemmas.Bool.{cases_lt}
-use Rattle.pg_text.specs.Text.{Bytes, number, lines}
-use Rattle.pg_cert.specs.declared.cert.Cert.{Cert}
-use Rattle.pg_cert.specs.declared.cert.Version.{Version}
-use Rattle.pg_cert.specs.declared.part.Part.{Part}
+use Rattle.pg_cert_files.proofs.Common.{cases_lt, Bytes, number, lines, Cert, Version, Part}
 use Rattle.pg_cert.specs.declared.part.Part.TheVariants as parts
 use Rattle.pg_cert_files.specs.CertFile.{Step, headed, claimed, numbered, counted, behind, step_due, step, Seen, taken, after, seen, end_fault, at_number, or_at_end, outcome, gathered, fault_of, text_version, text_parts, unless_faulty, certificate}
 use Rattle.pg_cert_files.specs.Form.{has_bar}

@@ -1,14 +1,7 @@
 -- A text that grows, within the limit of a file and past it.
 use Rattle.std.proofs.Common.{◌≡◌, ℕ, ◌+◌, ◌-◌, ◌<◌, ◌≤◌, true, false, inl, inr, List, [], ◌++◌, length, take, arith, refl, sym, ap, subst, ◌∙◌, Option, Some, None, Result, Ok, Err}
 use Rattle.std.specs.Prelude.{nat_lt, is_some, IfOk, IfSome, IfNone, IsErrAnd}
-use Rattle.std.proofs.lemmas.Bool.{cases_lt}
-use Rattle.std.proofs.lemmas.Bool.Decides.{nat_tests}
-use Rattle.std.proofs.lemmas.List.{append-nil, take_all, length-append, length-take-le, take-append-le, take-take}
-use Rattle.std.proofs.Math.Seq.{take-append-add}
-use Rattle.pg_text.specs.Text.{Bytes}
-use Rattle.pg_cert.specs.declared.part.Part.{Part}
-use Rattle.pg_cert.specs.Parts.{BeginCert}
-use Rattle.pg_text.specs.declared.error.FileError.{FileError}
+use Rattle.pg_cert_files.proofs.Common.{cases_lt, nat_tests, append-nil, take_all, length-append, length-take-le, take-append-le, take-take, take-append-add, Bytes, Part, BeginCert, FileError}
 use Rattle.pg_text.specs.declared.error.FileError.TheVariants as outcomes
 use Rattle.pg_cert_files.specs.CertFile.{listed, fault_of, file_fault, text_version, text_parts, gathered, closed, unless_faulty, certificate}
 use Rattle.pg_cert_files.specs.Lines.{cut}

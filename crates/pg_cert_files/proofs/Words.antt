@@ -1,16 +1,9 @@
 -- The bar stands in no printed text of words, and printed points are read again.
 use Rattle.std.proofs.Common.{◌≡◌, ℕ, ◌<◌, true, false, List, [], ◌∷◌, map, arith, refl}
 use Rattle.std.specs.Prelude.{◌==◌, nat_lt, Result, Ok}
-use Rattle.std.specs.Fmt.{decimal}
-use Rattle.std.specs.List.{AllByRecursion}
-use Rattle.std.proofs.lemmas.Bool.Decides.{nat_tests}
-use Rattle.std.proofs.lemmas.List.Elements.{All-from_recursion}
-use Rattle.pg_text.specs.Faults.{each_of}
-use Rattle.pg_text.specs.Text.{Bytes, Lacks}
+use Rattle.pg_cert_files.proofs.Common.{decimal, AllByRecursion, nat_tests, All-from_recursion, each_of, Bytes, Lacks, all_of, number_decimal, IsQuiet}
 use Rattle.pg_cert_files.specs.NodeLine.{point_of, child_of}
 use Rattle.pg_cert_files.specs.declared.fault.Fault.{Fault}
-use Rattle.pg_text.proofs.Decimals.{all_of, number_decimal}
-use Rattle.pg_text.proofs.PlainWords.{IsQuiet}
 
 no_bar : (b : ℕ) → IsQuiet b → (b == 124) ≡ false
 no_bar b h = grind (arith, nat_tests, h.1)

@@ -1,8 +1,6 @@
 -- What the first fault of a file is, in words of its lines.
 use Rattle.std.specs.Prelude.{◌≡◌, ℕ, ◌+◌, ◌<◌, ◌⊎◌, ◌||◌, ◌==◌, Bool, true, false, not, nat_lt, nat_le, is_none, is_err, List, [], ◌∷◌, ◌++◌, length, Option, Some, None, Err}
-use Rattle.pg_text.specs.Text.{Bytes, number, lines}
-use Rattle.pg_text.specs.Faults.{least}
-use Rattle.pg_cert.specs.declared.limits.TheConstants.{MAX_CLAIMS, MAX_CLAIM_NODES, MAX_NODES}
+use Rattle.pg_cert_files.specs.Prelude.{Bytes, number, lines, least, MAX_CLAIMS, MAX_CLAIM_NODES, MAX_NODES}
 use Rattle.pg_cert_files.specs.declared.limits.TheConstants.{MAX_CERT_BYTES}
 use Rattle.pg_cert_files.specs.Form.{has_bar, Shape, shape_of}
 use Rattle.pg_cert_files.specs.NodeLine.{node_of}

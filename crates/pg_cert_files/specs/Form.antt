@@ -1,12 +1,6 @@
 -- The form of a node line, save for its numbers.
 use Rattle.std.specs.Prelude.{ℕ, ◌-◌, Bool, true, false, not, ◌&&◌, nat_le, ◌==◌, if◌then◌else◌, List, [], ◌∷◌, Option, Some, None, is_some, codes}
-use Rattle.std.specs.List.{list_all, list_any}
-use Rattle.std.specs.Str.{bytes_eq}
-use Rattle.pg_base.specs.declared.signs.TheConstants.{BAR, SPACE}
-use Rattle.pg_base.specs.declared.side.Side.TheVariants.{X, Y}
-use Rattle.pg_cert.specs.declared.cert.Version.{Version}
-use Rattle.pg_cert.specs.declared.cert.Version.TheVariants.{One}
-use Rattle.pg_text.specs.Text.{Bytes, Four, parts, pair_of, two_parts, four_parts}
+use Rattle.pg_cert_files.specs.Prelude.{list_all, list_any, bytes_eq, BAR, SPACE, X, Y, Version, One, Bytes, Four, parts, pair_of, two_parts, four_parts}
 use Rattle.pg_cert_files.specs.declared.signs.TheConstants.{COLON, HYPHEN}
 use Rattle.pg_cert_files.specs.declared.form.Form.{Form}
 use Rattle.pg_cert_files.specs.declared.form.Form.TheVariants as forms

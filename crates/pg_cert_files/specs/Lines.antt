@@ -1,15 +1,7 @@
 -- A text as its whole lines and what stands behind them, and what first lines, claim lines and
 -- `nodes` lines say.
 use Rattle.std.specs.Prelude.{ℕ, ◌==◌, if◌then◌else◌, List, [], ◌∷◌, ◌++◌, fold, Option, Some, None, codes}
-use Rattle.std.specs.Str.{bytes_eq}
-use Rattle.pg_cert.specs.declared.cert.Version.{Version}
-use Rattle.pg_cert.specs.declared.cert.Version.TheVariants.{One, Two}
-use Rattle.pg_base.specs.declared.signs.TheConstants.{LINE_FEED, SPACE}
-use Rattle.pg_base.specs.declared.side.Side.{Side}
-use Rattle.pg_base.specs.declared.goal.Goal.{Goal}
-use Rattle.pg_base.specs.Goal.{goal_of}
-use Rattle.pg_text.specs.Text.{Bytes, Four, two_parts, four_parts}
-use Rattle.pg_base.specs.Side.{side_of}
+use Rattle.pg_cert_files.specs.Prelude.{bytes_eq, Version, One, Two, LINE_FEED, SPACE, Side, Goal, goal_of, Bytes, Four, two_parts, four_parts, side_of}
 use Rattle.pg_cert_files.specs.declared.head.Head.{Head}
 
 -- a text as its whole lines, and what stands after the last line feed

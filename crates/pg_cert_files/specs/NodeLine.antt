@@ -1,15 +1,6 @@
 -- What a node line says.
 use Rattle.std.specs.Prelude.{ℕ, Bool, false, not, nat_lt, ◌==◌, if◌then◌else◌, List, [], ◌∷◌, length, map, Option, Some, None, Result, Ok, Err, codes}
-use Rattle.std.specs.Str.{bytes_eq}
-use Rattle.std.specs.FinSet.{from_list}
-use Rattle.pg_base.specs.declared.signs.TheConstants.{SPACE}
-use Rattle.pg_text.specs.Faults.{and_then, each_of}
-use Rattle.pg_base.specs.declared.limits.TheConstants.{MAX_MEMBERS}
-use Rattle.pg_base.specs.declared.pair.Pair.{Pair}
-use Rattle.pg_text.specs.Text.{Bytes, parts, pair_of, two_parts, number, ascend_from}
-use Rattle.pg_game.specs.Game.{is_touched}
-use Rattle.pg_cert.specs.declared.limits.TheConstants.{MAX_CLAIM_NODES}
-use Rattle.pg_cert.specs.declared.cert.Version.{Version}
+use Rattle.pg_cert_files.specs.Prelude.{bytes_eq, from_list, SPACE, and_then, each_of, MAX_MEMBERS, Pair, Bytes, parts, pair_of, two_parts, number, ascend_from, is_touched, MAX_CLAIM_NODES, Version}
 use Rattle.pg_cert_files.specs.declared.signs.TheConstants.{COLON, HYPHEN}
 use Rattle.pg_cert_files.specs.Form.{has_bar, only_word, is_slash, Shape, shape_of}
 use Rattle.pg_cert_files.specs.declared.fault.Fault.{Fault}
@@ -18,8 +9,7 @@ use Rattle.pg_cert_files.specs.declared.form.Form.{Form}
 use Rattle.pg_cert_files.specs.declared.form.Form.TheVariants as forms
 use Rattle.pg_cert.specs.declared.node.Body.{Body}
 use Rattle.pg_cert.specs.declared.node.Body.TheVariants as bodies
-use Rattle.pg_cert.specs.declared.node.Node.{Node}
-use Rattle.pg_cert.specs.declared.reply.Reply.{Reply}
+use Rattle.pg_cert_files.specs.Prelude.{Node, Reply}
 use Rattle.pg_cert_files.specs.declared.values.Edges.{Edges}
 
 -- the number of a word, if it is below a limit

@@ -1,11 +1,6 @@
 -- Numbers that stand at the front of a text, and the word that they make.
 use Rattle.std.specs.Prelude.{◌≡◌, ℕ, ◌≤◌, true, is_some, ◌∷◌, ◌++◌, length, take, Option, Some, None, Result, Ok}
-use Rattle.std.specs.Char.{is_ascii_digit}
-use Rattle.std.specs.List.{list_all}
-use Rattle.std.specs.Str.Parse.{digits_value}
-use Rattle.pg_base.specs.declared.signs.TheConstants.{SPACE}
-use Rattle.pg_text.specs.Text.{Bytes, parts, words_of, number, two_parts}
-use Rattle.pg_text.specs.declared.numbers.TheConstants.{MAX_DIGITS}
+use Rattle.pg_cert_files.specs.Prelude.{is_ascii_digit, list_all, digits_value, SPACE, Bytes, parts, words_of, number, two_parts, MAX_DIGITS}
 use Rattle.pg_cert_files.specs.declared.fault.Fault.{Fault}
 
 -- the text begins with so many digits, which write the number

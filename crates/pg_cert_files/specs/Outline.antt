@@ -1,19 +1,9 @@
 -- A node line that is cut where its signs stand, and read once: the body first, since its form
 -- comes before its numbers.
-use Rattle.std.specs.Borrow.{Bor}
 use Rattle.std.specs.Prelude.{◌≡◌, ℕ, ◌+◌, ◌||◌, nat_lt, if◌then◌else◌, List, [], ◌∷◌, map, Option, Some, None, option_map, Result, Ok, Err}
-use Rattle.std.specs.FinSet.{FinSet, contains, empty, insert}
-use Rattle.std.specs.Ordering.{nat_cmp}
-use Rattle.pg_base.specs.declared.signs.TheConstants.{BAR, SPACE}
-use Rattle.pg_cert.specs.declared.cert.Version.{Version}
-use Rattle.pg_cert.specs.declared.node.Body.{Body}
-use Rattle.pg_cert.specs.declared.node.Node.{Node}
-use Rattle.pg_cert.specs.declared.part.Part.{Part}
+use Rattle.pg_cert_files.specs.Prelude.{Bor, FinSet, contains, empty, insert, nat_cmp, BAR, SPACE, Version, Body, Node, Part}
 use Rattle.pg_cert.specs.declared.part.Part.TheVariants as part
-use Rattle.pg_cert.specs.declared.reply.Reply.{Reply}
-use Rattle.pg_text.specs.Faults.{Fails, and_then, each_of}
-use Rattle.pg_text.specs.Text.{Bytes, Four, parts, four_parts, words_of}
-use Rattle.pg_text.specs.declared.error.LineError.{LineError}
+use Rattle.pg_cert_files.specs.Prelude.{Reply, Fails, and_then, each_of, Bytes, Four, parts, four_parts, words_of, LineError}
 use Rattle.pg_cert_files.specs.declared.signs.TheConstants.{COLON}
 use Rattle.pg_cert_files.specs.Form.{form_of, turn_of, each_has_one, fits, Shape}
 use Rattle.pg_cert_files.specs.NodeLine.{point_of, field_words, if_ascending, word_reply, body_of}

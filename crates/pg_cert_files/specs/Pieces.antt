@@ -1,12 +1,8 @@
 -- What a reader of a certificate that comes in pieces stands for.
 use Rattle.std.specs.Prelude.{◌≡◌, ℕ, ◌+◌, ◌≤◌, nat_lt, if◌then◌else◌, List, ◌++◌, length, take, Option, Result, Ok, Err, IsErrAnd}
-use Rattle.pg_text.specs.Text.{Bytes}
-use Rattle.pg_text.specs.declared.error.FileError.{FileError}
+use Rattle.pg_cert_files.specs.Prelude.{Bytes, FileError}
 use Rattle.pg_text.specs.declared.error.FileError.TheVariants as outcomes
-use Rattle.pg_cert.specs.Limits.{IsWithinLimits}
-use Rattle.pg_cert.specs.Parts.{parts_of}
-use Rattle.pg_cert.specs.declared.cert.Cert.{Cert}
-use Rattle.pg_cert.specs.declared.part.Part.{Part}
+use Rattle.pg_cert_files.specs.Prelude.{IsWithinLimits, parts_of, Cert, Part}
 use Rattle.pg_cert_files.specs.CertFile.{certificate, listed}
 use Rattle.pg_cert_files.specs.Reader.{StandsFor, told}
 use Rattle.pg_cert_files.specs.Views.{number_of}

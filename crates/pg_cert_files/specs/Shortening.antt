@@ -1,12 +1,6 @@
 -- A line of pairs of which some may be left out.
 use Rattle.std.specs.Prelude.{◌≡◌, ℕ, ◌+◌, ◌<◌, true, List, ◌++◌, ◌∷◌, length, Option, Result, Ok, Err, option_map, codes}
-use Rattle.std.specs.FinSet.{FinSet, contains}
-use Rattle.std.specs.Ordering.{nat_cmp}
-use Rattle.pg_base.specs.declared.pair.Pair.{Pair}
-use Rattle.pg_base.specs.declared.signs.TheConstants.{BAR, SPACE}
-use Rattle.pg_game.specs.Pairs.{is_paired}
-use Rattle.pg_text.specs.Faults.{each_of}
-use Rattle.pg_text.specs.Text.{Bytes, Lacks, parts}
+use Rattle.pg_cert_files.specs.Prelude.{FinSet, contains, nat_cmp, Pair, BAR, SPACE, is_paired, each_of, Bytes, Lacks, parts}
 use Rattle.pg_cert_files.specs.CertFile.{Step, node_step}
 use Rattle.pg_cert_files.specs.Form.{each_has_one}
 use Rattle.pg_cert_files.specs.NodeLine.{word_pair}

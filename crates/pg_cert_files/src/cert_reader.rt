@@ -1,8 +1,7 @@
 //! A certificate that is read as its bytes come.
 
 ghost use Rattle.std.specs.Prelude.{◌≡◌, ◌+◌, ◌-◌, ◌<◌, ◌≤◌, ◌++◌, [], List, ℕ, take, length, Ok, IfOk, IfSome, IfNone};
-ghost use Rattle.pg_cert.specs.Parts.{BeginCert};
-ghost use Rattle.pg_cert.specs.declared.cert.Cert.{Cert};
+ghost use Rattle.pg_cert_files.specs.Prelude.{BeginCert, Cert};
 ghost use Rattle.pg_cert_files.specs.CertFile.{certificate, listed};
 ghost use Rattle.pg_cert_files.specs.Pieces.{IsFed, IsEnd, parts_told};
 ghost use Rattle.pg_cert_files.specs.declared.limits.TheConstants.{MAX_CERT_BYTES};

@@ -1,8 +1,7 @@
 //! The form of a node line, save for its numbers.
 
 ghost use Rattle.std.specs.Prelude.{◌≡◌, ◌==◌, option_map};
-ghost use Rattle.std.specs.List.{list_any};
-ghost use Rattle.pg_text.specs.Text.{two_parts, pair_of, words_of};
+ghost use Rattle.pg_cert_files.specs.Prelude.{list_any, two_parts, pair_of, words_of};
 ghost use Rattle.pg_cert_files.specs.Form.{named_form, form_of, are_none, only_word, are_odd, each_has_one, is_slash, has_one_slash};
 ghost use Rattle.pg_cert_files.specs.Outline.{outline_of};
 

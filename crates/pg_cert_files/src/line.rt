@@ -1,8 +1,7 @@
 //! What single lines say.
 
 ghost use Rattle.std.specs.Prelude.{◌≡◌, ◌==◌, option_map, if◌then◌else◌, Ok, Err};
-ghost use Rattle.pg_text.specs.Faults.{Gives};
-ghost use Rattle.pg_text.specs.Text.{words_of};
+ghost use Rattle.pg_cert_files.specs.Prelude.{Gives, words_of};
 ghost use Rattle.pg_cert_files.specs.Form.{has_bar, are_none, has_one_slash};
 ghost use Rattle.pg_cert_files.specs.NodeLine.{edges_of, node_line};
 ghost use Rattle.pg_cert_files.specs.Outline.{formed_body, read_node, node_part};

@@ -1,8 +1,7 @@
 //! Numbers at the front of a text, each read in one walk over its digits.
 
 ghost use Rattle.std.specs.Prelude.{◌≡◌, ◌≢◌, ◌<◌, ◌-◌, true, false, Some, IfSome, length, get_or, option_map};
-ghost use Rattle.std.specs.Char.{is_ascii_digit};
-ghost use Rattle.pg_base.specs.declared.signs.TheConstants.{SPACE};
+ghost use Rattle.pg_cert_files.specs.Prelude.{is_ascii_digit, SPACE};
 ghost use Rattle.pg_cert_files.specs.Numerals.{BeginsWith, IsLeading, IsFirstNumber, IsNumberBefore, AreTwoNumbers};
 
 use pg_text::MAX_DIGITS;

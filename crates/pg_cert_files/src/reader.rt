@@ -1,8 +1,7 @@
 //! Reading in pieces.
 
 ghost use Rattle.std.specs.Prelude.{◌≡◌, ◌+◌, ◌-◌, ◌<◌, ◌≤◌, ◌^◌, ◌++◌, ◌∷◌, [], List, ℕ, take, length, IfOk, IfSome, IfNone};
-ghost use Rattle.pg_base.specs.declared.signs.TheConstants.{LINE_FEED};
-ghost use Rattle.pg_text.specs.Text.{Lacks};
+ghost use Rattle.pg_cert_files.specs.Prelude.{LINE_FEED, Lacks};
 ghost use Rattle.pg_cert_files.specs.Steps.{Steps};
 ghost use Rattle.pg_cert_files.specs.CertFile.{step, listed, outcome, fault_of, text_parts};
 ghost use Rattle.pg_cert_files.specs.Reader.{StandsFor, told, IsLinesEnd};

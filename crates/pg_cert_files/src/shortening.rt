@@ -1,8 +1,7 @@
 //! A line of pairs that is in hand, cut short while it comes.
 
-ghost use Rattle.std.specs.FinSet.{contains};
 ghost use Rattle.std.specs.Prelude.{◌≡◌, ◌||◌, ◌<◌, ◌≤◌, ◌∷◌, [], List, ℕ, length, IfOk, IfSome};
-ghost use Rattle.pg_base.specs.declared.limits.TheConstants.{MAX_MEMBERS};
+ghost use Rattle.pg_cert_files.specs.Prelude.{contains, MAX_MEMBERS};
 ghost use Rattle.pg_cert_files.specs.Shortening.{ArePairs, EndsInClash, EndsInPairs, IsFront, IsSpare, StandsShort};
 ghost use Rattle.pg_cert_files.specs.Shortened.{HasBeenFed, IsFedShort};
 ghost use Rattle.pg_cert_files.specs.Reader.{StandsFor};

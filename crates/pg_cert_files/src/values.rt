@@ -1,12 +1,7 @@
 //! The numbers of a node line.
 
 ghost use Rattle.std.specs.Prelude.{◌≡◌, ◌<◌, map, IfOk, IfSome, option_map};
-ghost use Rattle.std.specs.FinSet.{empty};
-ghost use Rattle.std.specs.List.{All};
-ghost use Rattle.pg_text.specs.Text.{number, parts, two_parts, words_of, ascend_from};
-ghost use Rattle.pg_base.specs.declared.limits.TheConstants.{MAX_MEMBERS};
-ghost use Rattle.pg_base.specs.declared.signs.TheConstants.{SPACE};
-ghost use Rattle.pg_text.specs.Faults.{Gives, each_of};
+ghost use Rattle.pg_cert_files.specs.Prelude.{empty, All, number, parts, two_parts, words_of, ascend_from, MAX_MEMBERS, SPACE, Gives, each_of};
 ghost use Rattle.pg_cert_files.specs.declared.signs.TheConstants.{COLON, HYPHEN};
 ghost use Rattle.pg_cert_files.specs.NodeLine.{below, point_of, child_of, ascending_of, field_words, word_reply, word_pair, begins_with_e, after_e, before_slash, after_slash, edges_of};
 ghost use Rattle.pg_cert_files.specs.Numerals.{SaysFirst};

@@ -1,26 +1,13 @@
 -- One part more, by what stands for the parts before.
 use Rattle.std.proofs.Common.{◌≡◌, ◌∙◌, ℕ, zero, suc, ◌+◌, ◌<◌, ◌≤◌, List, [], ◌∷◌, ◌++◌, length, map, drop, take, false, true, Option, Some, None, refl, sym, ap, subst, arith}
-use Rattle.std.proofs.lemmas.Option.{slice_get_within}
-use Rattle.pg_game.specs.declared.game.Game.{Game}
-use Rattle.pg_game.specs.declared.position.Position.{Position}
-use Rattle.std.proofs.lemmas.List.{length-append}
-use Rattle.pg_cert.specs.Node.{position_of}
-use Rattle.pg_cert.specs.NodeFault.{fault_number}
-use Rattle.pg_cert.specs.Valid.{IsSound, IsFirstFault, AreSoundBefore, IsValid, IsValidClaim}
-use Rattle.pg_cert.specs.declared.cert.Cert.{Cert}
-use Rattle.pg_cert.specs.declared.cert.Claim.{Claim}
-use Rattle.pg_cert.specs.declared.node.Node.{Node}
-use Rattle.pg_cert.specs.declared.node_fault.NodeFault.{NodeFault}
 use Rattle.std.specs.Prelude.{is_some}
-use Rattle.pg_cert.specs.Limits.{IsWithinLimits, IsNode}
+use Rattle.pg_check.proofs.Common.{slice_get_within, Game, Position, length-append, position_of, fault_number, IsSound, IsFirstFault, AreSoundBefore, IsValid, IsValidClaim, Cert, Claim, Node, NodeFault, IsWithinLimits, IsNode, all_parts, parts_of, Part}
 use Rattle.pg_check.specs.Checking.{AreValidBefore, IsInHand, AreNext, Stands, StandsFor}
 use Rattle.pg_check.specs.Tester.{IsReadyFor}
 use Rattle.pg_check.specs.declared.checking.Checking.{Checking}
 use Rattle.pg_check.specs.declared.checking.Rejected.{Rejected}
-use Rattle.pg_cert.specs.Parts.{all_parts, parts_of}
 use Rattle.pg_check.specs.Marks.{kept, AreMarksOf}
 use Rattle.pg_check.specs.Present.{IsSoundSoFar, IsLeastSoFar, IsKnownOf}
-use Rattle.pg_cert.specs.declared.part.Part.{Part}
 use Rattle.pg_cert.specs.declared.part.Part.TheVariants as parts
 use Rattle.pg_check.specs.declared.present.Present.{Present}
 use Rattle.pg_check.proofs.ClaimLemmas.{one_more, up_to_end}

@@ -1,11 +1,6 @@
 -- A valid certificate has no first fault, and any other has one at most.
 use Rattle.std.proofs.Common.{◌≡◌, ◌∙◌, ℕ, ◌<◌, Some, slice_get, sym, subst, inl, inr, arith}
-use Rattle.std.proofs.lemmas.Bool.{cases_order}
-use Rattle.pg_game.specs.declared.game.Game.{Game}
-use Rattle.pg_cert.specs.declared.cert.Cert.{Cert}
-use Rattle.pg_cert.specs.declared.cert.Claim.{Claim}
-use Rattle.pg_cert.specs.declared.node.Node.{Node}
-use Rattle.pg_cert.specs.Valid.{AreSoundBefore, IsFirstFault, IsLeastFault, IsValid}
+use Rattle.pg_check.proofs.Common.{cases_order, Game, Cert, Claim, Node, AreSoundBefore, IsFirstFault, IsLeastFault, IsValid}
 
 pub no_fault : (g : Game) (c : Cert) → IsValid g c → (i k w : ℕ) → IsFirstFault g c i k w → ⊥
 no_fault g c valid i k w h =

@@ -1,25 +1,11 @@
 -- The rows of positions in few words.
+use Rattle.pg_check.proofs.Common.{FinSet, range_with_len, nat_cmp, cases_eq, false≢true, append_assoc, append-nil, length-append, length-take-le, length-drop, get_or_append_left, get_or-append-add, get_or-drop, get_or-take, slice_get-get_or, slice_get_within, AreBelow, word_of, words_of, word_below-lt, word_of-members, members-of_words, members-same, is_same_side, Side, X, Y, point_count, Game, Position}
 use lib.Pointwise.{pointwise}
 use Rattle.std.proofs.Common.{Bool, true, false, IsTrue, nat_eq, zero, ◌≡◌, ◌∙◌, ℕ, suc, ◌+◌, ◌*◌, ◌^◌, ◌<◌, ◌≤◌, List, [], ◌∷◌, ◌++◌, length, map, take, drop, get_or, Some, slice_get, refl, sym, ap, ap₂, subst, inl, inr, arith, ext_get_or}
-use Rattle.std.specs.FinSet.{FinSet}
-use Rattle.std.specs.List.{range_with_len}
-use Rattle.std.specs.Ordering.{nat_cmp}
-use Rattle.std.proofs.lemmas.Bool.{cases_eq, false≢true}
 use Rattle.std.specs.Cmp.Lexicographic.{same_text, other_text}
-use Rattle.std.proofs.lemmas.List.{append_assoc, append-nil, length-append, length-take-le, length-drop, get_or_append_left, get_or-append-add, get_or-drop, get_or-take}
 use Rattle.std.proofs.Math.Nat.{mul-suc, mul-le-mul_left}
 use Rattle.std.proofs.Math.Seq.{get_or-append_seam}
 use Rattle.std.proofs.lemmas.List.FromFn.{get_or-map-range_with_len, length-map-range_with_len}
-use Rattle.std.proofs.lemmas.Option.{slice_get-get_or, slice_get_within}
-use Rattle.pg_base.specs.Points.{AreBelow}
-use Rattle.pg_base.specs.Words.{word_of, words_of}
-use Rattle.pg_base.specs.WordLemmas.{word_below-lt, word_of-members, members-of_words, members-same}
-use Rattle.pg_base.specs.Side.{is_same_side}
-use Rattle.pg_base.specs.declared.side.Side.{Side}
-use Rattle.pg_base.specs.declared.side.Side.TheVariants.{X, Y}
-use Rattle.pg_game.specs.Game.{point_count}
-use Rattle.pg_game.specs.declared.game.Game.{Game}
-use Rattle.pg_game.specs.declared.position.Position.{Position}
 use Rattle.pg_check.specs.Marks.{set_at, no_turn, position_at, kept, AreFlat, AreMarksOf}
 use Rattle.pg_check.specs.declared.marks.Marks.{Marks}
 use Rattle.pg_check.specs.declared.marks.Turn.{Turn}

@@ -1,44 +1,20 @@
 -- Every node of a valid claim is forced, by induction on its number.
 use Rattle.std.proofs.Common.{◌≡◌, ◌∙◌, ℕ, zero, suc, ◌+◌, ◌<◌, true, ◌&&◌, ◌==◌, List, [], ◌∷◌, Some, slice_get, length, map, get_or, refl, sym, ap, subst, inl, inr, arith, eqb, eqb-true, eq-eqb}
-use Rattle.std.specs.List.{list_any, All as Each}
-use Rattle.std.specs.FinSet.{FinSet}
-use Rattle.std.specs.Ordering.{nat_cmp}
-use Rattle.std.proofs.lemmas.List.{get_or_default}
-use Rattle.std.proofs.lemmas.Option.{slice_get_within, slice_get-get_or}
-use Rattle.std.proofs.lemmas.Bool.{cases_Bool, and_parts, false≢true}
-use Rattle.pg_base.specs.declared.goal.Goal.{Goal}
+use Rattle.pg_check.proofs.Common.{list_any, FinSet, nat_cmp, get_or_default, slice_get_within, slice_get-get_or, cases_Bool, and_parts, false≢true, Goal, Kind, MakerBreaker, MakerMaker, AvoiderEnforcer, Switching, Side, X, Y, Game, Position, is_free, point_count, free_points, after, with_turn, IsPosition, Forces, may_attack, IsThreatLine, Forces-threat, TreesHold, CutsHold, Claim, Cert, Node, Body, Over, Move, Pairs, Potential, Trees, Cuts, Threat, Weaker, Reply}
+use Rattle.std.specs.List.{All as Each}
 use Rattle.pg_base.specs.declared.goal.Goal.TheVariants.{Win, Draw as AtLeastDraw}
-use Rattle.pg_base.specs.declared.kind.Kind.{Kind}
-use Rattle.pg_base.specs.declared.kind.Kind.TheVariants.{MakerBreaker, MakerMaker, AvoiderEnforcer, Switching}
 use Rattle.pg_base.specs.declared.pair.Pair.{Pair}
-use Rattle.pg_base.specs.declared.side.Side.{Side}
-use Rattle.pg_base.specs.declared.side.Side.TheVariants.{X, Y}
-use Rattle.pg_game.specs.declared.game.Game.{Game}
-use Rattle.pg_game.specs.declared.position.Position.{Position}
-use Rattle.pg_game.specs.Position.{is_free}
-use Rattle.pg_game.specs.Game.{point_count, free_points, after, with_turn, IsPosition}
-use Rattle.pg_game.specs.Value.{Forces}
 use Rattle.pg_game.specs.Pairs.{PairsHold}
 use Rattle.pg_game.proofs.ValueLaws.{Forces-over, Forces-move, Forces-all, Forces-any}
 use Rattle.pg_game.proofs.FreePoints.{any-free_points}
-use Rattle.pg_game.specs.Threat.{may_attack, IsThreatLine}
-use Rattle.pg_game.proofs.ThreatLaws.{Forces-threat}
-use Rattle.pg_game.specs.Trees.{TreesHold, CutsHold}
 use Rattle.pg_pairing.proofs.PairLaws.{Forces-pairs_breaker, Forces-pairs_draw, Forces-pairs_avoider}
 use Rattle.pg_potential.proofs.PotentialLaws.{Forces-potential_breaker, Forces-potential_draw}
 use Rattle.pg_avoider.proofs.AvoiderLaws.{Forces-avoider}
 use Rattle.pg_switch.proofs.SwitchLaws.{Forces-trees, Forces-cuts}
 use Rattle.pg_game.proofs.NoWorse.{Forces-no_worse}
-use Rattle.pg_cert.specs.declared.cert.Claim.{Claim}
-use Rattle.pg_cert.specs.declared.cert.Cert.{Cert}
-use Rattle.pg_cert.specs.declared.node.Node.{Node}
-use Rattle.pg_cert.specs.declared.node.Body.{Body}
-use Rattle.pg_cert.specs.declared.node.Body.TheVariants.{Over, Move, All, Pairs, Potential, Trees, Cuts, Threat, Weaker}
-use Rattle.pg_cert.specs.declared.reply.Reply.{Reply}
+use Rattle.pg_cert.specs.declared.node.Body.TheVariants.{All}
 use Rattle.pg_cert.specs.declared.node_fault.NodeFault.TheVariants as faults
-use Rattle.pg_cert.specs.Node.{position_of}
-use Rattle.pg_cert.specs.Limits.{IsTurn, IsNode, IsClaim, IsWithinLimits}
-use Rattle.pg_cert.specs.Valid.{is_allowed, shows_defence, shows_trees, shows_cuts, pairs_fit, allows_weaker, IsInGame, NamesEarlier, IsNodeOf, FollowsMove, FollowMoves, HasTurn, TakesFree, EndsRight, PotentialFits, with_e_named, HasPairs, HasPotential, HasTrees, HasCuts, HasThreat, HasWeaker, IsOwed, IsSound, IsValidClaim, IsValid}
+use Rattle.pg_check.proofs.Common.{position_of, IsTurn, IsNode, IsClaim, IsWithinLimits, is_allowed, shows_defence, shows_trees, shows_cuts, pairs_fit, allows_weaker, IsInGame, NamesEarlier, IsNodeOf, FollowsMove, FollowMoves, HasTurn, TakesFree, EndsRight, PotentialFits, with_e_named, HasPairs, HasPotential, HasTrees, HasCuts, HasThreat, HasWeaker, IsOwed, IsSound, IsValidClaim, IsValid}
 
 -- ---- pairs
 

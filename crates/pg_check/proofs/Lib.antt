@@ -1,3 +1,4 @@
+mod Common
 mod ReplyLemmas
 mod NamedEdges
 pub mod ClaimLemmas

@@ -1,12 +1,7 @@
 -- The first set of edges with e.
 use Rattle.std.proofs.Common.{◌≡◌, ℕ, suc, Bool, true, false, sym, subst, arith}
-use Rattle.std.specs.FinSet.{FinSet}
-use Rattle.std.specs.Ordering.{nat_cmp}
-use Rattle.pg_base.specs.Points.{AreBelow}
+use Rattle.pg_check.proofs.Common.{FinSet, nat_cmp, AreBelow, Game, point_count, with_e_named}
 use Rattle.pg_base.proofs.PointSetLaws.{AreBelow-insert}
-use Rattle.pg_game.specs.declared.game.Game.{Game}
-use Rattle.pg_game.specs.Game.{point_count}
-use Rattle.pg_cert.specs.Valid.{with_e_named}
 
 below_next : (s : FinSet nat_cmp) (n : ℕ) → AreBelow s n → AreBelow s (suc n)
 below_next s n below v h = let low = below v h in omega arith

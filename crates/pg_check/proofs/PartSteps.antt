@@ -1,11 +1,6 @@
 -- The next part of a certificate, by what is left of its parts.
 use Rattle.std.proofs.Common.{◌≡◌, ℕ, zero, suc, ◌≤◌, List, [], ◌∷◌, ◌++◌, length, map, drop, Some, slice_get, refl, ap, arith}
-use Rattle.pg_base.specs.declared.goal.Goal.{Goal}
-use Rattle.pg_base.specs.declared.side.Side.{Side}
-use Rattle.pg_cert.specs.declared.cert.Claim.{Claim}
-use Rattle.pg_cert.specs.declared.node.Node.{Node}
-use Rattle.pg_cert.specs.Parts.{all_parts}
-use Rattle.pg_cert.specs.declared.part.Part.{Part}
+use Rattle.pg_check.proofs.Common.{Goal, Side, Claim, Node, all_parts, Part}
 use Rattle.pg_cert.specs.declared.part.Part.TheVariants as parts
 
 -- the parts of claims don't begin with a node

@@ -1,13 +1,6 @@
 -- Replies against the free points, one after the other.
 use Rattle.std.proofs.Common.{◌≡◌, ◌≢◌, ℕ, suc, ◌+◌, ◌-◌, ◌<◌, ◌≤◌, true, false, List, [], ◌∷◌, map, length, get_or, drop, refl, sym, ap, subst, inl, inr, ◌∙◌, arith, drop-cons}
-use Rattle.std.specs.List.{filter, range_with_len}
-use Rattle.std.proofs.lemmas.Bool.{cases_eq}
-use Rattle.std.proofs.lemmas.List.{drop_all, get_or_default}
-use Rattle.pg_game.specs.declared.game.Game.{Game}
-use Rattle.pg_game.specs.declared.position.Position.{Position}
-use Rattle.pg_game.specs.Position.{is_free}
-use Rattle.pg_game.specs.Game.{point_count, free_points}
-use Rattle.pg_cert.specs.declared.reply.Reply.{Reply}
+use Rattle.pg_check.proofs.Common.{filter, range_with_len, cases_eq, drop_all, get_or_default, Game, Position, is_free, point_count, free_points, Reply}
 
 -- the points of the replies from a place on
 unfoldable pub points_from : List Reply → ℕ → List ℕ

@@ -1,25 +1,8 @@
 -- Threat lines by their rounds.
 use Rattle.std.proofs.Common.{◌≡◌, ◌↔◌, ℕ, zero, suc, ◌+◌, ◌-◌, ◌*◌, ◌/◌, ◌%◌, ◌<◌, ◌≤◌, Bool, true, false, ◌||◌, ◌==◌, nat_le, if◌then◌else◌, List, [], ◌∷◌, length, get_or, replicate, refl, sym, ap, ◌∙◌, subst, subst₂, inl, inr, arith, eqb-true}
-use Rattle.std.proofs.lemmas.Bool.{cases_Bool, cases_lt, and_parts, and_from, or_cases, or_left, or_right, le-leb, leb-true, false≢true}
-use Rattle.std.specs.Option.{is_some}
 use Rattle.std.specs.Prelude.{Option, Some, None}
-use Rattle.std.specs.List.{Contains, list_any, list_all}
-use Rattle.std.specs.FinSet.{FinSet, contains}
-use Rattle.std.specs.Ordering.{nat_cmp}
-use Rattle.pg_base.specs.Side.{other}
-use Rattle.pg_base.specs.declared.side.Side.{Side}
-use Rattle.pg_base.specs.declared.kind.Kind.{Kind}
-use Rattle.pg_base.specs.declared.kind.Kind.TheVariants.{MakerMaker}
+use Rattle.pg_check.proofs.Common.{cases_Bool, cases_lt, and_parts, and_from, or_cases, or_left, or_right, le-leb, leb-true, false≢true, is_some, Contains, list_any, list_all, FinSet, contains, nat_cmp, other, Side, Kind, MakerMaker, Game, Position, is_free, points_of, after, lines_of, has_filled, is_filled, is_over, is_on, is_near, may_attack, Forcing, Filling, LeadsToLine, true-at, false-at, list_any-one, list_any-none, member-from_any, free-of, unfilled-going}
 use Rattle.pg_base.specs.declared.score.Score.{Score}
-use Rattle.pg_game.specs.declared.game.Game.{Game}
-use Rattle.pg_game.specs.declared.position.Position.{Position}
-use Rattle.pg_game.specs.Position.{is_free, points_of}
-use Rattle.pg_game.specs.Game.{after, lines_of, has_filled, is_filled, is_over}
-use Rattle.pg_game.specs.Potential.{is_on}
-use Rattle.pg_game.specs.Threat.{is_near, may_attack, Forcing, Filling, LeadsToLine}
-use Rattle.pg_game.proofs.Members.{true-at, false-at, list_any-one, list_any-none, member-from_any}
-use Rattle.pg_game.proofs.Moves.{free-of}
-use Rattle.pg_game.proofs.ThreatLaws.{unfilled-going}
 use Rattle.pg_check.specs.Lacked.{filled_but}
 use Rattle.pg_check.specs.Rounds.{attack_at, reply_at, before_round, attacked, AreRounds, taken_at, AreTimes, WasNear, IsSafe, AreForced, LacksLate, IsClear, IsAtMove}
 use Rattle.pg_check.proofs.ThreatTests.{threatens-fills}

@@ -1,18 +1,7 @@
 -- What a round changes, and the times at which points are taken.
 use Rattle.std.proofs.Common.{◌≡◌, ◌≢◌, ◌⊎◌, ℕ, zero, suc, ◌+◌, ◌<◌, ◌≤◌, true, false, List, length, get_or, set, sym, ap, ◌∙◌, subst, inl, inr, arith}
-use Rattle.std.proofs.lemmas.Bool.{cases_eq, cases_lt, and_from, not_from_false, false≢true}
-use Rattle.std.proofs.lemmas.List.{length-set, get_or-set_same, get_or-set_other}
+use Rattle.pg_check.proofs.Common.{cases_eq, cases_lt, and_from, not_from_false, false≢true, length-set, get_or-set_same, get_or-set_other, contains, other, Side, X, Y, Game, Position, is_free, points_of, after, has_filled, IsPosition, other_other, points_of-waiter, points-stay, points-from, turn-alternates, free-of, free-was, IsPosition-after, filled-waits, unfilled-safe}
 use Rattle.std.proofs.Math.Numerals.{add-one}
-use Rattle.std.specs.FinSet.{contains}
-use Rattle.pg_base.specs.Side.{other}
-use Rattle.pg_base.specs.declared.side.Side.{Side}
-use Rattle.pg_base.specs.declared.side.Side.TheVariants.{X, Y}
-use Rattle.pg_game.specs.declared.game.Game.{Game}
-use Rattle.pg_game.specs.declared.position.Position.{Position}
-use Rattle.pg_game.specs.Position.{is_free, points_of}
-use Rattle.pg_game.specs.Game.{after, has_filled, IsPosition}
-use Rattle.pg_game.proofs.Moves.{other_other, points_of-waiter, points-stay, points-from, turn-alternates, free-of, free-was, IsPosition-after}
-use Rattle.pg_game.proofs.ThreatLaws.{filled-waits, unfilled-safe}
 use Rattle.pg_check.specs.Rounds.{attack_at, reply_at, before_round, attacked, IsRound, AreRounds, AreTimes, IsSafe}
 
 -- ---- tables

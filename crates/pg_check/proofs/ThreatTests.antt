@@ -1,25 +1,11 @@
 -- Tests of lines that lack one point, and of threat lines.
 use Rattle.std.specs.Prelude.{IfSome, IfNone, Option, Some, None}
-use Rattle.std.specs.Option.{is_some}
 use Rattle.std.proofs.Common.{◌≡◌, ℕ, zero, suc, ◌+◌, ◌<◌, ◌≤◌, Bool, true, false, cond, ◌||◌, ◌==◌, List, [], ◌∷◌, length, get_or, take, refl, sym, ap, ◌∙◌, subst, inl, inr, arith, eqb-true, eq-eqb, take_all}
-use Rattle.std.proofs.lemmas.Bool.{cases_Bool, and_parts, and_from, or_cases, or_left, or_right, false≢true}
+use Rattle.pg_check.proofs.Common.{is_some, cases_Bool, and_parts, and_from, or_cases, or_left, or_right, false≢true, Contains, count_by, list_any, list_all, FinSet, contains, insert, nat_cmp, Side, Game, Position, is_free, points_of, lines_of, is_filled, has_filled, is_on, is_near, threatens, IsAttack, true-at, false-at, list_any-none, list_any-one, member-from_any, free-of, near-from, near-to, near-range, filled-with, filled-without, on-or_filled}
 use Rattle.std.proofs.lemmas.List.Folds.{list_any_more, list_all_more, list_any_kept}
 use Rattle.std.proofs.lemmas.List.Sums.{count_by_more_yes, sum_by-take-le, get_or-le-sum_by}
-use Rattle.std.specs.List.{Contains, count_by, list_any, list_all}
 use Rattle.std.specs.List.Sorted.{IsStrictlyIncreasing}
-use Rattle.std.specs.FinSet.{FinSet, contains, insert}
-use Rattle.std.specs.Ordering.{nat_cmp}
 use Rattle.pg_base.proofs.LineLemmas.{count-ascending}
-use Rattle.pg_base.specs.declared.side.Side.{Side}
-use Rattle.pg_game.specs.declared.game.Game.{Game}
-use Rattle.pg_game.specs.declared.position.Position.{Position}
-use Rattle.pg_game.specs.Position.{is_free, points_of}
-use Rattle.pg_game.specs.Game.{lines_of, is_filled, has_filled}
-use Rattle.pg_game.specs.Potential.{is_on}
-use Rattle.pg_game.specs.Threat.{is_near, threatens, IsAttack}
-use Rattle.pg_game.proofs.Members.{true-at, false-at, list_any-none, list_any-one, member-from_any}
-use Rattle.pg_game.proofs.Moves.{free-of}
-use Rattle.pg_game.proofs.ThreatLaws.{near-from, near-to, near-range, filled-with, filled-without, on-or_filled}
 use Rattle.pg_check.specs.Lacked.{filled_but, IsLackedSoFar}
 
 -- ---- the one point of a line that isn't in a set

@@ -1,12 +1,6 @@
 -- What a checking that is fed part after part stands for.
 use Rattle.std.specs.Prelude.{◌≡◌, ℕ, ◌+◌, ◌<◌, ◌≤◌, List, ◌++◌, length, map, drop, slice_get, Option, Some, None, Result, Ok, Err}
-use Rattle.pg_game.specs.declared.game.Game.{Game}
-use Rattle.pg_cert.specs.Limits.{IsWithinLimits}
-use Rattle.pg_cert.specs.Parts.{all_parts, parts_of, BeginCert}
-use Rattle.pg_cert.specs.Valid.{AreSoundBefore, IsFirstFault, IsValid, IsValidClaim}
-use Rattle.pg_cert.specs.declared.cert.Cert.{Cert}
-use Rattle.pg_cert.specs.declared.cert.Claim.{Claim}
-use Rattle.pg_cert.specs.declared.part.Part.{Part}
+use Rattle.pg_check.specs.Prelude.{Game, IsWithinLimits, all_parts, parts_of, BeginCert, AreSoundBefore, IsFirstFault, IsValid, IsValidClaim, Cert, Claim, Part}
 use Rattle.pg_cert.specs.declared.part.Part.TheVariants as parts
 use Rattle.pg_check.specs.Marks.{kept, AreMarksOf}
 use Rattle.pg_check.specs.Present.{IsKnownOf}

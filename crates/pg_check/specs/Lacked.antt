@@ -1,9 +1,6 @@
 -- Lines that a set fills but for one point.
 use Rattle.std.specs.Prelude.{◌≡◌, ℕ, Bool, true, false, ◌||◌, ◌==◌, List, Option, Some, None}
-use Rattle.std.specs.List.{list_all}
-use Rattle.std.specs.FinSet.{FinSet, contains}
-use Rattle.std.specs.Ordering.{nat_cmp}
-use Rattle.pg_game.specs.Potential.{is_on}
+use Rattle.pg_check.specs.Prelude.{list_all, FinSet, contains, nat_cmp, is_on}
 
 -- whether the set has each point of the line but perhaps u
 abbrev pub filled_but : FinSet nat_cmp → ℕ → List ℕ → Bool

@@ -1,3 +1,4 @@
+pub mod Prelude
 pub mod Tester
 pub mod Lacked
 pub mod Marks

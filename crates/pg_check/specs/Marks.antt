@@ -1,18 +1,6 @@
 -- Positions in few words.
 use Rattle.std.specs.Prelude.{◌≡◌, ℕ, ◌+◌, ◌*◌, ◌^◌, ◌<◌, ◌≤◌, List, length, map, drop, get_or, slice_get, Some}
-use Rattle.std.specs.FinSet.{FinSet}
-use Rattle.std.specs.List.{range_with_len}
-use Rattle.std.specs.Ordering.{nat_cmp}
-use Rattle.pg_base.specs.Points.{AreWithin}
-use Rattle.pg_base.specs.Side.{other}
-use Rattle.pg_base.specs.Words.{members_below}
-use Rattle.pg_base.specs.declared.side.Side.{Side}
-use Rattle.pg_base.specs.declared.side.Side.TheVariants.{X}
-use Rattle.pg_game.specs.declared.game.Game.{Game}
-use Rattle.pg_game.specs.declared.position.Position.{Position}
-use Rattle.pg_game.specs.Game.{point_count}
-use Rattle.pg_game.specs.Position.{points_of}
-use Rattle.pg_game.specs.Weaker.{IsNoWorse}
+use Rattle.pg_check.specs.Prelude.{FinSet, range_with_len, nat_cmp, AreWithin, other, members_below, Side, X, Game, Position, point_count, points_of, IsNoWorse}
 use Rattle.pg_check.specs.declared.marks.Marks.{Marks}
 use Rattle.pg_check.specs.declared.marks.Turn.{Turn}
 

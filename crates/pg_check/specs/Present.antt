@@ -1,17 +1,9 @@
 -- The claim that is being checked: what it says, how many nodes it has, and the positions of those
 -- that were checked.
 use Rattle.std.specs.Prelude.{◌≡◌, ℕ, ◌+◌, ◌<◌, length, map, take}
-use Rattle.pg_game.specs.declared.game.Game.{Game}
-use Rattle.pg_game.specs.declared.position.Position.{Position}
-use Rattle.pg_game.specs.Game.{with_turn}
-use Rattle.pg_cert.specs.declared.cert.Claim.{Claim}
-use Rattle.pg_cert.specs.declared.node.Node.{Node}
-use Rattle.pg_cert.specs.declared.node.Body.TheVariants.{Over}
-use Rattle.pg_cert.specs.declared.node_fault.NodeFault.{NodeFault}
+use Rattle.pg_check.specs.Prelude.{Game, Position, with_turn, Claim, Node, Over, NodeFault}
 use Rattle.pg_cert.specs.declared.node_fault.NodeFault.TheVariants as faults
-use Rattle.pg_cert.specs.Node.{position_of}
-use Rattle.pg_cert.specs.NodeFault.{fault_number}
-use Rattle.pg_cert.specs.Valid.{Passes}
+use Rattle.pg_check.specs.Prelude.{position_of, fault_number, Passes}
 use Rattle.pg_check.specs.Marks.{kept}
 use Rattle.pg_check.specs.declared.present.Present.{Present}
 

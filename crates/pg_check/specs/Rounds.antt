@@ -1,17 +1,6 @@
 -- A list of attacks and replies round by round: an attack and the reply to it are a round.
 use Rattle.std.specs.Prelude.{◌≡◌, ℕ, zero, suc, ◌+◌, ◌*◌, ◌<◌, ◌≤◌, ◌-◌, ◌||◌, ◌==◌, nat_le, if◌then◌else◌, true, false, List, get_or}
-use Rattle.std.specs.List.{Contains, list_any, list_all}
-use Rattle.std.specs.FinSet.{FinSet, contains}
-use Rattle.std.specs.Ordering.{nat_cmp}
-use Rattle.pg_base.specs.Side.{other}
-use Rattle.pg_base.specs.declared.kind.Kind.TheVariants.{MakerMaker}
-use Rattle.pg_base.specs.declared.side.Side.{Side}
-use Rattle.pg_game.specs.declared.game.Game.{Game}
-use Rattle.pg_game.specs.declared.position.Position.{Position}
-use Rattle.pg_game.specs.Position.{points_of}
-use Rattle.pg_game.specs.Game.{lines_of, has_filled, after, IsPosition}
-use Rattle.pg_game.specs.Potential.{is_on}
-use Rattle.pg_game.specs.Threat.{has_threat, threatens, is_near, IsAttack}
+use Rattle.pg_check.specs.Prelude.{Contains, list_any, list_all, FinSet, contains, nat_cmp, other, MakerMaker, Side, Game, Position, points_of, lines_of, has_filled, after, IsPosition, is_on, has_threat, threatens, is_near, IsAttack}
 use Rattle.pg_check.specs.Lacked.{filled_but}
 
 -- the attack of a round, and the reply to it

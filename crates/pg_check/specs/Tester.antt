@@ -1,10 +1,6 @@
 -- What a tester is made for.
 use Rattle.std.specs.Prelude.{◌≡◌, ℕ, nat_lt}
-use Rattle.std.specs.FinSet.{FinSet, contains}
-use Rattle.std.specs.Ordering.{nat_cmp}
-use Rattle.pg_game.specs.Game.{point_count}
-use Rattle.pg_game.specs.declared.game.Game.{Game}
-use Rattle.pg_game.specs.Judge.{IsMadeForGame, room_of}
+use Rattle.pg_check.specs.Prelude.{FinSet, contains, nat_cmp, point_count, Game, IsMadeForGame, room_of}
 use Rattle.pg_check.specs.declared.tester.Tester.{Tester}
 
 -- the set holds just the points of the game

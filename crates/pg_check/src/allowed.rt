@@ -1,9 +1,6 @@
 //! Which bodies are allowed, and which nodes stand on the game's points.
 ghost use Rattle.std.specs.Prelude.{◌≡◌, ◌↔◌, IsTrue};
-ghost use Rattle.pg_base.specs.Points.{AreBelow};
-ghost use Rattle.pg_game.specs.Game.{point_count};
-ghost use Rattle.pg_game.specs.declared.game.Game.{Game};
-ghost use Rattle.pg_cert.specs.Valid.{is_allowed, shows_defence, shows_trees, shows_cuts, pairs_fit, allows_weaker, IsInGame};
+ghost use Rattle.pg_check.specs.Prelude.{AreBelow, point_count, Game, is_allowed, shows_defence, shows_trees, shows_cuts, pairs_fit, allows_weaker, IsInGame};
 ghost use Rattle.pg_check.specs.Tester.{ArePointsOf};
 
 use pg_base::{Goal, Kind, PointSet, Side};

@@ -1,12 +1,6 @@
 //! Checking a certificate.
 ghost use Rattle.std.specs.Prelude.{◌≡◌, ℕ, IfOk, slice_get, Some};
-ghost use Rattle.pg_game.specs.Game.{with_turn};
-ghost use Rattle.pg_game.specs.Value.{Forces};
-ghost use Rattle.pg_game.specs.declared.game.Game.{Game};
-ghost use Rattle.pg_cert.specs.Valid.{IsValid, IsFirstFault};
-ghost use Rattle.pg_cert.specs.Limits.{IsWithinLimits};
-ghost use Rattle.pg_cert.specs.declared.cert.Cert.{Cert};
-ghost use Rattle.pg_cert.specs.declared.cert.Claim.{Claim};
+ghost use Rattle.pg_check.specs.Prelude.{with_turn, Forces, Game, IsValid, IsFirstFault, IsWithinLimits, Cert, Claim};
 ghost use Rattle.pg_check.specs.Checking.{IsVerdict};
 
 use crate::checking::{Checking, Rejected};

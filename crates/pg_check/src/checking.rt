@@ -1,9 +1,6 @@
 //! Checking a certificate part by part.
 ghost use Rattle.std.specs.Prelude.{◌≡◌, ◌++◌, ◌∷◌, [], List, IfOk, None};
-ghost use Rattle.pg_cert.specs.Limits.{IsWithinLimits};
-ghost use Rattle.pg_cert.specs.Parts.{parts_of};
-ghost use Rattle.pg_cert.specs.declared.cert.Cert.{Cert};
-ghost use Rattle.pg_cert.specs.declared.part.Part.{Part};
+ghost use Rattle.pg_check.specs.Prelude.{IsWithinLimits, parts_of, Cert, Part};
 ghost use Rattle.pg_check.specs.Checking.{StandsFor, AreNext, IsWhole, IsVerdict};
 
 use crate::marks::Marks;

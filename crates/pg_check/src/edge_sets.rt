@@ -1,10 +1,6 @@
 //! The two sets of edges that a node names, against the criteria of trees and of cuts.
 ghost use Rattle.std.specs.Prelude.{◌≡◌, ◌↔◌, IsTrue};
-ghost use Rattle.pg_base.specs.declared.kind.Kind.TheVariants.{Switching};
-ghost use Rattle.pg_game.specs.Game.{IsPosition};
-ghost use Rattle.pg_game.specs.Judge.{IsMadeForGame, room_of};
-ghost use Rattle.pg_game.specs.Trees.{TreesHold, CutsHold};
-ghost use Rattle.pg_cert.specs.Valid.{with_e_named, AreEdgeSets};
+ghost use Rattle.pg_check.specs.Prelude.{Switching, IsPosition, IsMadeForGame, room_of, TreesHold, CutsHold, with_e_named, AreEdgeSets};
 
 use pg_base::PointSet;
 use pg_cert::with_e_named;

@@ -1,9 +1,6 @@
 //! Feeding a checking with a certificate that is held whole.
 ghost use Rattle.std.specs.Prelude.{◌≡◌, ◌++◌, List, map, IfOk};
-ghost use Rattle.std.specs.List.{All};
-ghost use Rattle.pg_cert.specs.Limits.{IsClaim};
-ghost use Rattle.pg_cert.specs.Parts.{claim_parts, all_parts};
-ghost use Rattle.pg_cert.specs.declared.part.Part.{Part};
+ghost use Rattle.pg_check.specs.Prelude.{All, IsClaim, claim_parts, all_parts, Part};
 ghost use Rattle.pg_check.specs.Checking.{StandsFor, AreNext};
 
 use crate::checking::Checking;

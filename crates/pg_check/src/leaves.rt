@@ -1,11 +1,6 @@
 //! Nodes that stand on a criterion.
 ghost use Rattle.std.specs.Prelude.{◌≡◌, ◌≢◌, ◌↔◌, IsTrue, true, ℕ};
-ghost use Rattle.pg_base.specs.declared.kind.Kind.TheVariants.{Switching};
-ghost use Rattle.pg_base.specs.declared.side.Side.{Side};
-ghost use Rattle.pg_base.specs.declared.goal.Goal.{Goal};
-ghost use Rattle.pg_game.specs.Game.{IsPosition};
-ghost use Rattle.pg_game.specs.Judge.{IsMadeForGame, room_of};
-ghost use Rattle.pg_cert.specs.Valid.{HasPairs, PotentialFits, HasPotential, HasTrees, HasCuts, HasThreat, is_allowed};
+ghost use Rattle.pg_check.specs.Prelude.{Switching, Side, Goal, IsPosition, IsMadeForGame, room_of, HasPairs, PotentialFits, HasPotential, HasTrees, HasCuts, HasThreat, is_allowed};
 
 use crate::edge_sets::{cuts_hold, trees_hold};
 use crate::threats::threat_holds;

@@ -1,12 +1,8 @@
 //! Nodes that move on to other nodes.
 ghost use Rattle.std.specs.Prelude.{◌≡◌, ◌*◌, ◌<◌, map, true, ◌↔◌, IsTrue};
-ghost use Rattle.std.specs.List.{All};
-ghost use Rattle.pg_cert.specs.Valid.{NamesEarlier, IsNodeOf, FollowsMove, FollowMoves, HasTurn, TakesFree, HasWeaker};
-ghost use Rattle.pg_base.specs.Points.{AreBelow};
+ghost use Rattle.pg_check.specs.Prelude.{All, NamesEarlier, IsNodeOf, FollowsMove, FollowMoves, HasTurn, TakesFree, HasWeaker, AreBelow, point_count, free_points, IsPosition, is_free};
 ghost use Rattle.pg_check.specs.Marks.{kept, AreFlat, AreMarksOf};
 ghost use Rattle.pg_check.specs.Present.{bare};
-ghost use Rattle.pg_game.specs.Game.{point_count, free_points, IsPosition};
-ghost use Rattle.pg_game.specs.Position.{is_free};
 
 use crate::marks::Marks;
 use pg_base::Side;

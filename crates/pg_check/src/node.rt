@@ -1,12 +1,7 @@
 //! One node against the table of faults.
 ghost use Rattle.std.specs.Prelude.{◌≡◌, ◌<◌, ◌≤◌, ◌+◌, ◌↔◌, IsTrue, IfSome, IfNone, Some, true};
-ghost use Rattle.pg_base.specs.Points.{ShareNone};
-ghost use Rattle.pg_game.specs.Judge.{IsMadeForGame};
-ghost use Rattle.pg_game.specs.Game.{IsPosition, is_over, outcome, with_turn};
-ghost use Rattle.pg_game.specs.Value.{reaches};
-ghost use Rattle.pg_cert.specs.Node.{position_of};
+ghost use Rattle.pg_check.specs.Prelude.{ShareNone, IsMadeForGame, IsPosition, is_over, outcome, with_turn, reaches, position_of, IsInGame, IsOwed, EndsRight};
 ghost use Rattle.pg_check.specs.Tester.{ArePointsOf, IsReadyFor};
-ghost use Rattle.pg_cert.specs.Valid.{IsInGame, IsOwed, EndsRight};
 ghost use Rattle.pg_check.specs.Marks.{AreMarksOf};
 ghost use Rattle.pg_check.specs.Present.{PassesSoFar, IsSoundSoFar, IsLeastSoFar, known};
 

@@ -1,12 +1,6 @@
 //! Threat lines, attack by attack.
 ghost use Rattle.std.specs.Prelude.{◌≡◌, ◌<◌, ◌↔◌, ℕ, true, false, IsTrue, IfSome, IfNone};
-ghost use Rattle.std.specs.List.{All, list_any};
-ghost use Rattle.std.specs.FinSet.{contains};
-ghost use Rattle.pg_game.specs.Game.{lines_of, has_filled, is_filled, after, IsPosition};
-ghost use Rattle.pg_game.specs.Position.{points_of};
-ghost use Rattle.pg_game.specs.Judge.{IsMadeForGame};
-ghost use Rattle.pg_game.specs.Potential.{is_on};
-ghost use Rattle.pg_game.specs.Threat.{is_near, threatens, has_threat, IsAttack, Forcing, Filling, LeadsToLine, IsThreatLine};
+ghost use Rattle.pg_check.specs.Prelude.{All, list_any, contains, lines_of, has_filled, is_filled, after, IsPosition, points_of, IsMadeForGame, is_on, is_near, threatens, has_threat, IsAttack, Forcing, Filling, LeadsToLine, IsThreatLine};
 ghost use Rattle.pg_check.specs.Lacked.{filled_but};
 ghost use Rattle.pg_check.specs.Rounds.{IsAtMove};
 

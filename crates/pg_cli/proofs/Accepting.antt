@@ -1,23 +1,8 @@
 -- A check on a console.
 use Rattle.std.proofs.Common.{◌≡◌, ℕ, List, map, Ok, Err, refl, sym, ◌∙◌, ap, subst, inl, inr}
-use Rattle.pg_io.specs.Console.{ConsoleTold, Grows}
-use Rattle.pg_io.specs.Files.{Bytes}
-use Rattle.pg_io.specs.declared.entry.Entry.TheVariants.{Said}
-use Rattle.pg_io.specs.declared.stop.Stop.{Stop}
-use Rattle.pg_io.specs.declared.stop.Stop.TheVariants.{Write}
-use Rattle.pg_game.specs.declared.game.Game.{Game}
-use Rattle.pg_judge.specs.declared.claim_head.ClaimHead.{ClaimHead}
-use Rattle.pg_evidence.specs.Standing.{HasFault, HasImageFault, ShowsValid}
-use Rattle.pg_evidence.specs.Verdicts.{heads_of_evidence}
-use Rattle.pg_evidence.specs.declared.evidence.Evidence.{Evidence}
-use Rattle.pg_messages.specs.declared.refusal.Refusal.TheVariants.{Rejected, RejectedImage}
-use Rattle.pg_messages.specs.declared.statuses.TheConstants.{DONE}
+use Rattle.pg_cli.proofs.Common.{ConsoleTold, Grows, Bytes, Said, Stop, Write, Game, ClaimHead, HasFault, HasImageFault, ShowsValid, heads_of_evidence, Evidence, Rejected, RejectedImage, DONE, IsCut, Finished, Failed, Starved, Performs, Refused, Stopped, silent, talked_texts}
 use Rattle.pg_cli.specs.Checking.{acceptance, head_acceptance, RefusesCheck, AcceptsAll}
-use Rattle.pg_talk.specs.Saying.{IsCut}
-use Rattle.pg_talk.specs.Done.{Finished, Failed, Starved, Performs}
 use Rattle.pg_cli.specs.Reading.{read_of}
-use Rattle.pg_talk.specs.declared.halt.Halt.TheVariants.{Refused, Stopped}
-use Rattle.pg_talk.proofs.Runs.{silent, talked_texts}
 use Rattle.pg_cli.proofs.Verdicts.{same_acceptances}
 
 module _ (g : Game) (e : Evidence) (heads : List ClaimHead) (shows : ShowsValid g e)

@@ -1,15 +1,9 @@
 -- The nodes of a claim that solving has found differ in position.
 use Rattle.std.proofs.Common.{◌≡◌, ℕ, zero, suc, List, [], ◌∷◌, Some, slice_get, refl, sym, subst}
+use Rattle.pg_cli.proofs.Common.{Cert, Claim, DifferInPosition, HaveDifferentPositions, Game, Position, IsShown, certificate_of, Solution, Value, Unknown}
 use Rattle.pg_base.specs.declared.score.Score.TheVariants.{XWins, Draw, YWins}
-use Rattle.pg_cert.specs.declared.cert.Cert.{Cert}
-use Rattle.pg_cert.specs.declared.cert.Claim.{Claim}
 use Rattle.pg_cert.specs.declared.node.Node.{Node}
-use Rattle.pg_fold.specs.Folded.{DifferInPosition, HaveDifferentPositions}
-use Rattle.pg_game.specs.declared.game.Game.{Game}
-use Rattle.pg_game.specs.declared.position.Position.{Position}
-use Rattle.pg_solve.specs.Solved.{IsShown, certificate_of}
-use Rattle.pg_solve.specs.declared.solution.Solution.{Solution}
-use Rattle.pg_solve.specs.declared.solution.Solution.TheVariants.{Value, Class as ForClass, Unknown}
+use Rattle.pg_solve.specs.declared.solution.Solution.TheVariants.{Class as ForClass}
 
 -- all claims at their places
 abbrev DifferEach : List Claim → Type 0

@@ -1,32 +1,14 @@
 -- How a run ends.
 use Rattle.std.proofs.Common.{◌≡◌, ◌≢◌, ℕ, Bool, true, false, if◌then◌else◌, List, [], ◌∷◌, Option, Some, None, Ok, Err, refl, sym, ◌∙◌, ap, subst, inl, inr, arith}
 use Rattle.std.specs.Prelude.{IfSome}
-use Rattle.std.specs.List.{Contains}
-use Rattle.pg_io.specs.Causes.{Faults, Rose}
-use Rattle.pg_io.specs.Console.{ConsoleTold, Grows}
-use Rattle.pg_io.specs.Files.{Bytes, Holding, FilesTold}
-use Rattle.pg_io.specs.declared.entry.Entry.{Entry}
-use Rattle.pg_io.specs.declared.entry.Entry.TheVariants.{Said}
-use Rattle.pg_io.specs.declared.stop.Stop.{Stop}
-use Rattle.pg_io.specs.declared.stop.Stop.TheVariants.{Read, Write, Memory}
-use Rattle.pg_messages.specs.Statuses.{refusal_status}
-use Rattle.pg_messages.specs.Texts.{refusal_text}
-use Rattle.pg_messages.specs.declared.refusal.Refusal.{Refusal}
-use Rattle.pg_messages.specs.declared.refusal.Refusal.TheVariants.{NoMeaning, NoClaim, Game, Certificate, Rejected, RejectedSpan, RejectedVectors, RejectedImage, Record as FaultyRecord}
-use Rattle.pg_messages.specs.declared.statuses.TheConstants.{DONE, UNKNOWN, REFUSED, NO_MEANING, READ_FAILED, WRITE_FAILED, NO_MEMORY, OUT_OF_REPLIES}
-use Rattle.pg_words.specs.Words.{Command, Solve, Check, Play, Gen, Report, OfFamily, Record, Review}
+use Rattle.pg_cli.proofs.Common.{Contains, Faults, Rose, ConsoleTold, Grows, Bytes, Holding, FilesTold, Entry, Said, Stop, Read, Write, Memory, refusal_status, refusal_text, Refusal, NoMeaning, NoClaim, Certificate, Rejected, RejectedSpan, RejectedVectors, RejectedImage, DONE, UNKNOWN, REFUSED, NO_MEANING, READ_FAILED, WRITE_FAILED, NO_MEMORY, OUT_OF_REPLIES, Command, Solve, Check, Play, Gen, Report, OfFamily, Record, Review}
+use Rattle.pg_messages.specs.declared.refusal.Refusal.TheVariants.{Game, Record as FaultyRecord}
 use Rattle.pg_words.specs.declared.family.FamilyTask.TheVariants as tasks
-use Rattle.pg_words.specs.declared.source.Source.{Source}
+use Rattle.pg_cli.proofs.Common.{Source, Done, End, Finished, Failed, Starved, Changes, IsNothing, ending, nothing, talk, stop_end, BothCauses, Calm, HasCause, stop_status, Expanded, Halt, Refused, Stopped, Grows-then}
 use Rattle.pg_cli.specs.Generating.{searches}
 use Rattle.pg_cli.specs.Commands.{Gives, Quiets, Silences, SaysNoMeaning, statuses_of}
-use Rattle.pg_talk.specs.Done.{Done, End, Finished, Failed, Starved, Changes, IsNothing, ending, nothing, talk, stop_end}
-use Rattle.pg_talk.specs.Halts.{BothCauses, Calm, HasCause, stop_status}
 use Rattle.pg_talk.specs.Hearing.{Hearing}
 use Rattle.pg_cli.specs.Run.{Allows, Declines, RanOn, Ran, CarriesOn, Carries, Ends}
-use Rattle.pg_pns.specs.Expanded.{Expanded}
-use Rattle.pg_talk.specs.declared.halt.Halt.{Halt}
-use Rattle.pg_talk.specs.declared.halt.Halt.TheVariants.{Refused, Stopped}
-use Rattle.pg_talk.proofs.Speaking.{Grows-then}
 use Rattle.pg_talk.proofs.Talking.{Hearing-then, Hearing-said}
 use Rattle.pg_cli.proofs.Tasks.{at_place, task_done, task_finishes, task_refuses, task_stops}
 

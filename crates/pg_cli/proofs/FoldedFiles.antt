@@ -1,22 +1,6 @@
 -- The file of a folded certificate.
 use Rattle.std.proofs.Common.{◌≡◌, ◌∙◌, List, [], ◌∷◌, map, true, refl, ap, ap₂, inl}
-use Rattle.std.specs.List.{AllZip}
-use Rattle.pg_base.specs.declared.goal.Goal.{Goal}
-use Rattle.pg_base.specs.declared.side.Side.{Side}
-use Rattle.pg_cert.specs.Valid.{IsValid}
-use Rattle.pg_cert.specs.declared.cert.Cert.{Cert}
-use Rattle.pg_cert.specs.declared.cert.Claim.{Claim}
-use Rattle.pg_fold.specs.Folded.{IsSameClaim}
-use Rattle.pg_fold.specs.Symmetry.{FoldsWell}
-use Rattle.pg_game.specs.declared.game.Game.{Game}
-use Rattle.pg_image.specs.Limits.{IsImageWithinLimits}
-use Rattle.pg_image.specs.Print.{printed_image_certificate}
-use Rattle.pg_image.specs.declared.cert.ImageCert.{ImageCert}
-use Rattle.pg_io.specs.Files.{Bytes}
-use Rattle.pg_solve.specs.Due.{Heading, heading}
-use Rattle.pg_unfold.specs.Flaws.{AreSound}
-use Rattle.pg_unfold.specs.Unfolded.{IsUnfoldedCert}
-use Rattle.pg_unfold.specs.declared.unfolded.Unfolded.{Unfolded}
+use Rattle.pg_cli.proofs.Common.{AllZip, Goal, Side, IsValid, Cert, Claim, IsSameClaim, FoldsWell, Game, IsImageWithinLimits, printed_image_certificate, ImageCert, Bytes, Heading, heading, AreSound, IsUnfoldedCert, Unfolded}
 use Rattle.pg_cli.specs.Solving.{IsFileOf}
 
 abbrev headed : Side → Side → Goal → Heading

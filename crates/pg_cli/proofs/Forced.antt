@@ -1,65 +1,27 @@
 -- Claims that are said are forced.
 use Rattle.std.proofs.Common.{◌≡◌, ℕ, suc, Bool, true, false, cond, List, [], ◌∷◌, ◌++◌, length, map, find, slice_get, Option, Some, None, Result, Ok, Err, refl, sym, ◌∙◌, ap, subst, inl, inr}
 use Rattle.std.specs.Prelude.{◌==◌, if◌then◌else◌, codes, decimal, IfSome}
-use Rattle.std.specs.List.{Contains}
+use Rattle.pg_cli.proofs.Common.{Contains, append_cancel_left, Contains-append_cases, is_same_side, Side, X, Y, ConsoleTold, Grows, Bytes, Holding, Making, FilesTold, Entry, Said, Field, Graph, Lines, Game, game, evidence, evidence_held, StandsFor, Evidence, Plain, Folded, IsWithinLimits, node_count, IsValid, Cert, Claim, with_turn, Forces, is_win, is_claim_of, is_win_of, chosen_claim, refusal_text, unknown_text, expanded_text, Refusal}
 use Rattle.std.specs.Option.{option_or}
 use Rattle.std.proofs.lemmas.Bool.{and_parts}
-use Rattle.std.proofs.lemmas.List.{append_cancel_left}
-use Rattle.std.proofs.lemmas.List.Elements.{Contains-append_cases}
-use Rattle.pg_base.specs.Side.{is_same_side}
-use Rattle.pg_base.specs.declared.side.Side.{Side}
-use Rattle.pg_base.specs.declared.side.Side.TheVariants.{X, Y}
-use Rattle.pg_io.specs.Console.{ConsoleTold, Grows}
-use Rattle.pg_io.specs.Files.{Bytes, Holding, Making, FilesTold}
-use Rattle.pg_io.specs.declared.entry.Entry.{Entry}
-use Rattle.pg_io.specs.declared.entry.Entry.TheVariants.{Said}
-use Rattle.pg_game.specs.declared.field.Field.{Field}
-use Rattle.pg_game.specs.declared.field.Field.TheVariants.{Graph, Lines}
-use Rattle.pg_game.specs.declared.game.Game.{Game}
-use Rattle.pg_files.specs.GameFile.{game, Entry as GameEntry}
+use Rattle.pg_files.specs.GameFile.{Entry as GameEntry}
 use Rattle.pg_cert_files.specs.CertFile.{certificate}
-use Rattle.pg_evidence.specs.Evidence.{evidence, evidence_held}
-use Rattle.pg_evidence.specs.Standing.{StandsFor}
-use Rattle.pg_evidence.specs.declared.evidence.Evidence.{Evidence}
-use Rattle.pg_evidence.specs.declared.evidence.Evidence.TheVariants.{Plain, Folded}
 use Rattle.pg_evidence.proofs.Judged.{read_plain}
-use Rattle.pg_cert.specs.Limits.{IsWithinLimits, node_count}
-use Rattle.pg_cert.specs.Valid.{IsValid}
-use Rattle.pg_cert.specs.declared.cert.Cert.{Cert}
-use Rattle.pg_cert.specs.declared.cert.Claim.{Claim}
-use Rattle.pg_game.specs.Game.{with_turn}
-use Rattle.pg_game.specs.Value.{Forces}
-use Rattle.pg_player.specs.Player.{is_win, is_claim_of, is_win_of, chosen_claim}
-use Rattle.pg_messages.specs.Texts.{refusal_text, unknown_text, expanded_text}
-use Rattle.pg_messages.specs.declared.refusal.Refusal.{Refusal}
 use Rattle.pg_messages.specs.declared.refusal.Refusal.TheVariants as refusals
-use Rattle.pg_words.specs.Words.{Command, Solve, Check, Play, Gen, Report, OfFamily, Record, Review}
+use Rattle.pg_cli.proofs.Common.{Command, Solve, Check, Play, Gen, Report, OfFamily, Record, Review, FamilyTask, Done, End, Finished, Failed, Starved, Stops, behind, ending, ActsInFamily, AreForcedInFamily, IsForcedInFamily, IsForcedInFamilyFrom, AllOther, AreOther, IsOther, accepted_forced, apart, delivers_other, first_or_later, held_there, none_of, one_of, one_other, others_forced, play_forced, said_is, stays_other, unsaid, game_held, IsSaidBy, both, delivered, budget, certificate_of, Short, Cut, First, Solution, Value, Unknown, Expanded, Halt}
 use Rattle.pg_words.specs.declared.family.Family.{Family}
-use Rattle.pg_words.specs.declared.family.FamilyTask.{FamilyTask}
 use Rattle.pg_cli.specs.Checking.{AcceptsAll}
 use Rattle.pg_cli.specs.Commands.{game_read}
-use Rattle.pg_talk.specs.Done.{Done, End, Finished, Failed, Starved, Stops, behind, ending}
-use Rattle.pg_families.specs.Family.{ActsInFamily, AreForcedInFamily, IsForcedInFamily, IsForcedInFamilyFrom}
-use Rattle.pg_families.proofs.Announced.{AllOther, AreOther, IsOther, accepted_forced, apart, delivers_other, first_or_later, held_there, none_of, one_of, one_other, others_forced, play_forced, said_is, stays_other, unsaid}
 use Rattle.pg_cli.specs.Forced.{SaysGame, IsForcedFrom, IsForced, AreForced, AreForcedInGame, AnnouncesForced}
 use Rattle.pg_cli.specs.Playing.{IsPlayedBy, PlaysOn, claimer}
 use Rattle.pg_cli.specs.Reading.{both_held}
-use Rattle.pg_talk.specs.Opening.{game_held, IsSaidBy}
-use Rattle.pg_talk.specs.Reading.{both}
 use Rattle.pg_cli.specs.Reporting.{Accounts, Reports}
 use Rattle.pg_cli.specs.Generating.{StoresGame, game_file, size_text, size_texts}
 use Rattle.pg_cli.specs.Solving.{Solves, SolvesGame, Told, result_alone, result_and_counts, solution_text}
-use Rattle.pg_talk.specs.Storing.{delivered}
 use Rattle.pg_cli.specs.declared.solving.TheConstants.{DEFAULT_POSITIONS}
-use Rattle.pg_solve.specs.Left.{budget}
-use Rattle.pg_solve.specs.Solved.{certificate_of}
-use Rattle.pg_solve.specs.declared.solution.Class.TheVariants.{Short, Cut, First}
-use Rattle.pg_solve.specs.declared.solution.Solution.{Solution}
-use Rattle.pg_solve.specs.declared.solution.Solution.TheVariants.{Value, Class as ForClass, Unknown}
+use Rattle.pg_solve.specs.declared.solution.Solution.TheVariants.{Class as ForClass}
 use Rattle.pg_cli.proofs.Recorded.{records_other, reviews_other}
 use Rattle.pg_cli.specs.Run.{Allows, Acts, Declines, RanOn, Ran}
-use Rattle.pg_pns.specs.Expanded.{Expanded}
-use Rattle.pg_talk.specs.declared.halt.Halt.{Halt}
 
 -- ---- texts that neither accept a claim nor say one (`IsOther`)
 

@@ -1,20 +1,7 @@
 -- What a review said in time stays said where more is said.
 use Rattle.std.proofs.Common.{ℕ, ◌-◌, List, [], ◌∷◌, ◌++◌, map, take, Option, Some, None, sym, subst, append_assoc, inl, inr}
-use Rattle.pg_game.specs.declared.game.Game.{Game}
-use Rattle.pg_io.specs.Console.{ConsoleTold, Grows}
-use Rattle.pg_io.specs.Files.{Bytes, Holding}
-use Rattle.pg_io.specs.declared.entry.Entry.{Entry}
-use Rattle.pg_io.specs.declared.entry.Entry.TheVariants.{Said}
-use Rattle.pg_pns.specs.Expanded.{Expanded}
+use Rattle.pg_cli.proofs.Common.{Game, ConsoleTold, Grows, Bytes, Holding, Entry, Said, Expanded, IsOfNames, IsReached, SaysAtLeast, loss_texts, LeavesSearch, Grows-then, Halt, Refused, Stopped, refusal_text, Command, Solve, Check, Play, Gen, Report, OfFamily, Record, Review}
 use Rattle.pg_sessions.proofs.Standing.{leaves-more}
-use Rattle.pg_sessions.specs.Along.{IsOfNames, IsReached, SaysAtLeast}
-use Rattle.pg_sessions.specs.Review.{loss_texts}
-use Rattle.pg_solve.specs.Left.{LeavesSearch}
-use Rattle.pg_talk.proofs.Speaking.{Grows-then}
-use Rattle.pg_talk.specs.declared.halt.Halt.{Halt}
-use Rattle.pg_talk.specs.declared.halt.Halt.TheVariants.{Refused, Stopped}
-use Rattle.pg_messages.specs.Texts.{refusal_text}
-use Rattle.pg_words.specs.Words.{Command, Solve, Check, Play, Gen, Report, OfFamily, Record, Review}
 use Rattle.pg_cli.specs.Commands.{SpeaksInTime}
 use Rattle.pg_cli.specs.Run.{Ends}
 

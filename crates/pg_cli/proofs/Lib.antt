@@ -1,3 +1,4 @@
+mod Common
 pub mod Tasks
 pub mod Runs
 pub mod Plays

@@ -1,35 +1,13 @@
 -- Making a game, put together.
 use Rattle.std.proofs.Common.{◌≡◌, ◌≢◌, ℕ, Bool, true, false, List, [], ◌∷◌, ◌+◌, ◌<◌, length, get_or, take, Option, Some, None, Result, Ok, Err, refl, sym, ◌∙◌, ap, subst, inl, inr, if◌then◌else◌}
 use Rattle.std.specs.Prelude.{IfErr, IfSome}
-use Rattle.std.proofs.lemmas.List.{take_more}
-use Rattle.std.proofs.lemmas.List.Sums.{sum_by_push}
-use Rattle.pg_base.specs.declared.kind.Kind.TheVariants.{Switching}
-use Rattle.pg_cert.specs.Limits.{node_count}
-use Rattle.pg_cert.specs.declared.cert.Claim.{Claim}
-use Rattle.pg_io.specs.Console.{ConsoleTold, Grows}
-use Rattle.pg_io.specs.Files.{Bytes, Holding, FilesTold}
-use Rattle.pg_io.specs.declared.entry.Entry.TheVariants.{Said}
-use Rattle.pg_io.specs.declared.stop.Stop.TheVariants.{Read, Write, Memory}
-use Rattle.pg_game.specs.Fit.{is_switching}
-use Rattle.pg_game.specs.declared.game.Game.{Game}
-use Rattle.pg_pns.specs.Expanded.{Expanded}
-use Rattle.pg_solve.specs.Left.{budget, IsLeft}
-use Rattle.pg_words.specs.Words.{Command, Gen}
-use Rattle.pg_words.specs.declared.source.Source.{Source}
-use Rattle.pg_words.specs.declared.source.Source.TheVariants.{Rows, Bridge, Scatter}
+use Rattle.pg_cli.proofs.Common.{take_more, sum_by_push, Switching, node_count, Claim, ConsoleTold, Grows, Bytes, Holding, FilesTold, Said, Read, Write, Memory, is_switching, Game, Expanded, budget, IsLeft, Command, Gen, Source, Rows, Bridge, Scatter, Does, Follows, IsWriteHalt, MuteAtMemory, Delivers, Halt, Refused, Stopped, delivers_first, Grows-then}
 use Rattle.pg_cli.specs.Commands.{LeavesWork, Quiets, built}
-use Rattle.pg_talk.specs.Done.{Does, Follows}
 use Rattle.pg_cli.specs.Generating.{IsMade, IsMadeOf, StoresGame, game_file, has_source, searches, size_text, size_texts}
-use Rattle.pg_talk.specs.Halts.{IsWriteHalt, MuteAtMemory}
 use Rattle.pg_cli.specs.Run.{CarriesOn, Carries}
 use Rattle.pg_cli.specs.Solving.{SolvesGame, result_and_counts}
-use Rattle.pg_talk.specs.Storing.{Delivers}
 use Rattle.pg_cli.specs.declared.solving.TheConstants.{DEFAULT_POSITIONS}
-use Rattle.pg_talk.specs.declared.halt.Halt.{Halt}
-use Rattle.pg_talk.specs.declared.halt.Halt.TheVariants.{Refused, Stopped}
-use Rattle.pg_talk.proofs.Parts.{delivers_first}
 use Rattle.pg_cli.proofs.Solves.{leaves_search}
-use Rattle.pg_talk.proofs.Speaking.{Grows-then}
 
 -- ---- files
 

@@ -1,28 +1,12 @@
 -- A play, put together.
 use Rattle.std.proofs.Common.{◌≡◌, ◌∙◌, ℕ, List, [], None, Some, Result, Ok, Err, refl, ap, subst, inl, inr}
 use Rattle.std.specs.Prelude.{IfErr}
-use Rattle.pg_base.specs.declared.side.Side.{Side}
-use Rattle.pg_io.specs.Console.{ConsoleTold}
-use Rattle.pg_io.specs.declared.entry.Entry.{Entry}
-use Rattle.pg_game.specs.declared.game.Game.{Game}
-use Rattle.pg_game.specs.declared.position.Position.{Position}
-use Rattle.pg_game.specs.Game.{start}
-use Rattle.pg_cert.specs.declared.cert.Cert.{Cert}
-use Rattle.pg_cert.specs.Valid.{IsValid}
-use Rattle.pg_evidence.specs.Evidence.{IsInnerHalt}
-use Rattle.pg_evidence.specs.Standing.{HasFault, MakesStanding, StandsFor}
-use Rattle.pg_evidence.specs.declared.evidence.Evidence.{Evidence}
-use Rattle.pg_player.specs.Player.{Play, chosen_claim}
+use Rattle.pg_cli.proofs.Common.{Side, ConsoleTold, Entry, Game, Position, start, Cert, IsValid, IsInnerHalt, HasFault, MakesStanding, StandsFor, Evidence, chosen_claim}
+use Rattle.pg_player.specs.Player.{Play}
 use Rattle.pg_messages.specs.declared.refusal.Refusal.TheVariants as refusals
+use Rattle.pg_cli.proofs.Common.{Contender, contender_of, player_of, End, Starved, Performs, stop_end, IsPlayHalt, IsTalkHalt, IsPlay, Halt, Refused, Stopped, performs_more, silent}
 use Rattle.pg_cli.specs.Playing.{PlaysOn, RefusesPlay, claimer}
 use Rattle.pg_cli.specs.Reading.{read_of}
-use Rattle.pg_talk.specs.Contender.{Contender, contender_of, player_of}
-use Rattle.pg_talk.specs.Done.{End, Starved, Performs, stop_end}
-use Rattle.pg_talk.specs.Halts.{IsPlayHalt, IsTalkHalt}
-use Rattle.pg_talk.specs.Playing.{IsPlay}
-use Rattle.pg_talk.specs.declared.halt.Halt.{Halt}
-use Rattle.pg_talk.specs.declared.halt.Halt.TheVariants.{Refused, Stopped}
-use Rattle.pg_talk.proofs.Runs.{performs_more, silent}
 
 -- a player was opened, and its claim is said and played
 pub plays_opened : (side : Side) (g : Game) (e : Evidence) (c : Cert) (before after : ConsoleTold)

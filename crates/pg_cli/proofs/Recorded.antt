@@ -1,26 +1,13 @@
 -- What is said of recorded games: no claim is accepted, and none is said.
 use Rattle.std.proofs.Common.{ℕ, ◌-◌, List, [], ◌∷◌, ◌++◌, length, take, Option, Result, Ok, Err, refl, sym, subst, inl, inr}
-use Rattle.std.specs.List.{Contains}
-use Rattle.std.proofs.lemmas.List.Elements.{Contains-append_cases, Contains-append_left}
-use Rattle.pg_io.specs.Files.{Bytes}
-use Rattle.pg_io.specs.declared.entry.Entry.{Entry}
-use Rattle.pg_io.specs.declared.entry.Entry.TheVariants.{Said}
-use Rattle.pg_game.specs.Game.{start}
-use Rattle.pg_game.specs.declared.game.Game.{Game}
+use Rattle.pg_cli.proofs.Common.{Contains, Contains-append_cases, Contains-append_left, Bytes, Entry, Said, start, Game, lost_text, reply_text, reviewed_text, unknown_at_text}
 use Rattle.pg_files.specs.GameFile.{Entry as GameEntry}
-use Rattle.pg_messages.specs.Texts.{lost_text, reply_text, reviewed_text, unknown_at_text}
 use Rattle.pg_messages.specs.declared.message.ReplyFault.{ReplyFault}
 use Rattle.pg_messages.specs.declared.message.ReplyFault.TheVariants as fault
-use Rattle.pg_talk.specs.Done.{Done, End, Finished, Failed, Starved, SaysFirst}
-use Rattle.pg_talk.specs.declared.halt.Halt.{Halt}
-use Rattle.pg_pns.specs.Expanded.{Expanded}
-use Rattle.pg_solve.specs.Left.{budget}
+use Rattle.pg_cli.proofs.Common.{Done, End, Finished, Failed, Starved, SaysFirst, Halt, Expanded, budget, Records, RecordsGame, ReviewsMoves, ReviewsRead, loss_texts, AllOther, AreOther, IsOther, apart, first_or_later, image_of, none_of, one_other, stays_other}
 use Rattle.pg_sessions.specs.Course.{LeadsBy}
-use Rattle.pg_sessions.specs.Recording.{Records, RecordsGame}
 use Rattle.pg_sessions.specs.SessionLog.{Stage, Listens, Stands, Refuses, Closes, Over, Steps}
 use Rattle.pg_sessions.specs.Losses.{Loss, losses}
-use Rattle.pg_sessions.specs.Review.{ReviewsMoves, ReviewsRead, loss_texts}
-use Rattle.pg_families.proofs.Announced.{AllOther, AreOther, IsOther, apart, first_or_later, image_of, none_of, one_other, stays_other}
 
 -- ---- a session that is recorded
 

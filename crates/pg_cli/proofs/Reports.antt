@@ -1,19 +1,10 @@
 -- Reports, put together.
 use Rattle.std.proofs.Common.{◌≡◌, ℕ, [], ◌∷◌, Ok, Err, refl, inl, inr}
-use Rattle.pg_io.specs.Console.{ConsoleTold, Grows}
-use Rattle.pg_io.specs.Files.{Bytes}
-use Rattle.pg_io.specs.declared.entry.Entry.TheVariants.{Said}
-use Rattle.pg_io.specs.declared.stop.Stop.{Stop}
-use Rattle.pg_game.specs.declared.game.Game.{Game}
-use Rattle.pg_evidence.specs.declared.evidence.Evidence.{Evidence}
-use Rattle.pg_talk.specs.Done.{Finished, Performs, stop_end}
+use Rattle.pg_cli.proofs.Common.{ConsoleTold, Grows, Bytes, Said, Stop, Game, Evidence, Finished, Performs, stop_end, REFUSED, Stopped, silent, talked_texts}
 use Rattle.pg_cli.specs.Reading.{read_of}
 use Rattle.pg_cli.specs.Report.{rejection_text}
 use Rattle.pg_cli.specs.declared.code.Code.{Code}
-use Rattle.pg_messages.specs.declared.statuses.TheConstants.{REFUSED}
 use Rattle.pg_cli.specs.Reporting.{Accounts, HasCode, RefusesReport, Reports}
-use Rattle.pg_talk.specs.declared.halt.Halt.TheVariants.{Stopped}
-use Rattle.pg_talk.proofs.Runs.{silent, talked_texts}
 
 -- ---- on a console
 

@@ -1,27 +1,14 @@
 -- Runs that only read files and talk.
 use Rattle.std.proofs.Common.{◌≡◌, ℕ, Option, Some, None, Result, Ok, Err, refl, sym, subst, inl, inr}
-use Rattle.pg_io.specs.Console.{ConsoleTold}
-use Rattle.pg_io.specs.Files.{Bytes, Holding, FilesTold, ReadsOnly}
-use Rattle.pg_io.specs.declared.stop.Stop.TheVariants.{Read, Write, Memory}
-use Rattle.pg_base.specs.declared.side.Side.{Side}
-use Rattle.pg_game.specs.declared.game.Game.{Game}
+use Rattle.pg_cli.proofs.Common.{ConsoleTold, Bytes, Holding, FilesTold, ReadsOnly, Read, Write, Memory, Side, Game, Evidence, Refusal, Command, Solve, Check, Play, Gen, Report, OfFamily, Record, Review, Expanded, Performs, Halt, Refused, Stopped, runs_halt, runs_read, Grows-nothing}
 use Rattle.pg_files.specs.GameFile.{Entry as GameEntry}
-use Rattle.pg_evidence.specs.declared.evidence.Evidence.{Evidence}
-use Rattle.pg_messages.specs.declared.refusal.Refusal.{Refusal}
-use Rattle.pg_words.specs.Words.{Command, Solve, Check, Play, Gen, Report, OfFamily, Record, Review}
 use Rattle.pg_cli.specs.Checking.{RefusesCheck, AcceptsAll}
 use Rattle.pg_cli.specs.Commands.{Gives, LeavesFiles, LeavesWork, Quiets, SpeaksInTime}
 use Rattle.pg_cli.specs.Playing.{RefusesPlay, PlaysOn}
 use Rattle.pg_cli.specs.Reading.{both_held, pair_entry, read_of, OpensBoth}
 use Rattle.pg_cli.specs.Reporting.{RefusesReport, Reports}
 use Rattle.pg_cli.specs.Run.{Refuses, Acts, Carries}
-use Rattle.pg_pns.specs.Expanded.{Expanded}
-use Rattle.pg_talk.specs.Done.{Performs}
-use Rattle.pg_talk.specs.declared.halt.Halt.{Halt}
-use Rattle.pg_talk.specs.declared.halt.Halt.TheVariants.{Refused, Stopped}
 use Rattle.pg_talk.proofs.Openings.{opened_two, not_opened_two}
-use Rattle.pg_talk.proofs.Runs.{runs_halt, runs_read}
-use Rattle.pg_talk.proofs.Speaking.{Grows-nothing}
 use Rattle.pg_cli.proofs.Tasks.{task_leaves, task_memory, task_quiet}
 
 -- ---- a game and a certificate that were read, for a check and for a play

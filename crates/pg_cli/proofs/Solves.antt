@@ -1,36 +1,13 @@
 -- Solving, put together.
 use Rattle.std.proofs.Common.{◌≡◌, ◌≢◌, ◌⊎◌, ◌≤◌, ℕ, nat_lt, Bool, true, false, arith, if◌then◌else◌, List, [], ◌∷◌, length, Option, Some, None, Result, Ok, Err, refl, sym, ◌∙◌, ap, subst, inl, inr}
 use Rattle.std.specs.Prelude.{IfSome}
-use Rattle.std.proofs.lemmas.Bool.Decides.{nat_tests}
-use Rattle.pg_base.specs.declared.kind.Kind.{Kind}
-use Rattle.pg_base.specs.declared.kind.Kind.TheVariants.{AvoiderEnforcer, MakerBreaker, MakerMaker, Switching}
-use Rattle.pg_io.specs.Console.{ConsoleTold, Grows}
-use Rattle.pg_io.specs.Files.{Bytes, Holding, FilesTold}
-use Rattle.pg_io.specs.declared.entry.Entry.TheVariants.{Said}
-use Rattle.pg_game.specs.Fit.{is_switching}
-use Rattle.pg_game.specs.declared.game.Game.{Game}
+use Rattle.pg_cli.proofs.Common.{nat_tests, Kind, AvoiderEnforcer, MakerBreaker, MakerMaker, Switching, ConsoleTold, Grows, Bytes, Holding, FilesTold, Said, is_switching, Game, Cert, free_points, start, Expanded, budget, IsLeft, IsLeftOpen, LeavesSearch, Solution, unknown_text, Refusal, UNKNOWN, Solve, Done, End, Finished, Failed, Starved, Does, Follows, talk, stop_end, OpensGame, game_held, Delivers, Halt, Refused, Stopped, follows_more, kept, talked_texts}
 use Rattle.pg_files.specs.GameFile.{Entry as GameEntry}
-use Rattle.pg_cert.specs.declared.cert.Cert.{Cert}
-use Rattle.pg_game.specs.Game.{free_points, start}
 use Rattle.pg_pns.specs.Budget.{budget_for, most_for}
-use Rattle.pg_pns.specs.Expanded.{Expanded}
-use Rattle.pg_solve.specs.Left.{budget, IsLeft, IsLeftOpen, LeavesSearch}
-use Rattle.pg_solve.specs.declared.solution.Solution.{Solution}
-use Rattle.pg_messages.specs.Texts.{unknown_text}
-use Rattle.pg_messages.specs.declared.refusal.Refusal.{Refusal}
-use Rattle.pg_messages.specs.declared.statuses.TheConstants.{UNKNOWN}
-use Rattle.pg_words.specs.Words.{Solve}
-use Rattle.pg_talk.specs.Done.{Done, End, Finished, Failed, Starved, Does, Follows, talk, stop_end}
-use Rattle.pg_talk.specs.Opening.{OpensGame, game_held}
 use Rattle.pg_cli.specs.Commands.{IsGameHeld}
 use Rattle.pg_cli.specs.Run.{Refuses, CarriesOn, Carries}
 use Rattle.pg_cli.specs.Solving.{IsFileOf, IsLeftBehind, Shows, SolvesGame, Solves, Told, result_alone}
-use Rattle.pg_talk.specs.Storing.{Delivers}
-use Rattle.pg_talk.specs.declared.halt.Halt.{Halt}
-use Rattle.pg_talk.specs.declared.halt.Halt.TheVariants.{Refused, Stopped}
-use Rattle.pg_talk.proofs.Delivering.{follows_more}
 use Rattle.pg_cli.proofs.Runs.{carries_halt}
-use Rattle.pg_talk.proofs.Runs.{kept, talked_texts}
 
 -- what delivers the certificate of what was found solves the game
 pub delivers_solution : (images : Bool) (told : Told) (g : Game) (name : Bytes) (positions : ℕ)

@@ -1,22 +1,9 @@
 -- What a task done with a game of a family gives, says and leaves; a check and a play of any other
 -- game have the same statuses.
 use Rattle.std.proofs.Common.{◌≡◌, ℕ, List, Ok, Err, refl, sym, subst, inl, inr, arith}
-use Rattle.std.specs.List.{Contains}
-use Rattle.pg_io.specs.Console.{ConsoleTold}
-use Rattle.pg_io.specs.Files.{Bytes, FilesTold, ReadsOnly}
-use Rattle.pg_io.specs.declared.stop.Stop.{Stop}
-use Rattle.pg_io.specs.declared.stop.Stop.TheVariants.{Read, Write, Memory}
-use Rattle.pg_messages.specs.Statuses.{refusal_status}
-use Rattle.pg_messages.specs.declared.refusal.Refusal.{Refusal}
-use Rattle.pg_messages.specs.declared.refusal.Refusal.TheVariants.{NoMeaning, NoClaim, Game, Certificate, Rejected, RejectedSpan, RejectedVectors, RejectedImage, Record}
-use Rattle.pg_messages.specs.declared.statuses.TheConstants.{DONE, INPUT_ENDED, OUT_OF_REPLIES}
-use Rattle.pg_words.specs.declared.family.FamilyTask.{FamilyTask}
+use Rattle.pg_cli.proofs.Common.{Contains, ConsoleTold, Bytes, FilesTold, ReadsOnly, Stop, Read, Write, Memory, refusal_status, Refusal, NoMeaning, NoClaim, Certificate, Rejected, RejectedSpan, RejectedVectors, RejectedImage, DONE, INPUT_ENDED, OUT_OF_REPLIES, FamilyTask, GivesInFamily, LeavesFamilyFiles, QuietAtReadInFamily, statuses_in_family, Finished, ending, stop_status, Refused, Stopped, Grows-nothing}
+use Rattle.pg_messages.specs.declared.refusal.Refusal.TheVariants.{Game, Record}
 use Rattle.pg_words.specs.declared.family.FamilyTask.TheVariants.{Solve, Check, Play}
-use Rattle.pg_families.specs.Family.{GivesInFamily, LeavesFamilyFiles, QuietAtReadInFamily, statuses_in_family}
-use Rattle.pg_talk.specs.Done.{Finished, ending}
-use Rattle.pg_talk.specs.Halts.{stop_status}
-use Rattle.pg_talk.specs.declared.halt.Halt.TheVariants.{Refused, Stopped}
-use Rattle.pg_talk.proofs.Speaking.{Grows-nothing}
 
 -- ---- statuses
 

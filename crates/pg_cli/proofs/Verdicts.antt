@@ -1,32 +1,14 @@
 -- Judging, put together.
 use Rattle.std.proofs.Common.{◌≡◌, ℕ, List, [], ◌∷◌, map, Option, Some, None, Result, Ok, Err, refl, sym, ◌∙◌, ap, ap₂, subst}
 use Rattle.std.specs.Prelude.{IfSome}
-use Rattle.pg_base.specs.declared.goal.Goal.{Goal}
-use Rattle.pg_base.specs.declared.side.Side.{Side}
-use Rattle.pg_io.specs.Console.{ConsoleTold}
-use Rattle.pg_io.specs.Files.{Bytes, Holding, FilesTold}
-use Rattle.pg_game.specs.declared.game.Game.{Game}
-use Rattle.pg_cert.specs.declared.cert.Cert.{Cert}
-use Rattle.pg_cert.specs.declared.cert.Claim.{Claim}
+use Rattle.pg_cli.proofs.Common.{Goal, Side, ConsoleTold, Bytes, Holding, FilesTold, Game, Cert, Claim, AreUnfolded, IsUnfolded, StandsFor, IsFound, heads_of_evidence, image_head, Evidence, Plain, Folded, Verdict, accepted_text, Check, Report, Expanded, Performs, Halt, Refused, Stopped}
 use Rattle.pg_image.specs.declared.cert.ImageClaim.{ImageClaim}
-use Rattle.pg_unfold.specs.Unfolded.{AreUnfolded, IsUnfolded}
 use Rattle.pg_judge.specs.Heads.{head_of}
-use Rattle.pg_evidence.specs.Standing.{StandsFor}
-use Rattle.pg_evidence.specs.Verdicts.{IsFound, heads_of_evidence, image_head}
-use Rattle.pg_evidence.specs.declared.evidence.Evidence.{Evidence}
-use Rattle.pg_evidence.specs.declared.evidence.Evidence.TheVariants.{Plain, Folded}
-use Rattle.pg_evidence.specs.declared.verdict.Verdict.{Verdict}
-use Rattle.pg_messages.specs.Texts.{accepted_text}
-use Rattle.pg_words.specs.Words.{Check, Report}
-use Rattle.pg_pns.specs.Expanded.{Expanded}
 use Rattle.pg_cli.specs.Checking.{AcceptsAll, RefusesCheck, acceptance, head_acceptance}
-use Rattle.pg_talk.specs.Done.{Performs}
 use Rattle.pg_cli.specs.Reading.{OpensBoth, read_of}
 use Rattle.pg_cli.specs.Reporting.{RefusesReport, Reports}
 use Rattle.pg_cli.specs.Run.{Carries, CarriesOn}
 use Rattle.pg_cli.specs.Verdicts.{JudgesBoth}
-use Rattle.pg_talk.specs.declared.halt.Halt.{Halt}
-use Rattle.pg_talk.specs.declared.halt.Halt.TheVariants.{Refused, Stopped}
 use Rattle.pg_cli.proofs.Runs.{carries_check, carries_report}
 
 -- ---- both

@@ -1,22 +1,7 @@
 -- What a check says.
 use Rattle.std.specs.Prelude.{◌≡◌, List, map, Result, Ok, Err}
-use Rattle.pg_io.specs.Files.{Bytes}
-use Rattle.pg_io.specs.declared.entry.Entry.{Entry}
-use Rattle.pg_game.specs.declared.game.Game.{Game}
+use Rattle.pg_cli.specs.Prelude.{Bytes, Entry, Game, IsValid, Cert, Claim, ClaimHead, accepted_text, Refusal, RejectsEvidence, StandsFor, Evidence, End, SaysAll, IsSaidBy, Halt, Refused}
 use Rattle.pg_files.specs.GameFile.{Entry as GameEntry}
-use Rattle.pg_cert.specs.Valid.{IsValid}
-use Rattle.pg_cert.specs.declared.cert.Cert.{Cert}
-use Rattle.pg_cert.specs.declared.cert.Claim.{Claim}
-use Rattle.pg_judge.specs.declared.claim_head.ClaimHead.{ClaimHead}
-use Rattle.pg_messages.specs.Texts.{accepted_text}
-use Rattle.pg_messages.specs.declared.refusal.Refusal.{Refusal}
-use Rattle.pg_evidence.specs.Standing.{RejectsEvidence, StandsFor}
-use Rattle.pg_evidence.specs.declared.evidence.Evidence.{Evidence}
-use Rattle.pg_talk.specs.Done.{End}
-use Rattle.pg_talk.specs.Saying.{SaysAll}
-use Rattle.pg_talk.specs.Opening.{IsSaidBy}
-use Rattle.pg_talk.specs.declared.halt.Halt.{Halt}
-use Rattle.pg_talk.specs.declared.halt.Halt.TheVariants.{Refused}
 
 -- the text that accepts a claim
 abbrev pub acceptance : Claim → Bytes

@@ -1,33 +1,11 @@
 -- What each command reads, and what it leaves.
 use Rattle.std.specs.Prelude.{◌≡◌, ◌≢◌, ◌⊎◌, ℕ, true, false, if◌then◌else◌, List, [], ◌∷◌, Option, Some, None, option_and_then, option_map, Result, Ok, Err, ⊤}
-use Rattle.pg_io.specs.Console.{ConsoleTold, Grows}
-use Rattle.pg_io.specs.Files.{Bytes, Holding, FilesTold, ReadsOnly}
-use Rattle.pg_files.specs.Views.{entry}
-use Rattle.pg_game.specs.declared.game.Game.{Game}
-use Rattle.pg_io.specs.declared.entry.Entry.TheVariants.{Said}
-use Rattle.pg_messages.specs.Texts.{no_meaning_text}
-use Rattle.pg_messages.specs.declared.refusal.Refusal.TheVariants.{NoMeaning}
-use Rattle.pg_messages.specs.declared.statuses.TheConstants.{DONE, UNKNOWN, NO_MEANING, FAULTY_GAME, REFUSED, READ_FAILED, WRITE_FAILED, NO_MEMORY, INPUT_ENDED, OUT_OF_REPLIES, FAULTY_RECORD}
-use Rattle.pg_words.specs.Words.{Command, Solve, Check, Play, Gen, Report, OfFamily, Record, Review, meaning_of}
+use Rattle.pg_cli.specs.Prelude.{ConsoleTold, Grows, Bytes, Holding, FilesTold, ReadsOnly, entry, Game, Said, no_meaning_text, NoMeaning, DONE, UNKNOWN, NO_MEANING, FAULTY_GAME, REFUSED, READ_FAILED, WRITE_FAILED, NO_MEMORY, INPUT_ENDED, OUT_OF_REPLIES, FAULTY_RECORD, Command, Solve, Check, Play, Gen, Report, OfFamily, Record, Review, meaning_of, IsGameHalt, IsReadHalt, IsPlayHalt, IsPlayEnd, IsWriteHalt, game_held, lacking, QuietsBy, StoresAt, GivesInFamily, LacksInFamily, LeavesFamilyFiles, QuietAtReadInFamily, statuses_in_family, GivesRecord, IsAlong, IsOfNames, IsReached, GivesReview, StandsAgainst, Expanded, Memory, Halt, Refused, Stopped, LeavesSearch}
 use Rattle.pg_cli.specs.Generating.{IsMade, TellsSize, has_source, names_of, searches}
-use Rattle.pg_talk.specs.Halts.{IsGameHalt, IsReadHalt, IsPlayHalt, IsPlayEnd, IsWriteHalt}
 use Rattle.pg_cli.specs.Reading.{both_held}
-use Rattle.pg_talk.specs.Opening.{game_held}
 use Rattle.pg_cli.specs.Reporting.{IsReportEnd}
 use Rattle.pg_cli.specs.Solving.{positions_for}
 use Rattle.pg_cli.specs.declared.solving.TheConstants.{DEFAULT_POSITIONS}
-use Rattle.pg_talk.specs.Reading.{lacking}
-use Rattle.pg_talk.specs.Runs.{QuietsBy}
-use Rattle.pg_talk.specs.Storing.{StoresAt}
-use Rattle.pg_families.specs.Family.{GivesInFamily, LacksInFamily, LeavesFamilyFiles, QuietAtReadInFamily, statuses_in_family}
-use Rattle.pg_sessions.specs.Recording.{GivesRecord}
-use Rattle.pg_sessions.specs.Along.{IsAlong, IsOfNames, IsReached}
-use Rattle.pg_sessions.specs.Review.{GivesReview, StandsAgainst}
-use Rattle.pg_pns.specs.Expanded.{Expanded}
-use Rattle.pg_io.specs.declared.stop.Stop.TheVariants.{Memory}
-use Rattle.pg_talk.specs.declared.halt.Halt.{Halt}
-use Rattle.pg_talk.specs.declared.halt.Halt.TheVariants.{Refused, Stopped}
-use Rattle.pg_solve.specs.Left.{LeavesSearch}
 
 -- a command whose numbers are within their ranges; any other has no meaning
 abbrev pub built : Command → Option Command

@@ -1,16 +1,6 @@
 -- What it means that a claim is accepted, or played.
 use Rattle.std.specs.Prelude.{◌≡◌, List, ◌++◌, Option, Some, Ok}
-use Rattle.pg_base.specs.declared.goal.Goal.{Goal}
-use Rattle.pg_base.specs.declared.side.Side.{Side}
-use Rattle.pg_io.specs.Files.{Bytes, Holding}
-use Rattle.pg_io.specs.declared.entry.Entry.{Entry}
-use Rattle.pg_game.specs.Game.{with_turn, start}
-use Rattle.pg_game.specs.Value.{Forces}
-use Rattle.pg_game.specs.declared.game.Game.{Game}
-use Rattle.pg_files.specs.GameFile.{game}
-use Rattle.pg_files.specs.Views.{entry}
-use Rattle.pg_words.specs.Words.{Command, OfFamily}
-use Rattle.pg_families.specs.Family.{AreForcedBy, AreForcedInFamily}
+use Rattle.pg_cli.specs.Prelude.{Goal, Side, Bytes, Holding, Entry, with_turn, start, Forces, Game, game, entry, Command, OfFamily, AreForcedBy, AreForcedInFamily}
 use Rattle.pg_cli.specs.Commands.{game_read}
 
 -- these bytes say this game

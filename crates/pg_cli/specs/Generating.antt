@@ -1,23 +1,11 @@
 -- What making a game stores and says.
 use Rattle.std.specs.Prelude.{◌≡◌, ◌⊎◌, Bool, true, false, List, [], ◌∷◌, length, Option, Some, None}
-use Rattle.pg_io.specs.Console.{ConsoleTold, Grows}
-use Rattle.pg_io.specs.Files.{Bytes, Making}
-use Rattle.pg_io.specs.declared.entry.Entry.TheVariants.{Said}
+use Rattle.pg_cli.specs.Prelude.{ConsoleTold, Grows, Bytes, Making, Said, entry, Field, Lines, Graph, Game, Expanded, line_game_text, switching_game_text, Source, Rows, Bridge, Scatter, Done, End, Delivers, DeliversThen}
 use Rattle.pg_files.specs.Print.{printed}
-use Rattle.pg_files.specs.Views.{entry}
-use Rattle.pg_game.specs.declared.field.Field.{Field}
-use Rattle.pg_game.specs.declared.field.Field.TheVariants.{Lines, Graph}
-use Rattle.pg_game.specs.declared.game.Game.{Game}
 use Rattle.pg_gen.specs.Bridge.{IsBridgeGame, has_bridge}
 use Rattle.pg_gen.specs.Rows.{IsRowsGame, has_rows}
 use Rattle.pg_gen.specs.Scatter.{IsScatterGame, has_scatter}
-use Rattle.pg_pns.specs.Expanded.{Expanded}
-use Rattle.pg_messages.specs.Texts.{line_game_text, switching_game_text}
-use Rattle.pg_words.specs.declared.source.Source.{Source}
-use Rattle.pg_words.specs.declared.source.Source.TheVariants.{Rows, Bridge, Scatter}
-use Rattle.pg_talk.specs.Done.{Done, End}
 use Rattle.pg_cli.specs.Solving.{SolvesGame, result_and_counts}
-use Rattle.pg_talk.specs.Storing.{Delivers, DeliversThen}
 use Rattle.pg_cli.specs.declared.solving.TheConstants.{DEFAULT_POSITIONS}
 
 -- whether the numbers are within their ranges

@@ -1,24 +1,7 @@
 -- What a play says.
 use Rattle.std.specs.Prelude.{◌≡◌, ◌⊎◌, List, Some, None, Result, Ok, Err}
-use Rattle.pg_base.specs.declared.side.Side.{Side}
-use Rattle.pg_io.specs.declared.entry.Entry.{Entry}
-use Rattle.pg_game.specs.Game.{start}
-use Rattle.pg_game.specs.declared.game.Game.{Game}
+use Rattle.pg_cli.specs.Prelude.{Side, Entry, start, Game, IsValid, Cert, Claim, chosen_claim, Refusal, NoClaim, RejectsEvidence, StandsFor, Evidence, Contender, contender_of, End, IsPlay, IsSaidBy, Halt, Refused}
 use Rattle.pg_files.specs.GameFile.{Entry as GameEntry}
-use Rattle.pg_cert.specs.Valid.{IsValid}
-use Rattle.pg_cert.specs.declared.cert.Cert.{Cert}
-use Rattle.pg_cert.specs.declared.cert.Claim.{Claim}
-use Rattle.pg_player.specs.Player.{chosen_claim}
-use Rattle.pg_messages.specs.declared.refusal.Refusal.{Refusal}
-use Rattle.pg_messages.specs.declared.refusal.Refusal.TheVariants.{NoClaim}
-use Rattle.pg_evidence.specs.Standing.{RejectsEvidence, StandsFor}
-use Rattle.pg_evidence.specs.declared.evidence.Evidence.{Evidence}
-use Rattle.pg_talk.specs.Contender.{Contender, contender_of}
-use Rattle.pg_talk.specs.Done.{End}
-use Rattle.pg_talk.specs.Playing.{IsPlay}
-use Rattle.pg_talk.specs.Opening.{IsSaidBy}
-use Rattle.pg_talk.specs.declared.halt.Halt.{Halt}
-use Rattle.pg_talk.specs.declared.halt.Halt.TheVariants.{Refused}
 
 -- the certificate for which it stands is valid and has no claim of the side with the game's turn
 abbrev pub LacksClaim : Game → Evidence → Side → Refusal → Type 0

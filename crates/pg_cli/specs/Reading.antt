@@ -1,15 +1,8 @@
 -- What names hold: the game and the certificate that a command reads, in either form, or what
 -- stands against them.
 use Rattle.std.specs.Prelude.{Option, Result, Ok}
-use Rattle.pg_io.specs.Files.{Bytes, Holding}
-use Rattle.pg_game.specs.declared.game.Game.{Game}
+use Rattle.pg_cli.specs.Prelude.{Bytes, Holding, Game, entry, evidence_held, Evidence, IsLackingTwo, OpensTwo, both, game_held, Halt}
 use Rattle.pg_files.specs.GameFile.{Entry as GameEntry}
-use Rattle.pg_files.specs.Views.{entry}
-use Rattle.pg_evidence.specs.Evidence.{evidence_held}
-use Rattle.pg_evidence.specs.declared.evidence.Evidence.{Evidence}
-use Rattle.pg_talk.specs.Reading.{IsLackingTwo, OpensTwo, both}
-use Rattle.pg_talk.specs.Opening.{game_held}
-use Rattle.pg_talk.specs.declared.halt.Halt.{Halt}
 
 -- the game and the certificate that two names hold, or what stands against the first of them
 abbrev pub both_held : Option Bytes → Option Bytes → Result (GameEntry × Evidence) Halt

@@ -1,22 +1,10 @@
 -- What a report says.
 use Rattle.std.specs.Prelude.{◌≡◌, ◌⊎◌, ℕ, List, [], ◌∷◌, Result, Ok, Err}
-use Rattle.pg_io.specs.Files.{Bytes}
-use Rattle.pg_io.specs.declared.entry.Entry.{Entry}
-use Rattle.pg_io.specs.declared.entry.Entry.TheVariants.{Said}
-use Rattle.pg_game.specs.declared.game.Game.{Game}
+use Rattle.pg_cli.specs.Prelude.{Bytes, Entry, Said, Game, HasFault, HasImageFault, ShowsValid, heads_of_evidence, Evidence, Refusal, DONE, REFUSED, End, Finished, Failed, Starved, IsSaidBy, Halt, Refused}
 use Rattle.pg_files.specs.GameFile.{Entry as GameEntry}
-use Rattle.pg_evidence.specs.Standing.{HasFault, HasImageFault, ShowsValid}
-use Rattle.pg_evidence.specs.Verdicts.{heads_of_evidence}
-use Rattle.pg_evidence.specs.declared.evidence.Evidence.{Evidence}
 use Rattle.pg_cli.specs.Report.{report_text, rejection_text}
 use Rattle.pg_cli.specs.declared.code.Code.{Code}
 use Rattle.pg_cli.specs.declared.code.Code.TheVariants.{Node, Image}
-use Rattle.pg_messages.specs.declared.refusal.Refusal.{Refusal}
-use Rattle.pg_messages.specs.declared.statuses.TheConstants.{DONE, REFUSED}
-use Rattle.pg_talk.specs.Done.{End, Finished, Failed, Starved}
-use Rattle.pg_talk.specs.Opening.{IsSaidBy}
-use Rattle.pg_talk.specs.declared.halt.Halt.{Halt}
-use Rattle.pg_talk.specs.declared.halt.Halt.TheVariants.{Refused}
 
 -- the certificate for which it stands is valid, and the text tells its claims
 pub record TellsClaims (g : Game) (e : Evidence) (text : Bytes) (status : ℕ) : Type 0 where

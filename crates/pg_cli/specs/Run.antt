@@ -1,31 +1,12 @@
 -- WHAT EACH COMMAND MAY DO, and what a run is.
 use Rattle.std.specs.Prelude.{◌≡◌, ◌⊎◌, ℕ, [], ◌∷◌, Option, Some, None, Result, Err, IfSome}
-use Rattle.pg_io.specs.Causes.{Rose}
-use Rattle.pg_io.specs.Console.{ConsoleTold, Grows}
-use Rattle.pg_io.specs.Files.{Holding, FilesTold}
-use Rattle.pg_io.specs.declared.entry.Entry.TheVariants.{Said}
-use Rattle.pg_messages.specs.Statuses.{refusal_status}
-use Rattle.pg_messages.specs.Texts.{refusal_text}
-use Rattle.pg_messages.specs.declared.refusal.Refusal.{Refusal}
-use Rattle.pg_messages.specs.declared.refusal.Refusal.TheVariants.{NoMeaning}
-use Rattle.pg_messages.specs.declared.statuses.TheConstants.{WRITE_FAILED}
-use Rattle.pg_words.specs.Words.{Command, Solve, Check, Play, Gen, Report, OfFamily, Record, Review}
+use Rattle.pg_cli.specs.Prelude.{Rose, ConsoleTold, Grows, Holding, FilesTold, Said, refusal_status, refusal_text, Refusal, NoMeaning, WRITE_FAILED, Command, Solve, Check, Play, Gen, Report, OfFamily, Record, Review, Done, End, Finished, Failed, Starved, Changes, Follows, IsNothing, ending, stop_status, game_held, Runs, ActsInFamily, RefusesFamily, Records, RefusesReview, Reviews, Expanded, Halt, Refused, Stopped}
 use Rattle.pg_cli.specs.Checking.{RefusesCheck, AcceptsAll}
-use Rattle.pg_talk.specs.Done.{Done, End, Finished, Failed, Starved, Changes, Follows, IsNothing, ending}
 use Rattle.pg_cli.specs.Generating.{Generates}
-use Rattle.pg_talk.specs.Halts.{stop_status}
 use Rattle.pg_cli.specs.Playing.{RefusesPlay, PlaysOn}
 use Rattle.pg_cli.specs.Reading.{both_held}
-use Rattle.pg_talk.specs.Opening.{game_held}
 use Rattle.pg_cli.specs.Reporting.{RefusesReport, Reports}
 use Rattle.pg_cli.specs.Solving.{Solves}
-use Rattle.pg_talk.specs.Runs.{Runs}
-use Rattle.pg_families.specs.Family.{ActsInFamily, RefusesFamily}
-use Rattle.pg_sessions.specs.Recording.{Records}
-use Rattle.pg_sessions.specs.Review.{RefusesReview, Reviews}
-use Rattle.pg_pns.specs.Expanded.{Expanded}
-use Rattle.pg_talk.specs.declared.halt.Halt.{Halt}
-use Rattle.pg_talk.specs.declared.halt.Halt.TheVariants.{Refused, Stopped}
 
 -- this stands against the command, where the names hold these bytes
 abbrev pub Refuses : Holding → Option Command → Refusal → Type 0

@@ -1,42 +1,11 @@
 -- What solving stores and says.
 use Rattle.std.specs.Prelude.{◌≡◌, ◌≢◌, ◌⊎◌, ◌&&◌, ℕ, nat_le, Bool, true, false, if◌then◌else◌, List, [], ◌∷◌, length, map, Option, Some, None, Result, Ok, Err}
-use Rattle.pg_base.specs.declared.kind.Kind.{Kind}
-use Rattle.pg_base.specs.declared.kind.Kind.TheVariants.{Switching}
-use Rattle.pg_io.specs.Files.{Bytes}
-use Rattle.pg_io.specs.declared.entry.Entry.TheVariants.{Said}
-use Rattle.pg_game.specs.Fit.{is_switching}
-use Rattle.pg_game.specs.declared.bounds.TheConstants.{MAX_POSITIONS}
-use Rattle.pg_game.specs.declared.game.Game.{Game}
+use Rattle.pg_cli.specs.Prelude.{Kind, Switching, Bytes, Said, is_switching, MAX_POSITIONS, Game, IsWithinLimits, node_count, printed_certificate, IsValid, Cert, FoldsWell, IsFoldedWell, IsImageWithinLimits, printed_image_certificate, ImageCert, IsFaultless, IsUnfoldedCert, Unfolded, Expanded, heading, budget, IsAskedLast, IsLeft, IsLeftOpen, certificate_of, due, is_class, IsTrueOf, IsShown, Short, Cut, First, Solution, Value, Unknown, MIN_POSITIONS, class_short_text, class_cut_text, class_first_mover_text, expanded_text, message_text, result_text, unknown_text, Message, DONE, UNKNOWN, Done, End, Finished, Failed, Starved, IsSaidBy, Delivers, Halt}
 use Rattle.pg_files.specs.GameFile.{Entry as GameEntry}
-use Rattle.pg_cert.specs.Limits.{IsWithinLimits, node_count}
-use Rattle.pg_cert.specs.Print.{printed_certificate}
-use Rattle.pg_cert.specs.Valid.{IsValid}
-use Rattle.pg_cert.specs.declared.cert.Cert.{Cert}
 use Rattle.pg_cert.specs.declared.cert.Version.TheVariants.{One}
-use Rattle.pg_fold.specs.Symmetry.{FoldsWell, IsFoldedWell}
-use Rattle.pg_image.specs.Limits.{IsImageWithinLimits}
-use Rattle.pg_image.specs.Print.{printed_image_certificate}
-use Rattle.pg_image.specs.declared.cert.ImageCert.{ImageCert}
-use Rattle.pg_unfold.specs.Flaws.{IsFaultless}
-use Rattle.pg_unfold.specs.Unfolded.{IsUnfoldedCert}
-use Rattle.pg_unfold.specs.declared.unfolded.Unfolded.{Unfolded}
-use Rattle.pg_pns.specs.Expanded.{Expanded}
-use Rattle.pg_solve.specs.Due.{heading}
-use Rattle.pg_solve.specs.Left.{budget, IsAskedLast, IsLeft, IsLeftOpen}
-use Rattle.pg_solve.specs.Solved.{certificate_of, due, is_class, IsTrueOf, IsShown}
 use Rattle.pg_solve.specs.declared.solution.Class.{Class}
-use Rattle.pg_solve.specs.declared.solution.Class.TheVariants.{Short, Cut, First}
-use Rattle.pg_solve.specs.declared.solution.Solution.{Solution}
-use Rattle.pg_solve.specs.declared.solution.Solution.TheVariants.{Value, Class as ForClass, Unknown}
-use Rattle.pg_solve.specs.declared.solving.TheConstants.{MIN_POSITIONS}
-use Rattle.pg_messages.specs.Texts.{class_short_text, class_cut_text, class_first_mover_text, expanded_text, message_text, result_text, unknown_text}
-use Rattle.pg_messages.specs.declared.message.Message.{Message}
-use Rattle.pg_messages.specs.declared.statuses.TheConstants.{DONE, UNKNOWN}
-use Rattle.pg_talk.specs.Done.{Done, End, Finished, Failed, Starved}
-use Rattle.pg_talk.specs.Opening.{IsSaidBy}
-use Rattle.pg_talk.specs.Storing.{Delivers}
+use Rattle.pg_solve.specs.declared.solution.Solution.TheVariants.{Class as ForClass}
 use Rattle.pg_cli.specs.declared.solving.TheConstants.{DEFAULT_POSITIONS}
-use Rattle.pg_talk.specs.declared.halt.Halt.{Halt}
 
 -- how many positions may be expanded: as many as are asked for, where they may be, and as usual
 -- where none are said

@@ -1,14 +1,8 @@
 -- What judging a certificate for a game finds.
 use Rattle.std.specs.Prelude.{◌≡◌, Option, Some, None, Result, Ok, Err, ⊤}
-use Rattle.pg_io.specs.Files.{Bytes, Holding}
-use Rattle.pg_game.specs.declared.game.Game.{Game}
+use Rattle.pg_cli.specs.Prelude.{Bytes, Holding, Game, IsFound, Evidence, Verdict, Halt, Refused, Stopped}
 use Rattle.pg_files.specs.GameFile.{Entry as GameEntry}
-use Rattle.pg_evidence.specs.Verdicts.{IsFound}
-use Rattle.pg_evidence.specs.declared.evidence.Evidence.{Evidence}
-use Rattle.pg_evidence.specs.declared.verdict.Verdict.{Verdict}
 use Rattle.pg_cli.specs.Reading.{both_held, read_of}
-use Rattle.pg_talk.specs.declared.halt.Halt.{Halt}
-use Rattle.pg_talk.specs.declared.halt.Halt.TheVariants.{Refused, Stopped}
 
 -- a game was read, and a certificate for it read and judged; or what stands against the first of
 -- them

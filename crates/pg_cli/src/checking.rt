@@ -1,18 +1,9 @@
 //! Checking a certificate for a game.
 ghost use Rattle.std.specs.Prelude.{◌≡◌, ◌≢◌, [], map, Err, IfErr, IfOk, Some};
-ghost use Rattle.pg_io.specs.Files.{ReadsOnly};
+ghost use Rattle.pg_cli.specs.Prelude.{ReadsOnly, Game, IsFound, Evidence, DONE, Expanded, Check, Speaks, Performs, BothCauses, HaltCauses, IsReadHalt};
 ghost use Rattle.pg_io.specs.Stop.{Causes};
-ghost use Rattle.pg_game.specs.declared.game.Game.{Game};
-ghost use Rattle.pg_evidence.specs.Verdicts.{IsFound};
-ghost use Rattle.pg_evidence.specs.declared.evidence.Evidence.{Evidence};
-ghost use Rattle.pg_messages.specs.declared.statuses.TheConstants.{DONE};
-ghost use Rattle.pg_pns.specs.Expanded.{Expanded};
-ghost use Rattle.pg_words.specs.Words.{Check};
 ghost use Rattle.pg_cli.specs.Checking.{AcceptsAll, RefusesCheck, head_acceptance};
-ghost use Rattle.pg_talk.specs.Saying.{Speaks};
 ghost use Rattle.pg_cli.specs.Commands.{Quiets};
-ghost use Rattle.pg_talk.specs.Done.{Performs};
-ghost use Rattle.pg_talk.specs.Halts.{BothCauses, HaltCauses, IsReadHalt};
 ghost use Rattle.pg_cli.specs.Reading.{AreLacking, read_of};
 ghost use Rattle.pg_cli.specs.Run.{Carries};
 

@@ -1,9 +1,7 @@
 //! The file of a certificate that solving has found.
 ghost use Rattle.std.specs.Prelude.{IfOk, Some};
-ghost use Rattle.pg_cert.specs.Limits.{IsWithinLimits};
-ghost use Rattle.pg_cert.specs.Valid.{IsValid};
+ghost use Rattle.pg_cli.specs.Prelude.{IsWithinLimits, IsValid, DifferInPosition};
 ghost use Rattle.pg_cli.specs.Solving.{IsFileOf};
-ghost use Rattle.pg_fold.specs.Folded.{DifferInPosition};
 
 use pg_base::Memory;
 use pg_cert::{Cert, print_cert};

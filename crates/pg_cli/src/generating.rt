@@ -1,22 +1,10 @@
 //! Making a game from numbers.
 ghost use Rattle.std.specs.Prelude.{◌≡◌, ◌≢◌, ◌≤◌, [], ◌∷◌, false, map, IfErr, IfOk};
-ghost use Rattle.pg_io.specs.Console.{Grows};
-ghost use Rattle.pg_io.specs.declared.entry.Entry.TheVariants.{Said};
-ghost use Rattle.pg_cert.specs.Limits.{node_count};
-ghost use Rattle.pg_cert.specs.declared.limits.TheConstants.{MAX_NODES};
-ghost use Rattle.pg_base.specs.declared.kind.Kind.TheVariants.{Switching};
-ghost use Rattle.pg_solve.specs.Left.{budget, IsLeft};
-ghost use Rattle.pg_messages.specs.Texts.{message_text};
-ghost use Rattle.pg_messages.specs.declared.statuses.TheConstants.{DONE};
-ghost use Rattle.pg_words.specs.Ordered.{text};
-ghost use Rattle.pg_words.specs.Words.{Gen};
+ghost use Rattle.pg_cli.specs.Prelude.{Grows, Said, node_count, MAX_NODES, Switching, budget, IsLeft, message_text, DONE, text, Gen, Does, BothCauses, IsWriteHalt, MuteAtMemory, Delivers, StoresAt};
 ghost use Rattle.pg_cli.specs.Commands.{Gives, LeavesFiles, LeavesWork, Quiets, built};
-ghost use Rattle.pg_talk.specs.Done.{Does};
 ghost use Rattle.pg_cli.specs.Generating.{IsMadeOf, game_file, size_text, size_texts};
-ghost use Rattle.pg_talk.specs.Halts.{BothCauses, IsWriteHalt, MuteAtMemory};
 ghost use Rattle.pg_cli.specs.Run.{Carries};
 ghost use Rattle.pg_cli.specs.Solving.{IsSolveEnd, SolvesGame, result_and_counts};
-ghost use Rattle.pg_talk.specs.Storing.{Delivers, StoresAt};
 ghost use Rattle.pg_cli.specs.declared.solving.TheConstants.{DEFAULT_POSITIONS};
 
 use crate::solving::{DEFAULT_POSITIONS, deliver_solution, find};

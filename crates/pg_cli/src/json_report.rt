@@ -1,9 +1,8 @@
 //! Reports on certificates, as JSON.
 ghost use Rattle.std.specs.Prelude.{◌≡◌, IfOk, string_bytes};
+ghost use Rattle.pg_cli.specs.Prelude.{array, view};
 ghost use Rattle.pg_cli.specs.Report.{code_text, rejection_text, report_text};
 ghost use Rattle.pg_cli.specs.Values.{IsByte, claim_data, claims_data, rejection_data, report_data};
-ghost use Rattle.serde_json.specs.Data.{array};
-ghost use Rattle.serde_json.specs.View.{view};
 
 use crate::code::Code;
 use pg_base::Memory;

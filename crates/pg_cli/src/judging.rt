@@ -1,7 +1,6 @@
 //! Judging a certificate for a game as it comes.
 ghost use Rattle.std.specs.Prelude.{IfErr};
-ghost use Rattle.pg_io.specs.Files.{ReadsOnly};
-ghost use Rattle.pg_talk.specs.Halts.{HaltCauses, IsReadHalt};
+ghost use Rattle.pg_cli.specs.Prelude.{ReadsOnly, HaltCauses, IsReadHalt};
 ghost use Rattle.pg_cli.specs.Reading.{AreLacking};
 ghost use Rattle.pg_cli.specs.Verdicts.{JudgesBoth};
 

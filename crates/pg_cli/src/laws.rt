@@ -1,18 +1,9 @@
 //! What the claims that are said tell of the game.
 ghost use Rattle.std.specs.Prelude.{◌≡◌, ℕ, List, Option, Some};
-ghost use Rattle.pg_cert.specs.declared.cert.Cert.{Cert};
-ghost use Rattle.pg_fold.specs.Folded.{DifferInPosition};
-ghost use Rattle.pg_game.specs.declared.game.Game.{Game};
-ghost use Rattle.pg_game.specs.declared.position.Position.{Position};
-ghost use Rattle.pg_io.specs.Files.{Holding};
-ghost use Rattle.pg_solve.specs.Solved.{IsShown, certificate_of};
-ghost use Rattle.pg_solve.specs.declared.solution.Solution.{Solution};
-ghost use Rattle.pg_words.specs.Words.{Command};
+ghost use Rattle.pg_cli.specs.Prelude.{Cert, DifferInPosition, Game, Position, Holding, IsShown, certificate_of, Solution, Command, Done, End, Expanded};
 ghost use Rattle.pg_cli.specs.Commands.{game_read};
-ghost use Rattle.pg_talk.specs.Done.{Done, End};
 ghost use Rattle.pg_cli.specs.Forced.{AreForced};
 ghost use Rattle.pg_cli.specs.Run.{Allows};
-ghost use Rattle.pg_pns.specs.Expanded.{Expanded};
 
 use pg_cert_files::reads_within_limits;
 use pg_check::valid_claims_are_forced;

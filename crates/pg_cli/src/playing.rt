@@ -1,15 +1,7 @@
 //! Playing a side of a game by a certificate.
 ghost use Rattle.std.specs.Prelude.{IfErr, IfOk, Some};
-ghost use Rattle.pg_io.specs.Files.{ReadsOnly};
-ghost use Rattle.pg_evidence.specs.Evidence.{IsWithinItsLimits};
-ghost use Rattle.pg_evidence.specs.Standing.{StandsFor};
-ghost use Rattle.pg_evidence.specs.declared.evidence.Evidence.{Evidence};
-ghost use Rattle.pg_cert.specs.Valid.{IsValid};
-ghost use Rattle.pg_pns.specs.Expanded.{Expanded};
-ghost use Rattle.pg_words.specs.Words.{Play};
+ghost use Rattle.pg_cli.specs.Prelude.{ReadsOnly, IsWithinItsLimits, StandsFor, Evidence, IsValid, Expanded, Play, Performs, BothCauses, HaltCauses, IsPlayEnd, IsPlayHalt};
 ghost use Rattle.pg_cli.specs.Commands.{Quiets};
-ghost use Rattle.pg_talk.specs.Done.{Performs};
-ghost use Rattle.pg_talk.specs.Halts.{BothCauses, HaltCauses, IsPlayEnd, IsPlayHalt};
 ghost use Rattle.pg_cli.specs.Playing.{PlaysOn, RefusesPlay};
 ghost use Rattle.pg_cli.specs.Reading.{AreLacking, read_of};
 ghost use Rattle.pg_cli.specs.Run.{Carries};

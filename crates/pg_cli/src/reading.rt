@@ -1,8 +1,6 @@
 //! Reading a game and a certificate of either form.
 ghost use Rattle.std.specs.Prelude.{IfErr, IfOk};
-ghost use Rattle.pg_io.specs.Files.{ReadsOnly};
-ghost use Rattle.pg_evidence.specs.Evidence.{IsWithinItsLimits};
-ghost use Rattle.pg_talk.specs.Halts.{HaltCauses, IsReadHalt};
+ghost use Rattle.pg_cli.specs.Prelude.{ReadsOnly, IsWithinItsLimits, HaltCauses, IsReadHalt};
 ghost use Rattle.pg_cli.specs.Reading.{OpensBoth, AreLacking};
 
 use pg_evidence::{Evidence, open_evidence};

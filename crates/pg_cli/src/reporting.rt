@@ -1,13 +1,7 @@
 //! Reporting on a certificate for a game.
 ghost use Rattle.std.specs.Prelude.{◌≢◌, [], string_bytes, Err, IfErr, IfOk, Some};
-ghost use Rattle.pg_io.specs.Files.{ReadsOnly};
-ghost use Rattle.pg_evidence.specs.Verdicts.{IsFound};
-ghost use Rattle.pg_evidence.specs.declared.evidence.Evidence.{Evidence};
-ghost use Rattle.pg_pns.specs.Expanded.{Expanded};
-ghost use Rattle.pg_words.specs.Words.{Report};
+ghost use Rattle.pg_cli.specs.Prelude.{ReadsOnly, IsFound, Evidence, Expanded, Report, Performs, BothCauses, HaltCauses, IsReadHalt};
 ghost use Rattle.pg_cli.specs.Commands.{Quiets};
-ghost use Rattle.pg_talk.specs.Done.{Performs};
-ghost use Rattle.pg_talk.specs.Halts.{BothCauses, HaltCauses, IsReadHalt};
 ghost use Rattle.pg_cli.specs.Reading.{AreLacking, read_of};
 ghost use Rattle.pg_cli.specs.Reporting.{Accounts, IsReportEnd, RefusesReport, Reports};
 ghost use Rattle.pg_cli.specs.Run.{Carries};

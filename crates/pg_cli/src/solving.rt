@@ -1,21 +1,9 @@
 //! Solving a game, and storing what shows it.
 ghost use Rattle.std.specs.Prelude.{◌≡◌, ◌≢◌, ◌≤◌, [], ◌∷◌, length, IfErr, IfOk, IfSome, Some};
-ghost use Rattle.pg_cert.specs.Limits.{IsWithinLimits};
-ghost use Rattle.pg_cert.specs.Print.{printed_certificate};
-ghost use Rattle.pg_base.specs.declared.kind.Kind.TheVariants.{Switching};
-ghost use Rattle.pg_game.specs.declared.bounds.TheConstants.{MAX_POSITIONS};
-ghost use Rattle.pg_solve.specs.Left.{budget, IsLeft};
-ghost use Rattle.pg_solve.specs.declared.solving.TheConstants.{MIN_POSITIONS};
-ghost use Rattle.pg_messages.specs.Texts.{message_text};
-ghost use Rattle.pg_messages.specs.declared.statuses.TheConstants.{DONE, UNKNOWN};
-ghost use Rattle.pg_words.specs.Words.{Solve};
+ghost use Rattle.pg_cli.specs.Prelude.{IsWithinLimits, printed_certificate, Switching, MAX_POSITIONS, budget, IsLeft, MIN_POSITIONS, message_text, DONE, UNKNOWN, Solve, Does, BothCauses, IsWriteHalt, MuteAtMemory, IsGameLacking, Delivers, StoresAt, texts_of};
 ghost use Rattle.pg_cli.specs.Commands.{Gives, LeavesWork, Quiets};
-ghost use Rattle.pg_talk.specs.Done.{Does};
-ghost use Rattle.pg_talk.specs.Halts.{BothCauses, IsWriteHalt, MuteAtMemory};
-ghost use Rattle.pg_talk.specs.Opening.{IsGameLacking};
 ghost use Rattle.pg_cli.specs.Run.{Carries};
 ghost use Rattle.pg_cli.specs.Solving.{IsFound, IsSolveEnd, SolvesGame, class_text, positions_for, result_alone};
-ghost use Rattle.pg_talk.specs.Storing.{Delivers, StoresAt, texts_of};
 
 use crate::filing::print_solution;
 use pg_base::Memory;

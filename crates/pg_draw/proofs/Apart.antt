@@ -1,9 +1,7 @@
 -- Different cells, and different vertices of a Bridg-It board, lie at different places.
 use Rattle.std.proofs.Common.{◌≡◌, ◌∙◌, ℕ, zero, suc, ◌+◌, ◌*◌, ◌-◌, ◌/◌, ◌%◌, ◌≤◌, ◌⊎◌, inl, inr, sym, ap, ap₂, arith, refl}
 use Rattle.std.specs.Prelude.{max}
-use Rattle.std.proofs.lemmas.Nat.{div-add-mod', mod_below}
-use Rattle.std.proofs.lemmas.Bool.Decides.{nat_tests}
-use Rattle.pg_picture.specs.declared.shape.Place.{Place}
+use Rattle.pg_draw.proofs.Common.{div-add-mod', mod_below, nat_tests, Place}
 use Rattle.pg_draw.specs.Places.{column_of, columns_of, place_on_bridge, place_on_grid, row_of}
 
 -- numbers with the same quotient and the same remainder are one

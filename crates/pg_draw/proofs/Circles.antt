@@ -1,12 +1,7 @@
 -- Different members of a circle lie at different places.
 use Rattle.std.proofs.Common.{◌≡◌, ◌∙◌, ℕ, zero, suc, ◌+◌, ◌*◌, ◌-◌, ◌/◌, ◌%◌, ◌<◌, ◌≤◌, Bool, true, inl, inr, sym, ap, arith, refl, subst}
 use Rattle.std.specs.Prelude.{max, nat_le, ◌&&◌, ◌==◌, slice_index, if◌then◌else◌}
-use Rattle.std.proofs.Math.Nat.{add-mul-div_right, div-le_of_le-mul, div-lt_iff_lt-mul, div-mul-le_self, lt-div-mul-add, mul-add, mul-le-mul_left}
-use Rattle.std.proofs.lemmas.Bool.{and_parts, cases_Bool, cases_lt}
-use Rattle.std.proofs.lemmas.Bool.Decides.{nat_tests}
-use Rattle.std.proofs.lemmas.Nat.{div-add-mod', le-div, mod_below, mul-le}
-use Rattle.pg_game.specs.declared.bounds.TheConstants.{MAX_VERTICES}
-use Rattle.pg_picture.specs.declared.shape.Place.{Place}
+use Rattle.pg_draw.proofs.Common.{add-mul-div_right, div-le_of_le-mul, div-lt_iff_lt-mul, div-mul-le_self, lt-div-mul-add, mul-add, mul-le-mul_left, and_parts, cases_Bool, cases_lt, nat_tests, div-add-mod', le-div, mod_below, mul-le, MAX_VERTICES, Place}
 use Rattle.pg_draw.specs.Places.{at, part_of, place_after, place_on_circle, place_on_ring, radius_of}
 use Rattle.pg_draw.specs.declared.measures.TheConstants.{MAX_ON_RING, ROW}
 use Rattle.pg_draw.specs.declared.sines.TheConstants.{SINES}

@@ -1,15 +1,7 @@
 -- Points and vertices lie in the picture.
 use Rattle.std.proofs.Common.{◌≡◌, ℕ, zero, suc, ◌+◌, ◌*◌, ◌-◌, ◌/◌, ◌%◌, ◌<◌, ◌≤◌, List, [], ◌∷◌, inl, inr, arith, subst}
 use Rattle.std.specs.Prelude.{Option, Some, None, fold, max, nat_le, ◌==◌}
-use Rattle.std.proofs.Math.Nat.{div-lt_iff_lt-mul, mul_comm}
-use Rattle.std.proofs.lemmas.Bool.{cases_Bool}
-use Rattle.std.proofs.lemmas.Bool.Decides.{nat_tests}
-use Rattle.std.proofs.lemmas.Nat.{mod_below}
-use Rattle.pg_picture.specs.declared.shape.Place.{Place}
-use Rattle.pg_scene.specs.Limits.{IsBoard, points_on, vertices_on}
-use Rattle.pg_scene.specs.declared.board.Board.{Board}
-use Rattle.pg_scene.specs.declared.board.Board.TheVariants.{Grid, Ring, Graph}
-use Rattle.pg_scene.specs.declared.scene.Scene.{Scene}
+use Rattle.pg_draw.proofs.Common.{div-lt_iff_lt-mul, mul_comm, cases_Bool, nat_tests, mod_below, Place, IsBoard, points_on, vertices_on, Board, Grid, Ring, Graph, Scene}
 use Rattle.pg_draw.specs.Courses.{farther, place_of_edge}
 use Rattle.pg_draw.specs.Laws.{IsInside, IsUpTo, vertex_place}
 use Rattle.pg_draw.specs.Pictures.{bridge_reach, circle_reach, far_corner, picture_of, reach_by, reach_of, row_reach}

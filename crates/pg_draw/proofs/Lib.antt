@@ -1,3 +1,4 @@
+mod Common
 mod Apart
 mod Circles
 mod Inside

@@ -4,9 +4,7 @@ use Rattle.std.specs.List.{flat_map}
 use Rattle.std.proofs.lemmas.Grind.{flat_map-append}
 use Rattle.std.proofs.lemmas.List.Concat.{flat_map-cons}
 use Rattle.pg_picture.specs.declared.paint.Paint.TheVariants as paints
-use Rattle.pg_picture.specs.declared.shape.Shape.TheVariants.{Words}
-use Rattle.pg_scene.specs.declared.item.Item.{Item}
-use Rattle.pg_scene.specs.declared.scene.Scene.{Scene}
+use Rattle.pg_draw.proofs.Common.{Words, Item, Scene}
 use Rattle.pg_draw.specs.Laws.{IsDrawnBetween, last_shapes}
 use Rattle.pg_draw.specs.Pictures.{picture_of}
 use Rattle.pg_draw.specs.Places.{at}

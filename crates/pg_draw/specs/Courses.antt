@@ -1,8 +1,7 @@
 -- How edges run.
 use Rattle.std.specs.Prelude.{ℕ, ◌+◌, ◌*◌, ◌/◌, ◌==◌, ◌&&◌, ◌||◌, max, nat_le, Bool, if◌then◌else◌, List, [], ◌∷◌, ◌++◌, Option, Some, None, slice_get, fold}
+use Rattle.pg_draw.specs.Prelude.{count_by, Place}
 use Rattle.std.specs.Int.{abs_diff}
-use Rattle.std.specs.List.{count_by}
-use Rattle.pg_picture.specs.declared.shape.Place.{Place}
 use Rattle.pg_draw.specs.declared.course.Course.{Course}
 use Rattle.pg_draw.specs.declared.course.Course.TheVariants.{Straight, Bent, Around}
 use Rattle.pg_draw.specs.declared.measures.TheConstants.{BEND, LOOP, MARGIN, MAX_MIDDLE_REACH, TOP}

@@ -2,14 +2,7 @@
 use Rattle.std.specs.Prelude.{◌≡◌, ℕ, ◌+◌, ◌≤◌, List, ◌∷◌, ◌++◌}
 use Rattle.std.specs.List.{flat_map}
 use Rattle.pg_picture.specs.declared.paint.Paint.TheVariants as paints
-use Rattle.pg_picture.specs.declared.picture.Picture.{Picture}
-use Rattle.pg_picture.specs.declared.shape.Place.{Place}
-use Rattle.pg_picture.specs.declared.shape.Shape.{Shape}
-use Rattle.pg_picture.specs.declared.shape.Shape.TheVariants.{Words}
-use Rattle.pg_scene.specs.declared.board.Board.{Board}
-use Rattle.pg_scene.specs.declared.board.Board.TheVariants.{Grid, Ring, Graph}
-use Rattle.pg_scene.specs.declared.item.Item.{Item}
-use Rattle.pg_scene.specs.declared.scene.Scene.{Scene}
+use Rattle.pg_draw.specs.Prelude.{Picture, Place, Shape, Words, Board, Grid, Ring, Graph, Item, Scene}
 use Rattle.pg_draw.specs.Pictures.{far_corner, legend_shapes, picture_of}
 use Rattle.pg_draw.specs.Places.{at, place_of_end}
 use Rattle.pg_draw.specs.Shapes.{courses_of, item_shapes, plan_of, vertices_shapes}

@@ -2,13 +2,7 @@
 use Rattle.std.specs.Prelude.{ℕ, ◌+◌, ◌*◌, ◌/◌, max, min, nat_le, if◌then◌else◌, List, [], ◌∷◌, ◌++◌, length, Option, Some, None, fold}
 use Rattle.std.specs.List.{flat_map}
 use Rattle.pg_picture.specs.declared.paint.Paint.TheVariants as paints
-use Rattle.pg_picture.specs.declared.picture.Picture.{Picture}
-use Rattle.pg_picture.specs.declared.shape.Place.{Place}
-use Rattle.pg_picture.specs.declared.shape.Shape.{Shape}
-use Rattle.pg_picture.specs.declared.shape.Shape.TheVariants.{Words}
-use Rattle.pg_scene.specs.declared.board.Board.{Board}
-use Rattle.pg_scene.specs.declared.board.Board.TheVariants.{Grid, Ring, Graph}
-use Rattle.pg_scene.specs.declared.scene.Scene.{Scene}
+use Rattle.pg_draw.specs.Prelude.{Picture, Place, Shape, Words, Board, Grid, Ring, Graph, Scene}
 use Rattle.pg_draw.specs.Courses.{farthest}
 use Rattle.pg_draw.specs.Places.{at, columns_of, radius_of}
 use Rattle.pg_draw.specs.Shapes.{courses_of, item_shapes, plan_of, vertices_shapes}

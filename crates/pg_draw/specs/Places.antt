@@ -1,11 +1,9 @@
 -- Where points and vertices lie in a picture.
 use Rattle.std.specs.Prelude.{ℕ, ◌+◌, ◌*◌, ◌-◌, ◌/◌, ◌%◌, ◌<◌, ◌≤◌, ◌==◌, max, nat_le, if◌then◌else◌, Option, Some, None, IfSome, slice_index}
-use Rattle.pg_game.specs.declared.bounds.TheConstants.{MAX_VERTICES}
-use Rattle.pg_picture.specs.declared.shape.Place.{Place}
+use Rattle.pg_draw.specs.Prelude.{MAX_VERTICES, Place, MAX_BRIDGE_ROWS}
 use Rattle.pg_draw.specs.declared.measures.TheConstants.{APART, CELL, HALF, MARGIN, MAX_ON_RING, MIN_RADIUS, QUARTER, ROW, SINE_OF_QUARTER, SPREAD, TOP, TURN}
 use Rattle.pg_draw.specs.declared.vertices.Plan.{Plan}
 use Rattle.pg_draw.specs.declared.sines.TheConstants.{SINES}
-use Rattle.pg_gen.specs.declared.limits.TheConstants.{MAX_BRIDGE_ROWS}
 
 -- the place so far from the left and from the top
 abbrev pub at : ℕ → ℕ → Place

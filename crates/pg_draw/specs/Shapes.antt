@@ -5,12 +5,7 @@ use Rattle.pg_base.specs.declared.side.Side.{Side}
 use Rattle.pg_base.specs.declared.side.Side.TheVariants.{X, Y}
 use Rattle.pg_picture.specs.declared.paint.Paint.{Paint}
 use Rattle.pg_picture.specs.declared.paint.Paint.TheVariants as paints
-use Rattle.pg_picture.specs.declared.shape.Place.{Place}
-use Rattle.pg_picture.specs.declared.shape.Shape.{Shape}
-use Rattle.pg_picture.specs.declared.shape.Shape.TheVariants.{Square, Disc, Stroke, Bow, Words}
-use Rattle.pg_scene.specs.declared.board.Board.{Board}
-use Rattle.pg_scene.specs.declared.board.Board.TheVariants.{Grid, Ring, Graph}
-use Rattle.pg_scene.specs.declared.item.Item.{Item}
+use Rattle.pg_draw.specs.Prelude.{Place, Shape, Square, Disc, Stroke, Bow, Words, Board, Grid, Ring, Graph, Item}
 use Rattle.pg_scene.specs.declared.item.Item.TheVariants as items
 use Rattle.pg_scene.specs.declared.item.Set.{Set}
 use Rattle.pg_scene.specs.declared.item.Set.TheVariants as sets

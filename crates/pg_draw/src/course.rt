@@ -1,9 +1,8 @@
 //! How edges run.
 ghost use Rattle.std.specs.Prelude.{◌≡◌, ◌+◌, ◌≤◌, length};
-ghost use Rattle.std.specs.List.{count_by};
+ghost use Rattle.pg_draw.specs.Prelude.{count_by, MAX_EDGES};
 ghost use Rattle.pg_draw.specs.Places.{IsPlan, IsWithin};
 ghost use Rattle.pg_draw.specs.Courses.{beside, bend_of, course_of, have_same_ends, middle_of, midway};
-ghost use Rattle.pg_base.specs.declared.limits.TheConstants.{MAX_EDGES};
 
 use crate::measures::{BEND, LOOP, MAX_END_REACH, MAX_MIDDLE_REACH};
 use crate::vertices::Plan;

@@ -1,7 +1,6 @@
 //! Scenes as pictures.
 ghost use Rattle.std.specs.Prelude.{◌≡◌, ◌++◌, ◌+◌, ◌≤◌, OnOk, IfOk, length};
-ghost use Rattle.std.specs.List.{flat_map, range_with_len};
-ghost use Rattle.pg_scene.specs.Limits.{IsBoard};
+ghost use Rattle.pg_draw.specs.Prelude.{flat_map, range_with_len, IsBoard};
 ghost use Rattle.pg_draw.specs.Places.{IsPlan};
 ghost use Rattle.pg_draw.specs.Shapes.{bar_shapes, vertex_paint, vertex_shapes, vertices_shapes};
 ghost use Rattle.pg_draw.specs.Pictures.{legend_shapes, picture_of, shapes_of, width_of};

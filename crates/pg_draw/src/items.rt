@@ -1,10 +1,8 @@
 //! The shapes of items.
 ghost use Rattle.std.specs.Prelude.{◌≡◌, ◌≤◌, ◌++◌, OnOk, length};
-ghost use Rattle.std.specs.List.{flat_map};
-ghost use Rattle.pg_scene.specs.Limits.{IsBoard};
+ghost use Rattle.pg_draw.specs.Prelude.{flat_map, IsBoard, MAX_EDGES};
 ghost use Rattle.pg_draw.specs.Places.{IsPlan, IsWithin};
 ghost use Rattle.pg_draw.specs.Shapes.{badge_shapes, extra_shapes, fault_shapes, item_shapes, line_shapes, member_shapes, pair_shapes, part_shapes, place_of, reached_shapes, further_edge_shapes, weight_shapes};
-ghost use Rattle.pg_base.specs.declared.limits.TheConstants.{MAX_EDGES};
 
 use crate::boards::{lower, place_of, upper_right};
 use crate::course::{Course, bend_of, middle_of, parallels};

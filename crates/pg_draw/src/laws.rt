@@ -1,13 +1,10 @@
 //! Laws of pictures. Each function is empty: what it promises is a law of the definitions alone.
 ghost use Rattle.std.specs.Prelude.{◌≡◌, ◌≤◌, ◌<◌, ◌∷◌, ◌++◌, ℕ, List};
-ghost use Rattle.pg_scene.specs.Limits.{IsBoard, points_on, vertices_on};
-ghost use Rattle.pg_scene.specs.declared.item.Item.{Item};
-ghost use Rattle.pg_scene.specs.declared.scene.Scene.{Scene};
+ghost use Rattle.pg_draw.specs.Prelude.{IsBoard, points_on, vertices_on, Item, Scene, MAX_VERTICES};
 ghost use Rattle.pg_draw.specs.Laws.{IsDrawnBetween, IsInside, vertex_place};
 ghost use Rattle.pg_draw.specs.Pictures.{picture_of};
 ghost use Rattle.pg_draw.specs.Shapes.{courses_of, place_of};
 ghost use Rattle.pg_draw.specs.Places.{place_on_bridge, place_on_circle, place_on_grid, place_on_ring};
-ghost use Rattle.pg_game.specs.declared.bounds.TheConstants.{MAX_VERTICES};
 
 /// Each item has its shapes once, behind those of the items before it.
 pub fn items_are_drawn_in_order()

@@ -1,16 +1,9 @@
 -- With which statuses a run ends.
 use Rattle.std.proofs.Common.{◌≡◌, ℕ, List, Option, Some, None, Ok, Err, refl, sym, subst, inl, inr, arith}
-use Rattle.std.specs.List.{Contains}
-use Rattle.pg_io.specs.Console.{ConsoleTold}
-use Rattle.pg_io.specs.Files.{Bytes}
+use Rattle.pg_drawing.proofs.Common.{Contains, ConsoleTold, Bytes, Read, Write, Memory, refusal_status, NoMeaning, NoClaim, Certificate, Rejected, RejectedSpan, RejectedVectors, RejectedImage, Record, DONE, NO_MEANING, REFUSED, WRITE_FAILED, stop_status, Refused, Stopped}
 use Rattle.pg_io.specs.declared.stop.Stop.{Stop}
-use Rattle.pg_io.specs.declared.stop.Stop.TheVariants.{Read, Write, Memory}
-use Rattle.pg_messages.specs.Statuses.{refusal_status}
 use Rattle.pg_messages.specs.declared.refusal.Refusal.{Refusal}
-use Rattle.pg_messages.specs.declared.refusal.Refusal.TheVariants.{NoMeaning, NoClaim, Game, Certificate, Rejected, RejectedSpan, RejectedVectors, RejectedImage, Record}
-use Rattle.pg_messages.specs.declared.statuses.TheConstants.{DONE, NO_MEANING, REFUSED, WRITE_FAILED}
-use Rattle.pg_talk.specs.Halts.{stop_status}
-use Rattle.pg_talk.specs.declared.halt.Halt.TheVariants.{Refused, Stopped}
+use Rattle.pg_messages.specs.declared.refusal.Refusal.TheVariants.{Game}
 use Rattle.pg_drawing.specs.Orders.{Order}
 use Rattle.pg_drawing.specs.Orders.Order.{OfGame, OfNode}
 use Rattle.pg_drawing.specs.Runs.{EndsWith, Gives, statuses_of}

@@ -1,16 +1,6 @@
 -- What is due, from what was read.
 use Rattle.std.proofs.Common.{◌≡◌, Option, Some, None, Result, Ok, refl, sym, subst, string_bytes}
-use Rattle.pg_io.specs.Files.{Bytes, Holding}
-use Rattle.pg_game.specs.declared.game.Game.{Game}
-use Rattle.pg_files.specs.Views.{entry}
-use Rattle.pg_cert.specs.declared.cert.Cert.{Cert}
-use Rattle.pg_span.specs.declared.cert.SpanCert.{SpanCert}
-use Rattle.pg_span.specs.declared.game.SpanGame.{SpanGame}
-use Rattle.pg_family_files.specs.Views.{span_entry}
-use Rattle.pg_messages.specs.declared.statuses.TheConstants.{DONE}
-use Rattle.pg_talk.specs.Reading.{OpensCertificate}
-use Rattle.pg_talk.specs.declared.halt.Halt.{Halt}
-use Rattle.pg_families.specs.Connectivity.{OpensSpanCert}
+use Rattle.pg_drawing.proofs.Common.{Bytes, Holding, Game, entry, Cert, SpanCert, SpanGame, span_entry, DONE, OpensCertificate, Halt, OpensSpanCert}
 use Rattle.pg_drawing.specs.Boards.{board_entry, connectivity_pair, positional_pair, with_certificate}
 use Rattle.pg_drawing.specs.Boards.BoardEntry.{Positional, Connectivity}
 use Rattle.pg_drawing.specs.Due.{DrawsGame, DrawsSpanGame, Finds, IsCertDue, IsDueOfBoth, IsDueOfGame, IsSpanCertDue}

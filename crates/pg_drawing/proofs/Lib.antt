@@ -1,3 +1,4 @@
+mod Common
 pub mod Openings
 pub mod Found
 pub mod Endings

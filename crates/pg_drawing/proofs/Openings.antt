@@ -1,13 +1,10 @@
 -- What a name holds, from what was read of it: a game of either family.
 use Rattle.std.proofs.Common.{◌≡◌, ◌+◌, true, length, take, Option, Some, None, Result, Err, refl, subst}
 use Rattle.std.specs.Prelude.{nat_lt}
-use Rattle.pg_io.specs.Files.{Bytes, Holding}
+use Rattle.pg_drawing.proofs.Common.{Bytes, Holding, Size, IsReadAs, Opens, game_fault, held_as, Halt}
 use Rattle.pg_io.specs.Reading.{IsFile}
 use Rattle.pg_files.specs.GameFile.{game}
-use Rattle.pg_files.specs.declared.fault.Fault.TheVariants.{Size}
 use Rattle.pg_files.specs.declared.limits.TheConstants.{MAX_GAME_BYTES}
-use Rattle.pg_talk.specs.Reading.{IsReadAs, Opens, game_fault, held_as}
-use Rattle.pg_talk.specs.declared.halt.Halt.{Halt}
 use Rattle.pg_talk.proofs.Openings.{cut_same, opens_whole}
 use Rattle.pg_drawing.specs.Boards.{BoardEntry, board_entry, board_held}
 use Rattle.pg_drawing.specs.declared.board.Board.{Board}

@@ -1,21 +1,11 @@
 -- What the names of a game and of a certificate hold, for the two families whose games are drawn.
 use Rattle.std.specs.Prelude.{◌≡◌, ℕ, Bool, ◌==◌, if◌then◌else◌, Option, Result, Ok, Err, ⊤}
-use Rattle.pg_io.specs.Files.{Bytes}
-use Rattle.pg_text.specs.declared.error.FileError.{FileError}
+use Rattle.pg_drawing.specs.Prelude.{Bytes, FileError}
 use Rattle.pg_text.specs.declared.error.FileError.TheVariants as errors
+use Rattle.pg_drawing.specs.Prelude.{entry, number_of, Header, Cert, SpanCert, span_entry, certificate_held, game_fault, Halt, Refused, game_held, span_cert_held, span_held}
 use Rattle.pg_files.specs.GameFile.{Entry as GameEntry}
-use Rattle.pg_files.specs.Views.{entry, number_of}
-use Rattle.pg_files.specs.declared.fault.Fault.TheVariants.{Header}
-use Rattle.pg_cert.specs.declared.cert.Cert.{Cert}
-use Rattle.pg_span.specs.declared.cert.SpanCert.{SpanCert}
 use Rattle.pg_family_files.specs.FamilyFile.{SpanEntry}
-use Rattle.pg_family_files.specs.Views.{span_entry}
 use Rattle.pg_messages.specs.declared.refusal.Refusal.TheVariants.{Game as FaultyGame}
-use Rattle.pg_talk.specs.Reading.{certificate_held, game_fault}
-use Rattle.pg_talk.specs.declared.halt.Halt.{Halt}
-use Rattle.pg_talk.specs.declared.halt.Halt.TheVariants.{Refused}
-use Rattle.pg_talk.specs.Opening.{game_held}
-use Rattle.pg_families.specs.Connectivity.{span_cert_held, span_held}
 use Rattle.pg_drawing.specs.declared.board.Board.{Board}
 use Rattle.pg_drawing.specs.declared.board.Board.TheVariants as boards
 

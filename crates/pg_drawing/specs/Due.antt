@@ -1,24 +1,10 @@
 -- WHAT IS TO BE SAID, with its status.
 use Rattle.std.specs.Prelude.{◌≡◌, ◌≢◌, ◌⊎◌, ℕ, Option, Some, None, Result, Ok, Err, ⊤, slice_get, string_bytes}
-use Rattle.pg_io.specs.Files.{Bytes, Holding}
-use Rattle.pg_game.specs.declared.game.Game.{Game}
-use Rattle.pg_cert.specs.Valid.{IsFirstFault, IsValid}
-use Rattle.pg_cert.specs.declared.cert.Cert.{Cert}
+use Rattle.pg_drawing.specs.Prelude.{Bytes, Holding, Game, IsFirstFault, IsValid, Cert, IsFirstFlaw, IsSpanValid, SpanCert, SpanGame, span_entry, refusal_status, NoMeaning, DONE, NO_MEANING, REFUSED, Halt, Refused, Stopped, IsSaidBy, IsSceneOfGame, IsSceneOfNode, LacksNode}
 use Rattle.pg_span.specs.Flaw.{flaw_number}
-use Rattle.pg_span.specs.Valid.{IsFirstFlaw, IsSpanValid}
-use Rattle.pg_span.specs.declared.cert.SpanCert.{SpanCert}
 use Rattle.pg_span.specs.declared.flaw.SpanFlaw.{SpanFlaw}
-use Rattle.pg_span.specs.declared.game.SpanGame.{SpanGame}
-use Rattle.pg_family_files.specs.Views.{span_entry}
-use Rattle.pg_messages.specs.Statuses.{refusal_status}
 use Rattle.pg_messages.specs.Texts.{refusal_text}
-use Rattle.pg_messages.specs.declared.refusal.Refusal.TheVariants.{NoMeaning}
-use Rattle.pg_messages.specs.declared.statuses.TheConstants.{DONE, NO_MEANING, REFUSED}
-use Rattle.pg_talk.specs.declared.halt.Halt.{Halt}
-use Rattle.pg_talk.specs.declared.halt.Halt.TheVariants.{Refused, Stopped}
-use Rattle.pg_talk.specs.Opening.{IsSaidBy}
 use Rattle.pg_picture.specs.Svg.{picture_text}
-use Rattle.pg_scene.specs.Scenes.{IsSceneOfGame, IsSceneOfNode, LacksNode}
 use Rattle.pg_scene.specs.declared.scene.Scene.{Scene}
 use Rattle.pg_scene.specs.SpanScenes.{IsSceneOfSpanClaim, IsSceneOfSpanGame}
 use Rattle.pg_draw.specs.Pictures.{picture_of}

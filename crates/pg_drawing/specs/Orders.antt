@@ -1,8 +1,7 @@
 -- What the words of the command line ask for.
 use Rattle.std.specs.Prelude.{ℕ, ◌-◌, List, [], ◌∷◌, length, Option, Some, None, option_and_then, option_map}
-use Rattle.pg_io.specs.Files.{Bytes}
+use Rattle.pg_drawing.specs.Prelude.{Bytes, Cert}
 use Rattle.pg_text.specs.Text.{number, two_parts}
-use Rattle.pg_cert.specs.declared.cert.Cert.{Cert}
 use Rattle.pg_cert.specs.declared.cert.Claim.{Claim}
 use Rattle.pg_drawing.specs.declared.name.NodeName.{NodeName}
 use Rattle.pg_drawing.specs.declared.name.TheConstants.{DOT}

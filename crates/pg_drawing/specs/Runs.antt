@@ -1,15 +1,8 @@
 -- WHAT A RUN IS.
 use Rattle.std.specs.Prelude.{◌≡◌, ◌⊎◌, ℕ, List, [], ◌∷◌, Option, Some, None, Result, Ok, Err, IfSome}
+use Rattle.pg_drawing.specs.Prelude.{ConsoleTold, Grows, Bytes, Holding, NoMeaning, DONE, NO_MEANING, FAULTY_GAME, REFUSED, READ_FAILED, WRITE_FAILED, NO_MEMORY, IsGameHalt, IsReadHalt, IsLackingOne, IsLackingTwo, Halt, Refused}
 use Rattle.pg_io.specs.Causes.{Rose}
-use Rattle.pg_io.specs.Console.{ConsoleTold, Grows}
-use Rattle.pg_io.specs.Files.{Bytes, Holding}
 use Rattle.pg_io.specs.declared.entry.Entry.TheVariants.{Said}
-use Rattle.pg_messages.specs.declared.refusal.Refusal.TheVariants.{NoMeaning}
-use Rattle.pg_messages.specs.declared.statuses.TheConstants.{DONE, NO_MEANING, FAULTY_GAME, REFUSED, READ_FAILED, WRITE_FAILED, NO_MEMORY}
-use Rattle.pg_talk.specs.Halts.{IsGameHalt, IsReadHalt}
-use Rattle.pg_talk.specs.Reading.{IsLackingOne, IsLackingTwo}
-use Rattle.pg_talk.specs.declared.halt.Halt.{Halt}
-use Rattle.pg_talk.specs.declared.halt.Halt.TheVariants.{Refused}
 use Rattle.pg_drawing.specs.Boards.{board_held, both_held}
 use Rattle.pg_drawing.specs.Due.{IsDue}
 use Rattle.pg_drawing.specs.Orders.{Order}

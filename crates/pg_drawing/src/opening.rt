@@ -1,9 +1,6 @@
 //! Reading games of the families that are drawn.
 ghost use Rattle.std.specs.Prelude.{◌≡◌, Some, IfErr};
-ghost use Rattle.pg_io.specs.Files.{IsAbsent, ReadsOnly};
-ghost use Rattle.pg_talk.specs.Halts.{HaltCauses, IsGameHalt};
-ghost use Rattle.pg_talk.specs.Reading.{Opens};
-ghost use Rattle.pg_families.specs.Connectivity.{span_held};
+ghost use Rattle.pg_drawing.specs.Prelude.{IsAbsent, ReadsOnly, HaltCauses, IsGameHalt, Opens, span_held};
 ghost use Rattle.pg_drawing.specs.Boards.{IsBoardRead, as_connectivity, board_entry, board_held, is_other_kind};
 
 use crate::board::Board;

@@ -1,9 +1,7 @@
 //! Pictures of games and of nodes, with what else there may be to say of a certificate.
 ghost use Rattle.std.specs.Prelude.{◌≡◌, IfNone, IfOk, IfSome, string_bytes};
-ghost use Rattle.pg_cert.specs.Limits.{IsWithinLimits};
-ghost use Rattle.pg_cert.specs.Valid.{IsFirstFault};
+ghost use Rattle.pg_drawing.specs.Prelude.{IsWithinLimits, IsFirstFault, LacksNode};
 ghost use Rattle.pg_scene.specs.Limits.{IsScene};
-ghost use Rattle.pg_scene.specs.Scenes.{LacksNode};
 ghost use Rattle.pg_drawing.specs.Due.{DrawsGame, DrawsNode, IsCertDue, IsFaultDue, IsNodeDue, SaysNoNode, scene_text};
 ghost use Rattle.pg_drawing.specs.Orders.{chosen};
 

@@ -1,10 +1,7 @@
 //! The top call.
 ghost use Rattle.std.specs.Prelude.{◌≡◌, [], map, string_bytes};
-ghost use Rattle.std.specs.List.{Contains};
-ghost use Rattle.pg_io.specs.Console.{Grows};
-ghost use Rattle.pg_io.specs.Files.{ReadsOnly};
+ghost use Rattle.pg_drawing.specs.Prelude.{Contains, Grows, ReadsOnly, HasCause};
 ghost use Rattle.pg_drawing.specs.Orders.{order_of};
-ghost use Rattle.pg_talk.specs.Halts.{HasCause};
 ghost use Rattle.pg_drawing.specs.Runs.{EndsWith, IsLacking, IsStopped, Ran, statuses_of};
 
 use crate::telling::tell;

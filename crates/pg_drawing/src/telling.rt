@@ -1,11 +1,6 @@
 //! What there is to say to what the words ask for.
 ghost use Rattle.std.specs.Prelude.{◌≡◌, Some, Ok, IfErr, IfOk, map, string_bytes};
-ghost use Rattle.pg_io.specs.Files.{IsAbsent, ReadsOnly};
-ghost use Rattle.pg_files.specs.Views.{entry};
-ghost use Rattle.pg_family_files.specs.Views.{span_entry};
-ghost use Rattle.pg_talk.specs.Halts.{HaltCauses, IsGameHalt, IsReadHalt};
-ghost use Rattle.pg_talk.specs.Reading.{IsLackingOne, IsLackingTwo};
-ghost use Rattle.pg_messages.specs.declared.statuses.TheConstants.{DONE};
+ghost use Rattle.pg_drawing.specs.Prelude.{IsAbsent, ReadsOnly, entry, span_entry, HaltCauses, IsGameHalt, IsReadHalt, IsLackingOne, IsLackingTwo, DONE};
 ghost use Rattle.pg_drawing.specs.Boards.{board_entry, board_held, both_held, with_certificate};
 ghost use Rattle.pg_drawing.specs.Boards.BoardEntry.{Positional, Connectivity};
 ghost use Rattle.pg_drawing.specs.Due.{Finds, IsDue, IsDueOfBoth, IsDueOfGame};

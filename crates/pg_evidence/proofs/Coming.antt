@@ -1,8 +1,6 @@
 -- A certificate that comes piece by piece.
 use Rattle.std.proofs.Common.{[], ◌++◌, refl, sym, ◌∙◌, ap, subst, option_map}
-use Rattle.std.proofs.lemmas.List.{append-nil, append_assoc}
-use Rattle.pg_io.specs.Files.{Bytes}
-use Rattle.pg_cert_files.specs.Gatherer.{HasGathered}
+use Rattle.pg_evidence.proofs.Common.{append-nil, append_assoc, Bytes, HasGathered}
 use Rattle.pg_judge.specs.Judged.{HasCome as HasComeTo, StandsFor as HasBeenFed}
 use Rattle.pg_judge.specs.declared.judging.Judging.{Judging}
 use Rattle.pg_evidence.specs.Arriving.{Arrives, HasArrived}

@@ -1,17 +1,13 @@
 -- A text shows by its first bytes whether it has images.
 use Rattle.std.proofs.Common.{◌≡◌, ℕ, ◌≤◌, ◌<◌, Bool, true, false, [], ◌∷◌, ◌++◌, length, nat_lt, Option, Some, None, eqb-true, arith, refl, sym, ◌∙◌, ap, subst, inl, inr}
 use Rattle.std.specs.Prelude.{◌==◌, ◌⊎◌}
-use Rattle.std.specs.Str.{bytes_eq}
+use Rattle.pg_evidence.proofs.Common.{bytes_eq, append_assoc, length-append, Lacks, Bytes, image_header}
 use Rattle.std.proofs.lemmas.Bool.{or_parts}
 use Rattle.std.proofs.lemmas.Bool.Decides.{nat_tests}
-use Rattle.std.proofs.lemmas.List.{append_assoc, length-append}
 use Rattle.std.proofs.lemmas.List.Elements.{All-append, All-cons, All-nil}
 use Rattle.std.proofs.lemmas.Slice.Eq.{bytes_eq-Decides}
 use Rattle.pg_base.specs.declared.signs.TheConstants.{LINE_FEED}
-use Rattle.pg_text.specs.Text.{Lacks}
 use Rattle.pg_text.proofs.FirstLine.{last_line, lines_feed}
-use Rattle.pg_io.specs.Files.{Bytes}
-use Rattle.pg_image.specs.Print.{image_header}
 use Rattle.pg_evidence.specs.Evidence.{begins_with_images, has_images}
 use Rattle.pg_evidence.specs.Incoming.{HasNoImages, IsKept, may_have_images}
 use Rattle.pg_evidence.specs.declared.first_line.TheConstants.{FIRST_LINE_BYTES}

@@ -1,21 +1,11 @@
 -- What a text says, and what is found of it.
 use Rattle.std.proofs.Common.{◌≡◌, ℕ, ◌+◌, Bool, true, false, nat_lt, [], length, take, Option, Some, None, Result, Ok, Err, refl, sym, ◌∙◌, ap, subst, if◌then◌else◌}
 use Rattle.std.specs.Prelude.{IsErrAnd}
-use Rattle.std.proofs.lemmas.List.{append-nil}
-use Rattle.pg_text.specs.Faults.{and_then}
-use Rattle.pg_io.specs.Files.{Bytes, Holding}
+use Rattle.pg_evidence.proofs.Common.{append-nil, and_then, Bytes, Holding, Cert, certificate, number_of, Fault, Game, ImageCert, image_certificate, certificate_fault, or_halt, Halt}
 use Rattle.pg_io.specs.Reading.{IsFile, IsWhole, Pours}
-use Rattle.pg_cert.specs.declared.cert.Cert.{Cert}
-use Rattle.pg_cert_files.specs.CertFile.{certificate}
-use Rattle.pg_cert_files.specs.Views.{number_of}
-use Rattle.pg_cert_files.specs.declared.fault.Fault.{Fault}
 use Rattle.pg_cert_files.specs.declared.fault.Fault.TheVariants.{Size}
 use Rattle.pg_cert_files.specs.declared.limits.TheConstants.{MAX_CERT_BYTES}
-use Rattle.pg_game.specs.declared.game.Game.{Game}
-use Rattle.pg_image.specs.declared.cert.ImageCert.{ImageCert}
-use Rattle.pg_image.specs.ImageFile.{image_certificate}
-use Rattle.pg_talk.specs.Reading.{IsReadAs as IsHeldAs, certificate_fault, or_halt}
-use Rattle.pg_talk.specs.declared.halt.Halt.{Halt}
+use Rattle.pg_talk.specs.Reading.{IsReadAs as IsHeldAs}
 use Rattle.pg_talk.proofs.Openings.{cut_same, opens_whole, read_bad, whole_read}
 use Rattle.pg_evidence.specs.Arriving.{Arrives, HasArrived}
 use Rattle.pg_evidence.specs.Evidence.{OpensEvidence, evidence, evidence_held, has_images}

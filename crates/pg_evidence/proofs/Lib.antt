@@ -1,3 +1,4 @@
+mod Common
 pub mod FirstLines
 pub mod Coming
 pub mod Tracing

@@ -1,20 +1,10 @@
 -- From which node each node of an unfolding came.
 use Rattle.std.proofs.Common.{◌≡◌, ℕ, ◌<◌, List, [], ◌∷◌, length, map, slice_get, get_or, Option, Some, None, option_map, Result, Err, refl, sym, ◌∙◌, ap, ap₂, subst, arith}
-use Rattle.std.proofs.lemmas.List.{length-map}
+use Rattle.pg_evidence.proofs.Common.{length-map, IsWithinLimits, IsFirstFault, IsValid, Cert, Claim, CheckFault, Game, ImageCert, ImageClaim, AreUnfolded, IsCopied, IsUnfolded, IsUnfoldedCert, Unfolded}
 use Rattle.std.proofs.lemmas.Option.{slice_get-get_or, slice_get-map, slice_get_within}
-use Rattle.pg_cert.specs.Limits.{IsWithinLimits}
-use Rattle.pg_cert.specs.Valid.{IsFirstFault, IsValid}
-use Rattle.pg_cert.specs.declared.cert.Cert.{Cert}
-use Rattle.pg_cert.specs.declared.cert.Claim.{Claim}
-use Rattle.pg_check.specs.declared.checked.CheckFault.{CheckFault}
 use Rattle.pg_check.specs.declared.checked.CheckFault.TheVariants.{Reject}
-use Rattle.pg_game.specs.declared.game.Game.{Game}
-use Rattle.pg_image.specs.declared.cert.ImageCert.{ImageCert}
-use Rattle.pg_image.specs.declared.cert.ImageClaim.{ImageClaim}
 use Rattle.pg_maps.specs.Images.{board_of}
 use Rattle.pg_unfold.specs.Copies.{Copy}
-use Rattle.pg_unfold.specs.Unfolded.{AreUnfolded, IsCopied, IsUnfolded, IsUnfoldedCert}
-use Rattle.pg_unfold.specs.declared.unfolded.Unfolded.{Unfolded}
 use Rattle.pg_unfold.proofs.ClaimSteps.{zip-length}
 use Rattle.pg_evidence.specs.Standing.{CameFromIn, HasFault, HasFaultIn, HasSource, HaveSources, IsStanding, IsTraced, ShowsValid, StandsFor, Unfolds}
 use Rattle.pg_evidence.specs.declared.evidence.Evidence.{Evidence}

@@ -1,7 +1,6 @@
 -- A certificate that comes piece by piece and is gathered, while it isn't known yet in which form.
 use Rattle.std.specs.Prelude.{◌++◌, option_map}
-use Rattle.pg_io.specs.Files.{Bytes}
-use Rattle.pg_cert_files.specs.Gatherer.{HasGathered}
+use Rattle.pg_evidence.specs.Prelude.{Bytes, HasGathered}
 use Rattle.pg_evidence.specs.Incoming.{IsKept}
 use Rattle.pg_evidence.specs.declared.arriving.Arriving.{Arriving}
 

@@ -1,21 +1,7 @@
 -- A certificate as a file says it: with plain nodes alone, or with nodes that are images of others.
 use Rattle.std.specs.Prelude.{ℕ, Bool, false, if◌then◌else◌, List, [], ◌∷◌, Option, Result, Ok, ⊤}
-use Rattle.std.specs.Str.{bytes_eq}
-use Rattle.pg_text.specs.Faults.{and_then}
-use Rattle.pg_text.specs.Text.{lines}
-use Rattle.pg_io.specs.Files.{Bytes, Holding}
-use Rattle.pg_cert.specs.Limits.{IsWithinLimits}
-use Rattle.pg_cert_files.specs.CertFile.{certificate}
-use Rattle.pg_cert_files.specs.Views.{number_of}
-use Rattle.pg_cert_files.specs.declared.fault.Fault.{Fault}
-use Rattle.pg_image.specs.Limits.{IsImageWithinLimits}
-use Rattle.pg_image.specs.Print.{image_header}
-use Rattle.pg_image.specs.ImageFile.{image_certificate}
+use Rattle.pg_evidence.specs.Prelude.{bytes_eq, and_then, lines, Bytes, Holding, IsWithinLimits, certificate, number_of, Fault, IsImageWithinLimits, image_header, image_certificate, IsReadHalt, Opens, certificate_fault, held_as, or_halt, Halt, Refused, Stopped}
 use Rattle.pg_io.specs.declared.stop.Stop.TheVariants.{Read, Write, Memory}
-use Rattle.pg_talk.specs.Halts.{IsReadHalt}
-use Rattle.pg_talk.specs.Reading.{Opens, certificate_fault, held_as, or_halt}
-use Rattle.pg_talk.specs.declared.halt.Halt.{Halt}
-use Rattle.pg_talk.specs.declared.halt.Halt.TheVariants.{Refused, Stopped}
 use Rattle.pg_evidence.specs.declared.evidence.Evidence.{Evidence}
 use Rattle.pg_evidence.specs.declared.evidence.Evidence.TheVariants.{Plain, Folded}
 

@@ -1,3 +1,4 @@
+pub mod Prelude
 pub mod Evidence
 pub mod Standing
 pub mod Verdicts

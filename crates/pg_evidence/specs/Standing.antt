@@ -1,18 +1,9 @@
 -- The certificate for which one as a file says it stands, and what stands against it.
 use Rattle.std.specs.Prelude.{◌≡◌, ◌⊎◌, ℕ, List, length, map, Option, Some, None, Result, Ok, Err, slice_get, ⊤}
-use Rattle.pg_cert.specs.Limits.{IsWithinLimits}
-use Rattle.pg_cert.specs.Valid.{IsFirstFault, IsValid}
-use Rattle.pg_cert.specs.declared.cert.Cert.{Cert}
-use Rattle.pg_cert.specs.declared.cert.Claim.{Claim}
-use Rattle.pg_game.specs.declared.game.Game.{Game}
-use Rattle.pg_image.specs.declared.cert.ImageCert.{ImageCert}
+use Rattle.pg_evidence.specs.Prelude.{IsWithinLimits, IsFirstFault, IsValid, Cert, Claim, Game, ImageCert, IsUnfoldedCert, Unfolded, Halt, Refused, Stopped}
 use Rattle.pg_messages.specs.declared.refusal.Refusal.{Refusal}
 use Rattle.pg_messages.specs.declared.refusal.Refusal.TheVariants.{Rejected, RejectedImage}
 use Rattle.pg_unfold.specs.Flaws.{IsFaultless, IsFirstFault as IsFirstImageFault}
-use Rattle.pg_unfold.specs.Unfolded.{IsUnfoldedCert}
-use Rattle.pg_unfold.specs.declared.unfolded.Unfolded.{Unfolded}
-use Rattle.pg_talk.specs.declared.halt.Halt.{Halt}
-use Rattle.pg_talk.specs.declared.halt.Halt.TheVariants.{Refused, Stopped}
 use Rattle.pg_evidence.specs.declared.evidence.Evidence.{Evidence}
 use Rattle.pg_evidence.specs.declared.evidence.Evidence.TheVariants.{Plain, Folded}
 use Rattle.pg_evidence.specs.declared.standing.Standing.{Standing}

@@ -1,12 +1,8 @@
 -- What judging a certificate finds, in whichever form its file says it.
 use Rattle.std.specs.Prelude.{◌≡◌, List, length, map, Option, Some, None, Result, Ok, Err, ⊤}
-use Rattle.pg_io.specs.Files.{Bytes, Holding}
-use Rattle.pg_game.specs.declared.game.Game.{Game}
-use Rattle.pg_image.specs.declared.cert.ImageClaim.{ImageClaim}
+use Rattle.pg_evidence.specs.Prelude.{Bytes, Holding, Game, ImageClaim, Halt, Refused, Stopped}
 use Rattle.pg_judge.specs.Heads.{heads_of}
 use Rattle.pg_judge.specs.declared.claim_head.ClaimHead.{ClaimHead}
-use Rattle.pg_talk.specs.declared.halt.Halt.{Halt}
-use Rattle.pg_talk.specs.declared.halt.Halt.TheVariants.{Refused, Stopped}
 use Rattle.pg_evidence.specs.Evidence.{evidence_held}
 use Rattle.pg_evidence.specs.Standing.{HasFault, HasImageFault, ShowsValid}
 use Rattle.pg_evidence.specs.declared.evidence.Evidence.{Evidence}

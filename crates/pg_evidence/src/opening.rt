@@ -1,9 +1,6 @@
 //! Reading a certificate of either form as its file comes.
 ghost use Rattle.std.specs.Prelude.{◌≡◌, true, false, List, ℕ, IfErr, IfOk};
-ghost use Rattle.pg_io.specs.Files.{IsAbsent, ReadsOnly};
-ghost use Rattle.pg_cert_files.specs.Gatherer.{HasGathered};
-ghost use Rattle.pg_cert_files.specs.Views.{IsReadAs};
-ghost use Rattle.pg_talk.specs.Halts.{HaltCauses, IsReadHalt};
+ghost use Rattle.pg_evidence.specs.Prelude.{IsAbsent, ReadsOnly, HasGathered, IsReadAs, HaltCauses, IsReadHalt};
 ghost use Rattle.pg_evidence.specs.Arriving.{HasArrived};
 ghost use Rattle.pg_evidence.specs.Evidence.{IsWithinItsLimits, OpensEvidence};
 ghost use Rattle.pg_evidence.specs.Evidence.{evidence, has_images};

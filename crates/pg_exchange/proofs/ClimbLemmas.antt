@@ -1,10 +1,6 @@
 -- Steps up from two labels, until they meet.
 use Rattle.std.proofs.Common.{◌≡◌, ◌≢◌, ℕ, ◌<◌, ◌≤◌, Bool, true, false, inl, inr, refl, sym, ap, ◌∙◌, subst, arith}
-use Rattle.std.proofs.lemmas.Bool.{both_ways, false_from_ne_true}
-use Rattle.pg_base.specs.Sets.{plus, minus}
-use Rattle.pg_base.proofs.SetLemmas.{plus_cases, plus_old, plus_new, minus_parts}
-use Rattle.pg_graph.specs.Walks.{IsJoined}
-use Rattle.pg_graph.proofs.WalkLemmas.{joined_on, joined_back, joined_more}
+use Rattle.pg_exchange.proofs.Common.{both_ways, false_from_ne_true, plus, minus, plus_cases, plus_old, plus_new, minus_parts, IsJoined, joined_on, joined_back, joined_more}
 use Rattle.pg_exchange.specs.Path.{HasEnds, IsStep, IsPath, IsTrail, IsClimbed}
 use Rattle.pg_exchange.proofs.PathLemmas.{IsTrail-begin, IsTrail-step, stays}
 

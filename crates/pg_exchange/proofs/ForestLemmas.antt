@@ -1,16 +1,6 @@
 -- Spanning forests, an edge at a time.
 use Rattle.std.proofs.Common.{◌≡◌, ℕ, ◌<◌, ◌+◌, Bool, true, false, not, ◌||◌, eqb, refl, inl, inr, sym, subst, arith}
-use Rattle.std.proofs.Math.Path.{fun_ext}
-use Rattle.std.proofs.lemmas.Bool.{cases_eq, cases_Bool, and_parts, or_cases, eqb-true, both_ways}
-use Rattle.pg_base.specs.Sets.{plus, both, either, outside, below, IsWithin, IsBelow}
-use Rattle.pg_base.proofs.SetLemmas.{plus_cases, plus_old, plus_new, both_parts, both_from, either_left, either_right, either_cases, outside_parts, outside_from}
-use Rattle.pg_base.proofs.BelowLemmas.{below_parts, below_from}
-use Rattle.pg_graph.specs.declared.graph.Graph.{Graph}
-use Rattle.pg_graph.specs.Graph.{edge_count}
-use Rattle.pg_graph.specs.Joiner.{AreEdges}
-use Rattle.pg_graph.specs.Span.{IsSpan, IsBase}
-use Rattle.pg_graph.proofs.Swap.{spans_mono}
-use Rattle.pg_graph.proofs.Bases.{free_plus}
+use Rattle.pg_exchange.proofs.Common.{fun_ext, cases_eq, cases_Bool, and_parts, or_cases, eqb-true, both_ways, plus, both, either, outside, below, IsWithin, IsBelow, plus_cases, plus_old, plus_new, both_parts, both_from, either_left, either_right, either_cases, outside_parts, outside_from, below_parts, below_from, Graph, edge_count, AreEdges, IsSpan, IsBase, spans_mono, free_plus}
 use Rattle.pg_exchange.specs.Matroid.{Matroid}
 use Rattle.pg_exchange.specs.Forest.{elements_of, IsApart, IsFree, IsGrown}
 

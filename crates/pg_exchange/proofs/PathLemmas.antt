@@ -1,10 +1,6 @@
 -- Spreading along members, and following the steps back.
 use Rattle.std.proofs.Common.{◌≡◌, ◌≢◌, ℕ, ◌<◌, Bool, true, false, ◌⊎◌, List, [], ◌∷◌, refl, inl, inr, sym, ap, ◌∙◌, subst, arith, suc}
-use Rattle.std.proofs.lemmas.Bool.{cases_Bool, cases_eq, both_ways, false_from_ne_true, true_from_ne_false}
-use Rattle.pg_base.specs.Sets.{plus, minus, either}
-use Rattle.pg_base.proofs.SetLemmas.{plus_cases, plus_old, plus_new, minus_parts, either_right}
-use Rattle.pg_graph.specs.Walks.{IsWalk, IsJoined}
-use Rattle.pg_graph.proofs.WalkLemmas.{joined_self, joined_on, joined_edge, joined_back, joined_more}
+use Rattle.pg_exchange.proofs.Common.{cases_Bool, cases_eq, both_ways, false_from_ne_true, true_from_ne_false, plus, minus, either, plus_cases, plus_old, plus_new, minus_parts, either_right, IsWalk, IsJoined, joined_self, joined_on, joined_edge, joined_back, joined_more}
 use Rattle.pg_graph.proofs.Crossing.{find_crossing}
 use Rattle.pg_exchange.specs.Path.{HasEnds, IsStep, IsSpread, IsFound, IsPath, IsSide, IsTrail, IsTraced}
 use Rattle.pg_exchange.proofs.TreeLemmas.{numbered, numbered_self, numbered_other}

@@ -1,10 +1,7 @@
 use Rattle.std.proofs.Common.{◌≡◌, ℕ, Bool, true, false, ◌⊎◌, inl, inr, refl, sym, ◌∙◌, ◌≢◌, ◌<◌, subst, cond, List, length}
-use Rattle.std.proofs.Math.ListN.{set}
+use Rattle.pg_exchange.proofs.Common.{set, both_ways, cases_Bool, cases_eq, false_from_ne_true, true_from_ne_false, minus, either, outside, IsWithin, minus_parts, minus_from, either_cases, either_left, either_right, outside_parts, outside_from}
 use Rattle.std.proofs.lemmas.List.{get_or-set_other, get_or-set_same}
-use Rattle.std.proofs.lemmas.Bool.{both_ways, cases_Bool, cases_eq, false_from_ne_true, true_from_ne_false}
-use Rattle.pg_base.specs.Sets.{minus, either, outside, IsWithin}
 use Rattle.pg_exchange.specs.Matroid.{Matroid}
-use Rattle.pg_base.proofs.SetLemmas.{minus_parts, minus_from, either_cases, either_left, either_right, outside_parts, outside_from}
 use Rattle.pg_exchange.specs.Chain.{links, IsTree, IsSearch, reads_up, reads_test}
 use Rattle.pg_exchange.proofs.TreeLemmas.{IsTree-step}
 

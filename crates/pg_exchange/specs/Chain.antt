@@ -1,8 +1,6 @@
 use Rattle.std.specs.Prelude.{◌≡◌, ℕ, ◌+◌, ◌<◌, ◌≤◌, ◌==◌, Bool, true, false, not, ◌&&◌, nat_lt, if◌then◌else◌, List, slice_index, slice_index_or, suc, ◌⊎◌}
-use Rattle.pg_base.specs.declared.limits.TheConstants.{MAX_MEMBERS}
-use Rattle.pg_base.specs.Sets.{IsWithin, either, both, outside, count, one_if}
+use Rattle.pg_exchange.specs.Prelude.{MAX_MEMBERS, IsWithin, either, both, outside, count, one_if, IsBase, IsReached, circuit}
 use Rattle.pg_exchange.specs.Matroid.{Matroid}
-use Rattle.pg_graph.specs.Span.{IsBase, IsReached, circuit}
 
 -- Chains of links between two bases, and what shifts along them do.
 

@@ -1,9 +1,6 @@
 -- Paths along the members of a base. Edge k joins a k and b k.
 use Rattle.std.specs.Prelude.{◌≡◌, ◌≢◌, ◌⊎◌, ◌<◌, ◌≤◌, ℕ, Bool, true, false, List, slice_index}
-use Rattle.pg_base.specs.Sets.{minus, IsWithin, IsBelow}
-use Rattle.pg_graph.specs.declared.graph.Graph.{Graph}
-use Rattle.pg_graph.specs.Graph.{first_end_of, second_end_of}
-use Rattle.pg_graph.specs.Walks.{IsJoined}
+use Rattle.pg_exchange.specs.Prelude.{minus, IsWithin, IsBelow, Graph, first_end_of, second_end_of, IsJoined}
 
 -- the label of the first end of edge k
 unfoldable pub first_label : Graph → List ℕ → ℕ → ℕ

@@ -4,9 +4,7 @@
 //! by either base, each from where the one before it ended; the empty row leads from every element
 //! to itself.
 ghost use Rattle.std.specs.Prelude.{◌≡◌, ◌<◌, ◌↔◌, ◌⊎◌, ◌==◌, ℕ, true, false, IfSome, IfNone, length};
-ghost use Rattle.std.specs.FinSet.{contains};
-ghost use Rattle.pg_base.specs.Sets.{IsWithin, both, outside};
-ghost use Rattle.pg_graph.specs.Span.{IsReached, circuit, swapped};
+ghost use Rattle.pg_exchange.specs.Prelude.{contains, IsWithin, both, outside, IsReached, circuit, swapped};
 ghost use Rattle.pg_exchange.specs.Chain.{base_of, LeadsFrom, SomeTree, IsClosed, IsLeast, IsSettled, IsMoved, IsShift, IsNearest, IsShortest, reads_up, reads_test};
 
 use crate::ground::Ground;

@@ -1,13 +1,6 @@
 //! Spanning forests of a graph as bases.
 ghost use Rattle.std.specs.Prelude.{◌≡◌, ◌<◌, ◌≤◌, suc, IfOk, vec_len};
-ghost use Rattle.std.specs.FinSet.{contains};
-ghost use Rattle.pg_base.specs.Points.{AreBelow, ShareNone};
-ghost use Rattle.pg_base.specs.Sets.{either, below};
-ghost use Rattle.pg_base.specs.declared.limits.TheConstants.{MAX_MEMBERS};
-ghost use Rattle.pg_graph.specs.Graph.{IsGraph, edge_count, spans_in};
-ghost use Rattle.pg_graph.specs.Joiner.{IsMadeFor, AreEdges};
-ghost use Rattle.pg_graph.specs.Labels.{AreLabels};
-ghost use Rattle.pg_graph.specs.Span.{IsBase};
+ghost use Rattle.pg_exchange.specs.Prelude.{contains, AreBelow, ShareNone, either, below, MAX_MEMBERS, IsGraph, edge_count, spans_in, IsMadeFor, AreEdges, AreLabels, IsBase};
 ghost use Rattle.pg_exchange.specs.Forest.{graph_matroid, elements_of, IsApart, IsFree, IsGrown};
 
 use crate::ground::Ground;

@@ -4,11 +4,7 @@
 //! the member that leads there, and how deep it lies. A later call follows these steps upwards as
 //! long as they fit the base at hand.
 ghost use Rattle.std.specs.Prelude.{◌≡◌, ◌⊎◌, ◌<◌, ◌≤◌, ℕ, Bool, true, false, IfSome, length, slice_index};
-ghost use Rattle.std.specs.FinSet.{contains};
-ghost use Rattle.pg_base.specs.Sets.{IsWithin, IsBelow};
-ghost use Rattle.pg_graph.specs.Graph.{IsGraph};
-ghost use Rattle.pg_graph.specs.Joiner.{AreEdges};
-ghost use Rattle.pg_graph.specs.Walks.{IsJoined};
+ghost use Rattle.pg_exchange.specs.Prelude.{contains, IsWithin, IsBelow, IsGraph, AreEdges, IsJoined};
 ghost use Rattle.pg_exchange.specs.Chain.{reads_up};
 ghost use Rattle.pg_exchange.specs.Path.{first_label, second_label, HasEnds, IsReachedBoth, IsSpread, IsStep, IsFound, IsPath, any};
 

@@ -1,7 +1,6 @@
 //! Searches along the links of a base.
 ghost use Rattle.std.specs.Prelude.{◌≡◌, ◌<◌, ℕ, true, false, IfSome, IfNone, length};
-ghost use Rattle.std.specs.FinSet.{contains};
-ghost use Rattle.pg_base.specs.Sets.{both, either, minus, outside};
+ghost use Rattle.pg_exchange.specs.Prelude.{contains, both, either, minus, outside};
 ghost use Rattle.pg_exchange.specs.Chain.{links, reads_up, reads_test, IsRolled, IsNext};
 
 use crate::ground::Ground;

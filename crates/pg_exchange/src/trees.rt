@@ -1,8 +1,6 @@
 //! Two spanning forests of a graph.
 ghost use Rattle.std.specs.Prelude.{◌≡◌, ◌<◌, ◌≤◌, IfOk};
-ghost use Rattle.std.specs.FinSet.{contains};
-ghost use Rattle.pg_base.specs.Points.{AreBelow, ShareNone};
-ghost use Rattle.pg_graph.specs.Graph.{IsGraph, edge_count};
+ghost use Rattle.pg_exchange.specs.Prelude.{contains, AreBelow, ShareNone, IsGraph, edge_count};
 ghost use Rattle.pg_exchange.specs.Forest.{graph_matroid, elements_of, IsApart};
 
 use crate::exchange::Exchange;

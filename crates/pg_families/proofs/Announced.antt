@@ -2,31 +2,13 @@
 -- for games of any family.
 use Rattle.std.proofs.Common.{◌≡◌, ◌≢◌, ◌⊎◌, ℕ, zero, suc, nat_eq, false, List, [], ◌∷◌, ◌++◌, get_or, map, slice_get, Option, Some, None, Result, Ok, Err, refl, sym, ap, subst, inl, inr, arith}
 use Rattle.std.specs.Prelude.{codes}
-use Rattle.std.specs.List.{Contains}
-use Rattle.std.proofs.lemmas.Bool.Decides.{nat_tests}
-use Rattle.std.proofs.lemmas.List.{append_cancel_left}
-use Rattle.std.proofs.lemmas.List.Elements.{Contains-append_left, Contains-append_right, Contains-append_cases}
+use Rattle.pg_families.proofs.Common.{Contains, nat_tests, append_cancel_left, Contains-append_left, Contains-append_right, Contains-append_cases, Goal, Win, Draw, Side, X, Y, Bytes, Making, Entry, Said, accepted_text, claim_text, reply_text, Contender, Done, End, Finished, Failed, Starved, IsPlay, both, held_as, or_halt, SaysAll, Delivers, Halt}
 use Rattle.pg_base.specs.Goal.{goal_word}
 use Rattle.pg_base.specs.Side.{side_word}
-use Rattle.pg_base.specs.declared.goal.Goal.{Goal}
-use Rattle.pg_base.specs.declared.goal.Goal.TheVariants.{Win, Draw}
-use Rattle.pg_base.specs.declared.side.Side.{Side}
-use Rattle.pg_base.specs.declared.side.Side.TheVariants.{X, Y}
-use Rattle.pg_io.specs.Files.{Bytes, Making}
-use Rattle.pg_io.specs.declared.entry.Entry.{Entry}
-use Rattle.pg_io.specs.declared.entry.Entry.TheVariants.{Said}
-use Rattle.pg_messages.specs.Texts.{accepted_text, claim_text, reply_text}
 use Rattle.pg_messages.specs.declared.message.ReplyFault.{ReplyFault}
 use Rattle.pg_messages.specs.declared.message.ReplyFault.TheVariants.{NoNumber, NoPoint, Taken, Over as GameOver, NothingToTakeBack}
-use Rattle.pg_talk.specs.Contender.{Contender}
 use Rattle.pg_talk.specs.Contest.{Contest}
 use Rattle.pg_talk.specs.Dialogue.{Stage, At, Owes, Over, Steps, Leads}
-use Rattle.pg_talk.specs.Done.{Done, End, Finished, Failed, Starved}
-use Rattle.pg_talk.specs.Playing.{IsPlay}
-use Rattle.pg_talk.specs.Reading.{both, held_as, or_halt}
-use Rattle.pg_talk.specs.Saying.{SaysAll}
-use Rattle.pg_talk.specs.Storing.{Delivers}
-use Rattle.pg_talk.specs.declared.halt.Halt.{Halt}
 use Rattle.pg_families.specs.Family.{AreForcedBy}
 use Rattle.pg_families.specs.Judged.{AcceptsValid, PlaysValid}
 

@@ -1,14 +1,7 @@
 -- Commands of families, put together.
 use Rattle.std.proofs.Common.{◌≡◌, ℕ, Option, Some, None, Result, Ok, Err, refl, subst, inl, inr}
 use Rattle.std.specs.Prelude.{IfErr, IfSome}
-use Rattle.pg_io.specs.Console.{ConsoleTold}
-use Rattle.pg_io.specs.Files.{Holding, FilesTold}
-use Rattle.pg_messages.specs.declared.refusal.Refusal.{Refusal}
-use Rattle.pg_talk.specs.Done.{Done, End, Finished, Does, Follows, stop_end}
-use Rattle.pg_talk.specs.Halts.{IsPlayHalt, IsTalkHalt}
-use Rattle.pg_talk.specs.Runs.{Runs}
-use Rattle.pg_talk.specs.declared.halt.Halt.{Halt}
-use Rattle.pg_talk.specs.declared.halt.Halt.TheVariants.{Refused, Stopped}
+use Rattle.pg_families.proofs.Common.{ConsoleTold, Holding, FilesTold, Refusal, Done, End, Finished, Does, Follows, stop_end, IsPlayHalt, IsTalkHalt, Runs, Halt, Refused, Stopped}
 
 -- work on files and a console that refuses nothing, behind reading that changes nothing
 pub runs_does : (Against : Holding → Refusal → Type 0) (Act : Holding → Done → End → Type 0)

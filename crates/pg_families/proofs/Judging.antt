@@ -1,25 +1,7 @@
 -- Checks and plays of a family's games on a console.
 use Rattle.std.proofs.Common.{◌≡◌, ℕ, List, [], map, Option, Result, Ok, Err, refl, sym, subst, inl, inr}
-use Rattle.pg_base.specs.declared.side.Side.{Side}
-use Rattle.pg_io.specs.Console.{ConsoleTold, Grows}
-use Rattle.pg_io.specs.Files.{Bytes, FilesTold}
-use Rattle.pg_io.specs.declared.entry.Entry.{Entry}
-use Rattle.pg_io.specs.declared.entry.Entry.TheVariants.{Said}
+use Rattle.pg_families.proofs.Common.{Side, ConsoleTold, Grows, Bytes, FilesTold, Entry, Said, Write, Refusal, NoClaim, DONE, Contender, End, Finished, Failed, Starved, Performs, stop_end, IsPlay, OpensTwo, Runs, IsCut, Halt, Refused, Stopped, not_opened_two, opened_two, performs_more, runs_halt, runs_read, silent, talked_texts}
 use Rattle.pg_io.specs.declared.stop.Stop.{Stop}
-use Rattle.pg_io.specs.declared.stop.Stop.TheVariants.{Write}
-use Rattle.pg_messages.specs.declared.refusal.Refusal.{Refusal}
-use Rattle.pg_messages.specs.declared.refusal.Refusal.TheVariants.{NoClaim}
-use Rattle.pg_messages.specs.declared.statuses.TheConstants.{DONE}
-use Rattle.pg_talk.specs.Contender.{Contender}
-use Rattle.pg_talk.specs.Done.{End, Finished, Failed, Starved, Performs, stop_end}
-use Rattle.pg_talk.specs.Playing.{IsPlay}
-use Rattle.pg_talk.specs.Reading.{OpensTwo}
-use Rattle.pg_talk.specs.Runs.{Runs}
-use Rattle.pg_talk.specs.Saying.{IsCut}
-use Rattle.pg_talk.specs.declared.halt.Halt.{Halt}
-use Rattle.pg_talk.specs.declared.halt.Halt.TheVariants.{Refused, Stopped}
-use Rattle.pg_talk.proofs.Openings.{not_opened_two, opened_two}
-use Rattle.pg_talk.proofs.Runs.{performs_more, runs_halt, runs_read, silent, talked_texts}
 use Rattle.pg_families.specs.Judged.{AcceptsValid, PlaysValid, RefusesChecked, RefusesPlayed}
 
 -- what stands against work was found, and nothing was said

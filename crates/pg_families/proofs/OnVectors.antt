@@ -1,29 +1,8 @@
 -- Checks, plays and classes of games on vectors.
 use Rattle.std.proofs.Common.{◌≡◌, ◌∙◌, ℕ, [], ◌∷◌, List, Option, Some, None, Result, Ok, Err, option_map, refl, ap, subst, inl}
-use Rattle.pg_base.specs.declared.side.Side.{Side}
-use Rattle.pg_io.specs.Console.{ConsoleTold}
-use Rattle.pg_io.specs.Files.{Bytes, FilesTold}
-use Rattle.pg_game.specs.declared.position.Illegal.{Illegal}
-use Rattle.pg_game.specs.declared.position.Position.{Position}
 use Rattle.std.specs.Prelude.{IfOk}
-use Rattle.pg_gf2.specs.Check.{IsFirstVecFault, IsVecValid, flaw_number}
-use Rattle.pg_vec_player.specs.Player.{VecPlay, MakesVecMove, TakesVecReply, AnswersOnVectors, MovesOnVectors, chosen_vec_claim, plan_of_claim, vec_start}
-use Rattle.pg_cert.specs.declared.cert.Cert.{Cert}
-use Rattle.pg_cert.specs.declared.cert.Claim.{Claim}
-use Rattle.pg_gf2.specs.declared.flaw.VecFlaw.{VecFlaw}
-use Rattle.pg_gf2.specs.declared.game.VecGame.{VecGame}
+use Rattle.pg_families.proofs.Common.{Side, ConsoleTold, Bytes, FilesTold, Illegal, Position, IsFirstVecFault, IsVecValid, flaw_number, VecPlay, MakesVecMove, TakesVecReply, AnswersOnVectors, MovesOnVectors, chosen_vec_claim, plan_of_claim, vec_start, Cert, Claim, VecFlaw, VecGame, printed_certificate, Class, vector_entry, RejectedVectors, Answers, Contender, MakesMove, Moves, TakesReply, at, Does, Performs, IsPlay, Delivers, Halt, Refused, follows_more}
 use Rattle.pg_gf2.specs.declared.plan.VecPlan.{VecPlan}
-use Rattle.pg_cert.specs.Print.{printed_certificate}
-use Rattle.pg_lehman.specs.declared.class.Class.{Class}
-use Rattle.pg_family_files.specs.Views.{vector_entry}
-use Rattle.pg_messages.specs.declared.refusal.Refusal.TheVariants.{RejectedVectors}
-use Rattle.pg_talk.specs.Contender.{Answers, Contender, MakesMove, Moves, TakesReply, at}
-use Rattle.pg_talk.specs.Done.{Does, Performs}
-use Rattle.pg_talk.specs.Playing.{IsPlay}
-use Rattle.pg_talk.specs.Storing.{Delivers}
-use Rattle.pg_talk.specs.declared.halt.Halt.{Halt}
-use Rattle.pg_talk.specs.declared.halt.Halt.TheVariants.{Refused}
-use Rattle.pg_talk.proofs.Delivering.{follows_more}
 use Rattle.pg_families.specs.Vectors.{AcceptsVectors, HasVecClaim, LacksVecClaim, PlaysVectors, RefusesVectorCheck, RefusesVectorPlay, RejectsVectors, ShowsVecClass, SolvesVectorGame, vec_class_text, vec_contender, vec_player, vectors_pair}
 use Rattle.pg_families.proofs.Judging.{played_valid, refused_here}
 

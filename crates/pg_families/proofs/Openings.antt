@@ -1,26 +1,15 @@
 -- What names hold, from what was read of them.
 use Rattle.std.proofs.Common.{◌≡◌, ◌+◌, ℕ, true, length, take, Option, Some, Result, Err, inl, inr, refl, ap, subst, arith}
 use Rattle.std.specs.Prelude.{nat_lt}
+use Rattle.pg_families.proofs.Common.{nat_tests, take_all, Bytes, Holding, VecGame, SpanCert, SpanGame, span_game, vector_game, whole, span_cert, span_entry, vector_entry, IsReadAs, or_halt, Halt, cut_same, opens_whole, read_bad}
 use Rattle.std.proofs.lemmas.Bool.{cases_lt}
-use Rattle.std.proofs.lemmas.Bool.Decides.{nat_tests}
-use Rattle.std.proofs.lemmas.List.{take_all}
-use Rattle.pg_io.specs.Files.{Bytes, Holding}
 use Rattle.pg_io.specs.Reading.{IsFile}
 use Rattle.pg_text.specs.Faults.{IsReadAs as IsReadBy}
 use Rattle.pg_text.specs.declared.error.FileError.{FileError}
 use Rattle.pg_text.specs.declared.error.FileError.TheVariants.{Bad}
 use Rattle.pg_files.specs.declared.fault.Fault.TheVariants.{Size}
 use Rattle.pg_files.specs.declared.limits.TheConstants.{MAX_GAME_BYTES}
-use Rattle.pg_gf2.specs.declared.game.VecGame.{VecGame}
-use Rattle.pg_span.specs.declared.cert.SpanCert.{SpanCert}
-use Rattle.pg_span.specs.declared.game.SpanGame.{SpanGame}
-use Rattle.pg_family_files.specs.FamilyFile.{span_game, vector_game, whole}
-use Rattle.pg_family_files.specs.SpanCertFile.{span_cert}
-use Rattle.pg_family_files.specs.Views.{span_entry, vector_entry}
 use Rattle.pg_family_files.specs.declared.cert_limits.TheConstants.{MAX_SPAN_CERT_BYTES}
-use Rattle.pg_talk.specs.Reading.{IsReadAs, or_halt}
-use Rattle.pg_talk.specs.declared.halt.Halt.{Halt}
-use Rattle.pg_talk.proofs.Openings.{cut_same, opens_whole, read_bad}
 use Rattle.pg_families.specs.Connectivity.{OpensSpan, OpensSpanCert, span_cert_held, span_held}
 use Rattle.pg_families.specs.Vectors.{OpensVectors, vectors_held}
 

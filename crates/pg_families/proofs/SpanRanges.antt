@@ -1,24 +1,11 @@
 -- A certificate that shows a class has no number that its file may not have.
 use Rattle.std.proofs.Common.{◌≡◌, ℕ, ◌<◌, ◌≤◌, true, List, [], ◌∷◌, length, Option, Some, None, ap, arith}
+use Rattle.pg_families.proofs.Common.{All, All-weaker, Side, Position, edge_count, marks_at, AreDueClaims, ArePartsBelow, HavePartsBelow, IsBodyAt, IsSpanValid, SpanBody, SpanCert, SpanClaim, SpanGame, SpanClass, IsSmallBody, IsWithinRanges}
 use Rattle.std.specs.FinSet.{FinSet}
-use Rattle.std.specs.List.{All}
 use Rattle.std.specs.Ordering.{nat_cmp}
 use Rattle.std.specs.Prelude.{IfSome, get_or}
-use Rattle.std.proofs.lemmas.List.Elements.{All-weaker}
-use Rattle.pg_base.specs.declared.side.Side.{Side}
 use Rattle.pg_switch.specs.Span.{IsFirst}
-use Rattle.pg_game.specs.declared.position.Position.{Position}
-use Rattle.pg_graph.specs.Graph.{edge_count}
-use Rattle.pg_span.specs.Game.{marks_at}
-use Rattle.pg_span.specs.Solved.{AreDueClaims, ArePartsBelow, HavePartsBelow}
-use Rattle.pg_span.specs.Valid.{IsBodyAt, IsSpanValid}
-use Rattle.pg_span.specs.declared.cert.SpanBody.{SpanBody}
 use Rattle.pg_span.specs.declared.cert.SpanBody.TheVariants.{Trees, Parts}
-use Rattle.pg_span.specs.declared.cert.SpanCert.{SpanCert}
-use Rattle.pg_span.specs.declared.cert.SpanClaim.{SpanClaim}
-use Rattle.pg_span.specs.declared.game.SpanGame.{SpanGame}
-use Rattle.pg_span.specs.declared.solved.SpanClass.{SpanClass}
-use Rattle.pg_family_files.specs.SpanCertPrint.{IsSmallBody, IsWithinRanges}
 
 -- the edge that is claimed first is an edge of the game
 small_first : (m : ℕ) (p : Position) (a1 a2 : FinSet nat_cmp) (first : Option ℕ)

@@ -1,30 +1,8 @@
 -- Checks, plays and classes of connectivity games.
 use Rattle.std.proofs.Common.{◌≡◌, ◌∙◌, ℕ, [], ◌∷◌, List, Option, Some, None, Result, Ok, Err, option_map, refl, ap, subst, inl}
-use Rattle.pg_base.specs.declared.side.Side.{Side}
-use Rattle.pg_io.specs.Console.{ConsoleTold}
-use Rattle.pg_io.specs.Files.{Bytes, FilesTold}
-use Rattle.pg_game.specs.declared.position.Illegal.{Illegal}
-use Rattle.pg_game.specs.declared.position.Position.{Position}
 use Rattle.std.specs.Prelude.{IfOk}
+use Rattle.pg_families.proofs.Common.{Side, ConsoleTold, Bytes, FilesTold, Illegal, Position, SpanPlay, MakesSpanMove, TakesSpanReply, AnswersInSpan, MovesInSpan, chosen_span_claim, span_start, IsFirstFlaw, IsSpanValid, SpanBody, SpanCert, SpanClaim, SpanFlaw, SpanGame, SpanClass, printed_span, span_entry, RejectedSpan, Answers, Contender, MakesMove, Moves, TakesReply, at, Does, Performs, IsPlay, Delivers, Halt, Refused, follows_more}
 use Rattle.pg_span.specs.Flaw.{flaw_number}
-use Rattle.pg_span.specs.Player.{SpanPlay, MakesSpanMove, TakesSpanReply, AnswersInSpan, MovesInSpan, chosen_span_claim, span_start}
-use Rattle.pg_span.specs.Valid.{IsFirstFlaw, IsSpanValid}
-use Rattle.pg_span.specs.declared.cert.SpanBody.{SpanBody}
-use Rattle.pg_span.specs.declared.cert.SpanCert.{SpanCert}
-use Rattle.pg_span.specs.declared.cert.SpanClaim.{SpanClaim}
-use Rattle.pg_span.specs.declared.flaw.SpanFlaw.{SpanFlaw}
-use Rattle.pg_span.specs.declared.game.SpanGame.{SpanGame}
-use Rattle.pg_span.specs.declared.solved.SpanClass.{SpanClass}
-use Rattle.pg_family_files.specs.SpanCertPrint.{printed_span}
-use Rattle.pg_family_files.specs.Views.{span_entry}
-use Rattle.pg_messages.specs.declared.refusal.Refusal.TheVariants.{RejectedSpan}
-use Rattle.pg_talk.specs.Contender.{Answers, Contender, MakesMove, Moves, TakesReply, at}
-use Rattle.pg_talk.specs.Done.{Does, Performs}
-use Rattle.pg_talk.specs.Playing.{IsPlay}
-use Rattle.pg_talk.specs.Storing.{Delivers}
-use Rattle.pg_talk.specs.declared.halt.Halt.{Halt}
-use Rattle.pg_talk.specs.declared.halt.Halt.TheVariants.{Refused}
-use Rattle.pg_talk.proofs.Delivering.{follows_more}
 use Rattle.pg_families.specs.Connectivity.{AcceptsSpans, HasSpanClaim, LacksSpanClaim, PlaysSpan, RefusesSpanCheck, RefusesSpanPlay, RejectsSpan, ShowsSpanClass, SolvesSpanGame, span_class_text, span_contender, span_pair, span_player}
 use Rattle.pg_families.proofs.Judging.{played_valid, refused_here}
 

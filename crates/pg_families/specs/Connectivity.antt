@@ -1,35 +1,9 @@
 -- What the commands of connectivity games read, store and say.
 use Rattle.std.specs.Prelude.{◌≡◌, ℕ, [], ◌∷◌, List, map, Option, Some, None, Result, Ok, Err}
-use Rattle.pg_base.specs.declared.goal.Goal.TheVariants.{Win}
-use Rattle.pg_base.specs.declared.kind.Kind.TheVariants.{MakerBreaker}
-use Rattle.pg_base.specs.declared.side.Side.{Side}
-use Rattle.pg_io.specs.Files.{Bytes, Holding}
-use Rattle.pg_io.specs.declared.entry.Entry.{Entry}
+use Rattle.pg_families.specs.Prelude.{Win, MakerBreaker, Side, Bytes, Holding, Entry, span_class, span_rules_of, SpanPlay, chosen_span_claim, span_start, AreDueClaims, named, IsFirstFlaw, IsSpanValid, SpanCert, SpanClaim, SpanFlaw, SpanGame, SpanClass, Maker, Breaker, First, SpanEntry, span_game, span_cert, IsWithinRanges, printed_span, span_entry, accepted_text, class_breaker_text, class_first_mover_text, class_maker_text, Refusal, RejectedSpan, Contender, Done, End, Opens, OpensTwo, IsLackingOne, IsLackingTwo, both, certificate_fault, game_fault, held_as, or_halt, Delivers, Halt}
 use Rattle.pg_files.specs.Views.{number_of as game_fault_number}
 use Rattle.pg_span.specs.Flaw.{flaw_number}
-use Rattle.pg_span.specs.Game.{span_class, span_rules_of}
-use Rattle.pg_span.specs.Player.{SpanPlay, chosen_span_claim, span_start}
-use Rattle.pg_span.specs.Solved.{AreDueClaims, named}
-use Rattle.pg_span.specs.Valid.{IsFirstFlaw, IsSpanValid}
-use Rattle.pg_span.specs.declared.cert.SpanCert.{SpanCert}
-use Rattle.pg_span.specs.declared.cert.SpanClaim.{SpanClaim}
-use Rattle.pg_span.specs.declared.flaw.SpanFlaw.{SpanFlaw}
-use Rattle.pg_span.specs.declared.game.SpanGame.{SpanGame}
-use Rattle.pg_span.specs.declared.solved.SpanClass.{SpanClass}
-use Rattle.pg_span.specs.declared.solved.SpanClass.TheVariants.{Maker, Breaker, First}
-use Rattle.pg_family_files.specs.FamilyFile.{SpanEntry, span_game}
-use Rattle.pg_family_files.specs.SpanCertFile.{span_cert}
-use Rattle.pg_family_files.specs.SpanCertPrint.{IsWithinRanges, printed_span}
 use Rattle.pg_family_files.specs.SpanCertViews.{number_of as certificate_fault_number}
-use Rattle.pg_family_files.specs.Views.{span_entry}
-use Rattle.pg_messages.specs.Texts.{accepted_text, class_breaker_text, class_first_mover_text, class_maker_text}
-use Rattle.pg_messages.specs.declared.refusal.Refusal.{Refusal}
-use Rattle.pg_messages.specs.declared.refusal.Refusal.TheVariants.{RejectedSpan}
-use Rattle.pg_talk.specs.Contender.{Contender}
-use Rattle.pg_talk.specs.Done.{Done, End}
-use Rattle.pg_talk.specs.Reading.{Opens, OpensTwo, IsLackingOne, IsLackingTwo, both, certificate_fault, game_fault, held_as, or_halt}
-use Rattle.pg_talk.specs.Storing.{Delivers}
-use Rattle.pg_talk.specs.declared.halt.Halt.{Halt}
 use Rattle.pg_families.specs.Judged.{AcceptsValid, PlaysValid, RefusesChecked, RefusesPlayed}
 
 -- ---- what names hold

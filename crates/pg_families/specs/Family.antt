@@ -1,32 +1,6 @@
 -- What the commands of further families read, store and say, by family and task.
 use Rattle.std.specs.Prelude.{◌≡◌, ℕ, [], ◌∷◌, List, Option, Some, Result, Ok, Err, ⊤}
-use Rattle.std.specs.List.{Contains}
-use Rattle.pg_base.specs.declared.goal.Goal.{Goal}
-use Rattle.pg_base.specs.declared.side.Side.{Side}
-use Rattle.pg_io.specs.Console.{ConsoleTold, Grows}
-use Rattle.pg_io.specs.Files.{Bytes, Holding, FilesTold, ReadsOnly}
-use Rattle.pg_io.specs.declared.entry.Entry.{Entry}
-use Rattle.pg_io.specs.declared.entry.Entry.TheVariants.{Said}
-use Rattle.pg_game.specs.Rules.{ForcesBy}
-use Rattle.pg_span.specs.Game.{marks_at, span_rules_of}
-use Rattle.pg_span.specs.declared.game.SpanGame.{SpanGame}
-use Rattle.pg_gf2.specs.Classes.{at_turn, vector_rules}
-use Rattle.pg_gf2.specs.declared.game.VecGame.{VecGame}
-use Rattle.pg_family_files.specs.FamilyFile.{span_game, vector_game}
-use Rattle.pg_family_files.specs.Views.{span_entry, vector_entry}
-use Rattle.pg_messages.specs.Texts.{accepted_text, claim_text}
-use Rattle.pg_messages.specs.declared.refusal.Refusal.{Refusal}
-use Rattle.pg_messages.specs.declared.statuses.TheConstants.{DONE, NO_MEANING, FAULTY_GAME, REFUSED, READ_FAILED, WRITE_FAILED, NO_MEMORY, INPUT_ENDED, OUT_OF_REPLIES}
-use Rattle.pg_words.specs.declared.family.Family.{Family}
-use Rattle.pg_words.specs.declared.family.Family.TheVariants.{Connectivity, Vectors}
-use Rattle.pg_words.specs.declared.family.FamilyTask.{FamilyTask}
-use Rattle.pg_words.specs.declared.family.FamilyTask.TheVariants.{Solve, Check, Play}
-use Rattle.pg_talk.specs.Done.{Done, End}
-use Rattle.pg_talk.specs.Halts.{IsGameHalt, IsReadHalt, IsPlayHalt, IsPlayEnd}
-use Rattle.pg_talk.specs.Reading.{lacking}
-use Rattle.pg_talk.specs.Storing.{StoresAt}
-use Rattle.pg_talk.specs.declared.halt.Halt.{Halt}
-use Rattle.pg_talk.specs.declared.halt.Halt.TheVariants.{Refused}
+use Rattle.pg_families.specs.Prelude.{Contains, Goal, Side, ConsoleTold, Grows, Bytes, Holding, FilesTold, ReadsOnly, Entry, Said, ForcesBy, marks_at, span_rules_of, SpanGame, at_turn, vector_rules, VecGame, span_game, vector_game, span_entry, vector_entry, accepted_text, claim_text, Refusal, DONE, NO_MEANING, FAULTY_GAME, REFUSED, READ_FAILED, WRITE_FAILED, NO_MEMORY, INPUT_ENDED, OUT_OF_REPLIES, Family, Connectivity, Vectors, FamilyTask, Solve, Check, Play, Done, End, IsGameHalt, IsReadHalt, IsPlayHalt, IsPlayEnd, lacking, StoresAt, Halt, Refused}
 use Rattle.pg_families.specs.Connectivity.{AcceptsSpans, AreSpansLacking, IsSpanLacking, PlaysSpan, RefusesSpanCheck, RefusesSpanPlay, SolvesSpan, span_both_held, span_held}
 use Rattle.pg_families.specs.Vectors.{AcceptsVectors, AreVectorsLacking, IsVectorLacking, PlaysVectors, RefusesVectorCheck, RefusesVectorPlay, SolvesVectors, vectors_both_held, vectors_held}
 

@@ -1,17 +1,7 @@
 -- What checks and plays of a family's games say, whatever the family is: by how a game is said,
 -- which certificates are valid and what stands against the others.
 use Rattle.std.specs.Prelude.{◌≡◌, ◌⊎◌, List, Result, Ok, Err}
-use Rattle.pg_base.specs.declared.side.Side.{Side}
-use Rattle.pg_io.specs.Files.{Bytes}
-use Rattle.pg_io.specs.declared.entry.Entry.{Entry}
-use Rattle.pg_messages.specs.declared.refusal.Refusal.{Refusal}
-use Rattle.pg_messages.specs.declared.refusal.Refusal.TheVariants.{NoClaim}
-use Rattle.pg_talk.specs.Contender.{Contender}
-use Rattle.pg_talk.specs.Done.{End}
-use Rattle.pg_talk.specs.Playing.{IsPlay}
-use Rattle.pg_talk.specs.Saying.{SaysAll}
-use Rattle.pg_talk.specs.declared.halt.Halt.{Halt}
-use Rattle.pg_talk.specs.declared.halt.Halt.TheVariants.{Refused}
+use Rattle.pg_families.specs.Prelude.{Side, Bytes, Entry, Refusal, NoClaim, Contender, End, IsPlay, SaysAll, Halt, Refused}
 
 -- what stands against a check of what was read: a fault of a file, or the certificate is rejected
 abbrev pub RefusesChecked : {G E C : Type 0}

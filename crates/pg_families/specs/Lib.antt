@@ -1,3 +1,4 @@
+pub mod Prelude
 pub mod Judged
 pub mod Connectivity
 pub mod SpanPoints

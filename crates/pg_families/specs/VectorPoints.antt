@@ -1,7 +1,6 @@
 -- A game on vectors has few points.
 use Rattle.std.proofs.Common.{◌≤◌, length, arith}
-use Rattle.pg_base.specs.declared.limits.TheConstants.{MAX_MEMBERS}
-use Rattle.pg_gf2.specs.declared.game.VecGame.{VecGame}
+use Rattle.pg_families.specs.Prelude.{MAX_MEMBERS, VecGame}
 
 pub few_vectors : (g : VecGame) → length g.vectors ≤ MAX_MEMBERS
 few_vectors g = omega (arith, g.fits.few_vectors)

@@ -1,35 +1,10 @@
 -- What the commands of games on vectors read and say.
 use Rattle.std.specs.Prelude.{◌≡◌, ℕ, [], ◌∷◌, List, length, map, Option, Some, None, Result, Ok, Err}
-use Rattle.pg_base.specs.declared.goal.Goal.TheVariants.{Win}
-use Rattle.pg_base.specs.declared.kind.Kind.TheVariants.{Switching}
-use Rattle.pg_base.specs.declared.side.Side.{Side}
-use Rattle.pg_base.specs.declared.side.Side.TheVariants.{X, Y}
-use Rattle.pg_io.specs.Files.{Bytes, Holding}
-use Rattle.pg_io.specs.declared.entry.Entry.{Entry}
+use Rattle.pg_families.specs.Prelude.{Win, Switching, Side, X, Y, Bytes, Holding, Entry, IsWithinLimits, printed_certificate, Cert, Claim, IsFirstVecFault, IsVecValid, flaw_number, Class, Short, Cut, at_turn, vector_class, vector_rules, VecPlay, chosen_vec_claim, vec_start, VecFlaw, VecGame, VectorEntry, vector_game, vector_entry, accepted_text, class_cut_text, class_first_mover_text, class_short_text, Refusal, RejectedVectors, Contender, Done, End, Opens, OpensTwo, IsLackingOne, IsLackingTwo, both, certificate_held, game_fault, held_as, or_halt, Delivers, Halt}
 use Rattle.pg_files.specs.Views.{number_of as game_fault_number}
-use Rattle.pg_cert.specs.Limits.{IsWithinLimits}
-use Rattle.pg_cert.specs.Print.{printed_certificate}
-use Rattle.pg_cert.specs.declared.cert.Cert.{Cert}
-use Rattle.pg_cert.specs.declared.cert.Claim.{Claim}
-use Rattle.pg_gf2.specs.Check.{IsFirstVecFault, IsVecValid, flaw_number}
 use Rattle.pg_lehman.specs.ClassClaims.{class_claims}
 use Rattle.pg_lehman.specs.Sets.{named}
-use Rattle.pg_lehman.specs.declared.class.Class.{Class}
-use Rattle.pg_lehman.specs.declared.class.Class.TheVariants.{Short, Cut, First}
-use Rattle.pg_gf2.specs.Classes.{at_turn, vector_class, vector_rules}
-use Rattle.pg_vec_player.specs.Player.{VecPlay, chosen_vec_claim, vec_start}
-use Rattle.pg_gf2.specs.declared.flaw.VecFlaw.{VecFlaw}
-use Rattle.pg_gf2.specs.declared.game.VecGame.{VecGame}
-use Rattle.pg_family_files.specs.FamilyFile.{VectorEntry, vector_game}
-use Rattle.pg_family_files.specs.Views.{vector_entry}
-use Rattle.pg_messages.specs.Texts.{accepted_text, class_cut_text, class_first_mover_text, class_short_text}
-use Rattle.pg_messages.specs.declared.refusal.Refusal.{Refusal}
-use Rattle.pg_messages.specs.declared.refusal.Refusal.TheVariants.{RejectedVectors}
-use Rattle.pg_talk.specs.Contender.{Contender}
-use Rattle.pg_talk.specs.Done.{Done, End}
-use Rattle.pg_talk.specs.Reading.{Opens, OpensTwo, IsLackingOne, IsLackingTwo, both, certificate_held, game_fault, held_as, or_halt}
-use Rattle.pg_talk.specs.Storing.{Delivers}
-use Rattle.pg_talk.specs.declared.halt.Halt.{Halt}
+use Rattle.pg_lehman.specs.declared.class.Class.TheVariants.{First}
 use Rattle.pg_families.specs.Judged.{AcceptsValid, PlaysValid, RefusesChecked, RefusesPlayed}
 
 -- ---- what names hold

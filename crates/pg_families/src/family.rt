@@ -1,8 +1,6 @@
 //! The commands of all families.
 ghost use Rattle.std.specs.Prelude.{[]};
-ghost use Rattle.pg_io.specs.Console.{Grows};
-ghost use Rattle.pg_talk.specs.Halts.{BothCauses};
-ghost use Rattle.pg_talk.specs.Runs.{QuietsBy, Runs};
+ghost use Rattle.pg_families.specs.Prelude.{Grows, BothCauses, QuietsBy, Runs};
 ghost use Rattle.pg_families.specs.Family.{ActsInFamily, GivesInFamily, IsLackingInFamily, LeavesFamilyFiles, QuietAtReadInFamily, RefusesFamily};
 
 use crate::span_check::check_span;

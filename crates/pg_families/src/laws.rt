@@ -1,9 +1,6 @@
 //! What the claims that are said tell of a game of a family.
 ghost use Rattle.std.specs.Prelude.{Option};
-ghost use Rattle.pg_io.specs.Files.{Bytes};
-ghost use Rattle.pg_talk.specs.Done.{Done, End};
-ghost use Rattle.pg_words.specs.declared.family.Family.{Family};
-ghost use Rattle.pg_words.specs.declared.family.FamilyTask.{FamilyTask};
+ghost use Rattle.pg_families.specs.Prelude.{Bytes, Done, End, Family, FamilyTask};
 ghost use Rattle.pg_families.specs.Family.{ActsInFamily, AreForcedInFamily};
 
 use pg_gf2::laws::valid_vector_claims_are_forced;

@@ -1,10 +1,7 @@
 //! Reading the games and certificates of families.
 ghost use Rattle.std.specs.Prelude.{IfErr, IfOk};
-ghost use Rattle.pg_io.specs.Files.{IsAbsent, ReadsOnly};
-ghost use Rattle.pg_family_files.specs.SpanCertPrint.{IsWithinRanges};
-ghost use Rattle.pg_talk.specs.Halts.{HaltCauses, IsGameHalt, IsReadHalt};
+ghost use Rattle.pg_families.specs.Prelude.{IsAbsent, ReadsOnly, IsWithinRanges, HaltCauses, IsGameHalt, IsReadHalt, IsWithinLimits};
 ghost use Rattle.pg_families.specs.Connectivity.{AreSpansLacking, OpensSpan, OpensSpanBoth, OpensSpanCert};
-ghost use Rattle.pg_cert.specs.Limits.{IsWithinLimits};
 ghost use Rattle.pg_families.specs.Vectors.{AreVectorsLacking, OpensVectors, OpensVectorsBoth};
 
 use pg_cert::Cert;

@@ -1,14 +1,6 @@
 //! Checking a certificate for a connectivity game.
 ghost use Rattle.std.specs.Prelude.{◌≡◌, ◌≢◌, [], map, Err, IfErr, IfOk};
-ghost use Rattle.pg_io.specs.Console.{Grows};
-ghost use Rattle.pg_io.specs.Files.{ReadsOnly};
-ghost use Rattle.pg_io.specs.Stop.{Causes};
-ghost use Rattle.pg_messages.specs.declared.statuses.TheConstants.{DONE};
-ghost use Rattle.pg_family_files.specs.SpanCertPrint.{IsWithinRanges};
-ghost use Rattle.pg_talk.specs.Done.{Performs};
-ghost use Rattle.pg_talk.specs.Halts.{BothCauses, HaltCauses, IsReadHalt};
-ghost use Rattle.pg_talk.specs.Runs.{QuietsBy, Runs};
-ghost use Rattle.pg_talk.specs.Saying.{Speaks};
+ghost use Rattle.pg_families.specs.Prelude.{Grows, ReadsOnly, Causes, DONE, IsWithinRanges, Performs, BothCauses, HaltCauses, IsReadHalt, QuietsBy, Runs, Speaks};
 ghost use Rattle.pg_families.specs.Connectivity.{AcceptsSpans, AreSpansLacking, RefusesSpanCheck, span_acceptance, span_both_held, span_pair};
 
 use crate::opening::open_span_both;

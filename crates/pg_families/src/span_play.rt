@@ -1,11 +1,6 @@
 //! Playing a side of a connectivity game by a certificate.
 ghost use Rattle.std.specs.Prelude.{◌≡◌, [], Ok, IfErr, IfOk, ⊤};
-ghost use Rattle.pg_io.specs.Console.{Grows};
-ghost use Rattle.pg_io.specs.Files.{ReadsOnly};
-ghost use Rattle.pg_family_files.specs.SpanCertPrint.{IsWithinRanges};
-ghost use Rattle.pg_talk.specs.Done.{Performs};
-ghost use Rattle.pg_talk.specs.Halts.{BothCauses, HaltCauses, IsPlayEnd, IsPlayHalt};
-ghost use Rattle.pg_talk.specs.Runs.{QuietsBy, Runs};
+ghost use Rattle.pg_families.specs.Prelude.{Grows, ReadsOnly, IsWithinRanges, Performs, BothCauses, HaltCauses, IsPlayEnd, IsPlayHalt, QuietsBy, Runs};
 ghost use Rattle.pg_families.specs.Connectivity.{AreSpansLacking, PlaysSpan, RefusesSpanPlay, span_both_held, span_pair};
 
 use crate::opening::open_span_both;

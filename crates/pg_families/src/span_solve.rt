@@ -1,13 +1,6 @@
 //! Solving a connectivity game, and storing what shows its class.
 ghost use Rattle.std.specs.Prelude.{◌≡◌, [], ◌∷◌, Err, IfErr, IfOk};
-ghost use Rattle.pg_io.specs.Console.{Grows};
-ghost use Rattle.pg_messages.specs.Texts.{message_text};
-ghost use Rattle.pg_messages.specs.declared.statuses.TheConstants.{DONE};
-ghost use Rattle.pg_talk.specs.Done.{Does};
-ghost use Rattle.pg_talk.specs.Halts.{BothCauses, IsGameHalt, IsWriteHalt, MuteAtMemory};
-ghost use Rattle.pg_talk.specs.Runs.{QuietsBy, Runs};
-ghost use Rattle.pg_talk.specs.Storing.{StoresAt};
-ghost use Rattle.pg_talk.specs.declared.halt.Halt.TheVariants.{Refused};
+ghost use Rattle.pg_families.specs.Prelude.{Grows, message_text, DONE, Does, BothCauses, IsGameHalt, IsWriteHalt, MuteAtMemory, QuietsBy, Runs, StoresAt, Refused};
 ghost use Rattle.pg_families.specs.Connectivity.{IsSpanLacking, SolvesSpan, SolvesSpanGame, span_class_text, span_held};
 
 use crate::opening::open_span;

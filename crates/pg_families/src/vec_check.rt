@@ -1,14 +1,6 @@
 //! Checking a certificate for a game on vectors.
 ghost use Rattle.std.specs.Prelude.{◌≡◌, ◌≢◌, [], map, Err, IfErr, IfOk};
-ghost use Rattle.pg_io.specs.Console.{Grows};
-ghost use Rattle.pg_io.specs.Files.{ReadsOnly};
-ghost use Rattle.pg_io.specs.Stop.{Causes};
-ghost use Rattle.pg_messages.specs.declared.statuses.TheConstants.{DONE};
-ghost use Rattle.pg_cert.specs.Limits.{IsWithinLimits};
-ghost use Rattle.pg_talk.specs.Done.{Performs};
-ghost use Rattle.pg_talk.specs.Halts.{BothCauses, HaltCauses, IsReadHalt};
-ghost use Rattle.pg_talk.specs.Runs.{QuietsBy, Runs};
-ghost use Rattle.pg_talk.specs.Saying.{Speaks};
+ghost use Rattle.pg_families.specs.Prelude.{Grows, ReadsOnly, Causes, DONE, IsWithinLimits, Performs, BothCauses, HaltCauses, IsReadHalt, QuietsBy, Runs, Speaks};
 ghost use Rattle.pg_families.specs.Vectors.{AcceptsVectors, AreVectorsLacking, RefusesVectorCheck, vec_acceptance, vectors_both_held, vectors_pair};
 
 use crate::opening::open_vectors_both;

@@ -1,11 +1,6 @@
 //! Playing a side of a game on vectors by a certificate.
 ghost use Rattle.std.specs.Prelude.{◌≡◌, [], Ok, IfErr, IfOk, ⊤};
-ghost use Rattle.pg_io.specs.Console.{Grows};
-ghost use Rattle.pg_io.specs.Files.{ReadsOnly};
-ghost use Rattle.pg_cert.specs.Limits.{IsWithinLimits};
-ghost use Rattle.pg_talk.specs.Done.{Performs};
-ghost use Rattle.pg_talk.specs.Halts.{BothCauses, HaltCauses, IsPlayEnd, IsPlayHalt};
-ghost use Rattle.pg_talk.specs.Runs.{QuietsBy, Runs};
+ghost use Rattle.pg_families.specs.Prelude.{Grows, ReadsOnly, IsWithinLimits, Performs, BothCauses, HaltCauses, IsPlayEnd, IsPlayHalt, QuietsBy, Runs};
 ghost use Rattle.pg_families.specs.Vectors.{AreVectorsLacking, PlaysVectors, RefusesVectorPlay, vectors_both_held, vectors_pair};
 
 use crate::opening::open_vectors_both;

@@ -1,13 +1,7 @@
 -- The first fault of a file, and the least of its line.
 use Rattle.std.proofs.Common.{◌≡◌, ℕ, ◌<◌, Bool, true, false, cond, not, ◌||◌, ◌⊎◌, inl, inr, List, [], ◌∷◌, length, Result, Ok, Err, Option, Some, None, refl, sym, ap, ◌∙◌, arith}
 use Rattle.std.specs.Prelude.{nat_lt, ◌==◌, is_none}
-use Rattle.std.specs.List.{list_all}
-use Rattle.std.proofs.lemmas.Bool.{ltb-true}
-use Rattle.pg_base.specs.declared.side.Side.{Side}
-use Rattle.pg_text.specs.Text.{Bytes, lines, words}
-use Rattle.pg_text.specs.Faults.{reading, least, IsLeast}
-use Rattle.pg_text.proofs.Reading.{is_least, unless_err, first_fault}
-use Rattle.pg_files.specs.declared.fault.Fault.{Fault}
+use Rattle.pg_family_files.proofs.Common.{list_all, ltb-true, Side, Bytes, lines, words, reading, least, IsLeast, is_least, unless_err, first_fault, Fault}
 use Rattle.pg_files.specs.declared.fault.Fault.TheVariants as faults
 use Rattle.pg_files.specs.GameFile.{first, rest, is_printable, begins_comment}
 use Rattle.pg_family_files.specs.Family.{key_of}

@@ -1,9 +1,6 @@
 -- The texts of games, in the pieces in which they are written.
 use Rattle.std.proofs.Common.{◌≡◌, ℕ, suc, ◌+◌, ◌-◌, ◌<◌, ◌≤◌, ◌/◌, ◌%◌, List, [], ◌∷◌, ◌++◌, refl, sym, ap, arith, append_assoc, ◌∙◌}
-use Rattle.std.specs.List.{flat_map}
-use Rattle.std.proofs.lemmas.List.Concat.{flat_map-append}
-use Rattle.std.proofs.lemmas.List.{append-nil}
-use Rattle.pg_text.specs.Text.{Bytes, spelled}
+use Rattle.pg_family_files.proofs.Common.{flat_map, flat_map-append, append-nil, Bytes, spelled}
 use Rattle.pg_family_files.specs.Print.{signs_of}
 
 signs_first : (n v : ℕ) → signs_of (suc n) v ≡ (48 + v % 2) ∷ signs_of n (v / 2)

@@ -1,28 +1,11 @@
 -- What is printed is read again.
 use Rattle.std.proofs.Common.{◌≡◌, ℕ, ◌+◌, ◌^◌, ◌<◌, ◌≤◌, lit<, lit≤, true, false, ◌&&◌, ◌||◌, List, [], ◌∷◌, ◌++◌, length, map, arith, refl, sym, ap, subst, append_assoc, ◌∙◌, Ok}
 use Rattle.std.specs.Prelude.{◌==◌, nat_lt, nat_le, Some}
-use Rattle.std.specs.Fmt.{decimal}
-use Rattle.std.specs.List.{list_all, flat_map, All}
-use Rattle.std.specs.FinSet.{FinSet, empty}
-use Rattle.std.specs.Ordering.{nat_cmp}
-use Rattle.std.proofs.lemmas.Bool.{lt-ltb, and_right}
-use Rattle.std.proofs.lemmas.Bool.Decides.{nat_tests}
-use Rattle.std.proofs.lemmas.List.{append-nil, length-append, map-append}
-use Rattle.std.proofs.lemmas.List.Elements.{All-tail}
-use Rattle.pg_base.specs.Points.{AreBelow, ShareNone, members}
-use Rattle.pg_base.proofs.MemberLemmas.{points_below-ascend, from_list-points_below}
-use Rattle.pg_base.specs.Side.{side_word, side_of}
-use Rattle.pg_base.specs.declared.side.Side.{Side}
+use Rattle.pg_family_files.proofs.Common.{decimal, list_all, flat_map, All, FinSet, empty, nat_cmp, lt-ltb, and_right, nat_tests, append-nil, length-append, map-append, All-tail, AreBelow, ShareNone, members, points_below-ascend, from_list-points_below, side_word, side_of, Side}
 use Rattle.pg_base.specs.declared.side.Side.TheVariants as sides
-use Rattle.pg_text.specs.Text.{Bytes, spaced, lines, words, spelled}
-use Rattle.pg_text.specs.Faults.{reading}
-use Rattle.pg_files.specs.Sets.{set_of, repeats}
-use Rattle.pg_files.specs.GameFile.{begins_comment}
-use Rattle.pg_files.specs.Print.{marked, edge_words, last_lines}
+use Rattle.pg_family_files.proofs.Common.{Bytes, spaced, lines, words, spelled, reading, set_of, repeats, begins_comment, marked, edge_words, last_lines}
 use Rattle.pg_files.specs.declared.key.Key.TheVariants as game_keys
-use Rattle.pg_files.proofs.Words.{is_word, words_again, numbers_decimals, spaced_printable, decimals_are_words, lines_spelled}
-use Rattle.pg_files.proofs.SetLaws.{repeats_none, below-members, members-apart}
-use Rattle.pg_files.proofs.RoundTrip.{AreSmall, smaller, one_small, two_small, inside, side_is_word}
+use Rattle.pg_family_files.proofs.Common.{is_word, words_again, numbers_decimals, spaced_printable, decimals_are_words, lines_spelled, repeats_none, below-members, members-apart, AreSmall, smaller, one_small, two_small, inside, side_is_word}
 use Rattle.pg_family_files.specs.Family.{has_key, key_name, key_of, rank_of, needed_rank, head_rank}
 use Rattle.pg_family_files.specs.FamilyFile.{Draft, nothing, points_so_far, is_out_of_place, keyed, significant, after, whole}
 use Rattle.pg_family_files.specs.Print.{header, numbered, worded, signs_of, vector_words}

@@ -1,11 +1,7 @@
 -- The signs of a vector are read again as that vector.
 use Rattle.std.proofs.Common.{◌≡◌, ℕ, zero, suc, ◌+◌, ◌*◌, ◌/◌, ◌%◌, ◌^◌, ◌<◌, ◌≤◌, true, false, cond, ◌&&◌, length, arith, refl, ap, ap₂}
 use Rattle.std.specs.Prelude.{◌==◌, nat_lt, Some}
-use Rattle.std.specs.List.{list_all}
-use Rattle.std.proofs.Math.Nat.{pow-succ'}
-use Rattle.std.proofs.lemmas.Bool.{eq-eqb}
-use Rattle.std.proofs.lemmas.Bool.Decides.{nat_tests}
-use Rattle.pg_files.proofs.Words.{is_word}
+use Rattle.pg_family_files.proofs.Common.{list_all, pow-succ', eq-eqb, nat_tests, is_word}
 use Rattle.pg_family_files.specs.FamilyFile.{is_sign, signs_value, vector_of}
 use Rattle.pg_family_files.specs.Print.{signs_of}
 

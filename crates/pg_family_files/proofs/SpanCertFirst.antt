@@ -1,16 +1,7 @@
 -- The fault that is told is the first.
 use Rattle.std.proofs.Common.{◌≡◌, ℕ, ◌+◌, Bool, true, false, cond, ◌⊎◌, inl, inr, List, [], ◌∷◌, ◌++◌, length, refl, sym, ap, ◌∙◌, Option, Some, None, Result, Ok, Err, arith}
 use Rattle.std.specs.Prelude.{nat_le, nat_lt, not, is_none, is_err, codes}
-use Rattle.std.specs.FinSet.{FinSet}
-use Rattle.std.specs.Ordering.{nat_cmp}
-use Rattle.std.specs.Str.{bytes_eq}
-use Rattle.std.proofs.lemmas.Bool.{ltb-true}
-use Rattle.pg_text.specs.Faults.{and_then, each_of, least, onto, reading}
-use Rattle.pg_text.specs.Text.{Bytes, ascend_from, lines, number, parts}
-use Rattle.pg_text.proofs.Reading.{first_fault, is_least}
-use Rattle.pg_cert_files.specs.Form.{has_one_slash}
-use Rattle.pg_cert_files.specs.NodeLine.{before_slash, after_slash}
-use Rattle.pg_span.specs.declared.cert.SpanBody.{SpanBody}
+use Rattle.pg_family_files.proofs.Common.{FinSet, nat_cmp, bytes_eq, ltb-true, and_then, each_of, least, onto, reading, Bytes, ascend_from, lines, number, parts, first_fault, is_least, has_one_slash, before_slash, after_slash, SpanBody}
 use Rattle.pg_span.specs.declared.cert.SpanBody.TheVariants as bodies
 use Rattle.pg_span.specs.declared.cert.SpanClaim.{SpanClaim}
 use Rattle.pg_family_files.specs.SpanCertFile.{Draft, nothing, claimed, line_due, after, end_fault, ended, said, span_cert}

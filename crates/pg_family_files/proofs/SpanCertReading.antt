@@ -1,12 +1,9 @@
 -- What the lines say is what the file says.
 use Rattle.std.proofs.Common.{◌≡◌, ℕ, ◌+◌, ◌<◌, ◌≤◌, false, List, length, Result, Ok, Err, refl, arith}
 use Rattle.std.specs.Prelude.{◌==◌, nat_lt}
-use Rattle.std.proofs.lemmas.Bool.Decides.{nat_tests}
-use Rattle.pg_text.specs.Faults.{and_then, reading, IsReadAs as IsReadBy}
-use Rattle.pg_text.specs.Text.{Bytes, lines}
-use Rattle.pg_text.specs.declared.error.FileError.{FileError}
+use Rattle.pg_family_files.proofs.Common.{nat_tests, and_then, reading, Bytes, lines, FileError, SpanClaim}
+use Rattle.pg_text.specs.Faults.{IsReadAs as IsReadBy}
 use Rattle.pg_text.specs.declared.error.FileError.TheVariants.{Bad, Memory}
-use Rattle.pg_span.specs.declared.cert.SpanClaim.{SpanClaim}
 use Rattle.pg_family_files.specs.SpanCertFile.{Draft, nothing, after, end_fault, ended, said, span_cert}
 use Rattle.pg_family_files.specs.SpanCertViews.{number_of}
 use Rattle.pg_family_files.specs.declared.cert_draft.Due.TheVariants as due

@@ -1,9 +1,6 @@
 -- The text of claims, claim by claim and line by line.
 use Rattle.std.proofs.Common.{◌≡◌, List, [], ◌∷◌, ◌++◌, refl, ap}
-use Rattle.std.specs.List.{flat_map}
-use Rattle.std.proofs.lemmas.List.Concat.{flat_map-append}
-use Rattle.pg_text.specs.Text.{Bytes, spelled}
-use Rattle.pg_span.specs.declared.cert.SpanClaim.{SpanClaim}
+use Rattle.pg_family_files.proofs.Common.{flat_map, flat_map-append, Bytes, spelled, SpanClaim}
 use Rattle.pg_family_files.specs.SpanCertPrint.{claim_lines}
 
 pub claims_text : (cs : List SpanClaim)

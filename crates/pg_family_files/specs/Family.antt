@@ -1,7 +1,6 @@
 -- The families of games with files of their own, and the keys of these.
 use Rattle.std.specs.Prelude.{ℕ, Bool, true, false, ◌&&◌, Option, List, [], ◌∷◌, codes, find}
-use Rattle.std.specs.Str.{bytes_eq}
-use Rattle.pg_text.specs.Text.{Bytes}
+use Rattle.pg_family_files.specs.Prelude.{bytes_eq, Bytes}
 use Rattle.pg_family_files.specs.declared.family.Family.{Family}
 use Rattle.pg_family_files.specs.declared.family.Family.TheVariants as families
 use Rattle.pg_family_files.specs.declared.family.Key.{Key}

@@ -1,22 +1,8 @@
 -- What a file of a family's game says, and the fault that it has.
 use Rattle.std.specs.Prelude.{ℕ, ◌+◌, ◌*◌, Bool, true, false, ◌&&◌, ◌||◌, not, nat_lt, nat_le, ◌==◌, if◌then◌else◌, List, [], ◌∷◌, ◌++◌, length, Option, Some, None, is_none, unwrap_or, codes, Result, Ok, Err}
-use Rattle.std.specs.List.{list_all}
-use Rattle.std.specs.Str.{bytes_eq}
-use Rattle.std.specs.FinSet.{FinSet, empty}
-use Rattle.std.specs.Ordering.{nat_cmp}
-use Rattle.pg_base.specs.declared.limits.TheConstants.{MAX_EDGES}
-use Rattle.pg_base.specs.declared.side.Side.{Side}
-use Rattle.pg_base.specs.Side.{side_of}
-use Rattle.pg_text.specs.Text.{Bytes, lines, words, numbers}
-use Rattle.pg_text.specs.Faults.{least, unless, reading}
-use Rattle.pg_graph.specs.declared.graph.Graph.{Graph}
-use Rattle.pg_game.specs.declared.bounds.TheConstants.{MAX_VERTICES}
-use Rattle.pg_files.specs.declared.limits.TheConstants.{MAX_GAME_BYTES}
-use Rattle.pg_files.specs.declared.fault.Fault.{Fault}
+use Rattle.pg_family_files.specs.Prelude.{list_all, bytes_eq, FinSet, empty, nat_cmp, MAX_EDGES, Side, side_of, Bytes, lines, words, numbers, least, unless, reading, Graph, MAX_VERTICES, MAX_GAME_BYTES, Fault}
 use Rattle.pg_files.specs.declared.fault.Fault.TheVariants as faults
-use Rattle.pg_files.specs.Sets.{set_of, repeats}
-use Rattle.pg_files.specs.GameFile.{first, rest, numbers_of, first_number, second_number, is_outside, is_printable, begins_comment}
-use Rattle.pg_gf2.specs.declared.game.TheConstants.{MAX_ROWS, MAX_VECTORS}
+use Rattle.pg_family_files.specs.Prelude.{set_of, repeats, first, rest, numbers_of, first_number, second_number, is_outside, is_printable, begins_comment, MAX_ROWS, MAX_VECTORS}
 use Rattle.pg_family_files.specs.Family.{header_word, key_of, rank_of, needed_rank}
 use Rattle.pg_family_files.specs.declared.family.Family.{Family}
 use Rattle.pg_family_files.specs.declared.family.Family.TheVariants as families

@@ -1,10 +1,6 @@
 -- What a fault of a file means, above the definition of reading.
 use Rattle.std.specs.Prelude.{◌≡◌, ℕ, ◌+◌, ◌<◌, Bool, true, false, not, ◌||◌, ◌⊎◌, if◌then◌else◌, List, [], ◌∷◌, ◌++◌, length, Option, Some, None, is_none, Ok, ◌==◌}
-use Rattle.std.specs.List.{list_all}
-use Rattle.pg_text.specs.Text.{Bytes, lines, words}
-use Rattle.pg_text.specs.Faults.{reading, IsLeast}
-use Rattle.pg_files.specs.declared.limits.TheConstants.{MAX_GAME_BYTES}
-use Rattle.pg_files.specs.declared.fault.Fault.{Fault}
+use Rattle.pg_family_files.specs.Prelude.{list_all, Bytes, lines, words, reading, IsLeast, MAX_GAME_BYTES, Fault}
 use Rattle.pg_files.specs.declared.fault.Fault.TheVariants as faults
 use Rattle.pg_files.specs.GameFile.{first, rest, is_printable, begins_comment}
 use Rattle.pg_family_files.specs.Family.{key_of}

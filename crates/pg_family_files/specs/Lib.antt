@@ -1,3 +1,4 @@
+pub mod Prelude
 pub mod Family
 pub mod FamilyFile
 pub mod Views

@@ -1,10 +1,6 @@
 -- The printed texts of games of the families.
 use Rattle.std.specs.Prelude.{ℕ, zero, suc, ◌+◌, ◌/◌, ◌%◌, List, [], ◌∷◌, ◌++◌, map, codes}
-use Rattle.std.specs.List.{flat_map}
-use Rattle.pg_text.specs.Text.{Bytes, spelled}
-use Rattle.pg_files.specs.Print.{number_words, edge_words, last_lines}
-use Rattle.pg_span.specs.declared.game.SpanGame.{SpanGame}
-use Rattle.pg_gf2.specs.declared.game.VecGame.{VecGame}
+use Rattle.pg_family_files.specs.Prelude.{flat_map, Bytes, spelled, number_words, edge_words, last_lines, SpanGame, VecGame}
 use Rattle.pg_family_files.specs.Family.{header_word, key_name}
 use Rattle.pg_family_files.specs.declared.family.Family.{Family}
 use Rattle.pg_family_files.specs.declared.family.Family.TheVariants as families

@@ -1,11 +1,6 @@
 -- What the first fault of a connectivity game's certificate is, in words of its lines.
 use Rattle.std.specs.Prelude.{◌≡◌, ℕ, ◌+◌, ◌<◌, ◌⊎◌, Bool, false, not, nat_le, is_none, is_err, if◌then◌else◌, List, [], ◌∷◌, ◌++◌, length, Some, Ok, codes}
-use Rattle.std.specs.Str.{bytes_eq}
-use Rattle.pg_base.specs.declared.signs.TheConstants.{SPACE}
-use Rattle.pg_text.specs.Faults.{IsLeast, reading}
-use Rattle.pg_text.specs.Text.{Bytes, lines, parts}
-use Rattle.pg_cert.specs.declared.limits.TheConstants.{MAX_CLAIMS}
-use Rattle.pg_cert_files.specs.Form.{has_one_slash}
+use Rattle.pg_family_files.specs.Prelude.{bytes_eq, SPACE, IsLeast, reading, Bytes, lines, parts, MAX_CLAIMS, has_one_slash}
 use Rattle.pg_family_files.specs.SpanCertFile.{Draft, nothing, after, end_fault}
 use Rattle.pg_family_files.specs.SpanCertLine.{body_of, cut_first, head_of}
 use Rattle.pg_family_files.specs.declared.cert_draft.Due.{Due}

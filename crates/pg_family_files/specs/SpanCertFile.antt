@@ -1,12 +1,7 @@
 -- Certificate files of connectivity games: which line is due, what each line adds, and the first
 -- fault.
 use Rattle.std.specs.Prelude.{ℕ, ◌+◌, ◌==◌, nat_lt, nat_le, if◌then◌else◌, List, [], ◌∷◌, ◌++◌, length, Option, Some, None, Result, Ok, Err, codes}
-use Rattle.std.specs.Str.{bytes_eq}
-use Rattle.pg_text.specs.Faults.{and_then, reading}
-use Rattle.pg_text.specs.Text.{Bytes, lines}
-use Rattle.pg_cert.specs.declared.limits.TheConstants.{MAX_CLAIMS}
-use Rattle.pg_span.specs.declared.cert.SpanCert.{SpanCert}
-use Rattle.pg_span.specs.declared.cert.SpanClaim.{SpanClaim}
+use Rattle.pg_family_files.specs.Prelude.{bytes_eq, and_then, reading, Bytes, lines, MAX_CLAIMS, SpanCert, SpanClaim}
 use Rattle.pg_family_files.specs.SpanCertLine.{head_of, body_of}
 use Rattle.pg_family_files.specs.declared.cert_draft.Due.{Due}
 use Rattle.pg_family_files.specs.declared.cert_draft.Due.TheVariants as due

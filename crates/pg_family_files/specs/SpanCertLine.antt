@@ -1,16 +1,6 @@
 -- What the lines of a connectivity game's certificate say.
 use Rattle.std.specs.Prelude.{ℕ, Bool, nat_le, if◌then◌else◌, List, [], ◌∷◌, Option, Some, None, Result, Ok, Err, codes}
-use Rattle.std.specs.FinSet.{FinSet, from_list}
-use Rattle.std.specs.Ordering.{nat_cmp}
-use Rattle.std.specs.Str.{bytes_eq}
-use Rattle.pg_base.specs.Side.{side_of}
-use Rattle.pg_base.specs.declared.side.Side.{Side}
-use Rattle.pg_base.specs.declared.signs.TheConstants.{SPACE}
-use Rattle.pg_text.specs.Faults.{and_then, each_of}
-use Rattle.pg_text.specs.Text.{Bytes, parts, number, ascend_from}
-use Rattle.pg_cert_files.specs.Form.{has_one_slash}
-use Rattle.pg_cert_files.specs.NodeLine.{before_slash, after_slash}
-use Rattle.pg_span.specs.declared.cert.SpanBody.{SpanBody}
+use Rattle.pg_family_files.specs.Prelude.{FinSet, from_list, nat_cmp, bytes_eq, side_of, Side, SPACE, and_then, each_of, Bytes, parts, number, ascend_from, has_one_slash, before_slash, after_slash, SpanBody}
 use Rattle.pg_span.specs.declared.cert.SpanBody.TheVariants as bodies
 use Rattle.pg_family_files.specs.declared.cert_fault.Fault.{Fault}
 use Rattle.pg_family_files.specs.declared.cert_fault.Fault.TheVariants as faults

@@ -1,17 +1,8 @@
 -- The printed text of a connectivity game's certificate, and the ranges of what is printed.
 use Rattle.std.specs.Prelude.{◌≡◌, ℕ, ◌<◌, ◌≤◌, true, List, [], ◌∷◌, ◌++◌, length, map, codes, Option, Some, None, IfSome}
-use Rattle.std.specs.FinSet.{FinSet, contains}
-use Rattle.std.specs.Fmt.{decimal}
-use Rattle.std.specs.List.{All, flat_map}
-use Rattle.std.specs.Ordering.{nat_cmp}
-use Rattle.pg_base.specs.Side.{side_word}
-use Rattle.pg_text.specs.Text.{Bytes, spelled}
-use Rattle.pg_cert.specs.Print.{set_words}
-use Rattle.pg_cert.specs.declared.limits.TheConstants.{MAX_CLAIMS}
-use Rattle.pg_span.specs.declared.cert.SpanBody.{SpanBody}
+use Rattle.pg_family_files.specs.Prelude.{FinSet, contains, decimal, All, flat_map, nat_cmp, side_word, Bytes, spelled, set_words, MAX_CLAIMS, SpanBody}
 use Rattle.pg_span.specs.declared.cert.SpanBody.TheVariants as bodies
-use Rattle.pg_span.specs.declared.cert.SpanCert.{SpanCert}
-use Rattle.pg_span.specs.declared.cert.SpanClaim.{SpanClaim}
+use Rattle.pg_family_files.specs.Prelude.{SpanCert, SpanClaim}
 use Rattle.pg_family_files.specs.declared.cert_limits.TheConstants.{MAX_SPAN_NUMBER}
 
 -- ---- the ranges

@@ -1,7 +1,5 @@
 -- The values of the code, without where they lie in memory.
-use Rattle.pg_base.specs.declared.side.Side.{Side}
-use Rattle.pg_span.specs.declared.game.SpanGame.{SpanGame}
-use Rattle.pg_gf2.specs.declared.game.VecGame.{VecGame}
+use Rattle.pg_family_files.specs.Prelude.{Side, SpanGame, VecGame}
 use Rattle.pg_family_files.specs.FamilyFile.{Draft, Whole, SpanEntry, VectorEntry}
 use Rattle.pg_family_files.specs.declared.draft.Draft.{Draft as Kept}
 

@@ -1,11 +1,8 @@
 //! What the lines of a connectivity game's certificate say.
 ghost use Rattle.std.specs.Prelude.{◌≡◌, ◌≤◌, IfOk, option_map};
-ghost use Rattle.std.specs.List.{All, list_any};
-ghost use Rattle.pg_cert_files.specs.Form.{has_one_slash, is_slash};
-ghost use Rattle.pg_cert_files.specs.NodeLine.{before_slash, after_slash};
+ghost use Rattle.pg_family_files.specs.Prelude.{All, list_any, has_one_slash, is_slash, before_slash, after_slash, Gives, each_of};
 ghost use Rattle.pg_family_files.specs.SpanCertLine.{ascending, body_of, cut_first, first_edge, head_of, number_in, parts_of, trees_of};
 ghost use Rattle.pg_family_files.specs.declared.cert_limits.TheConstants.{MAX_SPAN_NUMBER};
-ghost use Rattle.pg_text.specs.Faults.{Gives, each_of};
 
 use crate::cert_fault::Fault;
 use crate::cert_limits::MAX_SPAN_NUMBER;

@@ -1,13 +1,7 @@
 //! The text of a connectivity game's certificate.
 ghost use Rattle.std.specs.Prelude.{◌≡◌, ◌<◌, true, ◌++◌, map, OnOk, IfOk, string_bytes};
-ghost use Rattle.std.specs.FinSet.{contains};
-ghost use Rattle.std.specs.Fmt.{decimal};
-ghost use Rattle.std.specs.List.{flat_map};
-ghost use Rattle.pg_base.specs.Points.{one_where};
-ghost use Rattle.pg_base.specs.declared.limits.TheConstants.{MAX_MEMBERS};
-ghost use Rattle.pg_cert.specs.Print.{separated, set_words};
+ghost use Rattle.pg_family_files.specs.Prelude.{contains, decimal, flat_map, one_where, MAX_MEMBERS, separated, set_words, behind_spaces, spelled};
 ghost use Rattle.pg_family_files.specs.SpanCertPrint.{IsWithinRanges, body_words, claim_lines, first_words, printed_span};
-ghost use Rattle.pg_text.specs.Text.{behind_spaces, spelled};
 
 use pg_base::{MAX_MEMBERS, Memory, PointSet};
 use pg_span::{SpanBody, SpanCert, SpanClaim};

@@ -1,8 +1,6 @@
 //! What the lines of a file have said so far.
 ghost use Rattle.std.specs.Prelude.{◌≤◌, length};
-ghost use Rattle.pg_base.specs.declared.limits.TheConstants.{MAX_EDGES};
-ghost use Rattle.pg_game.specs.declared.bounds.TheConstants.{MAX_VERTICES};
-ghost use Rattle.pg_gf2.specs.declared.game.TheConstants.{MAX_ROWS, MAX_VECTORS};
+ghost use Rattle.pg_family_files.specs.Prelude.{MAX_EDGES, MAX_VERTICES, MAX_ROWS, MAX_VECTORS};
 
 use pg_base::{PointSet, Side};
 

@@ -1,10 +1,6 @@
 //! What holds of the definitions of reading and printing.
 ghost use Rattle.std.specs.Prelude.{◌≡◌, ℕ, ◌<◌, List, Ok, Err};
-ghost use Rattle.pg_gf2.specs.Fits.{AreVectorParts};
-ghost use Rattle.pg_span.specs.Fits.{AreSpanParts};
-ghost use Rattle.pg_gf2.specs.declared.game.VecGame.{VecGame};
-ghost use Rattle.pg_span.specs.declared.game.SpanGame.{SpanGame};
-ghost use Rattle.pg_files.specs.declared.fault.Fault.{Fault};
+ghost use Rattle.pg_family_files.specs.Prelude.{AreVectorParts, AreSpanParts, VecGame, SpanGame, Fault};
 ghost use Rattle.pg_family_files.specs.declared.family.Family.TheVariants as families;
 ghost use Rattle.pg_family_files.specs.Laws.{IsFirstFault, IsWholeFault};
 ghost use Rattle.pg_family_files.specs.Print.{printed_span, printed_vectors};

@@ -1,10 +1,6 @@
 //! Reading a line of a file.
 ghost use Rattle.std.specs.Prelude.{◌≡◌, ◌≤◌, ◌==◌, ◌||◌, not, true, map, [], ◌∷◌, IfNone, Some, IsTrue, nat_lt};
-ghost use Rattle.std.specs.List.{list_all};
-ghost use Rattle.pg_base.specs.declared.limits.TheConstants.{MAX_EDGES, MAX_MEMBERS};
-ghost use Rattle.pg_text.specs.Text.{numbers};
-ghost use Rattle.pg_text.specs.Faults.{least, Becomes};
-ghost use Rattle.pg_files.specs.Sets.{repeats};
+ghost use Rattle.pg_family_files.specs.Prelude.{list_all, MAX_EDGES, MAX_MEMBERS, numbers, least, Becomes, repeats};
 ghost use Rattle.pg_files.specs.declared.fault.Fault.TheVariants as faults;
 ghost use Rattle.pg_family_files.specs.FamilyFile.{nothing, points_so_far, is_out_of_place, keyed, significant, after, is_header};
 ghost use Rattle.pg_family_files.specs.Views.{view};

@@ -1,7 +1,6 @@
 //! The texts of games.
 ghost use Rattle.std.specs.Prelude.{◌≡◌, ◌+◌, ◌%◌, ◌++◌, [], ◌∷◌, OnOk, IfOk, string_bytes};
-ghost use Rattle.std.specs.List.{flat_map};
-ghost use Rattle.pg_text.specs.Text.{spelled};
+ghost use Rattle.pg_family_files.specs.Prelude.{flat_map, spelled};
 ghost use Rattle.pg_family_files.specs.Print.{header, worded, signs_of, vector_words, printed_span, printed_vectors};
 
 use crate::family::{Family, Key};

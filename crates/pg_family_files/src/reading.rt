@@ -1,8 +1,6 @@
 //! A game from its text.
 ghost use Rattle.std.specs.Prelude.{◌≤◌, length, Ok};
-ghost use Rattle.pg_text.specs.Text.{lines};
-ghost use Rattle.pg_text.specs.Faults.{reading};
-ghost use Rattle.pg_files.specs.Views.{IsReadAs};
+ghost use Rattle.pg_family_files.specs.Prelude.{lines, reading, IsReadAs};
 ghost use Rattle.pg_family_files.specs.FamilyFile.{nothing, after, ended, whole, span_game, vector_game};
 ghost use Rattle.pg_family_files.specs.Views.{view, whole_view, span_entry, vector_entry};
 

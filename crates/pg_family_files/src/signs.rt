@@ -1,7 +1,6 @@
 //! Vectors written by their signs, of which the first is the lowest bit.
 ghost use Rattle.std.specs.Prelude.{◌≡◌, ◌≤◌, ◌<◌, length, IsTrue};
-ghost use Rattle.std.specs.List.{list_all};
-ghost use Rattle.pg_gf2.specs.declared.game.TheConstants.{MAX_ROWS};
+ghost use Rattle.pg_family_files.specs.Prelude.{list_all, MAX_ROWS};
 ghost use Rattle.pg_family_files.specs.FamilyFile.{is_sign, signs_value, vector_of};
 
 /// The number whose bits the signs are, the first the lowest.

@@ -1,3 +1,4 @@
+mod Common
 pub mod Finds
 pub mod SetLaws
 pub mod Sound

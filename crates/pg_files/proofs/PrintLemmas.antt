@@ -1,9 +1,6 @@
 -- The text of a game, in the pieces in which it is written.
 use Rattle.std.proofs.Common.{◌≡◌, ℕ, List, [], ◌∷◌, ◌++◌, map, refl, ap, append_assoc}
-use Rattle.std.specs.List.{flat_map}
-use Rattle.std.proofs.lemmas.List.Concat.{flat_map-append}
-use Rattle.std.specs.Fmt.{decimal}
-use Rattle.pg_text.specs.Text.{Bytes, spelled}
+use Rattle.pg_files.proofs.Common.{flat_map, flat_map-append, decimal, Bytes, spelled}
 use Rattle.pg_files.specs.Print.{number_words}
 
 -- lines made one by one are those of the list

@@ -1,30 +1,14 @@
 -- A printed game is within the limit of a file, and its lines are words.
 use Rattle.std.proofs.Common.{◌≡◌, ℕ, ◌+◌, ◌*◌, ◌<◌, ◌≤◌, lit<, lit≤, Bool, true, false, cond, List, [], ◌∷◌, ◌++◌, length, map, arith, refl, ap, ◌∙◌}
 use Rattle.std.specs.Prelude.{nat_lt, sum_by, Option, Some, None}
-use Rattle.std.specs.Fmt.{decimal}
-use Rattle.std.specs.List.{list_all, flat_map, All, AllByRecursion}
-use Rattle.std.proofs.lemmas.Bool.{ltb-true, and_parts}
-use Rattle.std.proofs.lemmas.Fmt.{length-decimal-le}
-use Rattle.std.proofs.lemmas.List.{length-append}
-use Rattle.std.proofs.lemmas.List.Elements.{All-tail}
-use Rattle.std.proofs.lemmas.List.Sums.{sum_by-cons}
-use Rattle.std.proofs.lemmas.List.Concat.{flat_map-append}
-use Rattle.pg_base.specs.declared.grid.Grid.{Grid}
-use Rattle.pg_base.specs.declared.kind.Kind.{Kind}
+use Rattle.pg_files.proofs.Common.{decimal, list_all, flat_map, All, AllByRecursion, ltb-true, and_parts, length-decimal-le, length-append, All-tail, sum_by-cons, flat_map-append, Grid, Kind}
 use Rattle.pg_base.specs.declared.kind.Kind.TheVariants as kinds
 use Rattle.pg_base.specs.declared.side.Side.{Side}
 use Rattle.pg_base.specs.declared.side.Side.TheVariants as sides
-use Rattle.pg_graph.specs.declared.graph.Graph.{Graph}
-use Rattle.pg_game.specs.declared.field.Field.{Field}
+use Rattle.pg_files.proofs.Common.{Graph, Field}
 use Rattle.pg_game.specs.declared.field.Field.TheVariants as fields
-use Rattle.pg_game.specs.declared.field.LineField.{LineField}
-use Rattle.pg_game.specs.Field.{field_points}
-use Rattle.pg_game.specs.Fit.{greatest_bias, IsLineOf, AreLinesOf, IsBoard, IsFit}
-use Rattle.pg_text.specs.Text.{Bytes, spaced, spelled}
-use Rattle.pg_base.specs.Points.{members}
+use Rattle.pg_files.proofs.Common.{LineField, field_points, greatest_bias, IsLineOf, AreLinesOf, IsBoard, IsFit, Bytes, spaced, spelled, members, kind_word, side_word}
 use Rattle.pg_files.specs.Print.{header, numbered, worded, marked, size_words, bias_words, edge_words, field_words, printed, printed_lines}
-use Rattle.pg_base.specs.Kind.{kind_word}
-use Rattle.pg_base.specs.Side.{side_word}
 use Rattle.pg_files.specs.Key.{key_name}
 use Rattle.pg_files.specs.GameFile.{Entry}
 use Rattle.pg_files.specs.declared.key.Key.{Key}

@@ -1,36 +1,14 @@
 -- A printed file is read line by line, each line after those before it.
 use Rattle.std.proofs.Common.{◌≡◌, ℕ, ◌+◌, ◌*◌, ◌<◌, ◌≤◌, lit<, lit≤, Bool, true, false, cond, inl, inr, List, [], ◌∷◌, ◌++◌, length, map, arith, refl, sym, ap, subst, append_assoc, ◌∙◌, Ok, Err}
 use Rattle.std.specs.Prelude.{nat_lt, sum_by, Option, Some, None}
-use Rattle.std.specs.Fmt.{decimal}
-use Rattle.std.specs.List.{list_all, All}
-use Rattle.std.specs.FinSet.{FinSet, empty}
-use Rattle.std.specs.Ordering.{nat_cmp}
-use Rattle.std.proofs.lemmas.Bool.{cases_Bool, ltb-true, ltb-false}
-use Rattle.std.proofs.lemmas.Bool.Decides.{nat_tests}
-use Rattle.std.proofs.lemmas.List.{append-nil, length-append, map-append}
-use Rattle.std.proofs.lemmas.List.Elements.{All-tail}
-use Rattle.std.proofs.lemmas.List.Sums.{sum_by-cons, sum_by_push}
-use Rattle.pg_base.specs.declared.grid.Grid.{Grid}
-use Rattle.pg_base.specs.declared.kind.Kind.{Kind}
+use Rattle.pg_files.proofs.Common.{decimal, list_all, All, FinSet, empty, nat_cmp, cases_Bool, ltb-true, ltb-false, nat_tests, append-nil, length-append, map-append, All-tail, sum_by-cons, sum_by_push, Grid, Kind}
 use Rattle.pg_base.specs.declared.kind.Kind.TheVariants as kinds
-use Rattle.pg_base.specs.declared.side.Side.{Side}
-use Rattle.pg_graph.specs.declared.graph.Graph.{Graph}
-use Rattle.pg_game.specs.declared.field.Field.{Field}
+use Rattle.pg_files.proofs.Common.{Side, Graph, Field}
 use Rattle.pg_game.specs.declared.field.Field.TheVariants as fields
-use Rattle.pg_game.specs.declared.field.LineField.{LineField}
-use Rattle.pg_game.specs.declared.game.Game.{Game}
-use Rattle.pg_game.specs.Field.{field_points}
-use Rattle.pg_game.specs.Fit.{AreBelow, ShareNone, IsLineOf, AreLinesOf, IsBoard, IsFit, is_switching, longest, greatest_bias}
-use Rattle.pg_text.specs.Text.{Bytes, spaced, lines}
-use Rattle.pg_text.specs.Text.{words}
-use Rattle.pg_base.specs.Points.{members}
-use Rattle.pg_base.proofs.MemberLemmas.{points_below-ascend, from_list-points_below}
+use Rattle.pg_files.proofs.Common.{LineField, Game, field_points, AreBelow, ShareNone, IsLineOf, AreLinesOf, IsBoard, IsFit, is_switching, longest, greatest_bias, Bytes, spaced, lines, words, members, points_below-ascend, from_list-points_below, kind_word, side_word, reading}
 use Rattle.pg_files.specs.Sets.{set_of, ascending, repeats}
 use Rattle.pg_files.specs.Print.{header, numbered, worded, marked, size_words, bias_words, edge_words, field_words, last_lines, printed, printed_lines}
-use Rattle.pg_base.specs.Kind.{kind_word}
-use Rattle.pg_base.specs.Side.{side_word}
 use Rattle.pg_files.specs.GameFile.{Draft, Entry, nothing, after, significant, game, game_of, is_misplaced, points_for, points_so_far, field_of}
-use Rattle.pg_text.specs.Faults.{reading}
 use Rattle.pg_files.specs.Views.{entry}
 use Rattle.pg_files.specs.declared.fault.Fault.TheVariants as faults
 use Rattle.pg_files.specs.declared.key.Key.TheVariants as keys

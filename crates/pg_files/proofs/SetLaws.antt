@@ -1,24 +1,15 @@
 -- Lists of numbers and their sets.
 use Rattle.std.proofs.Common.{◌≡◌, ℕ, ◌+◌, ◌<◌, ◌≤◌, Bool, true, false, cond, ◌&&◌, List, [], ◌∷◌, length, take, drop, get_or, add-one, drop-cons, refl, sym, ap, ◌∙◌, arith, eqb, ltb, inl, inr, Less}
 use Rattle.std.specs.Prelude.{nat_lt, nat_eq, ◌==◌}
-use Rattle.std.specs.List.{list_all, list_any, count_by, AllByRecursion, IsDistinct}
+use Rattle.pg_files.proofs.Common.{list_all, list_any, count_by, AllByRecursion, IsDistinct, FinSet, contains, insert, empty, from_list_push, contains-from_list_nat, contains-empty, nat_cmp, cases_Bool, cases_eq, cases_lt, eq-eqb, ne_eqb, eqb-true, ltb-true, and_parts, or_cases, or_parts, or_right, nat_tests, sum_by-cons, take_more, MAX_MEMBERS, members, points_below-ascend, has-points_below}
 use Rattle.std.specs.List.Sorted.{IsPermutation, IsStrictlyIncreasing, IsStrictlySortedBy}
-use Rattle.std.specs.FinSet.{FinSet, contains, insert, empty, from_list_push, contains-from_list_nat, contains-empty}
 use Rattle.std.specs.Cmp.{nat_cmp_total, IsEquivalence, decided}
 use Rattle.std.specs.FinMap.{nat_cmp-IsAntisymmetric}
-use Rattle.std.specs.Ordering.{nat_cmp}
-use Rattle.std.proofs.lemmas.Bool.{cases_Bool, cases_eq, cases_lt, eq-eqb, ne_eqb, eqb-true, ltb-true, and_parts, or_cases, or_parts, or_right}
-use Rattle.std.proofs.lemmas.Bool.Decides.{nat_tests}
-use Rattle.std.proofs.lemmas.List.Sums.{sum_by-cons}
 use Rattle.std.proofs.lemmas.List.Sorted.{sum_by-IsPermutation}
 use Rattle.std.proofs.lemmas.Map.Keys.{sorted_from_strictly_increasing}
 use Rattle.std.proofs.lemmas.Map.Made.{length-from_same_keys}
-use Rattle.std.proofs.lemmas.List.{take_more}
-use Rattle.pg_base.specs.declared.limits.TheConstants.{MAX_MEMBERS}
 use Rattle.pg_base.specs.Line.{StandsTwice}
 use Rattle.pg_base.specs.WordLemmas.{in_insert}
-use Rattle.pg_base.specs.Points.{members}
-use Rattle.pg_base.proofs.MemberLemmas.{points_below-ascend, has-points_below}
 use Rattle.pg_files.specs.Sets.{set_of, ascending, repeats}
 
 -- ---- the steps of the loops

@@ -1,18 +1,8 @@
 -- What a line of a shape says.
 use Rattle.std.proofs.Common.{◌≡◌, ◌∙◌, ℕ, ◌+◌, ◌*◌, ◌<◌, ◌≤◌, Bool, true, false, cond, ◌&&◌, ◌||◌, List, [], ◌∷◌, ◌++◌, length, get_or, arith, refl, sym, ap, ap₂, Some, None, Err, map, Bor}
 use Rattle.std.specs.Prelude.{nat_lt, not, sum_by}
-use Rattle.std.proofs.lemmas.Bool.Decides.{nat_tests}
-use Rattle.std.proofs.lemmas.List.Sums.{sum_by-append}
-use Rattle.pg_base.specs.declared.grid.Grid.{Grid}
-use Rattle.pg_text.specs.Text.{Bytes}
-use Rattle.pg_game.specs.Fit.{longest}
-use Rattle.pg_poly.specs.declared.cell.Cell.{Cell}
-use Rattle.pg_poly.specs.Decided.{is_shape}
-use Rattle.pg_poly.specs.Listed.{placements_of}
-use Rattle.pg_poly.specs.Shapes.{cells_of, ones}
-use Rattle.pg_poly.proofs.Listing.{line_of_cells}
+use Rattle.pg_files.proofs.Common.{nat_tests, sum_by-append, Grid, Bytes, longest, Cell, is_shape, placements_of, cells_of, ones, line_of_cells, unless}
 use Rattle.pg_files.specs.GameFile.{Draft, exceeds_with, is_out_of_place, keyed, placed_in, said}
-use Rattle.pg_text.specs.Faults.{unless}
 use Rattle.pg_files.specs.declared.fault.Fault.TheVariants as faults
 use Rattle.pg_files.specs.declared.key.Key.TheVariants as keys
 use Rattle.pg_files.proofs.Sound.{equal_lines}

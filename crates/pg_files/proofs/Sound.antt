@@ -1,36 +1,15 @@
 -- What is read is within the limits.
 use Rattle.std.proofs.Common.{◌≡◌, ◌≢◌, ℕ, suc, ◌+◌, ◌*◌, ◌<◌, ◌≤◌, lit≤, Bool, true, false, cond, ◌&&◌, ◌||◌, ◌⊎◌, inl, inr, List, [], ◌∷◌, ◌++◌, length, get_or, arith, refl, sym, ap, subst, ◌∙◌, Option, Some, None, Result, Ok, Err}
 use Rattle.std.specs.Prelude.{◌==◌, nat_lt, nat_le, not, sum_by, is_none, unwrap_or}
-use Rattle.std.specs.List.{list_all, All, AllByRecursion}
-use Rattle.std.specs.FinSet.{FinSet, contains, empty, contains-empty}
-use Rattle.std.specs.Ordering.{nat_cmp}
-use Rattle.std.proofs.lemmas.Bool.{cases_lt, ltb-true, ltb-false, eqb-false, and_parts, or_parts}
-use Rattle.std.proofs.lemmas.Bool.Decides.{nat_tests}
-use Rattle.std.proofs.lemmas.List.{length-append}
-use Rattle.std.proofs.lemmas.List.Elements.{All-cons, All-push, All-tail}
-use Rattle.std.proofs.lemmas.List.Sums.{sum_by_push, sum_by-append, sum_by-cons, AllPass-from_list_all}
-use Rattle.pg_base.specs.declared.grid.Grid.{Grid}
-use Rattle.pg_base.specs.declared.kind.Kind.{Kind}
+use Rattle.pg_files.proofs.Common.{list_all, All, AllByRecursion, FinSet, contains, empty, contains-empty, nat_cmp, cases_lt, ltb-true, ltb-false, eqb-false, and_parts, or_parts, nat_tests, length-append, All-cons, All-push, All-tail, sum_by_push, sum_by-append, sum_by-cons, AllPass-from_list_all, Grid, Kind}
 use Rattle.pg_base.specs.declared.kind.Kind.TheVariants as kinds
-use Rattle.pg_base.specs.declared.side.Side.{Side}
-use Rattle.pg_graph.specs.declared.graph.Graph.{Graph}
-use Rattle.pg_game.specs.declared.field.Field.{Field}
+use Rattle.pg_files.proofs.Common.{Side, Graph, Field}
 use Rattle.pg_game.specs.declared.field.Field.TheVariants as fields
-use Rattle.pg_game.specs.declared.field.LineField.{LineField}
-use Rattle.pg_game.specs.Fit.{AreBelow, ShareNone, IsLineOf, AreLinesOf, IsBoard, IsFit, is_switching, greatest_bias, longest}
-use Rattle.pg_text.specs.Text.{Bytes, number, lines}
-use Rattle.pg_poly.specs.declared.cell.Cell.{Cell}
-use Rattle.pg_poly.specs.Decided.{is_shape}
-use Rattle.pg_poly.specs.Listed.{placements_of}
-use Rattle.pg_poly.specs.Shapes.{cells_of, ones}
+use Rattle.pg_files.proofs.Common.{LineField, AreBelow, ShareNone, IsLineOf, AreLinesOf, IsBoard, IsFit, is_switching, greatest_bias, longest, Bytes, number, lines, Cell, is_shape, placements_of, cells_of, ones, line_of_cells, words, numbers, then_numbers, kind_of, least, unless, reading, go_on}
 use Rattle.pg_poly.proofs.Decides.{count_cells, shape_from}
-use Rattle.pg_poly.proofs.Listing.{line_of_cells}
-use Rattle.pg_text.specs.Text.{words, numbers, then_numbers}
 use Rattle.pg_files.specs.Sets.{set_of, ascending, repeats}
-use Rattle.pg_base.specs.Kind.{kind_of}
 use Rattle.pg_files.specs.Key.{rank_of, key_of, belongs, needed_rank}
 use Rattle.pg_files.specs.GameFile.{Draft, keyed_faults, keyed_fault, said, keyed, significant, after, numbers_of, first_number, second_number, first, rest, nothing, named, is_header, begins_comment, is_printable, is_misplaced, lacks_grid, placed_in, exceeds_with, is_outside, points_for, field_of, Entry, game, ended, game_of}
-use Rattle.pg_text.specs.Faults.{least, unless, reading, go_on}
 use Rattle.pg_files.specs.declared.fault.Fault.{Fault}
 use Rattle.pg_files.specs.declared.fault.Fault.TheVariants as faults
 use Rattle.pg_files.specs.declared.key.Key.{Key}

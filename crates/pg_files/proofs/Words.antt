@@ -1,16 +1,10 @@
 -- Words that are joined are cut again into the same words.
 use Rattle.std.proofs.Common.{◌≡◌, ℕ, ◌^◌, ◌<◌, Bool, true, false, ◌&&◌, List, [], ◌∷◌, ◌++◌, length, map, arith, refl, ap, ◌∙◌, append_assoc}
 use Rattle.std.specs.Prelude.{◌==◌, nat_lt, not, filter, Some}
-use Rattle.std.specs.Fmt.{decimal}
-use Rattle.std.specs.List.{list_all, flat_map, AllByRecursion}
-use Rattle.std.proofs.lemmas.Bool.Decides.{nat_tests}
-use Rattle.std.proofs.lemmas.Fmt.{decimal_is_IsNumeral}
-use Rattle.std.proofs.lemmas.Bool.{ltb-true, and_parts}
-use Rattle.pg_text.specs.Text.{Bytes, Lacks, spaced, lines, spelled}
+use Rattle.pg_files.proofs.Common.{decimal, list_all, flat_map, AllByRecursion, nat_tests, decimal_is_IsNumeral, ltb-true, and_parts, Bytes, Lacks, spaced, lines, spelled, words, numbers}
 use Rattle.pg_text.proofs.Decimals.{all_pass, number_decimal}
 use Rattle.pg_text.proofs.PlainWords.{IsPlain, IsQuiet, IsWord, decimal_is_word, words_spaced, spaced_quiet, quiet_lacks_feed}
 use Rattle.pg_text.proofs.FirstLine.{lines_feed}
-use Rattle.pg_text.specs.Text.{words, numbers}
 use Rattle.pg_files.specs.GameFile.{is_printable}
 
 abbrev is_plain : ℕ → Bool

@@ -1,29 +1,13 @@
 -- What a game file says, and the fault that it has.
 use Rattle.std.specs.Prelude.{◌≡◌, ℕ, ◌+◌, ◌*◌, Bool, true, false, ◌&&◌, ◌||◌, not, nat_lt, nat_le, ◌==◌, if◌then◌else◌, List, [], ◌∷◌, ◌++◌, length, Option, Some, None, is_none, unwrap_or, codes, Result, Ok, Err, sum_by}
-use Rattle.std.specs.List.{list_all}
-use Rattle.std.specs.Str.{bytes_eq}
-use Rattle.std.specs.FinSet.{FinSet, empty}
-use Rattle.std.specs.Ordering.{nat_cmp}
+use Rattle.pg_files.specs.Prelude.{list_all, bytes_eq, FinSet, empty, nat_cmp, Grid, Kind}
 use Rattle.pg_base.specs.declared.signs.TheConstants.{SPACE}
-use Rattle.pg_base.specs.declared.grid.Grid.{Grid}
-use Rattle.pg_base.specs.declared.kind.Kind.{Kind}
 use Rattle.pg_base.specs.declared.kind.Kind.TheVariants as kinds
-use Rattle.pg_base.specs.declared.side.Side.{Side}
-use Rattle.pg_game.specs.declared.field.Field.{Field}
+use Rattle.pg_files.specs.Prelude.{Side, Field}
 use Rattle.pg_game.specs.declared.field.Field.TheVariants as fields
-use Rattle.pg_text.specs.Text.{Bytes, lines, words, numbers}
-use Rattle.pg_poly.specs.declared.cell.Cell.{Cell}
-use Rattle.pg_poly.specs.Decided.{is_shape}
-use Rattle.pg_poly.specs.Listed.{placements_of}
-use Rattle.pg_poly.specs.Shapes.{cells_of, ones}
-use Rattle.pg_base.specs.declared.limits.TheConstants.{MAX_EDGES}
-use Rattle.pg_game.specs.declared.bounds.TheConstants.{MAX_BIAS, MAX_LINES, MAX_POINTS, MAX_SUMMED_POINTS, MAX_VERTICES}
-use Rattle.pg_game.specs.Fit.{longest}
-use Rattle.pg_text.specs.Faults.{least, unless, reading}
+use Rattle.pg_files.specs.Prelude.{Bytes, lines, words, numbers, Cell, is_shape, placements_of, cells_of, ones, MAX_EDGES, MAX_BIAS, MAX_LINES, MAX_POINTS, MAX_SUMMED_POINTS, MAX_VERTICES, longest, least, unless, reading, kind_of, side_of}
 use Rattle.pg_files.specs.declared.limits.TheConstants.{MAX_GAME_BYTES}
 use Rattle.pg_files.specs.Sets.{set_of, ascending, repeats}
-use Rattle.pg_base.specs.Kind.{kind_of}
-use Rattle.pg_base.specs.Side.{side_of}
 use Rattle.pg_files.specs.Key.{key_of, rank_of, belongs, needed_rank}
 use Rattle.pg_files.specs.declared.key.Key.{Key}
 use Rattle.pg_files.specs.declared.key.Key.TheVariants as keys

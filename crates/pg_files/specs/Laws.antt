@@ -1,8 +1,6 @@
 -- What a fault of a file means, above the definition of reading.
 use Rattle.std.specs.Prelude.{◌≡◌, ℕ, ◌+◌, ◌<◌, Bool, true, false, not, ◌||◌, ◌⊎◌, if◌then◌else◌, List, [], ◌∷◌, ◌++◌, length, Option, Some, None, is_none, Ok, ◌==◌}
-use Rattle.std.specs.List.{list_all}
-use Rattle.pg_text.specs.Text.{Bytes, lines, words}
-use Rattle.pg_text.specs.Faults.{reading, IsLeast}
+use Rattle.pg_files.specs.Prelude.{list_all, Bytes, lines, words, reading, IsLeast}
 use Rattle.pg_files.specs.declared.limits.TheConstants.{MAX_GAME_BYTES}
 use Rattle.pg_files.specs.Key.{key_of}
 use Rattle.pg_files.specs.GameFile.{Draft, nothing, after, keyed_faults, first, rest, is_header, is_printable, begins_comment}

@@ -1,3 +1,4 @@
+pub mod Prelude
 pub mod Key
 pub mod Sets
 pub mod GameFile

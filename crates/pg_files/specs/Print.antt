@@ -1,17 +1,8 @@
 -- The printed text of a game.
 use Rattle.std.specs.Prelude.{ℕ, nat_lt, if◌then◌else◌, List, [], ◌∷◌, ◌++◌, map, codes, Option, Some, None}
-use Rattle.std.specs.List.{flat_map}
-use Rattle.std.specs.Fmt.{decimal}
-use Rattle.std.specs.FinSet.{FinSet}
-use Rattle.std.specs.Ordering.{nat_cmp}
-use Rattle.pg_base.specs.declared.grid.Grid.{Grid}
-use Rattle.pg_base.specs.declared.side.Side.{Side}
-use Rattle.pg_game.specs.declared.field.Field.{Field}
+use Rattle.pg_files.specs.Prelude.{flat_map, decimal, FinSet, nat_cmp, Grid, Side, Field}
 use Rattle.pg_game.specs.declared.field.Field.TheVariants as fields
-use Rattle.pg_text.specs.Text.{Bytes, spelled}
-use Rattle.pg_base.specs.Points.{members}
-use Rattle.pg_base.specs.Kind.{kind_word}
-use Rattle.pg_base.specs.Side.{side_word}
+use Rattle.pg_files.specs.Prelude.{Bytes, spelled, members, kind_word, side_word}
 use Rattle.pg_files.specs.Key.{key_name}
 use Rattle.pg_files.specs.GameFile.{Entry}
 use Rattle.pg_files.specs.declared.key.Key.{Key}

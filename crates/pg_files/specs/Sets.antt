@@ -1,8 +1,6 @@
 -- Lists of numbers and the sets of their members.
 use Rattle.std.specs.Prelude.{ℕ, Bool, false, ◌||◌, List, [], ◌∷◌}
-use Rattle.std.specs.FinSet.{FinSet, contains, insert, from_list}
-use Rattle.std.specs.Ordering.{nat_cmp}
-use Rattle.pg_base.specs.Points.{members}
+use Rattle.pg_files.specs.Prelude.{FinSet, contains, insert, from_list, nat_cmp, members}
 
 -- the set of the numbers of a list
 abbrev pub set_of : List ℕ → FinSet nat_cmp

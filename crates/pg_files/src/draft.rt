@@ -1,8 +1,6 @@
 //! What the lines of a game file have said so far.
 ghost use Rattle.std.specs.Prelude.{◌≡◌, ◌≤◌, ◌*◌, Some, length, sum_by};
-ghost use Rattle.pg_base.specs.declared.grid.Grid.{Grid};
-ghost use Rattle.pg_base.specs.declared.limits.TheConstants.{MAX_EDGES};
-ghost use Rattle.pg_game.specs.declared.bounds.TheConstants.{MAX_POINTS, MAX_SUMMED_POINTS, MAX_VERTICES};
+ghost use Rattle.pg_files.specs.Prelude.{Grid, MAX_EDGES, MAX_POINTS, MAX_SUMMED_POINTS, MAX_VERTICES};
 
 use pg_base::{Grid, Kind, Line, PointSet, Side};
 

@@ -1,10 +1,9 @@
 //! What holds of the definition of reading: its faults, its limits, and that it takes back what is
 //! printed.
 ghost use Rattle.std.specs.Prelude.{◌≡◌, ℕ, ◌<◌, List, Ok, Err};
-ghost use Rattle.pg_game.specs.Fit.{IsFit};
+ghost use Rattle.pg_files.specs.Prelude.{IsFit, Game};
 ghost use Rattle.pg_files.specs.declared.fault.Fault.{Fault};
 ghost use Rattle.pg_files.specs.GameFile.{Entry, game};
-ghost use Rattle.pg_game.specs.declared.game.Game.{Game};
 ghost use Rattle.pg_files.specs.Print.{printed};
 ghost use Rattle.pg_files.specs.Views.{entry};
 ghost use Rattle.pg_files.specs.Laws.{IsFirstFault, IsWholeFault};

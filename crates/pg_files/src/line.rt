@@ -1,16 +1,10 @@
 //! Reading a line of a game file.
 ghost use Rattle.std.specs.Prelude.{◌≡◌, ◌+◌, ◌*◌, ◌<◌, ◌≤◌, ◌==◌, ◌||◌, not, true, map, length, [], ◌∷◌, IfNone, IfSome, Some, IsTrue, false, is_none, nat_lt};
-ghost use Rattle.std.specs.FinSet.{empty};
+ghost use Rattle.pg_files.specs.Prelude.{empty, list_all};
 ghost use Rattle.pg_files.specs.Sets.{repeats};
-ghost use Rattle.std.specs.List.{list_all};
 ghost use Rattle.pg_files.specs.declared.key.Key.TheVariants as keys;
+ghost use Rattle.pg_files.specs.Prelude.{MAX_EDGES, MAX_MEMBERS, longest, ones, MAX_LINE_POINTS, MAX_LINES, MAX_POINTS, MAX_SUMMED_POINTS, numbers, least, Becomes};
 ghost use Rattle.pg_files.specs.GameFile.{nothing, points_so_far, is_out_of_place, keyed, numbers_faults, significant, after, is_header, is_printable, begins_comment, grid_of, IsMarks};
-ghost use Rattle.pg_base.specs.declared.limits.TheConstants.{MAX_EDGES, MAX_MEMBERS};
-ghost use Rattle.pg_game.specs.Fit.{longest};
-ghost use Rattle.pg_poly.specs.Shapes.{ones};
-ghost use Rattle.pg_game.specs.declared.bounds.TheConstants.{MAX_LINE_POINTS, MAX_LINES, MAX_POINTS, MAX_SUMMED_POINTS};
-ghost use Rattle.pg_text.specs.Text.{numbers};
-ghost use Rattle.pg_text.specs.Faults.{least, Becomes};
 ghost use Rattle.pg_files.specs.Views.{view};
 
 use crate::draft::Draft;

@@ -1,7 +1,6 @@
 //! A game from its text.
 ghost use Rattle.std.specs.Prelude.{◌≡◌, ◌≤◌, length, Ok};
-ghost use Rattle.pg_text.specs.Text.{lines};
-ghost use Rattle.pg_text.specs.Faults.{reading};
+ghost use Rattle.pg_files.specs.Prelude.{lines, reading};
 ghost use Rattle.pg_files.specs.GameFile.{nothing, after, ended, field_of, game, IsSaid};
 ghost use Rattle.pg_files.specs.Views.{IsReadAs, view, entry};
 

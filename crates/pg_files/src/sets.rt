@@ -1,10 +1,7 @@
 //! Lists of numbers that points are made of.
 ghost use Rattle.std.specs.Prelude.{◌≡◌, ◌≤◌, length, IfOk, IsTrue, false, nat_lt};
-ghost use Rattle.std.specs.List.{list_all};
-ghost use Rattle.pg_base.specs.Points.{members};
-ghost use Rattle.pg_base.specs.declared.limits.TheConstants.{MAX_MEMBERS};
+ghost use Rattle.pg_files.specs.Prelude.{list_all, members, MAX_MEMBERS, empty};
 ghost use Rattle.pg_files.specs.Sets.{set_of, ascending, repeats};
-ghost use Rattle.std.specs.FinSet.{empty};
 
 use pg_base::{Line, LineFault, MAX_MEMBERS, Memory, PointSet};
 use std::alloc::{AllocError, Global};

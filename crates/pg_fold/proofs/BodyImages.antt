@@ -1,44 +1,23 @@
 -- What a sound node's body owes, its image owes to the image of the position.
 use Rattle.std.proofs.Common.{◌≡◌, ℕ, ◌<◌, true, List, Some, map, refl, sym, ap, ◌∙◌, subst, inl, inr, slice_get}
-use Rattle.std.proofs.lemmas.Bool.{cases_Bool, false≢true}
+use Rattle.pg_fold.proofs.Common.{cases_Bool, false≢true, FinSet, contains, Contains, nat_cmp, AreBelow, Goal, Side, position_of, is_allowed, shows_trees, shows_cuts, NamesEarlier, IsNodeOf, FollowsMove, FollowMoves, HasTurn, TakesFree, EndsRight, PotentialFits, HasPairs, HasPotential, HasTrees, HasCuts, HasThreat, HasWeaker, Body, Over, Move, Pairs, Potential, Trees, Cuts, Threat, Weaker, Node, Reply, point_count, free_points, is_over, IsPosition, is_free, Game, Position, Fits, board_of, image_on, image_set, reverse_of, GridMap, Contains-map, PotentialHolds-image, AvoiderHolds-image, over-image, outcome-image, image_set-has, image_set-below, image_position-stays, replies-image, IsNoWorse-image, IsReplyImage, AreReplyImages, IsBodyImage}
 use Rattle.std.proofs.lemmas.List.Sorted.{All-permutation, IsPermutation-map}
-use Rattle.std.specs.FinSet.{FinSet, contains}
-use Rattle.std.specs.List.{All as Each, Contains}
+use Rattle.std.specs.List.{All as Each}
 use Rattle.std.specs.List.Sorted.{IsPermutation}
-use Rattle.std.specs.Ordering.{nat_cmp}
-use Rattle.pg_base.specs.Points.{AreBelow}
 use Rattle.pg_base.specs.WordLemmas.{same_points}
-use Rattle.pg_base.specs.declared.goal.Goal.{Goal}
 use Rattle.pg_base.specs.declared.kind.Kind.{Kind}
 use Rattle.pg_base.specs.declared.kind.Kind.TheVariants.{MakerBreaker, MakerMaker, AvoiderEnforcer, Switching}
-use Rattle.pg_base.specs.declared.side.Side.{Side}
-use Rattle.pg_cert.specs.Node.{position_of}
-use Rattle.pg_cert.specs.Valid.{is_allowed, shows_trees, shows_cuts, NamesEarlier, IsNodeOf, FollowsMove, FollowMoves, HasTurn, TakesFree, EndsRight, PotentialFits, HasPairs, HasPotential, HasTrees, HasCuts, HasThreat, HasWeaker}
-use Rattle.pg_cert.specs.declared.node.Body.{Body}
-use Rattle.pg_cert.specs.declared.node.Body.TheVariants.{Over, Move, All, Pairs, Potential, Trees, Cuts, Threat, Weaker}
-use Rattle.pg_cert.specs.declared.node.Node.{Node}
-use Rattle.pg_cert.specs.declared.reply.Reply.{Reply}
+use Rattle.pg_cert.specs.declared.node.Body.TheVariants.{All}
 use Rattle.pg_fold.proofs.Listing.{zip_all, zip_map, pairs-map, map-map}
 use Rattle.pg_fold.proofs.Positions.{points_by, image_by, onto, image-of, image-is, image-after, image-free}
 use Rattle.pg_game.specs.Fit.{is_graph, is_switching}
-use Rattle.pg_game.specs.Game.{point_count, free_points, is_over, IsPosition}
-use Rattle.pg_game.specs.Position.{is_free}
 use Rattle.pg_game.specs.Value.{reaches}
 use Rattle.pg_game.specs.declared.field.Field.{Field}
 use Rattle.pg_game.specs.declared.field.Field.TheVariants.{Lines, Graph as OnGraph}
-use Rattle.pg_game.specs.declared.game.Game.{Game}
-use Rattle.pg_game.specs.declared.position.Position.{Position}
 use Rattle.pg_game.proofs.Greatest.{member-free, member-within}
 use Rattle.pg_game.proofs.Members.{All-from_members}
-use Rattle.pg_maps.specs.Images.{Fits, board_of, image_on, image_set}
-use Rattle.pg_maps.specs.GridMaps.{reverse_of}
-use Rattle.pg_maps.specs.declared.grid_map.GridMap.{GridMap}
-use Rattle.pg_maps.proofs.Criteria.{Contains-map, PotentialHolds-image, AvoiderHolds-image}
-use Rattle.pg_maps.proofs.Imaging.{over-image, outcome-image}
 use Rattle.pg_maps.proofs.MoreCriteria.{IsThreatLine-image, PairsHold-image}
-use Rattle.pg_maps.proofs.Positions.{image_set-has, image_set-below, image_position-stays, replies-image, IsNoWorse-image}
 use Rattle.pg_game.specs.Weaker.{IsNoWorse}
-use Rattle.pg_unfold.specs.Unfolded.{IsReplyImage, AreReplyImages, IsBodyImage}
 
 -- ---- what doesn't depend on the game
 

@@ -1,13 +1,8 @@
 -- Marks of the positions that are known.
 use Rattle.std.proofs.Common.{◌≡◌, ℕ, ◌<◌, Bool, true, false, cond, List, Option, Some, None, length, set, refl, sym, ap, ◌∙◌, subst, inl, inr, arith, slice_get}
-use Rattle.std.proofs.lemmas.Bool.{cases_Bool, cond-false, false≢true}
-use Rattle.std.proofs.lemmas.List.{length-set}
-use Rattle.std.specs.HashMap.{get}
-use Rattle.pg_base.proofs.Stands.{same_some}
+use Rattle.pg_fold.proofs.Common.{cases_Bool, cond-false, false≢true, length-set, get, same_some, equal_positions, equal_positions-decides, Position}
 use Rattle.pg_fold.specs.Codes.{IsKnown, place_of}
 use Rattle.pg_fold.specs.declared.known.Known.{Known}
-use Rattle.pg_game.specs.PositionLemmas.{equal_positions, equal_positions-decides}
-use Rattle.pg_game.specs.declared.position.Position.{Position}
 use Rattle.pg_unfold.proofs.Marking.{kept_set, marked_set}
 
 -- what is not marked is not known

@@ -1,33 +1,12 @@
 -- Copies of the nodes of a folded claim: where they settle, and the order of their places.
 use Rattle.std.proofs.Common.{◌≡◌, ℕ, zero, suc, ◌+◌, ◌<◌, ◌≤◌, ◌⊎◌, List, Some, length, refl, sym, ap, ◌∙◌, subst, inl, inr, arith, slice_get}
-use Rattle.std.proofs.lemmas.Bool.{cases_lt, cases_eq}
-use Rattle.std.proofs.lemmas.Option.{slice_get_within}
-use Rattle.std.specs.List.{AllZip}
-use Rattle.pg_base.proofs.Stands.{one_at, at_contains, contains_at}
-use Rattle.pg_cert.specs.Limits.{IsClaim, IsNode}
-use Rattle.pg_cert.specs.Node.{position_of}
-use Rattle.pg_cert.specs.Valid.{NamesEarlier, IsNodeOf, IsValidClaim}
-use Rattle.pg_cert.specs.declared.cert.Claim.{Claim}
-use Rattle.pg_cert.specs.declared.node.Body.{Body}
-use Rattle.pg_cert.specs.declared.node.Body.TheVariants.{Over, Move, All, Pairs, Potential, Trees, Cuts, Threat, Weaker}
-use Rattle.pg_cert.specs.declared.node.Node.{Node}
+use Rattle.pg_fold.proofs.Common.{cases_lt, cases_eq, slice_get_within, AllZip, one_at, at_contains, contains_at, IsClaim, IsNode, position_of, NamesEarlier, IsNodeOf, IsValidClaim, Claim, Body, Over, Move, Pairs, Potential, Trees, Cuts, Threat, Weaker, Node}
+use Rattle.pg_cert.specs.declared.node.Body.TheVariants.{All}
 use Rattle.pg_cert.specs.declared.node_fault.NodeFault.TheVariants as faults
-use Rattle.pg_cert.specs.declared.reply.Reply.{Reply}
+use Rattle.pg_fold.proofs.Common.{Reply, Game, IsPosition, ImageClaim, ImageNode, Plain, Image, identity, followed_by, Fits, board_of, GridMap, Fits-followed, Fits-identity, Contains-map-from, Copy, IsPlain, NamesChild, StandsFor, LeadsTo, IsAt, IsMetBy, IsMet, SettlesBy, ComesBefore, AreCopies, IsPlaced, IsCopied}
 use Rattle.pg_fold.specs.Folded.{BecomesNode, IsFoldedClaim}
 use Rattle.pg_fold.proofs.Listing.{all_at, within_at, pairs_at, zip_right}
 use Rattle.pg_fold.proofs.Positions.{image_by, node-position, image-followed_by}
-use Rattle.pg_game.specs.declared.game.Game.{Game}
-use Rattle.pg_game.specs.Game.{IsPosition}
-use Rattle.pg_image.specs.declared.cert.ImageClaim.{ImageClaim}
-use Rattle.pg_image.specs.declared.node.ImageNode.{ImageNode}
-use Rattle.pg_image.specs.declared.node.ImageNode.TheVariants.{Plain, Image}
-use Rattle.pg_maps.specs.GridMaps.{identity, followed_by}
-use Rattle.pg_maps.specs.Images.{Fits, board_of}
-use Rattle.pg_maps.specs.declared.grid_map.GridMap.{GridMap}
-use Rattle.pg_maps.proofs.Boards.{Fits-followed, Fits-identity}
-use Rattle.pg_maps.proofs.Criteria.{Contains-map-from}
-use Rattle.pg_unfold.specs.Copies.{Copy, IsPlain, NamesChild, StandsFor, LeadsTo, IsAt, IsMetBy, IsMet, SettlesBy, ComesBefore, AreCopies, IsPlaced}
-use Rattle.pg_unfold.specs.Unfolded.{IsCopied}
 
 -- a child that the body names is earlier, where all are
 pub named-earlier : (k : ℕ) (body : Body) (j : ℕ) → NamesEarlier k body → NamesChild body j → j < k

@@ -1,3 +1,4 @@
+mod Common
 pub mod Listing
 pub mod Positions
 pub mod Copies

@@ -1,34 +1,11 @@
 -- Folded certificates are within the limits of the format, and more of what folding does.
 use Rattle.std.proofs.Common.{◌≡◌, ℕ, ◌<◌, ◌≤◌, List, Some, None, length, get_or, sym, ap, ◌∙◌, subst, inl, inr, arith, slice_get}
-use Rattle.std.proofs.lemmas.Bool.{cases_lt, cases_eq}
-use Rattle.std.proofs.lemmas.Option.{slice_get-get_or}
-use Rattle.std.specs.List.{AllZip, sum_by}
-use Rattle.pg_base.proofs.Stands.{one_at, some≢none}
-use Rattle.pg_cert.specs.Limits.{IsNode, IsClaim, IsWithinLimits, node_count}
-use Rattle.pg_cert.specs.Node.{position_of}
-use Rattle.pg_cert.specs.Valid.{IsValidClaim}
-use Rattle.pg_cert.specs.declared.cert.Cert.{Cert}
-use Rattle.pg_cert.specs.declared.cert.Claim.{Claim}
+use Rattle.pg_fold.proofs.Common.{cases_lt, cases_eq, slice_get-get_or, AllZip, sum_by, one_at, some≢none, IsNode, IsClaim, IsWithinLimits, node_count, position_of, IsValidClaim, Cert, Claim, Node, Game, Position, IsMarked, IsImageNode, IsImageClaim, IsImageWithinLimits, image_node_count, image_node_position, ImageCert, ImageClaim, ImageNode, Plain, Image, reverse_of, board_of, GridMap, Fits-reverse, sum-through, IsUsable}
 use Rattle.pg_cert.specs.declared.limits.TheConstants.{MAX_CLAIM_NODES, MAX_CLAIMS, MAX_NODES}
-use Rattle.pg_cert.specs.declared.node.Node.{Node}
 use Rattle.pg_fold.specs.Folded.{BecomesNode, IsFoldedClaim, IsFolded}
 use Rattle.pg_fold.proofs.Copies.{at_position, source, plain_source}
 use Rattle.pg_fold.proofs.Listing.{all_at, within_at, zip_length, zip_all, zip_map}
 use Rattle.pg_fold.proofs.Positions.{image_by, image-undone}
-use Rattle.pg_game.specs.declared.game.Game.{Game}
-use Rattle.pg_game.specs.declared.position.Position.{Position}
-use Rattle.pg_image.specs.Limits.{IsMarked, IsImageNode, IsImageClaim, IsImageWithinLimits, image_node_count}
-use Rattle.pg_image.specs.Node.{image_node_position}
-use Rattle.pg_image.specs.declared.cert.ImageCert.{ImageCert}
-use Rattle.pg_image.specs.declared.cert.ImageClaim.{ImageClaim}
-use Rattle.pg_image.specs.declared.node.ImageNode.{ImageNode}
-use Rattle.pg_image.specs.declared.node.ImageNode.TheVariants.{Plain, Image}
-use Rattle.pg_maps.specs.GridMaps.{reverse_of}
-use Rattle.pg_maps.specs.Images.{board_of}
-use Rattle.pg_maps.specs.declared.grid_map.GridMap.{GridMap}
-use Rattle.pg_maps.proofs.Boards.{Fits-reverse}
-use Rattle.pg_maps.proofs.Criteria.{sum-through}
-use Rattle.pg_unfold.specs.Flaws.{IsUsable}
 
 -- ---- limits
 

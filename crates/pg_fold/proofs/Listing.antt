@@ -1,10 +1,7 @@
 -- What stands at the places of two lists that agree place by place, and of a list in order.
 use Rattle.std.proofs.Common.{◌≡◌, ℕ, zero, suc, ◌<◌, List, [], ◌∷◌, Some, map, length, get_or, refl, ap, subst, arith, slice_get}
-use Rattle.std.proofs.lemmas.List.Elements.{All-nil, All-head, All-tail, All-cons, All-map}
+use Rattle.pg_fold.proofs.Common.{All-nil, All-head, All-tail, All-cons, All-map, none-some, slice_get_within, get_or_from_slice_get, All, AllPairs, AllZip, same_some}
 use Rattle.std.proofs.lemmas.List.Kept.{AllPairs-cons}
-use Rattle.std.proofs.lemmas.Option.{none-some, slice_get_within, get_or_from_slice_get}
-use Rattle.std.specs.List.{All, AllPairs, AllZip}
-use Rattle.pg_base.proofs.Stands.{same_some}
 
 -- what is so of all members is so of one
 pub all_at : {A : Type 0} (P : A → Type 0) (xs : List A) (k : ℕ) (x : A)

@@ -1,26 +1,9 @@
 -- What tables of maps tell.
 use Rattle.std.proofs.Common.{◌≡◌, ◌↔◌, ℕ, zero, suc, ◌*◌, ◌<◌, ◌≤◌, List, [], ◌∷◌, ◌++◌, map, get_or, Option, Some, None, refl, sym, ap, ap₂, ◌∙◌, subst, inl, inr, arith, slice_get}
-use Rattle.std.proofs.lemmas.Bool.{cases_lt}
-use Rattle.std.proofs.lemmas.List.{get_or_past, map_push}
-use Rattle.std.proofs.lemmas.List.Elements.{All-nil, All-cons, All-push}
-use Rattle.std.proofs.lemmas.List.FromFn.{get_or-map-range_with_len, length-map-range_with_len}
-use Rattle.std.specs.FinSet.{FinSet, from_list}
-use Rattle.std.specs.List.{All, AllByRecursion, AllPairs, Contains, range_with_len}
-use Rattle.std.specs.Ordering.{nat_cmp}
-use Rattle.pg_base.specs.Points.{members}
-use Rattle.pg_base.specs.declared.grid.Grid.{Grid}
+use Rattle.pg_fold.proofs.Common.{cases_lt, get_or_past, map_push, All-nil, All-cons, All-push, get_or-map-range_with_len, length-map-range_with_len, FinSet, from_list, All, AllByRecursion, AllPairs, Contains, range_with_len, nat_cmp, members, Grid, Game, Position, IsMapOf, image_of, number_of, reverse_of, Fits, IsMapOn, board_of, image_position, GridMap, image-beyond, points_below-small, at_contains, same_some, none-some, slice_get-get_or}
 use Rattle.pg_fold.specs.Tables.{AreOrdered, AreTables, AreTablesOf, AreTablesOn, IsTable, come_from, image_before, maps_of}
 use Rattle.pg_fold.specs.declared.marks.Marks.{Marks}
 use Rattle.pg_fold.specs.declared.tables.MapTable.{MapTable}
-use Rattle.pg_game.specs.declared.game.Game.{Game}
-use Rattle.pg_game.specs.declared.position.Position.{Position}
-use Rattle.pg_maps.specs.GridMaps.{IsMapOf, image_of, number_of, reverse_of}
-use Rattle.pg_maps.specs.Images.{Fits, IsMapOn, board_of, image_position}
-use Rattle.pg_maps.specs.declared.grid_map.GridMap.{GridMap}
-use Rattle.pg_maps.proofs.Turning.{image-beyond}
-use Rattle.pg_base.proofs.MemberLemmas.{points_below-small}
-use Rattle.pg_base.proofs.Stands.{at_contains, same_some}
-use Rattle.std.proofs.lemmas.Option.{none-some, slice_get-get_or}
 
 module _ (grid : Grid) (t : MapTable) (is : IsTable grid t) where
   abbrev pub back : ℕ → ℕ

@@ -1,13 +1,6 @@
 -- The first known node of which another is the image.
 use Rattle.std.proofs.Common.{◌≡◌, ℕ, ◌+◌, ◌<◌, ◌≤◌, ◌⊎◌, Bool, true, false, List, [], ◌∷◌, ◌++◌, Option, Some, None, length, take, get_or, refl, sym, ap, ◌∙◌, subst, subst₂, inl, inr, arith, slice_get, nat_le, if◌then◌else◌}
-use Rattle.std.proofs.lemmas.Bool.{cases_Bool, cases_lt, leb-true, leb-false}
-use Rattle.std.proofs.lemmas.List.{take_more}
-use Rattle.std.proofs.lemmas.Option.{slice_get_within, get_or_from_slice_get}
-use Rattle.std.proofs.lemmas.List.Elements.{All-nil}
-use Rattle.std.specs.List.{All, AllPairs, Contains}
-use Rattle.pg_base.proofs.Stands.{contains_push, contains_old, at_contains, at_new, contains_at, from_take, same_some, some≢none}
-use Rattle.pg_base.specs.declared.grid.Grid.{Grid}
-use Rattle.pg_cert.specs.Node.{position_of}
+use Rattle.pg_fold.proofs.Common.{cases_Bool, cases_lt, leb-true, leb-false, take_more, slice_get_within, get_or_from_slice_get, All-nil, All, AllPairs, Contains, contains_push, contains_old, at_contains, at_new, contains_at, from_take, same_some, some≢none, Grid, position_of, IsPosition, Game, Position, ImageNode, image_of, number_of, reverse_of, Fits, board_of, image_on, image_position, GridMap, Fits-reverse}
 use Rattle.pg_fold.specs.Folded.{IsImageOf}
 use Rattle.pg_fold.specs.Places.{IsNoEarlier, IsEarliest, ArePlaced, HavePositions, IsFirstOriginal, earlier}
 use Rattle.pg_fold.specs.Tables.{AreTables, IsTable, maps_of}
@@ -15,14 +8,6 @@ use Rattle.pg_fold.specs.declared.original.Original.{Original}
 use Rattle.pg_fold.specs.declared.tables.MapTable.{MapTable}
 use Rattle.pg_fold.proofs.Listing.{pairs_at}
 use Rattle.pg_fold.proofs.Positions.{image_by, image-undone}
-use Rattle.pg_game.specs.Game.{IsPosition}
-use Rattle.pg_game.specs.declared.game.Game.{Game}
-use Rattle.pg_game.specs.declared.position.Position.{Position}
-use Rattle.pg_image.specs.declared.node.ImageNode.{ImageNode}
-use Rattle.pg_maps.specs.GridMaps.{image_of, number_of, reverse_of}
-use Rattle.pg_maps.specs.Images.{Fits, board_of, image_on, image_position}
-use Rattle.pg_maps.specs.declared.grid_map.GridMap.{GridMap}
-use Rattle.pg_maps.proofs.Boards.{Fits-reverse}
 
 -- ---- one map more
 

@@ -1,25 +1,8 @@
 -- Images of positions of a game under maps of its board that fit.
 use Rattle.std.proofs.Common.{◌≡◌, ℕ, ◌<◌, true, Option, Some, None, refl, sym, ap, ◌∙◌, subst, arith}
-use Rattle.std.specs.FinSet.{contains}
-use Rattle.pg_base.specs.declared.grid.Grid.{Grid}
-use Rattle.pg_base.specs.declared.side.Side.{Side}
+use Rattle.pg_fold.proofs.Common.{contains, Grid, Side, IsTurn, IsNode, position_of, IsInGame, Node, Game, Position, point_count, after, IsPosition, is_free, identity, followed_by, reverse_of, IsAutomorphism, Fits, IsImage, IsMapOn, board_of, image_on, image_position, GridMap, IsAutomorphism-fits, Fits-followed, Fits-identity, Fits-reverse, image_on-identity, IsImage-after, free-image, IsImage-position, IsPosition-image, IsImage-unique, IsImage-further, IsImage-undone, image_position-stays, image-followed}
 use Rattle.pg_base.specs.declared.side.Side.TheVariants.{X, Y}
-use Rattle.pg_cert.specs.Limits.{IsTurn, IsNode}
-use Rattle.pg_cert.specs.Node.{position_of}
-use Rattle.pg_cert.specs.Valid.{IsInGame}
-use Rattle.pg_cert.specs.declared.node.Node.{Node}
-use Rattle.pg_game.specs.declared.game.Game.{Game}
-use Rattle.pg_game.specs.declared.position.Position.{Position}
-use Rattle.pg_game.specs.Game.{point_count, after, IsPosition}
-use Rattle.pg_game.specs.Position.{is_free}
 use Rattle.pg_game.proofs.Moves.{IsPosition-after}
-use Rattle.pg_maps.specs.GridMaps.{identity, followed_by, reverse_of}
-use Rattle.pg_maps.specs.Images.{IsAutomorphism, Fits, IsImage, IsMapOn, board_of, image_on, image_position}
-use Rattle.pg_maps.specs.declared.grid_map.GridMap.{GridMap}
-use Rattle.pg_maps.proofs.Boards.{IsAutomorphism-fits, Fits-followed, Fits-identity, Fits-reverse, image_on-identity}
-use Rattle.pg_maps.proofs.Imaging.{IsImage-after, free-image}
-use Rattle.pg_maps.proofs.Positions.{IsImage-position, IsPosition-image, IsImage-unique, IsImage-further, IsImage-undone, image_position-stays}
-use Rattle.pg_maps.proofs.Turning.{image-followed}
 
 -- what the map does to the points of the game's board, and to a position
 abbrev pub points_by : Game → GridMap → ℕ → ℕ

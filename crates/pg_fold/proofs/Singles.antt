@@ -1,18 +1,8 @@
 -- Claims of one node.
 use Rattle.std.proofs.Common.{◌≡◌, ℕ, zero, suc, List, [], ◌∷◌, Some, length, get_or, refl, sym, ap, ◌∙◌, subst, arith, slice_get}
-use Rattle.std.proofs.lemmas.Option.{none-some, slice_get-get_or}
-use Rattle.std.specs.List.{AllZip}
-use Rattle.pg_base.proofs.Stands.{same_some}
-use Rattle.pg_cert.specs.Valid.{IsValid}
-use Rattle.pg_cert.specs.declared.cert.Cert.{Cert}
-use Rattle.pg_cert.specs.declared.cert.Claim.{Claim}
-use Rattle.pg_cert.specs.declared.node.Node.{Node}
+use Rattle.pg_fold.proofs.Common.{none-some, slice_get-get_or, AllZip, same_some, IsValid, Cert, Claim, Node, Game, ImageClaim, ImageNode, Plain}
 use Rattle.pg_fold.specs.Folded.{DifferInPosition, IsFoldedAt, IsFoldedClaim}
 use Rattle.pg_fold.specs.Places.{AreFoldable, Stays}
-use Rattle.pg_game.specs.declared.game.Game.{Game}
-use Rattle.pg_image.specs.declared.cert.ImageClaim.{ImageClaim}
-use Rattle.pg_image.specs.declared.node.ImageNode.{ImageNode}
-use Rattle.pg_image.specs.declared.node.ImageNode.TheVariants.{Plain}
 
 pub one-alone : {A : Type 0} (xs : List A) (x : A)
     → length xs ≡ 1

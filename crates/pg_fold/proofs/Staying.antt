@@ -1,34 +1,14 @@
 -- The claims that folded claims stand for are valid, and no node of a folded claim is faulty.
 use Rattle.std.proofs.Common.{◌≡◌, ℕ, zero, suc, ◌+◌, ◌-◌, ◌<◌, true, List, get_or, [], ◌∷◌, Some, length, refl, sym, ap, ◌∙◌, subst, arith, slice_get}
-use Rattle.std.proofs.lemmas.Option.{none-some, slice_get-get_or}
-use Rattle.std.specs.List.{AllZip}
-use Rattle.pg_base.proofs.Stands.{same_some, one_at, at_contains}
-use Rattle.pg_base.specs.declared.side.Side.{Side}
-use Rattle.pg_base.specs.declared.goal.Goal.{Goal}
-use Rattle.pg_cert.specs.Limits.{IsClaim, IsWithinLimits}
-use Rattle.pg_cert.specs.Node.{position_of}
-use Rattle.pg_cert.specs.Valid.{is_allowed, NamesEarlier, IsNodeOf, FollowMoves, HasTurn, TakesFree, EndsRight, HasPairs, HasPotential, HasTrees, HasCuts, HasThreat, HasWeaker, IsOwed, Passes, IsValidClaim, IsValid}
-use Rattle.pg_cert.specs.declared.cert.Cert.{Cert}
-use Rattle.pg_cert.specs.declared.cert.Claim.{Claim}
-use Rattle.pg_cert.specs.declared.node.Node.{Node}
+use Rattle.pg_fold.proofs.Common.{none-some, slice_get-get_or, AllZip, same_some, one_at, at_contains, Side, Goal, IsClaim, IsWithinLimits, position_of, is_allowed, NamesEarlier, IsNodeOf, FollowMoves, HasTurn, TakesFree, EndsRight, HasPairs, HasPotential, HasTrees, HasCuts, HasThreat, HasWeaker, IsOwed, Passes, IsValidClaim, IsValid, Cert, Claim, Node}
 use Rattle.pg_cert.specs.declared.node_fault.NodeFault.{NodeFault}
 use Rattle.pg_cert.specs.declared.node_fault.NodeFault.TheVariants as faults
+use Rattle.pg_fold.proofs.Common.{with_turn, IsPosition, Game, Position, ImageCert, ImageClaim, Plain, Image, Fits, board_of, GridMap, Copy, IsSoundClaim, AreSound, IsBodyImage, BecomesUnder, IsCopied, IsUnfolded, AreUnfolded, IsUnfoldedCert}
 use Rattle.pg_fold.specs.Folded.{IsFoldedClaim, IsFolded, IsSameClaim}
 use Rattle.pg_fold.proofs.Listing.{all_at, within_at, zip_left, zip_length, zip_all}
 use Rattle.pg_fold.proofs.Positions.{points_by, image_by, image-is, image-identity}
 use Rattle.pg_fold.proofs.Copies.{at_position, source, plain_source, met-fits, last_copy, last-place, child-placed}
 use Rattle.pg_fold.proofs.BodyImages.{allowed-image, earlier-image, turn-image, free-taken, ends-image, pairs-hold, potential-holds, threat-holds, trees-hold, cuts-hold, follow-moves, weaker-holds}
-use Rattle.pg_game.specs.Game.{with_turn, IsPosition}
-use Rattle.pg_game.specs.declared.game.Game.{Game}
-use Rattle.pg_game.specs.declared.position.Position.{Position}
-use Rattle.pg_image.specs.declared.cert.ImageCert.{ImageCert}
-use Rattle.pg_image.specs.declared.cert.ImageClaim.{ImageClaim}
-use Rattle.pg_image.specs.declared.node.ImageNode.TheVariants.{Plain, Image}
-use Rattle.pg_maps.specs.Images.{Fits, board_of}
-use Rattle.pg_maps.specs.declared.grid_map.GridMap.{GridMap}
-use Rattle.pg_unfold.specs.Copies.{Copy}
-use Rattle.pg_unfold.specs.Flaws.{IsSoundClaim, AreSound}
-use Rattle.pg_unfold.specs.Unfolded.{IsBodyImage, BecomesUnder, IsCopied, IsUnfolded, AreUnfolded, IsUnfoldedCert}
 use Rattle.pg_unfold.specs.declared.flaw.Flaw.TheVariants as flaws
 use Rattle.pg_unfold.specs.declared.unfolded.Unfolded.{Unfolded}
 

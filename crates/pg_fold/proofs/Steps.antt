@@ -1,27 +1,13 @@
 -- One node more is folded.
 use Rattle.std.proofs.Common.{◌≡◌, ℕ, ◌+◌, ◌<◌, ◌⊎◌, cond, List, [], ◌∷◌, ◌++◌, Option, Some, None, length, take, get_or, refl, sym, ap, ◌∙◌, subst, subst₂, inl, inr, arith, slice_get, Result, Ok, Err, OnOk}
-use Rattle.std.proofs.lemmas.Bool.{cases_Bool, cond-true, cond-false}
-use Rattle.std.proofs.lemmas.List.{length_push, take_more}
-use Rattle.std.proofs.lemmas.Option.{slice_get_within, get_or_from_slice_get}
-use Rattle.pg_base.proofs.Stands.{at_old, at_new, at_push, from_take, one_at, same_some, some≢none}
-use Rattle.pg_cert.specs.Limits.{IsClaim, IsNode}
-use Rattle.pg_cert.specs.Node.{position_of}
-use Rattle.pg_cert.specs.Valid.{IsValidClaim}
-use Rattle.pg_cert.specs.declared.cert.Claim.{Claim}
+use Rattle.pg_fold.proofs.Common.{cases_Bool, cond-true, cond-false, length_push, take_more, slice_get_within, get_or_from_slice_get, at_old, at_new, at_push, from_take, one_at, same_some, some≢none, IsClaim, IsNode, position_of, IsValidClaim, Claim}
 use Rattle.pg_cert.specs.declared.node_fault.NodeFault.TheVariants as faults
-use Rattle.pg_cert.specs.declared.node.Node.{Node}
+use Rattle.pg_fold.proofs.Common.{Node, IsPosition, equal_positions, equal_positions-decides, Game, Position, ImageNode, Plain, Image, GridMap}
 use Rattle.pg_fold.specs.Folded.{IsImageOf, BecomesNode, IsFoldedAt, IsFoldedClaim, HaveDifferentPositions}
 use Rattle.pg_fold.specs.Places.{AreAllFolded, AreFolded, ArePlaced, HaveDifferent, HavePositions, IsFirstOriginal}
 use Rattle.pg_fold.specs.declared.original.Original.{Original}
 use Rattle.pg_fold.proofs.Listing.{all_at, within_at}
 use Rattle.pg_fold.proofs.Positions.{node-position}
-use Rattle.pg_game.specs.Game.{IsPosition}
-use Rattle.pg_game.specs.PositionLemmas.{equal_positions, equal_positions-decides}
-use Rattle.pg_game.specs.declared.game.Game.{Game}
-use Rattle.pg_game.specs.declared.position.Position.{Position}
-use Rattle.pg_image.specs.declared.node.ImageNode.{ImageNode}
-use Rattle.pg_image.specs.declared.node.ImageNode.TheVariants.{Plain, Image}
-use Rattle.pg_maps.specs.declared.grid_map.GridMap.{GridMap}
 
 module _ (g : Game) (nodes : List ImageNode) (x : ImageNode) where
   -- ---- what was folded stays so

@@ -1,11 +1,9 @@
 -- Codes of positions, by which most of those that aren't known are told at once.
 use Rattle.std.specs.Prelude.{◌≡◌, ℕ, zero, suc, ◌+◌, ◌*◌, ◌%◌, ◌^◌, ◌<◌, true, length, get_or, slice_get, Some}
-use Rattle.std.specs.HashMap.{get}
+use Rattle.pg_fold.specs.Prelude.{get, equal_positions, Position}
 use Rattle.pg_base.specs.Words.{words_of}
 use Rattle.pg_fold.specs.declared.known.Known.{Known}
 use Rattle.pg_fold.specs.declared.known.TheConstants.{MIXER, ROWS}
-use Rattle.pg_game.specs.PositionLemmas.{equal_positions}
-use Rattle.pg_game.specs.declared.position.Position.{Position}
 
 -- the code with one word more
 abbrev pub mixed : ℕ → ℕ → ℕ

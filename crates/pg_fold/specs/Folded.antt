@@ -1,22 +1,7 @@
 -- A certificate folded: a node whose position is the image of an earlier plain node's is said as
 -- the image of that node.
 use Rattle.std.specs.Prelude.{◌≡◌, ℕ, ◌<◌, ◌≤◌, ◌⊎◌, List, length, slice_get, Some}
-use Rattle.std.specs.List.{AllZip}
-use Rattle.pg_cert.specs.Node.{position_of}
-use Rattle.pg_cert.specs.declared.cert.Cert.{Cert}
-use Rattle.pg_cert.specs.declared.cert.Claim.{Claim}
-use Rattle.pg_cert.specs.declared.node.Node.{Node}
-use Rattle.pg_game.specs.declared.game.Game.{Game}
-use Rattle.pg_game.specs.declared.position.Position.{Position}
-use Rattle.pg_image.specs.Node.{image_node_position}
-use Rattle.pg_image.specs.declared.cert.ImageCert.{ImageCert}
-use Rattle.pg_image.specs.declared.cert.ImageClaim.{ImageClaim}
-use Rattle.pg_image.specs.declared.node.ImageNode.{ImageNode}
-use Rattle.pg_image.specs.declared.node.ImageNode.TheVariants.{Plain, Image}
-use Rattle.pg_maps.specs.GridMaps.{number_of}
-use Rattle.pg_maps.specs.Images.{board_of, image_on, image_position}
-use Rattle.pg_maps.specs.declared.grid_map.GridMap.{GridMap}
-use Rattle.pg_unfold.specs.Flaws.{IsUsable}
+use Rattle.pg_fold.specs.Prelude.{AllZip, position_of, Cert, Claim, Node, Game, Position, image_node_position, ImageCert, ImageClaim, ImageNode, Plain, Image, number_of, board_of, image_on, image_position, GridMap, IsUsable}
 
 -- node number j is plain, and the position is the image of its position under the map, which fits
 -- the game's board

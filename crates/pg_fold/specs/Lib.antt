@@ -1,3 +1,4 @@
+pub mod Prelude
 pub mod Folded
 pub mod Places
 pub mod Symmetry

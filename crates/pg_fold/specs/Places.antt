@@ -1,20 +1,8 @@
 -- Which plain nodes there are so far, by their positions.
 use Rattle.std.specs.Prelude.{◌≡◌, ℕ, ◌<◌, ◌≤◌, ◌⊎◌, List, [], ◌∷◌, length, slice_get, Option, Some, None, nat_le, if◌then◌else◌}
-use Rattle.std.specs.List.{All, Contains}
-use Rattle.pg_cert.specs.Node.{position_of}
-use Rattle.pg_cert.specs.Valid.{IsValidClaim}
-use Rattle.pg_cert.specs.declared.cert.Claim.{Claim}
-use Rattle.pg_cert.specs.declared.node.Node.{Node}
+use Rattle.pg_fold.specs.Prelude.{All, Contains, position_of, IsValidClaim, Claim, Node, IsPosition, Game, Position, ImageClaim, ImageNode, Plain, number_of, GridMap}
 use Rattle.pg_fold.specs.Folded.{IsImageOf, IsFoldedAt, HaveDifferentPositions}
 use Rattle.pg_fold.specs.declared.original.Original.{Original}
-use Rattle.pg_game.specs.Game.{IsPosition}
-use Rattle.pg_game.specs.declared.game.Game.{Game}
-use Rattle.pg_game.specs.declared.position.Position.{Position}
-use Rattle.pg_image.specs.declared.cert.ImageClaim.{ImageClaim}
-use Rattle.pg_image.specs.declared.node.ImageNode.{ImageNode}
-use Rattle.pg_image.specs.declared.node.ImageNode.TheVariants.{Plain}
-use Rattle.pg_maps.specs.GridMaps.{number_of}
-use Rattle.pg_maps.specs.declared.grid_map.GridMap.{GridMap}
 
 -- what was found first, unless the node that was found next, under the map, is earlier
 abbrev pub earlier : Option Original → Option ℕ → GridMap → Option Original

@@ -1,12 +1,8 @@
 -- When a certificate is worth folding: the game has a symmetry, and the folded certificate may be
 -- unfolded again.
 use Rattle.std.specs.Prelude.{◌⊎◌, Option, Some, None}
-use Rattle.pg_cert.specs.declared.cert.Cert.{Cert}
+use Rattle.pg_fold.specs.Prelude.{Cert, Game, ImageCert, HasSymmetry, HaveRoom}
 use Rattle.pg_fold.specs.Folded.{IsFolded}
-use Rattle.pg_game.specs.declared.game.Game.{Game}
-use Rattle.pg_image.specs.declared.cert.ImageCert.{ImageCert}
-use Rattle.pg_maps.specs.Images.{HasSymmetry}
-use Rattle.pg_unfold.specs.Flaws.{HaveRoom}
 
 -- the game is symmetric, and the certificate folded is this one, whose claims have few enough nodes
 -- unfolded

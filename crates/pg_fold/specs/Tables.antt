@@ -1,16 +1,8 @@
 -- Maps of a board as tables, and the positions that they lead back to.
 use Rattle.std.specs.Prelude.{◌≡◌, ℕ, ◌↔◌, ◌<◌, ◌*◌, List, [], map, get_or, None, Some}
-use Rattle.std.specs.FinSet.{from_list}
-use Rattle.std.specs.List.{All, AllPairs, Contains, range_with_len}
-use Rattle.pg_base.specs.declared.grid.Grid.{Grid}
-use Rattle.pg_base.specs.declared.limits.TheConstants.{MAX_MEMBERS}
+use Rattle.pg_fold.specs.Prelude.{from_list, All, AllPairs, Contains, range_with_len, Grid, MAX_MEMBERS, Game, Position, IsMapOf, image_of, number_of, reverse_of, Fits, board_of, GridMap}
 use Rattle.pg_fold.specs.declared.marks.Marks.{Marks}
 use Rattle.pg_fold.specs.declared.tables.MapTable.{MapTable}
-use Rattle.pg_game.specs.declared.game.Game.{Game}
-use Rattle.pg_game.specs.declared.position.Position.{Position}
-use Rattle.pg_maps.specs.GridMaps.{IsMapOf, image_of, number_of, reverse_of}
-use Rattle.pg_maps.specs.Images.{Fits, board_of}
-use Rattle.pg_maps.specs.declared.grid_map.GridMap.{GridMap}
 
 -- the point that the map takes to this one, by its table; what is no cell stays
 abbrev pub come_from : MapTable → ℕ → ℕ

@@ -1,19 +1,10 @@
 //! Certificates folded.
 ghost use Rattle.std.specs.Prelude.{◌≡◌, ◌<◌, ◌^◌, ◌+◌, ◌++◌, ◌∷◌, [], List, Some, length, if◌then◌else◌, IfOk, OnOk};
-ghost use Rattle.std.specs.HashMap.{get};
-ghost use Rattle.std.specs.List.{All, AllZip};
-ghost use Rattle.pg_cert.specs.Limits.{IsClaim, IsWithinLimits};
-ghost use Rattle.pg_cert.specs.Valid.{IsValid};
-ghost use Rattle.pg_cert.specs.declared.node.Node.{Node};
+ghost use Rattle.pg_fold.specs.Prelude.{get, All, AllZip, IsClaim, IsWithinLimits, IsValid, Node, equal_positions, Game, Position, IsImageWithinLimits, Image, Plain};
 ghost use Rattle.pg_fold.specs.Codes.{IsKnown};
 ghost use Rattle.pg_fold.specs.Folded.{DifferInPosition, IsFolded, IsFoldedClaim};
 ghost use Rattle.pg_fold.specs.Places.{AreAllFolded, AreFoldable, AreFolded, HaveDifferent, IsFoldable};
 ghost use Rattle.pg_fold.specs.Tables.{AreOrdered, AreTables};
-ghost use Rattle.pg_game.specs.PositionLemmas.{equal_positions};
-ghost use Rattle.pg_game.specs.declared.game.Game.{Game};
-ghost use Rattle.pg_game.specs.declared.position.Position.{Position};
-ghost use Rattle.pg_image.specs.Limits.{IsImageWithinLimits};
-ghost use Rattle.pg_image.specs.declared.node.ImageNode.TheVariants.{Image, Plain};
 
 use crate::copying::copy_node;
 use crate::known::Known;

@@ -1,9 +1,7 @@
 //! The plain nodes so far, by their positions.
 ghost use Rattle.std.specs.Prelude.{◌≡◌, ◌+◌, ◌*◌, ◌%◌, ◌^◌, ◌<◌, None, Some, if◌then◌else◌, IfOk, OnOk};
-ghost use Rattle.std.specs.HashMap.{get};
+ghost use Rattle.pg_fold.specs.Prelude.{get, equal_positions, Position};
 ghost use Rattle.pg_fold.specs.Codes.{IsKnown, code_of, mixed, place_of};
-ghost use Rattle.pg_game.specs.PositionLemmas.{equal_positions};
-ghost use Rattle.pg_game.specs.declared.position.Position.{Position};
 
 use pg_base::Memory;
 use pg_game::Position;

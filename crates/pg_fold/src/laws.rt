@@ -1,23 +1,8 @@
 //! Laws of folded certificates. Each function is empty: what it promises is a law of the
 //! definitions alone.
 ghost use Rattle.std.specs.Prelude.{◌≡◌, ℕ, None, Some, slice_get};
-ghost use Rattle.std.specs.List.{AllZip};
-ghost use Rattle.pg_cert.specs.Limits.{IsClaim, IsWithinLimits};
-ghost use Rattle.pg_cert.specs.Node.{position_of};
-ghost use Rattle.pg_cert.specs.Valid.{IsValid, IsValidClaim};
-ghost use Rattle.pg_cert.specs.declared.cert.Cert.{Cert};
-ghost use Rattle.pg_cert.specs.declared.cert.Claim.{Claim};
-ghost use Rattle.pg_cert.specs.declared.node.Node.{Node};
+ghost use Rattle.pg_fold.specs.Prelude.{AllZip, IsClaim, IsWithinLimits, position_of, IsValid, IsValidClaim, Cert, Claim, Node, Game, ImageCert, ImageClaim, Plain, board_of, image_on, image_position, GridMap, AreSound, IsUsable, IsUnfoldedCert, Unfolded};
 ghost use Rattle.pg_fold.specs.Folded.{IsFolded, IsFoldedClaim, IsSameClaim};
-ghost use Rattle.pg_game.specs.declared.game.Game.{Game};
-ghost use Rattle.pg_image.specs.declared.cert.ImageCert.{ImageCert};
-ghost use Rattle.pg_image.specs.declared.cert.ImageClaim.{ImageClaim};
-ghost use Rattle.pg_image.specs.declared.node.ImageNode.TheVariants.{Plain};
-ghost use Rattle.pg_maps.specs.Images.{board_of, image_on, image_position};
-ghost use Rattle.pg_maps.specs.declared.grid_map.GridMap.{GridMap};
-ghost use Rattle.pg_unfold.specs.Flaws.{AreSound, IsUsable};
-ghost use Rattle.pg_unfold.specs.Unfolded.{IsUnfoldedCert};
-ghost use Rattle.pg_unfold.specs.declared.unfolded.Unfolded.{Unfolded};
 
 /// A folded valid certificate says what it said: no node of it is faulty, and what it stands for is
 /// valid, with the same claims in order.

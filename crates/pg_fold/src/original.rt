@@ -1,14 +1,9 @@
 //! The node of which another is the image.
 ghost use Rattle.std.specs.Prelude.{◌≡◌, IfOk};
-ghost use Rattle.std.specs.HashMap.{get};
-ghost use Rattle.std.specs.List.{All};
+ghost use Rattle.pg_fold.specs.Prelude.{get, All, Grid, equal_positions, image_of, reverse_of, image_position};
 ghost use Rattle.pg_fold.specs.Codes.{IsKnown};
 ghost use Rattle.pg_fold.specs.Places.{IsEarliest, earlier};
 ghost use Rattle.pg_fold.specs.Tables.{AreOrdered, IsTable, maps_of};
-ghost use Rattle.pg_base.specs.declared.grid.Grid.{Grid};
-ghost use Rattle.pg_game.specs.PositionLemmas.{equal_positions};
-ghost use Rattle.pg_maps.specs.GridMaps.{image_of, reverse_of};
-ghost use Rattle.pg_maps.specs.Images.{image_position};
 
 use crate::known::Known;
 use crate::marks::marks_of;

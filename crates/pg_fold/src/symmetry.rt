@@ -1,10 +1,8 @@
 //! Certificates folded where that is worth it.
 ghost use Rattle.std.specs.Prelude.{IfOk, IfSome};
-ghost use Rattle.pg_cert.specs.Limits.{IsWithinLimits};
-ghost use Rattle.pg_cert.specs.Valid.{IsValid};
+ghost use Rattle.pg_fold.specs.Prelude.{IsWithinLimits, IsValid, IsImageWithinLimits};
 ghost use Rattle.pg_fold.specs.Folded.{DifferInPosition};
 ghost use Rattle.pg_fold.specs.Symmetry.{IsFoldedWell};
-ghost use Rattle.pg_image.specs.Limits.{IsImageWithinLimits};
 
 use crate::folding::fold;
 use pg_base::Memory;

@@ -1,11 +1,7 @@
 //! Maps of a board as tables.
 ghost use Rattle.std.specs.Prelude.{◌≡◌, ◌<◌, ◌≤◌, ◌*◌, IfOk, map};
-ghost use Rattle.std.specs.FinSet.{from_list};
-ghost use Rattle.std.specs.List.{All};
-ghost use Rattle.pg_base.specs.declared.limits.TheConstants.{MAX_MEMBERS};
+ghost use Rattle.pg_fold.specs.Prelude.{from_list, All, MAX_MEMBERS, IsMapOf, board_of};
 ghost use Rattle.pg_fold.specs.Tables.{AreOrdered, AreTables, AreTablesOf, IsTable, come_from, image_before};
-ghost use Rattle.pg_maps.specs.GridMaps.{IsMapOf};
-ghost use Rattle.pg_maps.specs.Images.{board_of};
 
 use crate::marks::Marks;
 use pg_base::{Grid, Memory, PointSet};

@@ -1,15 +1,8 @@
 -- The free points, before and after a move.
 use Rattle.std.proofs.Common.{◌≡◌, ℕ, zero, suc, ◌+◌, ◌<◌, ◌≤◌, Bool, true, false, not, ◌&&◌, ◌||◌, List, [], ◌∷◌, length, eqb, refl, sym, ap, ◌∙◌, inl, inr, arith, eq-eqb, ne_eqb}
-use Rattle.std.proofs.lemmas.Bool.{and_parts, cases_Bool, cases_eq, and_from, false≢true, or_left, or_right, or_cases}
-use Rattle.std.proofs.lemmas.List.Elements.{filter_agree}
-use Rattle.std.specs.List.{filter, range_with_len, Contains, list_any, list_all}
-use Rattle.std.specs.FinSet.{FinSet, contains}
-use Rattle.std.specs.Ordering.{nat_cmp}
+use Rattle.pg_game.proofs.Common.{and_parts, cases_Bool, cases_eq, and_from, false≢true, or_left, or_right, or_cases, filter_agree, filter, range_with_len, Contains, list_any, list_all, FinSet, contains, nat_cmp, Side, X, Y, in_insert}
 use Rattle.pg_game.specs.declared.position.Position.{Position}
-use Rattle.pg_base.specs.declared.side.Side.{Side}
-use Rattle.pg_base.specs.declared.side.Side.TheVariants.{X, Y}
 use Rattle.pg_game.specs.Position.{is_free, x_after, y_after}
-use Rattle.pg_base.specs.WordLemmas.{in_insert}
 use Rattle.std.proofs.lemmas.List.FromFn.{length-range_with_len, get_or-range_with_len}
 use Rattle.pg_game.proofs.Members.{Contains-head, Contains-tail}
 use Rattle.pg_game.specs.declared.game.Game.{Game}

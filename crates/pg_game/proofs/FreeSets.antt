@@ -1,13 +1,6 @@
 -- The free points as a set.
 use Rattle.std.proofs.Common.{◌≡◌, ℕ, zero, suc, ◌+◌, ◌<◌, Bool, true, false, not, ◌&&◌, ltb, if◌then◌else◌, List, [], ◌∷◌, Some, None, length, refl, sym, ap, ◌∙◌, inl, inr, arith}
-use Rattle.std.proofs.lemmas.Bool.{cases_Bool, and_parts, lt-ltb, ltb-true}
-use Rattle.std.specs.Option.{is_none}
-use Rattle.std.specs.List.{find}
-use Rattle.std.specs.FinSet.{FinSet, contains, len}
-use Rattle.std.specs.Ordering.{nat_cmp}
-use Rattle.pg_base.specs.Points.{AreBelow}
-use Rattle.pg_base.specs.Sets.{count, one_if}
-use Rattle.pg_base.proofs.SetLemmas.{count_same}
+use Rattle.pg_game.proofs.Common.{cases_Bool, and_parts, lt-ltb, ltb-true, is_none, find, FinSet, contains, len, nat_cmp, AreBelow, count, one_if, count_same}
 use Rattle.pg_base.proofs.PointSetLaws.{len-count}
 use Rattle.pg_game.specs.declared.game.Game.{Game}
 use Rattle.pg_game.specs.declared.position.Position.{Position}

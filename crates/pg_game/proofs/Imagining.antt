@@ -1,12 +1,7 @@
 -- One step of a side that imagines a weaker position: its own move, a reply, and a position that is
 -- weaker still.
 use Rattle.std.proofs.Common.{◌≡◌, ℕ, ◌<◌, true, false, List, [], ◌∷◌, unwrap_or, find, refl, sym, ap, ◌∙◌, subst, inl, inr}
-use Rattle.std.proofs.lemmas.Bool.{cases_Bool, false≢true, both_ways}
-use Rattle.std.specs.List.{list_any, Contains}
-use Rattle.pg_base.specs.declared.goal.Goal.{Goal}
-use Rattle.pg_base.specs.declared.kind.Kind.TheVariants.{MakerBreaker}
-use Rattle.pg_base.specs.declared.side.Side.{Side}
-use Rattle.pg_base.specs.Side.{other}
+use Rattle.pg_game.proofs.Common.{cases_Bool, false≢true, both_ways, list_any, Contains, Goal, MakerBreaker, Side, other}
 use Rattle.pg_game.specs.declared.game.Game.{Game}
 use Rattle.pg_game.specs.declared.position.Position.{Position}
 use Rattle.pg_game.specs.Position.{is_free}

@@ -1,10 +1,6 @@
 -- What every game keeps: how many points there are, and what its lines are.
 use Rattle.std.proofs.Common.{ℕ, ◌^◌, ◌<◌, ◌≤◌, ◌==◌, List, length, refl, inl, inr, arith}
-use Rattle.std.proofs.lemmas.Bool.{cases_Bool}
-use Rattle.std.proofs.lemmas.List.Elements.{All-weaker}
-use Rattle.std.proofs.lemmas.List.Sums.{sum_by-le}
-use Rattle.std.specs.List.{All, sum_by}
-use Rattle.pg_base.specs.declared.kind.Kind.{Kind}
+use Rattle.pg_game.proofs.Common.{cases_Bool, All-weaker, sum_by-le, All, sum_by, Kind}
 use Rattle.pg_game.specs.declared.field.Field.{Field}
 use Rattle.pg_game.specs.declared.field.Field.TheVariants.{Lines, Graph as OnGraph}
 use Rattle.pg_game.specs.declared.game.Game.{Game}

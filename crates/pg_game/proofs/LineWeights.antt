@@ -1,15 +1,6 @@
 -- How the weights of lines change with a move.
 use Rattle.std.proofs.Common.{◌≡◌, ℕ, suc, ◌+◌, ◌-◌, ◌*◌, ◌^◌, ◌<◌, ◌≤◌, Bool, true, false, cond, not, ◌&&◌, ◌||◌, ◌==◌, List, [], ◌∷◌, length, eqb, refl, sym, ap, ap₂, ◌∙◌, subst, inl, inr, eq-eqb, ne_eqb, arith, pow-suc, if◌then◌else◌}
-use Rattle.std.proofs.lemmas.Bool.{cases_Bool, cases_eq, false≢true}
-use Rattle.std.proofs.lemmas.List.Sums.{sum_by-cons, count_by-le-length, get_or-le-sum_by}
-use Rattle.std.proofs.Math.Nat.{mul-add, add-mul, mul_comm}
-use Rattle.std.specs.List.{list_any, count_by, sum_by, Contains}
-use Rattle.std.specs.FinSet.{FinSet, contains, insert}
-use Rattle.std.specs.Ordering.{nat_cmp}
-use Rattle.pg_base.specs.declared.side.Side.{Side}
-use Rattle.pg_base.specs.Side.{other}
-use Rattle.pg_base.specs.Points.{ShareNone}
-use Rattle.pg_base.specs.WordLemmas.{in_insert}
+use Rattle.pg_game.proofs.Common.{cases_Bool, cases_eq, false≢true, sum_by-cons, count_by-le-length, get_or-le-sum_by, mul-add, add-mul, mul_comm, list_any, count_by, sum_by, Contains, FinSet, contains, insert, nat_cmp, Side, other, ShareNone, in_insert}
 use Rattle.pg_base.proofs.LineLemmas.{count-ascending}
 use Rattle.pg_game.specs.declared.game.Game.{Game}
 use Rattle.pg_game.specs.declared.position.Position.{Position}

@@ -1,10 +1,6 @@
 -- What holds of the members of a list.
 use Rattle.std.proofs.Common.{◌≡◌, ℕ, zero, suc, ◌<◌, Bool, true, false, ◌&&◌, List, [], ◌∷◌, length, get_or, refl, sym, ap, ◌∙◌, inl, inr, ◌⊎◌, arith, subst₂}
-use Rattle.std.proofs.lemmas.List.{get_or_default}
-use Rattle.std.proofs.lemmas.List.Elements.{Contains-get_or}
-use Rattle.std.proofs.lemmas.Bool.{cases_Bool, cases_order, false≢true}
-use Rattle.std.proofs.lemmas.List.Folds.{list_any_at, list_all_at, Any-from_list_any}
-use Rattle.std.specs.List.{filter, Contains, All, AllPairs, list_any, list_all}
+use Rattle.pg_game.proofs.Common.{get_or_default, Contains-get_or, cases_Bool, cases_order, false≢true, list_any_at, list_all_at, Any-from_list_any, filter, Contains, All, AllPairs, list_any, list_all}
 
 module _ {X : Type 0} where
   pub Contains-head : (x : X) (xs : List X) → Contains (x ∷ xs) x

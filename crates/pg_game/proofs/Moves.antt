@@ -1,13 +1,6 @@
 -- What a move changes, and that positions stay positions.
 use Rattle.std.proofs.Common.{◌≡◌, ◌≢◌, ℕ, ◌+◌, ◌<◌, ◌≤◌, true, false, ◌||◌, List, [], ◌∷◌, eqb, refl, sym, ap, ◌∙◌, subst, inl, inr, ◌⊎◌, arith, eq-eqb, ne_eqb, eqb-true}
-use Rattle.std.proofs.lemmas.Bool.{cases_Bool, cases_eq, cases_lt, and_parts, and_from, or_right, or_cases, not-true, not_from_false, false≢true, lt-ltb, le-ltb}
-use Rattle.std.specs.FinSet.{FinSet, contains, insert}
-use Rattle.std.specs.Ordering.{nat_cmp}
-use Rattle.pg_base.specs.Points.{ShareNone}
-use Rattle.pg_base.specs.declared.side.Side.{Side}
-use Rattle.pg_base.specs.declared.side.Side.TheVariants.{X, Y}
-use Rattle.pg_base.specs.Side.{other}
-use Rattle.pg_base.specs.WordLemmas.{in_insert}
+use Rattle.pg_game.proofs.Common.{cases_Bool, cases_eq, cases_lt, and_parts, and_from, or_right, or_cases, not-true, not_from_false, false≢true, lt-ltb, le-ltb, FinSet, contains, insert, nat_cmp, ShareNone, Side, X, Y, other, in_insert}
 use Rattle.pg_game.specs.declared.game.Game.{Game}
 use Rattle.pg_game.specs.declared.position.Position.{Position}
 use Rattle.pg_game.specs.Position.{is_free, points_of, claims_in_turn, x_after, y_after}

@@ -1,19 +1,8 @@
 -- In Maker-Breaker a position that is no worse for a side serves it as well: the side imagines the
 -- weaker one and plays there.
 use Rattle.std.proofs.Common.{◌≡◌, ℕ, ◌<◌, ◌-◌, true, false, nat_lt, if◌then◌else◌, refl, sym, ◌∙◌, subst, subst₂, inl, inr, eqb, eqb-true, eq-eqb}
-use Rattle.std.proofs.lemmas.Bool.{cases_Bool, and_from, or_cases, or_left, or_right, false≢true, both_ways, not_from_false}
-use Rattle.std.specs.FinSet.{FinSet, contains, insert}
-use Rattle.std.specs.Ordering.{nat_cmp}
-use Rattle.pg_base.specs.declared.goal.Goal.{Goal}
-use Rattle.pg_base.specs.declared.goal.Goal.TheVariants.{Win, Draw as AtLeastDraw}
-use Rattle.pg_base.specs.declared.kind.Kind.TheVariants.{MakerBreaker}
-use Rattle.pg_base.specs.declared.score.Score.{Score}
-use Rattle.pg_base.specs.declared.score.Score.TheVariants.{XWins, Draw, YWins}
-use Rattle.pg_base.specs.declared.side.Side.{Side}
-use Rattle.pg_base.specs.declared.side.Side.TheVariants.{X, Y}
-use Rattle.pg_base.specs.Points.{AreWithin}
-use Rattle.pg_base.specs.Side.{other}
-use Rattle.pg_base.specs.WordLemmas.{in_insert}
+use Rattle.pg_game.proofs.Common.{cases_Bool, and_from, or_cases, or_left, or_right, false≢true, both_ways, not_from_false, FinSet, contains, insert, nat_cmp, Goal, Win, MakerBreaker, Score, XWins, Draw, YWins, Side, X, Y, AreWithin, other, in_insert}
+use Rattle.pg_base.specs.declared.goal.Goal.TheVariants.{Draw as AtLeastDraw}
 use Rattle.pg_game.specs.declared.game.Game.{Game}
 use Rattle.pg_game.specs.declared.position.Position.{Position}
 use Rattle.pg_game.specs.Decided.{at_least}

@@ -1,7 +1,6 @@
 -- One line for each row, with one row more.
 use Rattle.std.proofs.Common.{ℕ, ◌+◌, ◌<◌, List, [], ◌∷◌, ◌++◌, length, get_or, take, sym, subst}
-use Rattle.std.proofs.lemmas.List.{take_more}
-use Rattle.std.specs.List.{AllZip}
+use Rattle.pg_game.proofs.Common.{take_more, AllZip}
 
 module _ {A B : Type 0} (R : A → B → Type 0) where
   zip-push : (xs : List A) (ys : List B) (x : A) (y : B)

@@ -1,13 +1,6 @@
 -- Values by rules, what a side forces by one step, and by keeping an invariant.
 use Rattle.std.proofs.Common.{◌≡◌, ℕ, zero, suc, ◌+◌, ◌-◌, ◌<◌, ◌≤◌, Bool, true, false, not, ◌&&◌, ◌∷◌, map, length, refl, sym, ap, ◌∙◌, inl, inr, arith, eqb}
-use Rattle.std.proofs.lemmas.Bool.{cases_Bool, cond-true, cond-false, false≢true}
-use Rattle.std.proofs.lemmas.List.Elements.{filter_agree}
-use Rattle.std.specs.List.{filter, range_with_len, list_any, list_all}
-use Rattle.pg_base.specs.declared.goal.Goal.{Goal}
-use Rattle.pg_base.specs.declared.score.Score.{Score}
-use Rattle.pg_base.specs.declared.side.Side.{Side}
-use Rattle.pg_base.specs.Side.{other}
-use Rattle.pg_base.proofs.SetLemmas.{find_below}
+use Rattle.pg_game.proofs.Common.{cases_Bool, cond-true, cond-false, false≢true, filter_agree, filter, range_with_len, list_any, list_all, Goal, Score, Side, other, find_below}
 use Rattle.pg_game.specs.declared.position.Position.{Position}
 use Rattle.pg_game.specs.Position.{is_free}
 use Rattle.pg_game.specs.Rules.{Rules, moved, free_below, best, value_within, value_by, reaches, ForcesBy, IsEnding, KeepsBy}

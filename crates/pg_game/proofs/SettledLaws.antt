@@ -1,10 +1,7 @@
 -- The laws of one step of what a list of positions settles.
 use Rattle.std.proofs.Common.{◌≡◌, ℕ, zero, suc, ltb, ◌-◌, ◌<◌, Bool, true, false, Option, Some, None, List, [], ◌∷◌, map, length, refl, sym, ap, ◌∙◌, inl, inr, arith, if◌then◌else◌}
-use Rattle.std.proofs.lemmas.Bool.{cases_Bool, cond-true, cond-false, ltb-true, lt-ltb}
+use Rattle.pg_game.proofs.Common.{cases_Bool, cond-true, cond-false, ltb-true, lt-ltb, Contains, option_or, Score}
 use Rattle.std.proofs.lemmas.Option.{none-some}
-use Rattle.std.specs.List.{Contains}
-use Rattle.std.specs.Option.{option_or}
-use Rattle.pg_base.specs.declared.score.Score.{Score}
 use Rattle.pg_game.specs.declared.game.Game.{Game}
 use Rattle.pg_game.specs.declared.position.Position.{Position}
 use Rattle.pg_game.specs.Position.{is_free}

@@ -1,8 +1,6 @@
 -- The two sides.
 use Rattle.std.proofs.Common.{◌≡◌, ◌≢◌, ◌⊎◌, inl, inr, refl}
-use Rattle.pg_base.specs.declared.side.Side.{Side}
-use Rattle.pg_base.specs.declared.side.Side.TheVariants.{X, Y}
-use Rattle.pg_base.specs.Side.{other}
+use Rattle.pg_game.proofs.Common.{Side, X, Y, other}
 
 pub side≢other : (side : Side) → side ≢ other side
 side≢other X e = cc

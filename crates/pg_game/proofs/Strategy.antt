@@ -1,16 +1,13 @@
 -- How a side forces a goal by keeping an invariant.
 use Rattle.std.proofs.Common.{◌≡◌, ℕ, List, [], ◌∷◌, ◌<◌, ◌≤◌, Bool, true, false, not, ◌&&◌, ◌||◌, length, refl, sym, ◌∙◌, inl, inr, ◌⊎◌, arith}
-use Rattle.std.proofs.lemmas.Bool.{cases_Bool, or_left, or_right, not_from_false, false≢true}
+use Rattle.pg_game.proofs.Common.{cases_Bool, or_left, or_right, not_from_false, false≢true, Side, Kind, MakerBreaker, MakerMaker, AvoiderEnforcer, Switching, Goal}
 use Rattle.pg_game.specs.declared.position.Position.{Position}
-use Rattle.pg_base.specs.declared.side.Side.{Side}
 use Rattle.pg_game.specs.Position.{is_free}
 use Rattle.pg_game.specs.declared.game.Game.{Game}
-use Rattle.pg_base.specs.declared.kind.Kind.{Kind}
-use Rattle.pg_base.specs.declared.kind.Kind.TheVariants.{MakerBreaker, MakerMaker, AvoiderEnforcer, Switching}
-use Rattle.pg_base.specs.declared.goal.Goal.{Goal}
 use Rattle.pg_game.specs.Game.{after, free_points, point_count, is_over, is_full, is_over_by}
 use Rattle.pg_game.specs.Play.{IsLegalPlay}
 pub use Rattle.pg_game.specs.Strategy.{Keeps}
+use Rattle.pg_game.proofs.Common.{first_end, second_end, switching_full, contains}
 use Rattle.pg_game.specs.Rules.{IsEnding}
 use Rattle.pg_game.specs.Value.{rules_of, Forces}
 use Rattle.pg_game.proofs.RulesLaws.{ForcesBy-from_keeps}
@@ -18,9 +15,6 @@ use Rattle.pg_game.proofs.FreePoints.{length-free_points-after, first_free, none
 use Rattle.pg_game.specs.Field.{field_points, field_joins}
 use Rattle.pg_game.specs.declared.field.Field.{Field}
 use Rattle.pg_game.specs.declared.field.Field.TheVariants.{Lines, Graph as OnGraph}
-use Rattle.pg_graph.specs.Walks.{first_end, second_end}
-use Rattle.pg_graph.proofs.GraphLemmas.{switching_full}
-use Rattle.std.specs.FinSet.{contains}
 
 -- ---- a game that isn't over has a free point
 

@@ -1,17 +1,8 @@
 -- The terminals of a graph are joined where walks join them.
 use Rattle.std.proofs.Common.{◌≡◌, ◌≢◌, ℕ, eqb, ltb, eq-eqb, ne_eqb, zero, suc, ◌<◌, ◌+◌, Bool, true, false, not, ◌&&◌, ◌||◌, refl, sym, ap, ◌∙◌, inl, inr, arith}
-use Rattle.std.specs.Bool.{Decides}
 use Rattle.std.specs.Prelude.{◌↔◌, IsTrue}
-use Rattle.std.proofs.lemmas.Bool.{cases_Bool, cases_eq, cases_lt, both_ways, false_from_ne_true, and_from, or_left, not_from_false, lt-ltb, le-ltb}
-use Rattle.std.specs.FinSet.{FinSet, contains, insert}
-use Rattle.std.specs.Ordering.{nat_cmp}
-use Rattle.pg_base.specs.WordLemmas.{in_insert}
-use Rattle.pg_base.specs.Sets.{below, IsBelow}
-use Rattle.pg_graph.specs.Walks.{joins, first_end, second_end}
-use Rattle.pg_graph.specs.Graph.{edge_count, first_end_of, second_end_of, IsJoinedIn, joins_in}
-use Rattle.pg_graph.specs.declared.graph.Graph.{Graph}
+use Rattle.pg_game.proofs.Common.{Decides, cases_Bool, cases_eq, cases_lt, both_ways, false_from_ne_true, and_from, or_left, not_from_false, lt-ltb, le-ltb, FinSet, contains, insert, nat_cmp, in_insert, below, IsBelow, joins, first_end, second_end, edge_count, first_end_of, second_end_of, IsJoinedIn, joins_in, Graph, joins_in-sound, joins_in-complete, joins_in-edges, joins_same, joins-below, first_end_of-edge, second_end_of-edge}
 use Rattle.pg_graph.proofs.WalkLemmas.{joins_sound, joins_complete}
-use Rattle.pg_graph.proofs.GraphLemmas.{joins_in-sound, joins_in-complete, joins_in-edges, joins_same, joins-below, first_end_of-edge, second_end_of-edge}
 use Rattle.pg_game.specs.Field.{terminals_joined}
 use Rattle.pg_game.specs.Walked.{AreConnected}
 

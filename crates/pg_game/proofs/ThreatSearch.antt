@@ -1,12 +1,7 @@
 -- A side has a threat line of at most some depth exactly where trying all attacks and replies finds
 -- one.
 use Rattle.std.proofs.Common.{◌≡◌, ℕ, zero, suc, ◌<◌, ◌≤◌, ◌/◌, Bool, true, false, not, ◌&&◌, ◌||◌, ◌==◌, nat_lt, List, [], ◌∷◌, length, refl, sym, ap, ap₂, ◌∙◌, subst, inl, inr, ◌⊎◌, arith, eqb-true, eq-eqb}
-use Rattle.std.proofs.lemmas.Bool.{cases_Bool, and_parts, and_from, or_left, or_right, or_cases, not-true, not_from_false, false≢true, lt-ltb, ltb-true}
-use Rattle.std.specs.List.{list_any}
-use Rattle.pg_base.specs.Side.{other}
-use Rattle.pg_base.specs.declared.kind.Kind.{Kind}
-use Rattle.pg_base.specs.declared.kind.Kind.TheVariants.{MakerBreaker, MakerMaker, AvoiderEnforcer, Switching}
-use Rattle.pg_base.specs.declared.side.Side.{Side}
+use Rattle.pg_game.proofs.Common.{cases_Bool, and_parts, and_from, or_left, or_right, or_cases, not-true, not_from_false, false≢true, lt-ltb, ltb-true, list_any, other, Kind, MakerBreaker, MakerMaker, AvoiderEnforcer, Switching, Side}
 use Rattle.pg_game.specs.declared.game.Game.{Game}
 use Rattle.pg_game.specs.declared.position.Position.{Position}
 use Rattle.pg_game.specs.Position.{is_free}

@@ -1,13 +1,9 @@
 -- The value by the rules themselves, and what a side forces by one step.
 use Rattle.std.proofs.Common.{◌≡◌, ℕ, ◌<◌, true, false, map}
-use Rattle.std.specs.List.{list_any, list_all}
+use Rattle.pg_game.proofs.Common.{list_any, list_all, Side, other, Goal, Win}
 use Rattle.pg_game.specs.declared.position.Position.{Position}
-use Rattle.pg_base.specs.declared.side.Side.{Side}
-use Rattle.pg_base.specs.Side.{other}
 use Rattle.pg_game.specs.Position.{is_free}
 use Rattle.pg_game.specs.declared.game.Game.{Game}
-use Rattle.pg_base.specs.declared.goal.Goal.{Goal}
-use Rattle.pg_base.specs.declared.goal.Goal.TheVariants.{Win}
 use Rattle.pg_game.specs.Game.{after, free_points, point_count, is_over, outcome}
 use Rattle.pg_game.specs.Rules.{free_below}
 use Rattle.pg_game.specs.Value.{best, value, reaches, rules_of, Forces}

@@ -1,11 +1,6 @@
 -- A switching game by walks.
 use Rattle.std.proofs.Common.{◌≡◌, not, ◌||◌, cond, ap, ◌∙◌}
-use Rattle.std.proofs.lemmas.Bool.{false_from_ne_true, or_left, or_right, not_from_false}
-use Rattle.std.specs.FinSet.{contains}
-use Rattle.pg_base.specs.declared.kind.Kind.{Kind}
-use Rattle.pg_base.specs.declared.score.Score.TheVariants.{XWins, YWins}
-use Rattle.pg_base.specs.declared.side.Side.TheVariants.{X, Y}
-use Rattle.pg_graph.specs.declared.graph.Graph.{Graph}
+use Rattle.pg_game.proofs.Common.{false_from_ne_true, or_left, or_right, not_from_false, contains, Kind, XWins, YWins, X, Y, Graph}
 use Rattle.pg_game.specs.declared.field.Field.{Field}
 use Rattle.pg_game.specs.declared.field.Field.TheVariants.{Graph as OnGraph}
 use Rattle.pg_game.specs.declared.game.Game.{Game}

@@ -1,8 +1,6 @@
 -- The class of a switching game: who wins whoever begins (Lehman 1964).
 use Rattle.std.specs.Prelude.{Option, Some, None}
-use Rattle.pg_base.specs.declared.score.Score.{Score}
-use Rattle.pg_base.specs.declared.score.Score.TheVariants.{XWins, YWins}
-use Rattle.pg_base.specs.declared.side.Side.TheVariants.{X, Y}
+use Rattle.pg_game.specs.Prelude.{Score, XWins, YWins, X, Y}
 use Rattle.pg_game.specs.declared.game.Game.{Game}
 use Rattle.pg_game.specs.Game.{with_turn}
 use Rattle.pg_game.specs.Value.{value}

@@ -1,15 +1,7 @@
 -- Which positions are decided without search, for the question whether X reaches a score.
 use Rattle.std.specs.Prelude.{◌≡◌, ℕ, ◌%◌, Bool, true, false, not, ◌&&◌, ◌==◌, nat_lt, List, [], ◌∷◌, length, filter, Option, Some, None, option_map, if◌then◌else◌}
-use Rattle.std.specs.List.{list_any}
-use Rattle.pg_base.specs.Sets.{minus}
-use Rattle.pg_base.specs.declared.goal.Goal.{Goal}
-use Rattle.pg_base.specs.declared.goal.Goal.TheVariants.{Win, Draw as AtLeastDraw}
-use Rattle.pg_base.specs.declared.kind.Kind.{Kind}
-use Rattle.pg_base.specs.declared.kind.Kind.TheVariants.{MakerBreaker, MakerMaker, AvoiderEnforcer, Switching}
-use Rattle.pg_base.specs.declared.score.Score.{Score}
-use Rattle.pg_base.specs.declared.score.Score.TheVariants.{XWins, Draw, YWins}
-use Rattle.pg_base.specs.declared.side.Side.{Side}
-use Rattle.pg_base.specs.declared.side.Side.TheVariants.{X, Y}
+use Rattle.pg_game.specs.Prelude.{list_any, minus, Goal, Win, Kind, MakerBreaker, MakerMaker, AvoiderEnforcer, Switching, Score, XWins, Draw, YWins, Side, X, Y}
+use Rattle.pg_base.specs.declared.goal.Goal.TheVariants.{Draw as AtLeastDraw}
 use Rattle.pg_game.specs.declared.game.Game.{Game}
 use Rattle.pg_game.specs.declared.position.Position.{Position}
 use Rattle.pg_game.specs.Position.{is_free, points_of}

@@ -1,7 +1,6 @@
 -- What a game is played on: lines of points, or the edges of a multigraph with two terminals.
 use Rattle.std.specs.Prelude.{ℕ, Bool, false, List, [], length}
-use Rattle.pg_graph.specs.declared.graph.Graph.{Graph}
-use Rattle.pg_graph.specs.Walks.{joins, first_end, second_end}
+use Rattle.pg_game.specs.Prelude.{Graph, joins, first_end, second_end}
 use Rattle.pg_game.specs.declared.field.Field.{Field}
 use Rattle.pg_game.specs.declared.field.Field.TheVariants.{Lines, Graph as OnGraph}
 

@@ -1,15 +1,6 @@
 -- The rules: which points are free, what a move does, when a game is over and what its outcome is.
 use Rattle.std.specs.Prelude.{◌≡◌, ◌<◌, ◌≤◌, ℕ, Bool, true, false, not, ◌||◌, List, [], Option, find, if◌then◌else◌}
-use Rattle.std.specs.List.{range_with_len, filter, list_all, list_any}
-use Rattle.std.specs.FinSet.{FinSet, contains}
-use Rattle.std.specs.Ordering.{nat_cmp}
-use Rattle.pg_base.specs.Points.{AreBelow, ShareNone}
-use Rattle.pg_base.specs.declared.kind.Kind.{Kind}
-use Rattle.pg_base.specs.declared.kind.Kind.TheVariants.{MakerBreaker, MakerMaker, AvoiderEnforcer, Switching}
-use Rattle.pg_base.specs.declared.score.Score.{Score}
-use Rattle.pg_base.specs.declared.score.Score.TheVariants.{XWins, Draw, YWins}
-use Rattle.pg_base.specs.declared.side.Side.{Side}
-use Rattle.pg_base.specs.declared.side.Side.TheVariants.{X, Y}
+use Rattle.pg_game.specs.Prelude.{range_with_len, filter, list_all, list_any, FinSet, contains, nat_cmp, AreBelow, ShareNone, Kind, MakerBreaker, MakerMaker, AvoiderEnforcer, Switching, Score, XWins, Draw, YWins, Side, X, Y}
 use Rattle.pg_game.specs.declared.field.Field.{Field}
 use Rattle.pg_game.specs.declared.game.Game.{Game}
 use Rattle.pg_game.specs.declared.position.Position.{Position}

@@ -1,10 +1,7 @@
 -- What a judge answers: which moves are legal and what follows them; and the games for which it is
 -- made.
 use Rattle.std.specs.Prelude.{◌≡◌, ◌≢◌, ℕ, Bool, ◌||◌, Option, Some, None, Result, Ok, Err, if◌then◌else◌, nat_lt}
-use Rattle.pg_base.specs.declared.kind.Kind.TheVariants.{Switching}
-use Rattle.pg_base.specs.declared.score.Score.{Score}
-use Rattle.pg_base.specs.declared.score.Score.TheVariants.{XWins, Draw, YWins}
-use Rattle.pg_graph.specs.Joiner.{Room, IsMadeFor}
+use Rattle.pg_game.specs.Prelude.{Switching, Score, XWins, Draw, YWins, Room, IsMadeFor}
 use Rattle.pg_game.specs.declared.field.Field.{Field}
 use Rattle.pg_game.specs.declared.field.Field.TheVariants.{Lines, Graph as OnGraph}
 use Rattle.pg_game.specs.declared.game.Game.{Game}

@@ -1,3 +1,4 @@
+pub mod Prelude
 pub mod Field
 pub mod Fit
 pub mod Position

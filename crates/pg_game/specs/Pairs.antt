@@ -1,15 +1,8 @@
 -- Pairs of free points of which the claimer needs one each (Hales and Jewett's pairing, at any
 -- position).
 use Rattle.std.specs.Prelude.{◌≡◌, ◌≢◌, ℕ, ◌<◌, Bool, true, false, not, ◌&&◌, ◌||◌, ◌==◌, List, [], ◌∷◌, length, Option, Some, None, find, filter, unwrap_or, if◌then◌else◌}
-use Rattle.std.specs.List.{All, Any, AllPairs, Contains, list_any}
-use Rattle.std.specs.Option.{option_or}
-use Rattle.std.specs.FinSet.{FinSet}
-use Rattle.std.specs.Ordering.{nat_cmp}
-use Rattle.pg_base.specs.declared.kind.Kind.{Kind}
-use Rattle.pg_base.specs.declared.kind.Kind.TheVariants.{AvoiderEnforcer}
+use Rattle.pg_game.specs.Prelude.{All, Any, AllPairs, Contains, list_any, option_or, FinSet, nat_cmp, Kind, AvoiderEnforcer, Side, X, Y}
 use Rattle.pg_base.specs.declared.pair.Pair.{Pair}
-use Rattle.pg_base.specs.declared.side.Side.{Side}
-use Rattle.pg_base.specs.declared.side.Side.TheVariants.{X, Y}
 use Rattle.pg_game.specs.declared.game.Game.{Game}
 use Rattle.pg_game.specs.declared.position.Position.{Position}
 use Rattle.pg_game.specs.Position.{is_free, points_of}

@@ -1,11 +1,7 @@
 -- Positions: the points of the two sides, the side to move, and how many points it still claims in
 -- this turn.
 use Rattle.std.specs.Prelude.{◌≡◌, ℕ, ◌-◌, Bool, true, false, not, ◌&&◌, nat_lt, if◌then◌else◌}
-use Rattle.std.specs.FinSet.{FinSet, contains, insert}
-use Rattle.std.specs.Ordering.{nat_cmp}
-use Rattle.pg_base.specs.declared.side.Side.{Side}
-use Rattle.pg_base.specs.declared.side.Side.TheVariants.{X, Y}
-use Rattle.pg_base.specs.Side.{other}
+use Rattle.pg_game.specs.Prelude.{FinSet, contains, insert, nat_cmp, Side, X, Y, other}
 use Rattle.pg_game.specs.declared.position.Position.{Position}
 
 -- whether neither side has the point

@@ -1,11 +1,9 @@
 -- Positions that are equal.
 use Rattle.std.proofs.Common.{◌≡◌, Bool, true, ◌&&◌, eqb, refl, subst, rules, eqb-true, eq-eqb}
+use Rattle.pg_game.specs.Prelude.{Decides, Side, X, Y}
 use Rattle.std.proofs.lemmas.Bool.{and_parts, and_from}
-use Rattle.std.specs.Bool.{Decides}
 use denote.Enum.Bare.{sameb, same_true}
 use Rattle.pg_base.specs.contracts.side.Side.{the_type}
-use Rattle.pg_base.specs.declared.side.Side.{Side}
-use Rattle.pg_base.specs.declared.side.Side.TheVariants.{X, Y}
 use Rattle.pg_game.specs.declared.position.Position.{Position}
 use Rattle.pg_base.specs.PointLemmas.{equal, equal-decides}
 

@@ -1,10 +1,7 @@
 -- Which positions a list of positions settles, and the lists of expanded positions that leave a
 -- question open.
 use Rattle.std.specs.Prelude.{◌≡◌, ℕ, zero, suc, ◌<◌, Bool, true, false, not, Option, Some, None, List, map, length, take, slice_get, if◌then◌else◌}
-use Rattle.std.specs.List.{list_any, list_all, Contains}
-use Rattle.std.specs.Option.{option_or}
-use Rattle.pg_base.specs.declared.score.Score.{Score}
-use Rattle.pg_base.specs.declared.side.Side.{Side}
+use Rattle.pg_game.specs.Prelude.{list_any, list_all, Contains, option_or, Score, Side}
 use Rattle.pg_game.specs.declared.game.Game.{Game}
 use Rattle.pg_game.specs.declared.position.Position.{Position}
 use Rattle.pg_game.specs.PositionLemmas.{equal_positions}

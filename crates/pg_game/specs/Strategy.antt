@@ -1,6 +1,5 @@
 -- Invariants that a side keeps up to its goal.
-use Rattle.pg_base.specs.declared.goal.Goal.{Goal}
-use Rattle.pg_base.specs.declared.side.Side.{Side}
+use Rattle.pg_game.specs.Prelude.{Goal, Side}
 use Rattle.pg_game.specs.declared.game.Game.{Game}
 use Rattle.pg_game.specs.declared.position.Position.{Position}
 use Rattle.pg_game.specs.Rules.{KeepsBy}

@@ -1,15 +1,7 @@
 -- Trees for Short and cuts for Cut in the switching game, with the edge e between the terminals
 -- (Lehman 1964 and its dual, by walks alone), and the answers by them.
 use Rattle.std.specs.Prelude.{◌≡◌, ◌⊎◌, ℕ, ◌<◌, Bool, true, false, not, ◌&&◌, Option, Some, None, find, unwrap_or, if◌then◌else◌}
-use Rattle.std.specs.List.{range_with_len}
-use Rattle.std.specs.FinSet.{FinSet, contains, remove}
-use Rattle.std.specs.Ordering.{nat_cmp}
-use Rattle.pg_base.specs.Points.{ShareNone}
-use Rattle.pg_base.specs.Sets.{minus, either, outside}
-use Rattle.pg_base.specs.declared.side.Side.{Side}
-use Rattle.pg_base.specs.declared.side.Side.TheVariants.{X, Y}
-use Rattle.pg_graph.specs.declared.graph.Graph.{Graph}
-use Rattle.pg_graph.specs.Graph.{edge_count, first_end_of, second_end_of, joins_in, JoinsEndsOf, IsBridge}
+use Rattle.pg_game.specs.Prelude.{range_with_len, FinSet, contains, remove, nat_cmp, ShareNone, minus, either, outside, Side, X, Y, Graph, edge_count, first_end_of, second_end_of, joins_in, JoinsEndsOf, IsBridge}
 use Rattle.pg_game.specs.declared.field.Field.{Field}
 use Rattle.pg_game.specs.declared.field.Field.TheVariants.{Lines, Graph as OnGraph}
 use Rattle.pg_game.specs.declared.game.Game.{Game}

@@ -1,8 +1,6 @@
 -- The value of a position of a game, and what a side forces.
 use Rattle.std.specs.Prelude.{IsTrue}
-use Rattle.pg_base.specs.declared.goal.Goal.{Goal}
-use Rattle.pg_base.specs.declared.score.Score.{Score}
-use Rattle.pg_base.specs.declared.side.Side.{Side}
+use Rattle.pg_game.specs.Prelude.{Goal, Score, Side}
 use Rattle.pg_game.specs.declared.game.Game.{Game}
 use Rattle.pg_game.specs.declared.position.Position.{Position}
 use Rattle.pg_game.specs.Game.{point_count, is_over, outcome}

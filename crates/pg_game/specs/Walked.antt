@@ -1,11 +1,6 @@
 -- What a switching game looks at, said by walks.
 use Rattle.std.specs.Prelude.{◌≡◌, ℕ, Bool, true, false, not, length}
-use Rattle.std.specs.FinSet.{contains}
-use Rattle.pg_base.specs.Sets.{below}
-use Rattle.pg_base.specs.declared.kind.Kind.TheVariants.{Switching}
-use Rattle.pg_base.specs.declared.score.Score.TheVariants.{XWins, YWins}
-use Rattle.pg_graph.specs.Walks.{IsJoined, first_end, second_end}
-use Rattle.pg_graph.specs.declared.graph.Graph.{Graph}
+use Rattle.pg_game.specs.Prelude.{contains, below, Switching, XWins, YWins, IsJoined, first_end, second_end, Graph}
 use Rattle.pg_game.specs.declared.game.Game.{Game}
 use Rattle.pg_game.specs.declared.position.Position.{Position}
 use Rattle.pg_game.specs.Game.{is_over, outcome}

@@ -1,10 +1,7 @@
 -- Positions that are no worse for a side than others, and the point that stands for another where a
 -- weaker position is imagined.
 use Rattle.std.specs.Prelude.{◌≡◌, ℕ, ◌<◌, true, unwrap_or, if◌then◌else◌}
-use Rattle.pg_base.specs.declared.goal.Goal.{Goal}
-use Rattle.pg_base.specs.declared.side.Side.{Side}
-use Rattle.pg_base.specs.Points.{AreWithin}
-use Rattle.pg_base.specs.Side.{other}
+use Rattle.pg_game.specs.Prelude.{Goal, Side, AreWithin, other}
 use Rattle.pg_game.specs.declared.game.Game.{Game}
 use Rattle.pg_game.specs.declared.position.Position.{Position}
 use Rattle.pg_game.specs.Position.{is_free, points_of}

@@ -1,7 +1,6 @@
 -- The weights of all points, found by one walk over the lines.
 use Rattle.std.specs.Prelude.{◌≡◌, ℕ, ◌<◌, length, get_or}
-use Rattle.std.specs.FinSet.{FinSet}
-use Rattle.std.specs.Ordering.{nat_cmp}
+use Rattle.pg_game.specs.Prelude.{FinSet, nat_cmp}
 use Rattle.pg_game.specs.declared.game.Game.{Game}
 use Rattle.pg_game.specs.declared.position.Position.{Position}
 use Rattle.pg_game.specs.declared.bounds.TheConstants.{MAX_POINTS}

@@ -1,10 +1,8 @@
 //! Whether the parts of a game fit together and are within the limits.
 ghost use Rattle.std.specs.Prelude.{◌≡◌, ◌*◌, ◌^◌, ◌<◌, ◌↔◌, IsTrue, false, true, length, Some};
-ghost use Rattle.std.specs.List.{All, sum_by};
-ghost use Rattle.pg_base.specs.declared.grid.Grid.{Grid};
+ghost use Rattle.pg_game.specs.Prelude.{All, sum_by, Grid, Graph};
 ghost use Rattle.pg_game.specs.Field.{field_points};
 ghost use Rattle.pg_game.specs.declared.field.Field.TheVariants.{Graph as OnGraph};
-ghost use Rattle.pg_graph.specs.declared.graph.Graph.{Graph};
 ghost use Rattle.pg_game.specs.Fit.{IsFit, FieldFits, IsLineOf, AreLinesOf, IsBoard, longest, greatest_bias};
 
 use crate::bounds::{

@@ -1,7 +1,6 @@
 //! Games.
 ghost use Rattle.std.specs.Prelude.{◌≡◌, ℕ, ◌<◌, ◌≤◌, ◌↔◌, ◌&&◌, nat_lt, length, IsOk, IfOk};
-ghost use Rattle.std.specs.List.{All};
-ghost use Rattle.std.specs.FinSet.{contains, len};
+ghost use Rattle.pg_game.specs.Prelude.{All, contains, len};
 ghost use Rattle.pg_game.specs.Fit.{IsFit, IsLineOf};
 ghost use Rattle.pg_game.specs.Position.{is_free};
 

@@ -1,10 +1,7 @@
 //! Laws of the rules and of positions that are no worse. Each function is empty: what it promises
 //! is a law of the definitions alone.
 ghost use Rattle.std.specs.Prelude.{◌≡◌, ◌↔◌, ℕ, ◌<◌, ◌≤◌, Bool, true, false, List, map, length, IsTrue, ◌+◌};
-ghost use Rattle.pg_base.specs.Side.{other};
-ghost use Rattle.pg_base.specs.declared.goal.Goal.{Goal};
-ghost use Rattle.pg_base.specs.declared.side.Side.{Side};
-ghost use Rattle.pg_graph.specs.declared.graph.Graph.{Graph};
+ghost use Rattle.pg_game.specs.Prelude.{other, Goal, Side, Graph, MakerBreaker, X, Y};
 ghost use Rattle.pg_game.specs.Decided.{attack_wins, greatest_depth, at_least};
 ghost use Rattle.pg_game.specs.Field.{terminals_joined};
 ghost use Rattle.pg_game.specs.Game.{point_count, free_points, after, bias_of, start, with_turn, is_over, outcome, IsPosition};
@@ -18,8 +15,6 @@ ghost use Rattle.pg_game.specs.Walked.{AreConnected, IsJoiningGame};
 ghost use Rattle.pg_game.specs.declared.field.Field.TheVariants.{Graph as OnGraph};
 ghost use Rattle.pg_game.specs.declared.game.Game.{Game};
 ghost use Rattle.pg_game.specs.declared.position.Position.{Position};
-ghost use Rattle.pg_base.specs.declared.kind.Kind.TheVariants.{MakerBreaker};
-ghost use Rattle.pg_base.specs.declared.side.Side.TheVariants.{X, Y};
 ghost use Rattle.pg_game.specs.Weaker.{IsNoWorse, IsImagined, MovesOn, RepliesOn, free_or_lowest};
 
 /// Where the game is over its value is its outcome.

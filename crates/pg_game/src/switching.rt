@@ -1,7 +1,6 @@
 //! Who joins or parts the terminals of a graph.
 ghost use Rattle.std.specs.Prelude.{◌≡◌, ℕ, ◌<◌, ◌≤◌, ◌&&◌, not, nat_lt, length};
-ghost use Rattle.std.specs.FinSet.{contains};
-ghost use Rattle.pg_graph.specs.Joiner.{IsMadeFor};
+ghost use Rattle.pg_game.specs.Prelude.{contains, IsMadeFor};
 ghost use Rattle.pg_game.specs.Field.{terminals_joined};
 ghost use Rattle.pg_game.specs.Fit.{IsBoard, AreBelow};
 ghost use Rattle.pg_game.specs.Judge.{joining_result};

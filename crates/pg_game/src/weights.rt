@@ -1,8 +1,6 @@
 //! The weights of lines and points.
 ghost use Rattle.std.specs.Prelude.{◌≡◌, ◌≢◌, ℕ, ◌+◌, ◌^◌, ◌<◌, ◌≤◌, ◌==◌, ◌&&◌, length, get_or, unwrap_or, if◌then◌else◌};
-ghost use Rattle.std.specs.List.{All, find};
-ghost use Rattle.std.specs.List.Sorted.{IsStrictlyIncreasing};
-ghost use Rattle.pg_base.specs.declared.kind.Kind.TheVariants.{Switching};
+ghost use Rattle.pg_game.specs.Prelude.{All, find, IsStrictlyIncreasing, Switching};
 ghost use Rattle.pg_game.specs.Position.{is_free};
 ghost use Rattle.pg_game.specs.Game.{free_points};
 ghost use Rattle.pg_game.specs.Potential.{greatest_length, is_on, line_weight, total_weight, full_weight, IsBaseOf};

@@ -1,8 +1,6 @@
 //! Lines that are drawn by a seed.
 ghost use Rattle.std.specs.Prelude.{◌≡◌, ◌↔◌, ◌≤◌, ◌<◌, ◌*◌, ◌^◌, ◌&&◌, IfOk, Err, false, length, fold};
-ghost use Rattle.std.specs.List.Sorted.{IsPermutation};
-ghost use Rattle.pg_base.specs.Line.{StandsTwice};
-ghost use Rattle.pg_game.specs.Rows.{IsLineOfRow};
+ghost use Rattle.pg_gen.specs.Prelude.{IsPermutation, StandsTwice, IsLineOfRow};
 ghost use Rattle.pg_gen.specs.Rows.{below};
 ghost use Rattle.pg_gen.specs.Scatter.{AreDrawn, IsDrawn, IsScatterGame, has_scatter, mixed, next_state};
 

@@ -1,9 +1,6 @@
 -- What the test of its only node tells of a claim.
 use Rattle.std.proofs.Common.{◌≡◌, inr, sym, ap, ◌∙◌, subst, Option, Some, None, length, slice_get, unwrap_or}
-use Rattle.pg_cert.specs.declared.node.Node.{Node}
-use Rattle.pg_cert.specs.declared.cert.Claim.{Claim}
-use Rattle.pg_cert.specs.declared.cert.Version.{Version}
-use Rattle.pg_cert.specs.declared.cert.Version.TheVariants.{One}
+use Rattle.pg_gf2.proofs.Common.{Node, Claim, Version, One}
 use Rattle.pg_gf2.specs.declared.flaw.VecFlaw.{VecFlaw}
 use Rattle.pg_gf2.specs.declared.game.VecGame.{VecGame}
 use Rattle.pg_gf2.specs.Check.{NodePasses, IsNodeVerdict, IsClaimVerdict}

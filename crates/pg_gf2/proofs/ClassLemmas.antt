@@ -1,15 +1,7 @@
 -- What two settled bases of vectors make the class.
 use Rattle.std.proofs.Common.{◌≡◌, ℕ, refl, Some, length}
-use Rattle.std.specs.FinSet.{contains}
-use Rattle.pg_base.specs.declared.side.Side.{Side}
-use Rattle.pg_base.specs.declared.side.Side.TheVariants.{X, Y}
-use Rattle.pg_switch.specs.Claims.{IsPlace}
-use Rattle.pg_exchange.specs.Matroid.{Matroid}
-use Rattle.pg_lehman.specs.declared.class.Class.{Class}
-use Rattle.pg_lehman.specs.Sets.{named}
-use Rattle.pg_lehman.specs.SpanSets.{free_with_e}
+use Rattle.pg_gf2.proofs.Common.{contains, Side, X, Y, IsPlace, Matroid, Class, named, free_with_e, SpanSetsHold-decided, SpanSetsHold-class}
 use Rattle.pg_lehman.specs.Taken.{IsTaken}
-use Rattle.pg_lehman.proofs.SpanClasses.{SpanSetsHold-decided, SpanSetsHold-class}
 use Rattle.pg_gf2.specs.declared.game.VecGame.{VecGame}
 use Rattle.pg_gf2.specs.Vectors.{vector_spans, vector_matroid}
 use Rattle.pg_gf2.specs.GroundLaws.{IsSpan-vectors}

@@ -1,18 +1,7 @@
 -- Trees and cuts by what two sets span and by the bridges of two sets.
 use Rattle.std.proofs.Common.{◌≡◌, ◌≢◌, ℕ, ◌<◌, suc, Bool, true, false, not, nat_lt, inl, inr, refl, sym, ◌∙◌, subst, arith}
-use Rattle.std.proofs.lemmas.Bool.{both_ways, cases_eq, and_parts, false_from_ne_true, not-true, not_from_false}
+use Rattle.pg_gf2.proofs.Common.{both_ways, cases_eq, and_parts, false_from_ne_true, not-true, not_from_false, FinSet, contains, nat_cmp, AreBelow, ShareNone, below, either, minus, outside, plus, IsWithin, Side, X, Y, below_from, below_parts, same_sets, minus_from, minus_parts, outside_from, outside_parts, plus_cases, plus_new, plus_old, Position, is_free, kept, left_without, AreFree, AreFreeOrE, AreSpanTrees, AreSpanCuts, IsSpanBridge}
 use Rattle.std.proofs.lemmas.Bool.Decides.{nat_tests}
-use Rattle.std.specs.FinSet.{FinSet, contains}
-use Rattle.std.specs.Ordering.{nat_cmp}
-use Rattle.pg_base.specs.Points.{AreBelow, ShareNone}
-use Rattle.pg_base.specs.Sets.{below, either, minus, outside, plus, IsWithin}
-use Rattle.pg_base.specs.declared.side.Side.{Side}
-use Rattle.pg_base.specs.declared.side.Side.TheVariants.{X, Y}
-use Rattle.pg_base.proofs.BelowLemmas.{below_from, below_parts, same_sets}
-use Rattle.pg_base.proofs.SetLemmas.{minus_from, minus_parts, outside_from, outside_parts, plus_cases, plus_new, plus_old}
-use Rattle.pg_game.specs.declared.position.Position.{Position}
-use Rattle.pg_game.specs.Position.{is_free}
-use Rattle.pg_switch.specs.Claims.{kept, left_without, AreFree, AreFreeOrE, AreSpanTrees, AreSpanCuts, IsSpanBridge}
 
 module _ (spans : (ℕ → Bool) → ℕ → Bool) (n : ℕ) (p : Position) where
   not_e : (set : FinSet nat_cmp) → AreFree n p set → contains set n ≡ false

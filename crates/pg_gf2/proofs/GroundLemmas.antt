@@ -1,17 +1,8 @@
 -- Grounds of vectors: bases after a swap, and bases that were grown.
 use Rattle.std.proofs.Common.{◌≡◌, ℕ, ◌+◌, ◌<◌, Bool, true, false, not, refl, inl, inr, sym, ap, ◌∙◌, subst, subst₂, arith, bit_xor, List, [], ◌∷◌, ◌++◌, length, get_or}
-use Rattle.std.proofs.lemmas.Bool.{cases_Bool, both_ways, false_from_ne_true, cond-true, cond-false}
-use Rattle.std.proofs.lemmas.List.{length-append}
-use Rattle.std.specs.Int.Bits.{xor_zero_r, xor_assoc}
-use Rattle.std.proofs.lemmas.Nat.{xor_comm}
-use Rattle.std.specs.FinSet.{contains}
-use Rattle.pg_base.specs.Sets.{plus, minus, either, below, outside, IsBelow}
-use Rattle.pg_base.proofs.SetLemmas.{minus_parts, minus_from, plus_cases, plus_old, plus_new, either_left, either_right, either_cases, outside_parts}
-use Rattle.pg_base.proofs.BelowLemmas.{below_parts}
-use Rattle.pg_graph.specs.Span.{IsBase, swapped}
+use Rattle.pg_gf2.proofs.Common.{cases_Bool, both_ways, false_from_ne_true, cond-true, cond-false, length-append, xor_zero_r, xor_assoc, xor_comm, contains, plus, minus, either, below, outside, IsBelow, minus_parts, minus_from, plus_cases, plus_old, plus_new, either_left, either_right, either_cases, outside_parts, below_parts, IsBase, swapped, free_with_e}
 use Rattle.pg_gf2.specs.declared.row.Row.{Row}
 use Rattle.pg_gf2.specs.Vectors.{total, is_sum, differ, vector_at, spans_over}
-use Rattle.pg_lehman.specs.SpanSets.{free_with_e}
 use Rattle.pg_gf2.specs.Rows.{reduced, IsRow, IsTold, IsEliminated, IsTurned, AreTurned}
 use Rattle.pg_gf2.specs.SumLemmas.{total_differ, sum_both}
 use Rattle.pg_gf2.proofs.EliminationLemmas.{total_plus, reduces, reduced-turned}

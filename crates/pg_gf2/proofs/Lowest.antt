@@ -1,13 +1,7 @@
 -- The lowest numbers that pass a test, as they are found and as they are said.
 use Rattle.std.proofs.Common.{◌≡◌, ℕ, ◌<◌, ◌≤◌, ◌+◌, zero, suc, Bool, true, false, not, ◌&&◌, ◌⊎◌, List, Option, Some, None, inl, inr, refl, sym, ap, ◌∙◌, subst, arith}
 use Rattle.std.specs.Prelude.{unwrap_or}
-use Rattle.std.proofs.lemmas.Bool.{cases_Bool, cases_eq, both_ways}
-use Rattle.std.specs.List.{find, range_with_len}
-use Rattle.std.specs.FinSet.{FinSet, contains}
-use Rattle.std.specs.Ordering.{nat_cmp}
-use Rattle.pg_base.specs.Sets.{minus}
-use Rattle.pg_game.specs.declared.position.Position.{Position}
-use Rattle.pg_game.specs.Position.{is_free}
+use Rattle.pg_gf2.proofs.Common.{cases_Bool, cases_eq, both_ways, find, range_with_len, FinSet, contains, nat_cmp, minus, Position, is_free}
 use Rattle.pg_game.proofs.Lowest.{first_from, none_from}
 use Rattle.pg_gf2.specs.Answers.{lowest_free, lowest_needed}
 use Rattle.pg_gf2.specs.Vectors.{vector_spans}

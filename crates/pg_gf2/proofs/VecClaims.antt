@@ -1,28 +1,9 @@
 -- The claims of a class of a game on vectors, whose sets hold, are valid and within the limits.
 use Rattle.std.proofs.Common.{◌≡◌, ◌∙◌, ℕ, zero, suc, ◌<◌, ◌≤◌, Bool, true, false, if◌then◌else◌, List, [], ◌∷◌, Some, length, slice_get, refl, sym, subst, subst₂, inl, inr, arith}
-use Rattle.std.proofs.lemmas.Bool.{both_ways, cases_Bool, cases_eq}
-use Rattle.std.proofs.lemmas.List.Elements.{All-cons, All-nil}
-use Rattle.std.proofs.lemmas.Option.{none-some}
-use Rattle.std.specs.FinSet.{FinSet, contains, insert, remove}
-use Rattle.std.specs.List.{All}
-use Rattle.std.specs.Ordering.{nat_cmp}
-use Rattle.pg_base.proofs.PointSetLaws.{insert-remove, remove-old, remove-other, remove-self}
+use Rattle.pg_gf2.proofs.Common.{both_ways, cases_Bool, cases_eq, All-cons, All-nil, none-some, FinSet, contains, insert, remove, All, nat_cmp, insert-remove, remove-old, remove-other, remove-self, Side, X, Y, ArePoints, IsBody, IsClaim, IsNode, IsOfVersion, IsTurn, IsWithinLimits, has_body, node_count, Cert, Claim, Version, One, Body, Trees, Cuts, Node, AreFree, AreFreeOrE, class_claims, node_at, set_claim, sets_body, Position}
 use Rattle.pg_base.proofs.Stands.{one_at}
 use Rattle.pg_base.specs.WordLemmas.{same_points}
-use Rattle.pg_base.specs.declared.side.Side.{Side}
-use Rattle.pg_base.specs.declared.side.Side.TheVariants.{X, Y}
-use Rattle.pg_cert.specs.Limits.{ArePoints, IsBody, IsClaim, IsNode, IsOfVersion, IsTurn, IsWithinLimits, has_body, node_count}
-use Rattle.pg_cert.specs.declared.cert.Cert.{Cert}
-use Rattle.pg_cert.specs.declared.cert.Claim.{Claim}
-use Rattle.pg_cert.specs.declared.cert.Version.{Version}
-use Rattle.pg_cert.specs.declared.cert.Version.TheVariants.{One}
 use Rattle.pg_cert.specs.declared.limits.TheConstants.{MAX_CLAIMS, MAX_NODES}
-use Rattle.pg_cert.specs.declared.node.Body.{Body}
-use Rattle.pg_cert.specs.declared.node.Body.TheVariants.{Trees, Cuts}
-use Rattle.pg_cert.specs.declared.node.Node.{Node}
-use Rattle.pg_switch.specs.Claims.{AreFree, AreFreeOrE}
-use Rattle.pg_lehman.specs.ClassClaims.{class_claims, node_at, set_claim, sets_body}
-use Rattle.pg_game.specs.declared.position.Position.{Position}
 use Rattle.pg_gf2.specs.Check.{AreVectorSets, HasCuts, HasTrees, IsOfSide, IsVecClaimValid, IsVecValid, NodePasses, names_sets, with_e_named}
 use Rattle.pg_gf2.specs.Classes.{CutsAt, TreesAt, VectorSetsHold, at_turn}
 use Rattle.pg_gf2.specs.declared.flaw.VecFlaw.{VecFlaw}

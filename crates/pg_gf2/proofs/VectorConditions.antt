@@ -1,12 +1,6 @@
 -- What the calls tell of trees and cuts of vectors.
 use Rattle.std.proofs.Common.{◌≡◌, ℕ, ◌+◌, ◌<◌, suc, Bool, true, List, length, [], ◌∷◌, ◌++◌, sym, ap, ◌∙◌, subst, arith}
-use Rattle.std.proofs.lemmas.List.{length-append}
-use Rattle.std.specs.FinSet.{FinSet, contains}
-use Rattle.std.specs.Ordering.{nat_cmp}
-use Rattle.pg_base.specs.Points.{AreBelow, AreWithin}
-use Rattle.pg_base.specs.Sets.{either, outside, plus}
-use Rattle.pg_base.specs.declared.side.Side.{Side}
-use Rattle.pg_switch.specs.Claims.{kept, left_without, IsSpanBridge}
+use Rattle.pg_gf2.proofs.Common.{length-append, FinSet, contains, nat_cmp, AreBelow, AreWithin, either, outside, plus, Side, kept, left_without, IsSpanBridge}
 use Rattle.pg_gf2.specs.declared.game.VecGame.{VecGame}
 use Rattle.pg_gf2.specs.Vectors.{vector_spans}
 use Rattle.pg_gf2.specs.Classes.{with_target, at_turn}

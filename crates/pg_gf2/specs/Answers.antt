@@ -1,15 +1,7 @@
 -- A player's own moves in a game on vectors: by trees for X and by cuts for Y, by what sets span.
 -- The number n stands for the target.
 use Rattle.std.specs.Prelude.{ℕ, Bool, not, ◌&&◌, Option, Some, None, find, unwrap_or, if◌then◌else◌}
-use Rattle.std.specs.List.{range_with_len}
-use Rattle.std.specs.FinSet.{FinSet, contains, remove}
-use Rattle.std.specs.Ordering.{nat_cmp}
-use Rattle.pg_base.specs.Sets.{minus, either}
-use Rattle.pg_base.specs.declared.side.Side.{Side}
-use Rattle.pg_base.specs.declared.side.Side.TheVariants.{X, Y}
-use Rattle.pg_game.specs.declared.position.Position.{Position}
-use Rattle.pg_game.specs.Position.{is_free}
-use Rattle.pg_switch.specs.Claims.{left_without}
+use Rattle.pg_gf2.specs.Prelude.{range_with_len, FinSet, contains, remove, nat_cmp, minus, either, Side, X, Y, Position, is_free, left_without}
 use Rattle.pg_gf2.specs.declared.plan.VecPlan.{VecPlan}
 
 -- the claimed vector, and the plan that is left

@@ -1,19 +1,7 @@
 -- Certificates of games on vectors: what a valid claim has, and the first flaw of one that isn't
 -- valid.
 use Rattle.std.specs.Prelude.{◌≡◌, ◌<◌, ◌⊎◌, ℕ, Bool, true, false, if◌then◌else◌, length, slice_get, Option, None, Some}
-use Rattle.std.specs.FinSet.{FinSet, insert}
-use Rattle.std.specs.Ordering.{nat_cmp}
-use Rattle.pg_base.specs.Points.{AreBelow}
-use Rattle.pg_base.specs.declared.goal.Goal.TheVariants.{Win}
-use Rattle.pg_base.specs.declared.side.Side.{Side}
-use Rattle.pg_base.specs.declared.side.Side.TheVariants.{X, Y}
-use Rattle.pg_cert.specs.declared.node.Body.{Body}
-use Rattle.pg_cert.specs.declared.node.Body.TheVariants.{Trees, Cuts}
-use Rattle.pg_cert.specs.declared.node.Node.{Node}
-use Rattle.pg_cert.specs.declared.cert.Cert.{Cert}
-use Rattle.pg_cert.specs.declared.cert.Claim.{Claim}
-use Rattle.pg_cert.specs.declared.cert.Version.{Version}
-use Rattle.pg_cert.specs.declared.cert.Version.TheVariants.{One}
+use Rattle.pg_gf2.specs.Prelude.{FinSet, insert, nat_cmp, AreBelow, Win, Side, X, Y, Body, Trees, Cuts, Node, Cert, Claim, Version, One}
 use Rattle.pg_gf2.specs.declared.checked.Faulty.{Faulty}
 use Rattle.pg_gf2.specs.declared.flaw.VecFlaw.{VecFlaw}
 use Rattle.pg_gf2.specs.declared.flaw.VecFlaw.TheVariants as flaws

@@ -1,15 +1,7 @@
 -- The classes of games on vectors.
 use Rattle.std.specs.Prelude.{ℕ, ◌++◌, ◌∷◌, [], List, length, Option}
-use Rattle.std.specs.FinSet.{FinSet}
-use Rattle.std.specs.Ordering.{nat_cmp}
-use Rattle.pg_base.specs.declared.side.Side.{Side}
-use Rattle.pg_base.specs.declared.side.Side.TheVariants.{X, Y}
-use Rattle.pg_game.specs.declared.position.Position.{Position}
+use Rattle.pg_gf2.specs.Prelude.{FinSet, nat_cmp, Side, X, Y, Position, Rules, value_by, span_rules, AreSpanTrees, AreSpanCuts, Class, SpanSetsHold}
 use Rattle.pg_game.specs.Class.{Class as Named, class_by}
-use Rattle.pg_game.specs.Rules.{Rules, value_by}
-use Rattle.pg_switch.specs.Claims.{span_rules, AreSpanTrees, AreSpanCuts}
-use Rattle.pg_lehman.specs.declared.class.Class.{Class}
-use Rattle.pg_lehman.specs.SpanSets.{SpanSetsHold}
 use Rattle.pg_gf2.specs.declared.game.VecGame.{VecGame}
 use Rattle.pg_gf2.specs.Vectors.{vector_spans}
 

@@ -1,9 +1,6 @@
 -- The limits of a game on vectors.
 use Rattle.std.specs.Prelude.{ℕ, ◌<◌, ◌≤◌, ◌^◌, List, length}
-use Rattle.std.specs.List.{All}
-use Rattle.std.specs.FinSet.{FinSet}
-use Rattle.std.specs.Ordering.{nat_cmp}
-use Rattle.pg_base.specs.Points.{AreBelow, ShareNone}
+use Rattle.pg_gf2.specs.Prelude.{All, FinSet, nat_cmp, AreBelow, ShareNone}
 use Rattle.pg_gf2.specs.declared.game.TheConstants.{MAX_ROWS, MAX_VECTORS}
 
 -- 1 to 128 rows, at most 1,000 vectors of so many signs, and sides with different vectors

@@ -1,9 +1,8 @@
 -- The laws of a ground of vectors.
 use Rattle.std.proofs.Common.{◌≡◌, ℕ, ◌<◌, ◌≤◌, ◌+◌, Bool, zero, suc, List, [], ◌∷◌, length, refl, arith}
-use Rattle.pg_base.specs.Sets.{IsBelow}
+use Rattle.pg_gf2.specs.Prelude.{IsBelow, IsSpan}
 use Rattle.pg_base.specs.declared.limits.TheConstants.{MAX_MEMBERS}
 use Rattle.pg_gf2.specs.declared.game.TheConstants.{MAX_VECTORS}
-use Rattle.pg_graph.specs.Span.{IsSpan}
 use Rattle.pg_gf2.specs.Vectors.{vector_at, vector_spans, spans_over}
 use Rattle.pg_gf2.specs.SumLemmas.{IsSpan-sums}
 use Rattle.pg_graph.proofs.Bases.{IsSpan-over}

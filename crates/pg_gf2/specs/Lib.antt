@@ -1,3 +1,4 @@
+pub mod Prelude
 pub mod Vectors
 pub mod Fits
 pub mod Rows

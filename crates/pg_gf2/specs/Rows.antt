@@ -1,11 +1,7 @@
 -- Rows of an elimination: what is left of a vector after them, and the members of a base that they
 -- are sums of.
 use Rattle.std.specs.Prelude.{◌≡◌, ℕ, ◌<◌, Bool, true, ◌==◌, if◌then◌else◌, List, [], ◌∷◌, ◌++◌, length, get_or, bit_xor}
-use Rattle.std.specs.List.{All}
-use Rattle.std.specs.Int.{bit_at}
-use Rattle.std.specs.FinSet.{FinSet, contains}
-use Rattle.std.specs.Ordering.{nat_cmp}
-use Rattle.pg_base.specs.Sets.{IsWithin}
+use Rattle.pg_gf2.specs.Prelude.{All, bit_at, FinSet, contains, nat_cmp, IsWithin}
 use Rattle.pg_gf2.specs.Vectors.{total, is_sum, differ}
 use Rattle.pg_gf2.specs.declared.row.Row.{Row}
 

@@ -1,8 +1,7 @@
 -- Vectors over two elements, as numbers that are added bit by bit without carry, and what sets of
 -- them span.
 use Rattle.std.specs.Prelude.{◌≡◌, ℕ, zero, suc, Bool, ◌&&◌, ◌||◌, ◌==◌, if◌then◌else◌, List, length, slice_index_or, bit_xor}
-use Rattle.pg_base.specs.Sets.{IsWithin, either, outside}
-use Rattle.pg_exchange.specs.Matroid.{Matroid}
+use Rattle.pg_gf2.specs.Prelude.{IsWithin, either, outside, Matroid}
 
 -- the sum of the vectors of the set whose numbers are below n
 unfoldable pub total : (ℕ → ℕ) → (ℕ → Bool) → ℕ → ℕ

@@ -1,10 +1,6 @@
 //! Trees and cuts at a game's marks.
 ghost use Rattle.std.specs.Prelude.{◌≡◌, ◌<◌, ◌↔◌, suc, length, IfOk, IsTrue};
-ghost use Rattle.std.specs.FinSet.{contains};
-ghost use Rattle.pg_base.specs.Points.{ShareNone};
-ghost use Rattle.pg_base.specs.Sets.{plus};
-ghost use Rattle.pg_base.specs.declared.side.Side.{Side};
-ghost use Rattle.pg_switch.specs.Claims.{kept, AreFree, AreFreeOrE};
+ghost use Rattle.pg_gf2.specs.Prelude.{contains, ShareNone, plus, Side, kept, AreFree, AreFreeOrE};
 ghost use Rattle.pg_gf2.specs.Classes.{with_target, at_turn, TreesAt, CutsAt};
 
 use crate::game::VecGame;

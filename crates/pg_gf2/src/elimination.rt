@@ -1,10 +1,7 @@
 //! Elimination, and the base that it grows.
 ghost use Rattle.std.specs.Prelude.{◌+◌, ◌≡◌, ◌≢◌, ◌<◌, ◌≤◌, ℕ, Bool, false, length, IfOk};
+ghost use Rattle.pg_gf2.specs.Prelude.{contains, below, either, swapped, IsFree, IsGrown};
 ghost use Rattle.pg_gf2.specs.declared.game.TheConstants.{MAX_VECTORS};
-ghost use Rattle.std.specs.FinSet.{contains};
-ghost use Rattle.pg_base.specs.Sets.{below, either};
-ghost use Rattle.pg_graph.specs.Span.{swapped};
-ghost use Rattle.pg_exchange.specs.Forest.{IsFree, IsGrown};
 ghost use Rattle.pg_gf2.specs.Vectors.{vector_at, spans_over};
 ghost use Rattle.pg_gf2.specs.Rows.{IsEliminated, HasRow, AreTurned};
 

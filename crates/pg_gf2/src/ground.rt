@@ -1,12 +1,8 @@
 //! Vectors over two elements as a ground.
 ghost use Rattle.std.specs.Prelude.{◌+◌, ◌≡◌, ◌<◌, ◌≤◌, ◌++◌, ◌∷◌, [], length, IfOk};
+ghost use Rattle.pg_gf2.specs.Prelude.{contains, IsBelow, either, IsBase, IsApart, free_with_e};
 ghost use Rattle.pg_gf2.specs.declared.game.TheConstants.{MAX_VECTORS};
-ghost use Rattle.std.specs.FinSet.{contains};
-ghost use Rattle.pg_base.specs.Sets.{IsBelow, either};
-ghost use Rattle.pg_graph.specs.Span.{IsBase};
-ghost use Rattle.pg_exchange.specs.Forest.{IsApart};
 ghost use Rattle.pg_gf2.specs.Vectors.{vector_at, vector_matroid, spans_over};
-ghost use Rattle.pg_lehman.specs.SpanSets.{free_with_e};
 ghost use Rattle.pg_gf2.specs.Rows.{IsEliminated};
 
 use crate::elimination::{Elimination, grow, rows_of};

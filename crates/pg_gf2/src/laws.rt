@@ -1,16 +1,7 @@
 //! Laws of games on vectors. Each function is empty: what it promises is a law of the definitions
 //! alone.
 ghost use Rattle.std.specs.Prelude.{◌≡◌, ℕ, Some, slice_get};
-ghost use Rattle.std.specs.FinSet.{FinSet};
-ghost use Rattle.std.specs.Ordering.{nat_cmp};
-ghost use Rattle.pg_base.specs.declared.goal.Goal.TheVariants.{Win};
-ghost use Rattle.pg_base.specs.declared.side.Side.{Side};
-ghost use Rattle.pg_base.specs.declared.side.Side.TheVariants.{X, Y};
-ghost use Rattle.pg_cert.specs.declared.cert.Cert.{Cert};
-ghost use Rattle.pg_cert.specs.declared.cert.Claim.{Claim};
-ghost use Rattle.pg_game.specs.Rules.{ForcesBy};
-ghost use Rattle.pg_lehman.specs.Sets.{named};
-ghost use Rattle.pg_lehman.specs.declared.class.Class.{Class};
+ghost use Rattle.pg_gf2.specs.Prelude.{FinSet, nat_cmp, Win, Side, X, Y, Cert, Claim, ForcesBy, named, Class};
 ghost use Rattle.pg_gf2.specs.Check.{IsVecValid, IsFirstVecFault};
 ghost use Rattle.pg_gf2.specs.Classes.{vector_rules, at_turn, TreesAt, CutsAt, VectorSetsHold, vector_class};
 ghost use Rattle.pg_gf2.specs.declared.flaw.VecFlaw.{VecFlaw};

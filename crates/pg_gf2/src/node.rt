@@ -1,7 +1,6 @@
 //! The tests of a claim of one node.
 ghost use Rattle.std.specs.Prelude.{◌≡◌, ◌↔◌, length, IfOk, IsTrue};
-ghost use Rattle.pg_base.specs.declared.goal.Goal.TheVariants.{Win};
-ghost use Rattle.pg_cert.specs.declared.cert.Version.TheVariants.{One};
+ghost use Rattle.pg_gf2.specs.Prelude.{Win, One};
 ghost use Rattle.pg_gf2.specs.Classes.{with_target};
 ghost use Rattle.pg_gf2.specs.Check.{names_sets, with_e_named, AreVectorSets, IsAtMarks, IsOfSide, HasTrees, HasCuts, IsNodeVerdict, IsClaimVerdict};
 

@@ -1,9 +1,6 @@
 //! Eliminations in room that was made before: none of these takes memory.
 ghost use Rattle.std.specs.Prelude.{◌+◌, ◌≡◌, ◌≢◌, ◌<◌, ◌≤◌, ℕ, false, true, length, not, ◌&&◌, find, Option, None};
-ghost use Rattle.std.specs.FinSet.{contains, empty};
-ghost use Rattle.std.specs.List.{range_with_len};
-ghost use Rattle.std.specs.Vec.{vec_len, vec_capacity};
-ghost use Rattle.pg_base.specs.Sets.{minus, outside, IsWithin};
+ghost use Rattle.pg_gf2.specs.Prelude.{contains, empty, range_with_len, vec_len, vec_capacity, minus, outside, IsWithin};
 ghost use Rattle.pg_gf2.specs.declared.game.TheConstants.{MAX_VECTORS};
 ghost use Rattle.pg_gf2.specs.Answers.{lowest_needed};
 ghost use Rattle.pg_gf2.specs.Vectors.{vector_at, vector_spans};

@@ -1,11 +1,8 @@
 //! Solving games on vectors.
 ghost use Rattle.std.specs.Prelude.{◌≡◌, length, Some, IfOk};
-ghost use Rattle.pg_base.specs.declared.side.Side.TheVariants.{X, Y};
-ghost use Rattle.pg_cert.specs.Limits.{IsWithinLimits};
-ghost use Rattle.pg_lehman.specs.ClassClaims.{class_claims};
+ghost use Rattle.pg_gf2.specs.Prelude.{X, Y, IsWithinLimits, class_claims, named};
 ghost use Rattle.pg_gf2.specs.Check.{IsVecValid};
 ghost use Rattle.pg_gf2.specs.Classes.{at_turn, vector_class};
-ghost use Rattle.pg_lehman.specs.Sets.{named};
 
 use crate::classify::vec_classify;
 use crate::game::VecGame;

@@ -1,9 +1,7 @@
 //! Whether vectors sum to a vector.
 ghost use Rattle.std.specs.Prelude.{◌+◌, ◌≡◌, ◌<◌, ◌≤◌, ◌↔◌, ℕ, true, length, IfOk, IsTrue};
+ghost use Rattle.pg_gf2.specs.Prelude.{contains, AreBelow, AreWithin, IsSpanBridge};
 ghost use Rattle.pg_gf2.specs.declared.game.TheConstants.{MAX_VECTORS};
-ghost use Rattle.std.specs.FinSet.{contains};
-ghost use Rattle.pg_base.specs.Points.{AreBelow, AreWithin};
-ghost use Rattle.pg_switch.specs.Claims.{IsSpanBridge};
 ghost use Rattle.pg_gf2.specs.Vectors.{vector_spans};
 
 use crate::elimination::{Elimination, grow, rows_of};

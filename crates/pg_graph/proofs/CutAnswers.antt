@@ -1,8 +1,6 @@
 -- Cuts in play: an answer to the loss of an edge keeps two sets that bridge each other.
 use Rattle.std.proofs.Common.{◌≡◌, ◌≢◌, ℕ, Bool, true, false, suc, inl, inr, sym, subst}
-use Rattle.std.proofs.lemmas.Bool.{both_ways, cases_Bool, false_from_ne_true}
-use Rattle.pg_base.specs.Sets.{minus, outside, IsWithin, IsBelow}
-use Rattle.pg_base.proofs.SetLemmas.{minus_parts, minus_from, outside_parts, outside_from}
+use Rattle.pg_graph.proofs.Common.{both_ways, cases_Bool, false_from_ne_true, minus, outside, IsWithin, IsBelow, minus_parts, minus_from, outside_parts, outside_from}
 use Rattle.pg_graph.specs.Graph.{edge_count, spans_in, first_end_of, second_end_of}
 use Rattle.pg_graph.specs.Joiner.{AreEdges, Parts}
 use Rattle.pg_graph.specs.Span.{IsSpan, IsCuts}

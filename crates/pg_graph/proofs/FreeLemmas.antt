@@ -1,8 +1,6 @@
 -- Members of sets that stay free while one element is taken.
 use Rattle.std.proofs.Common.{◌≡◌, ℕ, Bool, true, false, sym, subst}
-use Rattle.std.proofs.lemmas.Bool.{both_ways}
-use Rattle.pg_base.specs.Sets.{minus, IsWithin}
-use Rattle.pg_base.proofs.SetLemmas.{minus_parts, minus_from}
+use Rattle.pg_graph.proofs.Common.{both_ways, minus, IsWithin, minus_parts, minus_from}
 
 pub still_free : (a free : ℕ → Bool) (v : ℕ) → IsWithin a free → IsWithin (minus a v) (minus free v)
 still_free a free v w z h = let p = minus_parts a v z h in minus_from free v z (w z p.0) p.1

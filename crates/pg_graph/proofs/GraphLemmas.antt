@@ -1,9 +1,7 @@
 -- What the edges of a graph join, with the edge e between its terminals.
 use Rattle.std.proofs.Common.{◌≡◌, ℕ, ◌<◌, ◌≤◌, Bool, true, false, not, ◌⊎◌, ◌||◌, List, [], ◌∷◌, ◌++◌, length, get_or, refl, arith, inl, inr, sym, ap, ◌∙◌, subst, zero, suc}
-use Rattle.std.proofs.lemmas.Bool.{cases_lt, cases_Bool, both_ways, and_parts, and_from, or_cases, or_left, or_right, false_from_ne_true, not_from_false, not-true}
+use Rattle.pg_graph.proofs.Common.{cases_lt, cases_Bool, both_ways, and_parts, and_from, or_cases, or_left, or_right, false_from_ne_true, not_from_false, not-true, minus, below, IsBelow, below_parts, below_from}
 use Rattle.std.proofs.lemmas.List.Elements.{All-get_or}
-use Rattle.pg_base.specs.Sets.{minus, below, IsBelow}
-use Rattle.pg_base.proofs.BelowLemmas.{below_parts, below_from}
 use Rattle.pg_graph.specs.Walks.{joins, edge_spans, first_end, second_end}
 use Rattle.pg_graph.specs.Span.{IsSpan}
 use Rattle.pg_graph.specs.Graph.{IsGraph, edge_count, with_e, first_end_of, second_end_of, IsJoinedIn, JoinsEndsOf, joins_in, spans_in, IsBridge, is_bridge}

@@ -1,8 +1,6 @@
 -- Labels of vertices when one more edge joins them.
 use Rattle.std.proofs.Common.{◌≡◌, ℕ, ◌<◌, ◌↔◌, Bool, ◌⊎◌, eqb, cond, refl, inl, inr, sym, ap, ◌∙◌}
-use Rattle.std.proofs.lemmas.Bool.{cases_eq, eq-eqb, ne_eqb}
-use Rattle.pg_base.specs.Sets.{plus}
-use Rattle.pg_base.proofs.SetLemmas.{plus_old, plus_new}
+use Rattle.pg_graph.proofs.Common.{cases_eq, eq-eqb, ne_eqb, plus, plus_old, plus_new}
 use Rattle.pg_graph.specs.Walks.{IsJoined}
 use Rattle.pg_graph.proofs.WalkLemmas.{joined_on, joined_edge, joined_edge_back, joined_more, by_one}
 

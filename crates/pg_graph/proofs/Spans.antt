@@ -1,10 +1,7 @@
 -- Edges span the edges whose ends they join: the three laws.
 use Rattle.std.proofs.Common.{◌≡◌, ℕ, ◌≤◌, Bool, true, false, refl, inl, inr, subst}
-use Rattle.std.proofs.lemmas.Bool.{cases_lt, both_ways}
-use Rattle.pg_base.specs.Sets.{plus, below}
+use Rattle.pg_graph.proofs.Common.{cases_lt, both_ways, plus, below, plus_old, plus_new, below_from}
 use Rattle.pg_graph.specs.Span.{IsSpan}
-use Rattle.pg_base.proofs.SetLemmas.{plus_old, plus_new}
-use Rattle.pg_base.proofs.BelowLemmas.{below_from}
 use Rattle.pg_graph.specs.Walks.{IsJoined, edge_spans}
 use Rattle.pg_graph.proofs.WalkLemmas.{joined_self, joined_on, joined_edge, joined_back, joined_by, joined_more, ByOne, by_one, joins_sound, joins_complete}
 

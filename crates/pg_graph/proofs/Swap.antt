@@ -1,9 +1,7 @@
 -- Bases after an element was swapped.
 use Rattle.std.proofs.Common.{◌≡◌, ℕ, Bool, true, false, inl, inr, arith, sym, ◌≢◌, subst}
-use Rattle.std.proofs.lemmas.Bool.{both_ways, cases_eq, false_from_ne_true}
-use Rattle.pg_base.specs.Sets.{plus, minus, IsWithin}
+use Rattle.pg_graph.proofs.Common.{both_ways, cases_eq, false_from_ne_true, plus, minus, IsWithin, minus_parts, minus_from, plus_cases, plus_old, sets}
 use Rattle.pg_graph.specs.Span.{IsSpan, IsBase, swapped}
-use Rattle.pg_base.proofs.SetLemmas.{minus_parts, minus_from, plus_cases, plus_old, sets}
 
 module _ (spans : (ℕ → Bool) → ℕ → Bool) (law : IsSpan spans) where
   pub spans_mono : (a b : ℕ → Bool) (f : ℕ) → IsWithin a b → spans a f ≡ true → spans b f ≡ true

@@ -1,8 +1,6 @@
 -- Trees in play: an answer to the loss of an edge keeps two sets that span each other.
 use Rattle.std.proofs.Common.{◌≡◌, ℕ, Bool, true, not, ◌&&◌, inl, inr, arith}
-use Rattle.std.proofs.lemmas.Bool.{both_ways, cases_Bool, false_from_ne_true, true_from_ne_false, and_parts, and_from, not-true, not_from_false}
-use Rattle.pg_base.specs.Sets.{plus, minus, either, IsWithin, IsBelow}
-use Rattle.pg_base.proofs.SetLemmas.{minus_parts, either_cases, find_below, sets}
+use Rattle.pg_graph.proofs.Common.{both_ways, cases_Bool, false_from_ne_true, true_from_ne_false, and_parts, and_from, not-true, not_from_false, plus, minus, either, IsWithin, IsBelow, minus_parts, either_cases, find_below, sets}
 use Rattle.pg_graph.specs.Graph.{edge_count, spans_in, first_end_of, second_end_of}
 use Rattle.pg_graph.specs.Joiner.{AreEdges, Crosses}
 use Rattle.pg_graph.specs.Span.{IsSpan, IsTrees}

@@ -1,9 +1,7 @@
 -- Two sets that span each other, after an edge was lost and one was claimed.
 use Rattle.std.proofs.Common.{◌≡◌, ℕ, Bool, true, false, inl, inr, arith, subst}
-use Rattle.std.proofs.lemmas.Bool.{both_ways, cases_eq, false_from_ne_true}
-use Rattle.pg_base.specs.Sets.{plus, minus, either, IsWithin}
+use Rattle.pg_graph.proofs.Common.{both_ways, cases_eq, false_from_ne_true, plus, minus, either, IsWithin, minus_parts, minus_from, plus_new, either_cases, either_left, sets}
 use Rattle.pg_graph.specs.Span.{IsSpan, IsTrees}
-use Rattle.pg_base.proofs.SetLemmas.{minus_parts, minus_from, plus_new, either_cases, either_left, sets}
 use Rattle.pg_graph.proofs.Swap.{spans_mono, spans_trade}
 
 pub IsTrees-other : (spans : (ℕ → Bool) → ℕ → Bool) (e : ℕ) (s a1 a2 : ℕ → Bool)

@@ -1,3 +1,4 @@
+pub mod Prelude
 pub mod Walks
 pub mod Span
 pub mod Graph

@@ -1,39 +1,15 @@
 -- A printed certificate with images is read again as the same certificate.
 use Rattle.std.proofs.Common.{◌≡◌, ℕ, suc, ◌+◌, ◌-◌, ◌<◌, ◌≤◌, lit<, true, false, List, [], ◌∷◌, ◌++◌, length, arith, refl, sym, ap, subst, ◌∙◌, append_assoc, Some, None, Result, Ok}
 use Rattle.std.specs.Prelude.{◌==◌, nat_lt, codes}
-use Rattle.std.specs.FinSet.{FinSet}
-use Rattle.std.specs.Fmt.{decimal}
-use Rattle.std.specs.List.{flat_map, AllByRecursion}
-use Rattle.std.specs.Ordering.{nat_cmp}
-use Rattle.std.specs.Str.{bytes_eq}
-use Rattle.std.proofs.lemmas.Bool.Decides.{nat_tests}
-use Rattle.std.proofs.lemmas.List.{append-nil}
-use Rattle.std.proofs.lemmas.List.Elements.{All-from_recursion, recursion_from_All}
-use Rattle.std.proofs.lemmas.List.Sums.{sum_by-cons}
-use Rattle.pg_base.specs.declared.side.Side.{Side}
-use Rattle.pg_text.specs.Faults.{and_then, reading}
-use Rattle.pg_text.specs.Text.{Bytes, Four, Lacks, lines, spaced}
+use Rattle.pg_image.proofs.Common.{FinSet, decimal, flat_map, AllByRecursion, nat_cmp, bytes_eq, nat_tests, append-nil, All-from_recursion, recursion_from_All, sum_by-cons, Side, and_then, reading, Bytes, Four, Lacks, lines, spaced, reads_on, is_over, IsNode, has_body, set_words, body_name, body_words, body_text, turn_word, count_words, Claim, Version, Two, Body}
 use Rattle.pg_text.proofs.FirstLine.{lines_feed, no_lines}
 use Rattle.pg_text.proofs.PlainWords.{IsWord, IsQuiet, decimal_is_word, spaced_quiet, words_spaced, quiet_lacks_feed}
-use Rattle.pg_text.proofs.Reading.{reads_on, is_over}
-use Rattle.pg_cert.specs.Limits.{IsNode, has_body}
-use Rattle.pg_cert.specs.Print.{set_words, body_name, body_words, body_text, turn_word, count_words}
-use Rattle.pg_cert.specs.declared.cert.Claim.{Claim}
-use Rattle.pg_cert.specs.declared.cert.Version.{Version}
-use Rattle.pg_cert.specs.declared.cert.Version.TheVariants.{Two}
-use Rattle.pg_cert.specs.declared.node.Body.{Body}
 use Rattle.pg_cert.specs.declared.node.Body.TheVariants as bodies
-use Rattle.pg_cert.specs.declared.node.Node.{Node}
-use Rattle.pg_cert_files.specs.CertFile.{Step, start, behind, end_fault}
-use Rattle.pg_cert_files.specs.declared.fault.Fault.{Fault}
-use Rattle.pg_cert_files.specs.declared.head.Head.{Head}
-use Rattle.pg_cert_files.specs.declared.progress.Due.{Due}
+use Rattle.pg_image.proofs.Common.{Node, Step, start, behind, end_fault, Fault, Head, Due}
 use Rattle.pg_cert_files.specs.declared.progress.Due.TheVariants as due
+use Rattle.pg_image.proofs.Common.{behind_more, number_of, GridMap}
 use Rattle.pg_cert_files.proofs.Back.{claim_step_back, count_step_back, node_step_back, node_text_is, five_word, nodes_word, goal_is_word}
-use Rattle.pg_cert_files.proofs.CertLimits.{behind_more}
 use Rattle.pg_cert_files.proofs.NodeBack.{node_line_text, side_is_word, name_is_word, body_are_words, body_quiet, line_with, line_cut, line_lacks_feed, node_lacks_feed, turn_back, node_is_back}
-use Rattle.pg_maps.specs.GridMaps.{number_of}
-use Rattle.pg_maps.specs.declared.grid_map.GridMap.{GridMap}
 use Rattle.pg_maps.proofs.Numbers.{numbered-number, number-few}
 use Rattle.pg_image.specs.Limits.{IsMarked, IsImageNode, IsImageClaim, IsImageWithinLimits, image_node_count}
 use Rattle.pg_image.specs.Print.{position_fields, image_words, image_text, image_node_text, image_claim_words, image_claim_text, image_header, printed_image_certificate}

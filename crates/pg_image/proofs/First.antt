@@ -1,26 +1,15 @@
 -- The fault that is told is the first.
 use Rattle.std.proofs.Common.{◌≡◌, ℕ, ◌+◌, inl, inr, [], ◌∷◌, length, refl, sym, ap, ◌∙◌, Option, Some, None, Result, Ok, Err, arith}
 use Rattle.std.specs.Prelude.{nat_lt, not, is_none, is_err}
-use Rattle.std.specs.Str.{bytes_eq}
-use Rattle.std.proofs.lemmas.Bool.{cases_Bool, ltb-true}
-use Rattle.pg_text.specs.Faults.{and_then, least, reading}
-use Rattle.pg_text.specs.Text.{Bytes, lines}
-use Rattle.pg_text.proofs.Reading.{first_fault, is_least}
-use Rattle.pg_cert.specs.declared.cert.Version.TheVariants.{Two}
-use Rattle.pg_cert.specs.declared.node.Body.{Body}
+use Rattle.pg_image.proofs.Common.{bytes_eq, cases_Bool, ltb-true, and_then, least, reading, Bytes, lines, first_fault, is_least, Two, Body}
 use Rattle.pg_cert.specs.declared.node.Body.TheVariants as bodies
-use Rattle.pg_cert.specs.declared.node.Node.{Node}
-use Rattle.pg_cert_files.specs.CertFile.{behind, step, end_fault}
+use Rattle.pg_image.proofs.Common.{Node, behind, step, end_fault, Shape, node_of, formed, Fault}
 use Rattle.pg_cert_files.specs.FirstFault.{line_faults as version_2_faults}
-use Rattle.pg_cert_files.specs.Form.{Shape}
-use Rattle.pg_cert_files.specs.NodeLine.{node_of, formed}
-use Rattle.pg_cert_files.specs.declared.fault.Fault.{Fault}
 use Rattle.pg_cert_files.specs.declared.fault.Fault.TheVariants as faults
 use Rattle.pg_cert_files.specs.declared.progress.Due.{Due}
 use Rattle.pg_cert_files.specs.declared.progress.Due.TheVariants as due
-use Rattle.pg_cert_files.proofs.CertLimits.{Next}
+use Rattle.pg_image.proofs.Common.{Next, chosen, done}
 use Rattle.pg_cert_files.proofs.LeastFaults.{OnlyNumber, only_then, only_node, node_first, same, step_first, then_err}
-use Rattle.pg_cert_files.proofs.NodeLimits.{chosen, done}
 use Rattle.pg_image.specs.Print.{image_header}
 use Rattle.pg_image.specs.declared.node.ImageNode.{ImageNode}
 use Rattle.pg_image.specs.FirstFault.{node_faults, line_faults, IsFirstFault}

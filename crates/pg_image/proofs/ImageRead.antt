@@ -1,15 +1,12 @@
 -- The line of an image that is read as that of a move.
 use Rattle.std.proofs.Common.{◌≡◌, Option, Some, Result, Ok, Err, sym, ap, subst, ◌∙◌}
-use Rattle.pg_cert.specs.declared.node.Node.{Node}
-use Rattle.pg_cert.specs.declared.part.Part.{Part}
+use Rattle.pg_image.proofs.Common.{Node, Part}
 use Rattle.pg_cert.specs.declared.part.Part.TheVariants as part
 use Rattle.pg_text.specs.Faults.{Fails, Gives, and_then}
 use Rattle.pg_text.specs.declared.error.LineError.{LineError}
 use Rattle.pg_text.specs.declared.error.LineError.TheVariants as errors
-use Rattle.pg_cert_files.specs.Form.{Shape, turn_of}
+use Rattle.pg_image.proofs.Common.{Shape, turn_of, formed, Fault}
 use Rattle.pg_cert_files.specs.Outline.{read_node, node_part}
-use Rattle.pg_cert_files.specs.NodeLine.{formed}
-use Rattle.pg_cert_files.specs.declared.fault.Fault.{Fault}
 use Rattle.pg_cert_files.specs.declared.form.Form.TheVariants as forms
 use Rattle.pg_cert_files.specs.declared.turn.Turn.{Turn}
 use Rattle.pg_cert_files.proofs.Outlines.{node_formed}

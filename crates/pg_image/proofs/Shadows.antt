@@ -2,24 +2,10 @@
 -- limits of the format ask the same.
 use Rattle.std.proofs.Common.{◌≡◌, ℕ, ◌<◌, List, [], ◌∷◌, ◌++◌, length, map, refl, sym, ap, ◌∙◌, Option, Some, None, arith, true}
 use Rattle.std.specs.Prelude.{fold}
-use Rattle.std.specs.FinSet.{FinSet}
-use Rattle.std.specs.List.{AllByRecursion}
-use Rattle.std.specs.Ordering.{nat_cmp}
-use Rattle.std.proofs.lemmas.List.{append-nil, length-map, map-append}
-use Rattle.std.proofs.lemmas.List.Elements.{All-from_recursion, recursion_from_All}
-use Rattle.std.proofs.lemmas.List.Sums.{sum_by-cons}
-use Rattle.pg_base.specs.declared.side.Side.{Side}
-use Rattle.pg_cert.specs.Limits.{IsNode, IsClaim, IsWithinLimits, has_body, node_count}
-use Rattle.pg_cert.specs.declared.cert.Claim.{Claim}
-use Rattle.pg_cert.specs.declared.cert.Version.{Version}
-use Rattle.pg_cert.specs.declared.cert.Version.TheVariants.{One, Two}
-use Rattle.pg_cert.specs.declared.node.Body.TheVariants.{Move}
-use Rattle.pg_cert.specs.declared.node.Node.{Node}
-use Rattle.pg_cert.specs.declared.part.Part.{Part}
+use Rattle.pg_image.proofs.Common.{FinSet, AllByRecursion, nat_cmp, append-nil, length-map, map-append, All-from_recursion, recursion_from_All, sum_by-cons, Side, IsNode, IsClaim, IsWithinLimits, has_body, node_count, Claim, Version, One, Two, Move, Node, Part}
 use Rattle.pg_cert.specs.declared.part.Part.TheVariants as parts
-use Rattle.pg_cert_files.specs.CertFile.{Gathered, listed, with_part as gathered_with, closed as all_gathered}
-use Rattle.pg_cert_files.specs.declared.head.Head.{Head}
-use Rattle.pg_cert_files.specs.declared.progress.Progress.{Progress}
+use Rattle.pg_image.proofs.Common.{Gathered, listed, Head, Progress}
+use Rattle.pg_cert_files.specs.CertFile.{with_part as gathered_with, closed as all_gathered}
 use Rattle.pg_image.specs.Limits.{IsMarked, IsImageNode, IsImageClaim, IsImageWithinLimits, image_node_count}
 use Rattle.pg_image.specs.declared.cert.ImageClaim.{ImageClaim}
 use Rattle.pg_image.specs.declared.node.ImageNode.{ImageNode}

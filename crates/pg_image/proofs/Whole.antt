@@ -1,14 +1,10 @@
 -- What the lines say is what the file says.
 use Rattle.std.proofs.Common.{◌≡◌, ℕ, ◌+◌, ◌≤◌, false, List, length, Result, Ok, Err, refl, arith}
 use Rattle.std.specs.Prelude.{nat_lt}
-use Rattle.std.proofs.lemmas.Bool.Decides.{nat_tests}
-use Rattle.pg_text.specs.Faults.{and_then, reading, IsReadAs as IsReadBy}
-use Rattle.pg_text.specs.Text.{Bytes, lines}
-use Rattle.pg_text.specs.declared.error.FileError.{FileError}
+use Rattle.pg_image.proofs.Common.{nat_tests, and_then, reading, Bytes, lines, FileError, end_fault, Fault}
+use Rattle.pg_text.specs.Faults.{IsReadAs as IsReadBy}
 use Rattle.pg_text.specs.declared.error.FileError.TheVariants.{Bad, Memory}
-use Rattle.pg_cert_files.specs.CertFile.{end_fault}
 use Rattle.pg_cert_files.specs.Views.{number_of}
-use Rattle.pg_cert_files.specs.declared.fault.Fault.{Fault}
 use Rattle.pg_image.specs.ImageFile.{Draft, nothing, after, ended, said, image_certificate}
 
 -- a file that isn't too large

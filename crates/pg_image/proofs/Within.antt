@@ -1,33 +1,17 @@
 -- A certificate that is read is within the limits.
 use Rattle.std.proofs.Common.{◌≡◌, ℕ, zero, suc, ◌+◌, inl, inr, List, [], ◌∷◌, ◌++◌, length, map, refl, sym, ap, subst, Option, Some, None, Result, Ok, Err, arith}
 use Rattle.std.specs.Prelude.{IfOk, nat_lt, fold}
-use Rattle.std.specs.Str.{bytes_eq}
-use Rattle.pg_text.specs.Faults.{and_then, go_on, reading}
-use Rattle.pg_text.specs.Text.{Bytes, lines}
-use Rattle.pg_text.specs.declared.error.FileError.{FileError}
-use Rattle.pg_cert.specs.Limits.{IsBody, IsNode}
-use Rattle.pg_cert.specs.declared.cert.Claim.{Claim}
-use Rattle.pg_cert.specs.declared.cert.Version.{Version}
-use Rattle.pg_cert.specs.declared.cert.Version.TheVariants.{Two}
-use Rattle.pg_cert.specs.declared.node.Body.{Body}
+use Rattle.pg_image.proofs.Common.{bytes_eq, and_then, go_on, reading, Bytes, lines, FileError, IsBody, IsNode, Claim, Version, Two, Body}
 use Rattle.pg_cert.specs.declared.node.Body.TheVariants as bodies
-use Rattle.pg_cert.specs.declared.node.Node.{Node}
-use Rattle.pg_cert.specs.declared.part.Part.{Part}
+use Rattle.pg_image.proofs.Common.{Node, Part}
 use Rattle.pg_cert.specs.declared.part.Part.TheVariants as parts
-use Rattle.pg_cert_files.specs.CertFile.{Gathered, behind, step, end_fault, listed, with_part as gathered_with, closed as all_gathered}
-use Rattle.pg_cert_files.specs.Form.{Shape, turn_of}
-use Rattle.pg_cert_files.specs.NodeLine.{formed}
-use Rattle.pg_cert_files.specs.Views.{IsReadAs}
-use Rattle.pg_cert_files.specs.declared.fault.Fault.{Fault}
+use Rattle.pg_image.proofs.Common.{Gathered, behind, step, end_fault, listed, Shape, turn_of, formed, IsReadAs, Fault}
+use Rattle.pg_cert_files.specs.CertFile.{with_part as gathered_with, closed as all_gathered}
 use Rattle.pg_cert_files.specs.declared.fault.Fault.TheVariants as faults
 use Rattle.pg_cert_files.specs.declared.form.Form.TheVariants as forms
 use Rattle.pg_cert_files.specs.declared.progress.Due.{Due}
 use Rattle.pg_cert_files.specs.declared.progress.Due.TheVariants as due
-use Rattle.pg_cert_files.specs.declared.progress.Progress.{Progress}
-use Rattle.pg_cert_files.specs.declared.turn.Turn.{Turn}
-use Rattle.pg_cert_files.proofs.CertLimits.{AreTold, IsSound, Next, sound_headed, sound_step, node_comes, node_ends, behind_more, end_of, told_within}
-use Rattle.pg_cert_files.proofs.NodeLimits.{done, ok_is, err_not, then_ok, chosen, IsFit, IsRead, IsTold, formed_ok, with_form_ok, turn_ok}
-use Rattle.pg_maps.specs.GridMaps.{numbered}
+use Rattle.pg_image.proofs.Common.{Progress, Turn, AreTold, IsSound, Next, sound_headed, sound_step, node_comes, node_ends, behind_more, end_of, told_within, done, ok_is, err_not, then_ok, chosen, IsFit, IsRead, IsTold, formed_ok, with_form_ok, turn_ok, numbered}
 use Rattle.pg_image.specs.Limits.{IsImageWithinLimits}
 use Rattle.pg_image.specs.Print.{image_header}
 use Rattle.pg_image.specs.declared.cert.ImageCert.{ImageCert}

@@ -1,11 +1,7 @@
 -- What the first fault of a file of version 3 is, in words of its lines.
 use Rattle.std.specs.Prelude.{◌≡◌, ℕ, ◌+◌, ◌⊎◌, Bool, not, is_none, is_err, List, [], ◌∷◌, ◌++◌, length, Option, Some, None, Ok}
-use Rattle.std.specs.Str.{bytes_eq}
-use Rattle.pg_text.specs.Faults.{IsLeast, reading}
-use Rattle.pg_text.specs.Text.{Bytes, lines}
-use Rattle.pg_cert_files.specs.CertFile.{end_fault}
+use Rattle.pg_image.specs.Prelude.{bytes_eq, IsLeast, reading, Bytes, lines, end_fault, Fault}
 use Rattle.pg_cert_files.specs.FirstFault.{line_faults as version_2_faults, IsTooLarge}
-use Rattle.pg_cert_files.specs.declared.fault.Fault.{Fault}
 use Rattle.pg_cert_files.specs.declared.fault.Fault.TheVariants as faults
 use Rattle.pg_cert_files.specs.declared.progress.Due.{Due}
 use Rattle.pg_cert_files.specs.declared.progress.Due.TheVariants as due

@@ -1,18 +1,11 @@
 -- Certificate files of version 3: which line is due, what each line adds, and the first fault. All
 -- lines but the first and those of images are read as in version 2.
 use Rattle.std.specs.Prelude.{ℕ, ◌+◌, nat_lt, if◌then◌else◌, List, [], ◌∷◌, ◌++◌, length, Option, Some, None, Result, Ok, Err}
-use Rattle.std.specs.Str.{bytes_eq}
-use Rattle.pg_text.specs.Faults.{and_then, reading}
-use Rattle.pg_text.specs.Text.{Bytes, lines}
-use Rattle.pg_cert.specs.declared.cert.Version.TheVariants.{Two}
-use Rattle.pg_cert.specs.declared.part.Part.{Part}
+use Rattle.pg_image.specs.Prelude.{bytes_eq, and_then, reading, Bytes, lines, Two, Part}
 use Rattle.pg_cert.specs.declared.part.Part.TheVariants as parts
-use Rattle.pg_cert_files.specs.CertFile.{start, behind, step, end_fault}
-use Rattle.pg_cert_files.specs.declared.fault.Fault.{Fault}
+use Rattle.pg_image.specs.Prelude.{start, behind, step, end_fault, Fault}
 use Rattle.pg_cert_files.specs.declared.fault.Fault.TheVariants as faults
-use Rattle.pg_cert_files.specs.declared.head.Head.{Head}
-use Rattle.pg_cert_files.specs.declared.limits.TheConstants.{MAX_CERT_BYTES}
-use Rattle.pg_cert_files.specs.declared.progress.Due.{Due}
+use Rattle.pg_image.specs.Prelude.{Head, MAX_CERT_BYTES, Due}
 use Rattle.pg_cert_files.specs.declared.progress.Due.TheVariants as due
 use Rattle.pg_cert_files.specs.declared.progress.Progress.{Progress}
 use Rattle.pg_image.specs.Print.{image_header}

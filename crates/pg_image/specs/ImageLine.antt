@@ -1,21 +1,10 @@
 -- The line of an image: the line of a move, with the word `image` for `move` and the number of a
 -- map for the point.
 use Rattle.std.specs.Prelude.{nat_lt, if◌then◌else◌, List, [], ◌∷◌, Option, Some, None, Result, Ok, Err, codes}
-use Rattle.std.specs.Str.{bytes_eq}
-use Rattle.pg_base.specs.declared.signs.TheConstants.{BAR, SPACE}
-use Rattle.pg_text.specs.Faults.{and_then}
-use Rattle.pg_text.specs.Text.{Bytes, Four, parts, four_parts}
-use Rattle.pg_cert.specs.declared.node.Body.{Body}
-use Rattle.pg_cert.specs.declared.node.Body.TheVariants.{Move}
-use Rattle.pg_cert.specs.declared.node.Node.{Node}
-use Rattle.pg_cert_files.specs.Form.{Shape, turn_of, with_form}
-use Rattle.pg_cert_files.specs.NodeLine.{formed}
-use Rattle.pg_cert_files.specs.declared.fault.Fault.{Fault}
+use Rattle.pg_image.specs.Prelude.{bytes_eq, BAR, SPACE, and_then, Bytes, Four, parts, four_parts, Body, Move, Node, Shape, turn_of, with_form, formed, Fault}
 use Rattle.pg_cert_files.specs.declared.fault.Fault.TheVariants as faults
 use Rattle.pg_cert_files.specs.declared.form.Form.TheVariants as forms
-use Rattle.pg_cert_files.specs.declared.turn.Turn.{Turn}
-use Rattle.pg_maps.specs.GridMaps.{numbered}
-use Rattle.pg_maps.specs.declared.grid_map.TheConstants.{MAP_COUNT}
+use Rattle.pg_image.specs.Prelude.{Turn, numbered, MAP_COUNT}
 use Rattle.pg_image.specs.declared.node.ImageNode.{ImageNode}
 use Rattle.pg_image.specs.declared.node.ImageNode.TheVariants.{Image}
 

@@ -1,3 +1,4 @@
+pub mod Prelude
 pub mod Node
 pub mod Limits
 pub mod Print

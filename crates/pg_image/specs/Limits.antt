@@ -1,11 +1,7 @@
 -- Certificates with images within the ranges, orders and limits of the format.
 use Rattle.std.specs.Prelude.{◌≡◌, ℕ, ◌<◌, ◌≤◌, true, false, List, length, sum_by}
-use Rattle.std.specs.FinSet.{FinSet, contains}
-use Rattle.std.specs.List.{All}
-use Rattle.std.specs.Ordering.{nat_cmp}
-use Rattle.pg_base.specs.declared.side.Side.{Side}
+use Rattle.pg_image.specs.Prelude.{FinSet, contains, All, nat_cmp, Side, ArePoints, IsTurn, IsNode}
 use Rattle.pg_cert.specs.declared.limits.TheConstants.{MAX_CLAIMS, MAX_CLAIM_NODES, MAX_NODES}
-use Rattle.pg_cert.specs.Limits.{ArePoints, IsTurn, IsNode}
 use Rattle.pg_image.specs.declared.node.ImageNode.{ImageNode}
 use Rattle.pg_image.specs.declared.node.ImageNode.TheVariants.{Plain, Image}
 use Rattle.pg_image.specs.declared.cert.ImageClaim.{ImageClaim}

@@ -1,17 +1,8 @@
 -- The printed text of a certificate with images.
 use Rattle.std.specs.Prelude.{ℕ, List, [], ◌∷◌, ◌++◌, length, codes}
-use Rattle.std.specs.FinSet.{FinSet}
-use Rattle.std.specs.Fmt.{decimal}
-use Rattle.std.specs.List.{flat_map}
-use Rattle.std.specs.Ordering.{nat_cmp}
-use Rattle.pg_base.specs.declared.signs.TheConstants.{BAR, LINE_FEED}
-use Rattle.pg_base.specs.declared.side.Side.{Side}
+use Rattle.pg_image.specs.Prelude.{FinSet, decimal, flat_map, nat_cmp, BAR, LINE_FEED, Side, Bytes, spaced, set_words, turn_word, node_text, count_words, GridMap, number_of}
 use Rattle.pg_base.specs.Side.{side_word}
 use Rattle.pg_base.specs.Goal.{goal_word}
-use Rattle.pg_text.specs.Text.{Bytes, spaced}
-use Rattle.pg_cert.specs.Print.{set_words, turn_word, node_text, count_words}
-use Rattle.pg_maps.specs.declared.grid_map.GridMap.{GridMap}
-use Rattle.pg_maps.specs.GridMaps.{number_of}
 use Rattle.pg_image.specs.declared.node.ImageNode.{ImageNode}
 use Rattle.pg_image.specs.declared.node.ImageNode.TheVariants.{Plain, Image}
 use Rattle.pg_image.specs.declared.cert.ImageClaim.{ImageClaim}

@@ -1,8 +1,6 @@
 //! What the lines of a certificate have said so far.
 ghost use Rattle.std.specs.Prelude.{◌≡◌, IfOk};
-ghost use Rattle.pg_text.specs.Faults.{Gives};
-ghost use Rattle.pg_cert_files.specs.CertFile.{end_fault};
-ghost use Rattle.pg_cert_files.specs.Views.{IsReadAs};
+ghost use Rattle.pg_image.specs.Prelude.{Gives, end_fault, IsReadAs};
 ghost use Rattle.pg_image.specs.ImageFile.{nothing, closed, header_line, with_node, with_part, plain_line, image_added, after, ended};
 ghost use Rattle.pg_image.specs.Views.{view, line_view};
 

@@ -1,8 +1,6 @@
 //! The line of an image.
 ghost use Rattle.std.specs.Prelude.{◌≡◌, nat_lt, if◌then◌else◌, Some, None, option_map};
-ghost use Rattle.pg_text.specs.Faults.{Gives};
-ghost use Rattle.pg_maps.specs.GridMaps.{numbered};
-ghost use Rattle.pg_maps.specs.declared.grid_map.TheConstants.{MAP_COUNT};
+ghost use Rattle.pg_image.specs.Prelude.{Gives, numbered, MAP_COUNT};
 ghost use Rattle.pg_image.specs.ImageLine.{image_line, image_by, image_said};
 ghost use Rattle.pg_image.specs.Views.{line_view};
 

@@ -1,8 +1,7 @@
 //! What holds of the definition of reading: its faults, its limits, and that it takes back what is
 //! printed.
 ghost use Rattle.std.specs.Prelude.{◌≡◌, ◌≤◌, ℕ, List, length, Ok, Err};
-ghost use Rattle.pg_cert_files.specs.declared.fault.Fault.{Fault};
-ghost use Rattle.pg_cert_files.specs.declared.limits.TheConstants.{MAX_CERT_BYTES};
+ghost use Rattle.pg_image.specs.Prelude.{Fault, MAX_CERT_BYTES};
 ghost use Rattle.pg_image.specs.Limits.{IsImageWithinLimits};
 ghost use Rattle.pg_image.specs.Print.{printed_image_certificate};
 ghost use Rattle.pg_image.specs.declared.cert.ImageCert.{ImageCert};

@@ -1,9 +1,6 @@
 //! The text of a certificate with images.
 ghost use Rattle.std.specs.Prelude.{◌≡◌, ◌++◌, ◌∷◌, [], length, OnOk, IfOk, string_bytes};
-ghost use Rattle.std.specs.List.{All, flat_map};
-ghost use Rattle.pg_base.specs.declared.signs.TheConstants.{LINE_FEED};
-ghost use Rattle.pg_text.specs.Text.{spaced};
-ghost use Rattle.pg_cert.specs.Print.{separated, set_words, turn_word, count_words};
+ghost use Rattle.pg_image.specs.Prelude.{All, flat_map, LINE_FEED, spaced, separated, set_words, turn_word, count_words};
 ghost use Rattle.pg_image.specs.Limits.{IsImageNode, IsImageClaim, IsImageWithinLimits};
 ghost use Rattle.pg_image.specs.Print.{position_fields, image_words, image_node_text, image_claim_words, image_claim_text, printed_image_certificate};
 

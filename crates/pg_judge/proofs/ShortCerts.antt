@@ -1,30 +1,22 @@
 -- A certificate that is cut short has the first fault of the whole one, for every game.
 use Rattle.std.proofs.Common.{◌≡◌, ◌∙◌, ◌↔◌, ℕ, suc, ◌+◌, ◌<◌, ◌≤◌, Bool, true, false, List, [], ◌∷◌, ◌++◌, length, map, get_or, Option, Some, None, Result, Ok, Err, slice_get, refl, sym, ap, ap₂, subst, inl, inr, arith}
 use Rattle.std.specs.Prelude.{◌||◌, ◌==◌, option_map, IsErrAnd, MatchResult}
+use Rattle.pg_judge.proofs.Common.{append-nil, length-map, Game, AreSoundBefore, FollowMoves, FollowsMove, HasWeaker, IsFirstFault, IsInGame, IsLeastFault, IsNodeOf, IsOwed, IsSound, IsValid, IsValidClaim, Passes, Cert, Claim, Node}
 use Rattle.std.specs.List.{AllPairs, list_any, slice_index_or}
 use Rattle.std.proofs.lemmas.Bool.{cases_Bool, eqb-true, or_cases}
-use Rattle.std.proofs.lemmas.List.{append-nil, length-map}
 use Rattle.std.proofs.lemmas.Option.{slice_get-map}
 use Rattle.pg_base.specs.declared.pair.Pair.{Pair}
 use Rattle.pg_base.specs.declared.side.Side.{Side}
 use Rattle.pg_game.specs.Pairs.{PairsHold, SharesNone, has_point}
-use Rattle.pg_game.specs.declared.game.Game.{Game}
 use Rattle.pg_game.specs.declared.position.Position.{Position}
 use Rattle.pg_game.specs.Weaker.{IsNoWorse}
 use Rattle.pg_cert.specs.Node.{position_of}
 use Rattle.pg_cert.specs.NodeFault.{fault_number}
-use Rattle.pg_cert.specs.Valid.{AreSoundBefore, FollowMoves, FollowsMove, HasWeaker, IsFirstFault, IsInGame, IsLeastFault, IsNodeOf, IsOwed, IsSound, IsValid, IsValidClaim, Passes}
-use Rattle.pg_cert.specs.declared.cert.Cert.{Cert}
-use Rattle.pg_cert.specs.declared.cert.Claim.{Claim}
 use Rattle.pg_cert.specs.declared.node.Body.{Body}
 use Rattle.pg_cert.specs.declared.node.Body.TheVariants.{Over, Move, All, Pairs, Potential, Trees, Cuts, Threat, Weaker}
-use Rattle.pg_cert.specs.declared.node.Node.{Node}
 use Rattle.pg_cert.specs.declared.node_fault.NodeFault.{NodeFault}
 use Rattle.pg_cert.specs.declared.node_fault.NodeFault.TheVariants as faults
-use Rattle.pg_cert_files.specs.Shortened.{clash, share, short_body, short_cert, short_claim, short_node, short_pairs, twice}
-use Rattle.pg_cert_files.specs.CertFile.{certificate}
-use Rattle.pg_cert_files.specs.Shortened.{short_result}
-use Rattle.pg_cert_files.specs.Views.{number_of}
+use Rattle.pg_judge.proofs.Common.{clash, share, short_body, short_cert, short_claim, short_node, short_pairs, twice, certificate, short_result, number_of}
 use Rattle.pg_cert_files.specs.declared.fault.Fault.{Fault}
 use Rattle.pg_cert_files.specs.declared.fault.Fault.TheVariants as form_faults
 use Rattle.pg_cert_files.specs.declared.limits.TheConstants.{MAX_CERT_BYTES}

@@ -1,8 +1,6 @@
 -- What claims say before their nodes.
 use Rattle.std.specs.Prelude.{List, [], ◌∷◌, length, map}
-use Rattle.pg_cert.specs.declared.cert.Cert.{Cert}
-use Rattle.pg_cert.specs.declared.cert.Claim.{Claim}
-use Rattle.pg_cert.specs.declared.part.Part.{Part}
+use Rattle.pg_judge.specs.Prelude.{Cert, Claim, Part}
 use Rattle.pg_cert.specs.declared.part.Part.TheVariants as parts
 use Rattle.pg_judge.specs.declared.claim_head.ClaimHead.{ClaimHead}
 

@@ -3,17 +3,7 @@ use Rattle.std.specs.Prelude.{◌≡◌, ◌≤◌, length, List, [], ◌∷◌,
 use Rattle.pg_base.specs.Texts.{Bytes}
 use Rattle.pg_text.specs.declared.error.FileError.{FileError}
 use Rattle.pg_text.specs.declared.error.FileError.TheVariants as outcomes
-use Rattle.pg_game.specs.declared.game.Game.{Game}
-use Rattle.pg_cert.specs.Limits.{IsWithinLimits}
-use Rattle.pg_cert.specs.Parts.{BeginCert, parts_of}
-use Rattle.pg_cert.specs.Valid.{IsFirstFault, IsValid}
-use Rattle.pg_cert.specs.declared.cert.Cert.{Cert}
-use Rattle.pg_cert.specs.declared.part.Part.{Part}
-use Rattle.pg_cert_files.specs.CertFile.{certificate}
-use Rattle.pg_cert_files.specs.Pieces.{IsFed, parts_told, size_of}
-use Rattle.pg_cert_files.specs.Shortened.{AreAlike}
-use Rattle.pg_cert_files.specs.Views.{number_of}
-use Rattle.pg_cert_files.specs.declared.cert_state.CertReader.{CertReader}
+use Rattle.pg_judge.specs.Prelude.{Game, IsWithinLimits, BeginCert, parts_of, IsFirstFault, IsValid, Cert, Part, certificate, IsFed, parts_told, size_of, AreAlike, number_of, CertReader}
 use Rattle.pg_check.specs.Checking.{StandsFor as IsChecked}
 use Rattle.pg_judge.specs.Heads.{heads_in, heads_of}
 use Rattle.pg_judge.specs.declared.claim_head.ClaimHead.{ClaimHead}

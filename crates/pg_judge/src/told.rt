@@ -1,11 +1,6 @@
 //! What the parts of a certificate have said.
 ghost use Rattle.std.specs.Prelude.{◌≡◌, ◌++◌, [], ◌∷◌, List, IfOk, IfSome, MatchResult};
-ghost use Rattle.pg_cert.specs.Limits.{IsWithinLimits};
-ghost use Rattle.pg_cert.specs.Parts.{parts_of};
-ghost use Rattle.pg_cert.specs.Valid.{IsFirstFault, IsValid};
-ghost use Rattle.pg_cert.specs.declared.cert.Cert.{Cert};
-ghost use Rattle.pg_cert.specs.declared.part.Part.{Part};
-ghost use Rattle.pg_cert_files.specs.CertFile.{listed};
+ghost use Rattle.pg_judge.specs.Prelude.{IsWithinLimits, parts_of, IsFirstFault, IsValid, Cert, Part, listed};
 ghost use Rattle.pg_judge.specs.Heads.{heads_in, heads_of};
 ghost use Rattle.pg_judge.specs.Judged.{HasTold, IsComplete, IsDue};
 

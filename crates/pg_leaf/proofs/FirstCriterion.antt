@@ -1,31 +1,14 @@
 -- What each criterion answers, and the leaf that shows it.
 use Rattle.std.proofs.Common.{◌≡◌, ◌≢◌, ℕ, zero, suc, ◌<◌, ◌%◌, Bool, true, false, ◌&&◌, ◌==◌, Option, Some, None, option_map, List, [], ◌∷◌, length, get_or, refl, sym, ap, ◌∙◌, subst, inl, inr, arith, if◌then◌else◌}
-use Rattle.std.proofs.lemmas.Bool.{cases_Bool, false≢true, cond-true, cond-false, and_parts, and_from, ltb-true, eq-eqb}
-use Rattle.std.specs.List.{All}
+use Rattle.pg_leaf.proofs.Common.{cases_Bool, false≢true, cond-true, cond-false, and_parts, and_from, ltb-true, eq-eqb, All, MakerBreaker, MakerMaker, AvoiderEnforcer, Switching, Pair, Score, Side, Game, Position, is_over, outcome, outcome_by, has_filled, short_joins, after, IsPosition, PairsHold, may_attack, LeadsToLine, IsThreatLine, Criterion, decided, answer_by, first_criterion, at_least, by_end, claimer, claimed_goal, answer_for, defender, defends, attack_wins, pairs_exist, IsQuestion, point_count-le, IsPair, shows_defence, pairs_fit, PotentialFits, Over, Pairs, Potential, Threat, some≢none, same_some, ByEnd, ByPotential, ByThreat, ByPairs}
 use Rattle.pg_base.specs.declared.kind.Kind.{Kind}
-use Rattle.pg_base.specs.declared.kind.Kind.TheVariants.{MakerBreaker, MakerMaker, AvoiderEnforcer, Switching}
-use Rattle.pg_base.specs.declared.pair.Pair.{Pair}
-use Rattle.pg_base.specs.declared.score.Score.{Score}
 use Rattle.pg_base.specs.declared.score.Score.TheVariants.{XWins, Draw, YWins}
-use Rattle.pg_base.specs.declared.side.Side.{Side}
 use Rattle.pg_base.specs.declared.side.Side.TheVariants.{X, Y}
-use Rattle.pg_game.specs.declared.game.Game.{Game}
-use Rattle.pg_game.specs.declared.position.Position.{Position}
-use Rattle.pg_game.specs.Game.{is_over, outcome, outcome_by, has_filled, short_joins, after, IsPosition}
 use Rattle.pg_game.specs.Value.{reaches}
-use Rattle.pg_game.specs.Pairs.{PairsHold}
 use Rattle.pg_game.specs.Potential.{PotentialHolds, potential_holds}
 use Rattle.pg_game.specs.Avoider.{AvoiderHolds, avoider_holds}
-use Rattle.pg_game.specs.Threat.{may_attack, LeadsToLine, IsThreatLine}
-use Rattle.pg_game.specs.Decided.{Criterion, decided, answer_by, first_criterion, at_least, by_end, claimer, claimed_goal, answer_for, defender, defends, attack_wins, pairs_exist, IsQuestion}
-use Rattle.pg_game.proofs.Limits.{point_count-le}
 use Rattle.pg_game.proofs.ThreatLaws.{near-from, near-range}
-use Rattle.pg_cert.specs.Limits.{IsPair}
-use Rattle.pg_cert.specs.Valid.{shows_defence, pairs_fit, PotentialFits}
-use Rattle.pg_cert.specs.declared.node.Body.TheVariants.{Over, Pairs, Potential, Threat}
-use Rattle.pg_base.proofs.Stands.{some≢none, same_some}
 use Rattle.pg_leaf.specs.Leaf.{IsLeaf, IsAttackLine}
-use Rattle.pg_game.specs.Decided.Criterion.{ByEnd, ByPotential, ByThreat, ByPairs}
 
 -- ---- the order of the criteria, as tests
 

@@ -1,28 +1,11 @@
 -- A claim's nodes without those that its root doesn't reach: what is marked, and what is kept.
 use Rattle.std.proofs.Common.{◌≡◌, ℕ, suc, ◌+◌, ◌<◌, ◌≤◌, Bool, true, false, Some, List, [], ◌∷◌, ◌++◌, map, length, get_or, take, refl, sym, ap, ◌∙◌, subst, inl, inr, ◌⊎◌, arith, slice_get, slice_set, length-append}
-use Rattle.std.proofs.Math.ListN.{replicate, length-set, length-replicate}
-use Rattle.std.proofs.lemmas.Bool.{cases_eq, cases_Bool, false≢true}
-use Rattle.std.proofs.lemmas.List.{take_more, get_or-replicate}
-use Rattle.std.proofs.lemmas.List.Elements.{All-contains}
-use Rattle.std.proofs.lemmas.Option.{slice_get_within, slice_get-get_or, get_or_from_slice_get}
-use Rattle.pg_base.specs.declared.goal.Goal.{Goal}
-use Rattle.pg_base.specs.declared.side.Side.{Side}
-use Rattle.pg_game.specs.declared.game.Game.{Game}
-use Rattle.pg_game.specs.declared.position.Position.{Position}
-use Rattle.pg_game.specs.Position.{is_free}
-use Rattle.pg_game.specs.Game.{after, point_count}
-use Rattle.pg_cert.specs.Node.{position_of}
+use Rattle.pg_leaf.proofs.Common.{replicate, length-set, length-replicate, cases_eq, cases_Bool, false≢true, take_more, get_or-replicate, All-contains, slice_get_within, slice_get-get_or, get_or_from_slice_get, Goal, Side, Game, Position, is_free, after, point_count, position_of, IsNodeOf, NamesEarlier, Body, Over, Move, Pairs, Potential, Trees, Cuts, Threat, Weaker, Node, Reply, IsMarked, at_contains, contains_at, contains_push, contains_old, at_new, at_old, at_push, at_set_other, at_set_same, map-same_at, one_at, some≢none}
 use Rattle.pg_text.specs.Text.{ascend_from}
-use Rattle.pg_cert.specs.Valid.{IsNodeOf, NamesEarlier}
-use Rattle.pg_cert.specs.declared.node.Body.{Body}
-use Rattle.pg_cert.specs.declared.node.Body.TheVariants.{Over, Move, All as AllReplies, Pairs, Potential, Trees, Cuts, Threat, Weaker}
-use Rattle.pg_cert.specs.declared.node.Node.{Node}
-use Rattle.pg_cert.specs.declared.reply.Reply.{Reply}
+use Rattle.pg_cert.specs.declared.node.Body.TheVariants.{All as AllReplies}
 use Rattle.pg_leaf.specs.Sound.{BodyHolds}
-use Rattle.pg_base.specs.Sets.{IsMarked}
 use Rattle.pg_leaf.specs.Pruned.{AreMarked, AreNamed, AreRenumbered, IsKept, IsMoved, IsPruned, IsSource, MarksMore, Names, Renumbers}
 use Rattle.pg_leaf.proofs.Nodes.{nodes-push}
-use Rattle.pg_base.proofs.Stands.{at_contains, contains_at, contains_push, contains_old, at_new, at_old, at_push, at_set_other, at_set_same, map-same_at, one_at, some≢none}
 
 -- ---- one mark more, and those of replies
 

@@ -1,3 +1,4 @@
+mod Common
 pub mod FirstCriterion
 pub mod ShortCounts
 mod LiveWalk

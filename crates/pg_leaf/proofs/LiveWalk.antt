@@ -1,8 +1,6 @@
 -- The walk over live lines.
 use Rattle.std.proofs.Common.{◌≡◌, ℕ, Bool, Option, Some, None, IfSome, List, eqb, sym, subst}
-use Rattle.std.proofs.lemmas.Bool.{eqb-true}
-use Rattle.std.specs.List.{Contains, find}
-use Rattle.pg_game.proofs.Members.{member-from_any}
+use Rattle.pg_leaf.proofs.Common.{eqb-true, Contains, find, member-from_any}
 use Rattle.pg_board.proofs.Nearness.{found-any}
 
 -- what is found is a member

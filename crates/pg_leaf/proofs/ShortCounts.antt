@@ -1,23 +1,9 @@
 -- Where counts alone show that not each line meant can have two free points of its own.
 use Rattle.std.proofs.Common.{◌≡◌, ◌≢◌, ℕ, ◌*◌, ◌<◌, ◌≤◌, Bool, true, false, cond, not, ◌&&◌, refl, List, [], ◌∷◌, length, filter, ltb, sym, ap, ◌∙◌, subst, inl, inr, arith, eqb-true}
-use Rattle.std.proofs.lemmas.Bool.{and_parts, false_from_ne_true, ltb-true}
+use Rattle.pg_leaf.proofs.Common.{and_parts, false_from_ne_true, ltb-true, All, Contains, count_by, list_any, range_with_len, All-contains, All-filter, count, minus, Pair, Side, Game, Position, is_free, points_of, lines_of, free_points, is_touched, point_count, has_private_pairs, lines_meant, pairs_exist, avoider_can_pair, has_lines, lines-range, breaker_of, Contains-head, Contains-tail, Contains-filter, member-from_any, line_at, live_lines, live_with, is_live_with}
 use Rattle.std.proofs.lemmas.List.Sums.{length-filter, sum_by-cons}
-use Rattle.std.specs.List.{All, Contains, count_by, list_any, range_with_len}
-use Rattle.std.proofs.lemmas.List.Elements.{All-contains, All-filter}
-use Rattle.pg_base.specs.Sets.{count, minus}
 use Rattle.pg_base.proofs.SetLemmas.{minus_from, minus_parts, count_minus}
-use Rattle.pg_base.specs.declared.pair.Pair.{Pair}
-use Rattle.pg_base.specs.declared.side.Side.{Side}
-use Rattle.pg_game.specs.declared.game.Game.{Game}
-use Rattle.pg_game.specs.declared.position.Position.{Position}
-use Rattle.pg_game.specs.Position.{is_free, points_of}
-use Rattle.pg_game.specs.Game.{lines_of, free_points, is_touched, point_count}
-use Rattle.pg_game.specs.Decided.{has_private_pairs, lines_meant, pairs_exist, avoider_can_pair, has_lines}
-use Rattle.pg_game.proofs.Limits.{lines-range}
 use Rattle.pg_board.proofs.Digits.{count-all}
-use Rattle.pg_game.specs.Pairs.{breaker_of}
-use Rattle.pg_game.proofs.Members.{Contains-head, Contains-tail, Contains-filter, member-from_any}
-use Rattle.pg_board.specs.Board.{line_at, live_lines, live_with, is_live_with}
 use Rattle.pg_match.proofs.PrivateLaws.{IsPassingPair, Contains-parts, filter_member}
 use Rattle.pg_match.proofs.LeafLaws.{length-passed}
 

@@ -1,8 +1,6 @@
 -- A board and a position.
 use Rattle.std.specs.Prelude.{◌≡◌}
-use Rattle.pg_game.specs.declared.game.Game.{Game}
-use Rattle.pg_game.specs.declared.position.Position.{Position}
-use Rattle.pg_board.specs.Board.{View}
+use Rattle.pg_leaf.specs.Prelude.{Game, Position, View}
 
 -- the board stands at the position of the game
 pub record IsAt (g : Game) (p : Position) (b : View) : Type 0 where

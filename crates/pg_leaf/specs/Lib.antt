@@ -1,3 +1,4 @@
+pub mod Prelude
 pub mod At
 pub mod Leaf
 pub mod Order

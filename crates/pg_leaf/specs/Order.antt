@@ -1,9 +1,8 @@
 -- The order in which moves are gone through, as places in a list of moves, each of which is a point
 -- with something beside it.
 use Rattle.std.specs.Prelude.{◌≡◌, ◌≢◌, ℕ, ◌<◌, ◌≤◌, ◌⊎◌, List, Some, length, slice_get}
-use Rattle.std.specs.List.{Contains}
+use Rattle.pg_leaf.specs.Prelude.{Contains, MAX_POINTS}
 use Rattle.pg_leaf.specs.declared.order.Order.{Order}
-use Rattle.pg_game.specs.declared.bounds.TheConstants.{MAX_POINTS}
 
 -- the move at the place goes to the point
 abbrev pub IsPlaceOf : List (ℕ × ℕ) → ℕ → ℕ → Type 0

@@ -1,15 +1,7 @@
 -- The nodes of a claim that its root reaches, and the others left out.
 use Rattle.std.specs.Prelude.{◌≡◌, ℕ, suc, ◌<◌, ◌≤◌, ◌+◌, Bool, true, false, List, [], ◌∷◌, ◌++◌, length, slice_get, Some, ◌⊎◌}
-use Rattle.std.specs.List.{Contains}
-use Rattle.pg_base.specs.Sets.{IsMarked}
-use Rattle.pg_base.specs.declared.goal.Goal.{Goal}
-use Rattle.pg_base.specs.declared.side.Side.{Side}
-use Rattle.pg_game.specs.declared.game.Game.{Game}
-use Rattle.pg_cert.specs.Node.{position_of}
-use Rattle.pg_cert.specs.declared.node.Body.{Body}
-use Rattle.pg_cert.specs.declared.node.Body.TheVariants.{Move, All, Weaker}
-use Rattle.pg_cert.specs.declared.node.Node.{Node}
-use Rattle.pg_cert.specs.declared.reply.Reply.{Reply}
+use Rattle.pg_leaf.specs.Prelude.{Contains, IsMarked, Goal, Side, Game, position_of, Body, Move, Weaker, Node, Reply}
+use Rattle.pg_cert.specs.declared.node.Body.TheVariants.{All}
 use Rattle.pg_leaf.specs.Sound.{NodesHold}
 
 -- ---- marks

@@ -1,8 +1,6 @@
 //! The criteria that decide a position without search.
 ghost use Rattle.std.specs.Prelude.{◌≡◌, ◌≢◌, ◌<◌, ◌≤◌, Some, IfOk, IfSome, true, false, option_map, is_some, None};
-ghost use Rattle.pg_base.specs.declared.kind.Kind.TheVariants.{Switching};
-ghost use Rattle.pg_game.specs.Game.{lines_of, is_over, IsPosition};
-ghost use Rattle.pg_game.specs.Decided.{decided, answer_for, attack_wins, pairs_exist, IsQuestion};
+ghost use Rattle.pg_leaf.specs.Prelude.{Switching, lines_of, is_over, IsPosition, decided, answer_for, attack_wins, pairs_exist, IsQuestion};
 ghost use Rattle.pg_leaf.specs.At.{IsAt};
 ghost use Rattle.pg_match.specs.Cache.{Fits};
 ghost use Rattle.pg_threat.specs.Search.{points_of_line};

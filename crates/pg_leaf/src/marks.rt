@@ -1,12 +1,8 @@
 //! Marks on the nodes that the last one reaches.
 ghost use Rattle.std.specs.Prelude.{◌≡◌, ◌<◌, ◌≤◌, ℕ, true, false, Some, IfOk, length, slice_get};
-ghost use Rattle.std.specs.List.{All};
+ghost use Rattle.pg_leaf.specs.Prelude.{All, NamesEarlier, Node, IsMarked, MAX_CLAIM_NODES};
 ghost use Rattle.std.proofs.Math.ListN.{replicate};
-ghost use Rattle.pg_cert.specs.Valid.{NamesEarlier};
-ghost use Rattle.pg_cert.specs.declared.node.Node.{Node};
-ghost use Rattle.pg_base.specs.Sets.{IsMarked};
 ghost use Rattle.pg_leaf.specs.Pruned.{AreMarked, AreNamed, MarksMore, Names};
-ghost use Rattle.pg_cert.specs.declared.limits.TheConstants.{MAX_CLAIM_NODES};
 
 use pg_base::Memory;
 use pg_cert::{Body, Node, Reply};

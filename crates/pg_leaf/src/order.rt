@@ -1,8 +1,7 @@
 //! The order in which a position's moves are gone through.
 ghost use Rattle.std.specs.Prelude.{◌≡◌, ◌<◌, ℕ, IfOk, OnOk, Some, length, slice_get};
-ghost use Rattle.pg_game.specs.Game.{lines_of};
+ghost use Rattle.pg_leaf.specs.Prelude.{lines_of, MAX_POINTS};
 ghost use Rattle.pg_leaf.specs.Order.{IsOrder, IsPlaceOf, IsTaking, Takes};
-ghost use Rattle.pg_game.specs.declared.bounds.TheConstants.{MAX_POINTS};
 
 use pg_base::{Kind, Memory, Side};
 use pg_board::Board;

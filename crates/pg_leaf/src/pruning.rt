@@ -1,10 +1,7 @@
 //! The nodes that are kept, with new numbers of their children.
 ghost use Rattle.std.specs.Prelude.{◌≡◌, ◌<◌, ◌≤◌, ◌^◌, ℕ, Bool, List, Some, IfOk, OnOk, length, slice_get};
-ghost use Rattle.std.specs.List.{All};
-ghost use Rattle.pg_cert.specs.Valid.{NamesEarlier};
-ghost use Rattle.pg_cert.specs.declared.node.Node.{Node};
+ghost use Rattle.pg_leaf.specs.Prelude.{All, NamesEarlier, Node, MAX_CLAIM_NODES};
 ghost use Rattle.pg_leaf.specs.Pruned.{AreMarked, AreRenumbered, IsKept, IsPruned, Renumbers};
-ghost use Rattle.pg_cert.specs.declared.limits.TheConstants.{MAX_CLAIM_NODES};
 
 use crate::marks::{mark_needed, unmarked};
 use pg_base::{Memory, Pairs, Points};

@@ -1,28 +1,14 @@
 -- The sets that two settled bases give are trees and cuts in a game of spanning e, and what they
 -- make the class: one proof for graphs and for all other grounds.
 use Rattle.std.proofs.Common.{◌≡◌, ℕ, ◌<◌, ◌≤◌, suc, Bool, true, false, not, ◌⊎◌, inl, inr, refl, sym, subst, subst₂, arith, Some}
-use Rattle.std.proofs.lemmas.Bool.{both_ways, cases_Bool, cases_lt, and_from, false_from_ne_true, not-true, not_from_false}
-use Rattle.std.specs.FinSet.{FinSet, contains}
-use Rattle.std.specs.Ordering.{nat_cmp}
+use Rattle.pg_lehman.proofs.Common.{both_ways, cases_Bool, cases_lt, and_from, false_from_ne_true, not-true, not_from_false, FinSet, contains, nat_cmp, both, either, outside, below, IsWithin, IsBelow, Win, XWins, Draw, YWins, Side, X, Y, plus_cases, plus_old, plus_new, both_parts, both_from, either_cases, either_left, either_right, outside_parts, outside_from, IsSpan, IsTrees, IsCuts, AreBases, Matroid, Position, class_by, kept, span_rules, IsPlace, AreFreeOrE, AreFree, AreSpanTrees, AreSpanCuts}
 use Rattle.pg_base.specs.Points.{ShareNone}
-use Rattle.pg_base.specs.Sets.{both, either, outside, below, IsWithin, IsBelow}
-use Rattle.pg_base.specs.declared.goal.Goal.TheVariants.{Win}
 use Rattle.pg_base.specs.declared.score.Score.{Score}
-use Rattle.pg_base.specs.declared.score.Score.TheVariants.{XWins, Draw, YWins}
-use Rattle.pg_base.specs.declared.side.Side.{Side}
-use Rattle.pg_base.specs.declared.side.Side.TheVariants.{X, Y}
-use Rattle.pg_base.proofs.SetLemmas.{plus_cases, plus_old, plus_new, both_parts, both_from, either_cases, either_left, either_right, outside_parts, outside_from}
 use Rattle.pg_base.proofs.BelowLemmas.{below_parts, below_from, same_sets}
-use Rattle.pg_graph.specs.Span.{IsSpan, IsTrees, IsCuts}
 use Rattle.pg_graph.proofs.Swap.{spans_mono}
 use Rattle.pg_graph.proofs.Classes.{IsTrees-reached, IsCuts-unreached}
-use Rattle.pg_exchange.specs.Chain.{AreBases}
-use Rattle.pg_exchange.specs.Matroid.{Matroid}
-use Rattle.pg_game.specs.declared.position.Position.{Position}
-use Rattle.pg_game.specs.Class.{class_by}
 use Rattle.pg_game.specs.Position.{is_free}
 use Rattle.pg_game.specs.Rules.{value_by, reaches}
-use Rattle.pg_switch.specs.Claims.{kept, span_rules, IsPlace, AreFreeOrE, AreFree, AreSpanTrees, AreSpanCuts}
 use Rattle.pg_switch.proofs.SpanLaws.{ForcesBy-trees, ForcesBy-cuts}
 use Rattle.pg_lehman.specs.declared.class.Class.{Class}
 use Rattle.pg_lehman.specs.declared.class.Class.TheVariants.{Short, Cut, First}

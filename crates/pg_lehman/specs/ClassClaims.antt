@@ -1,15 +1,10 @@
 -- Claims of one node that stand on two sets, and those of a class.
 use Rattle.std.specs.Prelude.{ℕ, Bool, List, [], ◌∷◌}
-use Rattle.std.specs.FinSet.{FinSet, contains, remove}
-use Rattle.std.specs.Ordering.{nat_cmp}
-use Rattle.pg_base.specs.declared.goal.Goal.TheVariants.{Win}
-use Rattle.pg_base.specs.declared.side.Side.{Side}
-use Rattle.pg_base.specs.declared.side.Side.TheVariants.{X, Y}
+use Rattle.pg_lehman.specs.Prelude.{FinSet, contains, remove, nat_cmp, Win, Side, X, Y, Position}
 use Rattle.pg_cert.specs.declared.cert.Claim.{Claim}
 use Rattle.pg_cert.specs.declared.node.Body.{Body}
 use Rattle.pg_cert.specs.declared.node.Body.TheVariants.{Trees, Cuts}
 use Rattle.pg_cert.specs.declared.node.Node.{Node}
-use Rattle.pg_game.specs.declared.position.Position.{Position}
 use Rattle.pg_lehman.specs.declared.class.Class.{Class}
 use Rattle.pg_lehman.specs.declared.class.Class.TheVariants.{Short, Cut, First}
 

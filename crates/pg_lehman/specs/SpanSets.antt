@@ -1,10 +1,7 @@
 -- The sets of a class in a game of spanning e, at two positions that differ by the side to move
 -- alone.
 use Rattle.std.specs.Prelude.{◌≡◌, ℕ, Bool, true, not}
-use Rattle.std.specs.FinSet.{contains}
-use Rattle.pg_base.specs.Sets.{below, either, plus}
-use Rattle.pg_game.specs.declared.position.Position.{Position}
-use Rattle.pg_switch.specs.Claims.{AreSpanTrees, AreSpanCuts}
+use Rattle.pg_lehman.specs.Prelude.{contains, below, either, plus, Position, AreSpanTrees, AreSpanCuts}
 use Rattle.pg_lehman.specs.declared.class.Class.{Class}
 use Rattle.pg_lehman.specs.declared.class.Class.TheVariants.{Short, Cut, First}
 

@@ -1,9 +1,6 @@
 //! The class of an element of a ground, by two bases that share few elements.
 ghost use Rattle.std.specs.Prelude.{◌≡◌, ◌<◌, true, false};
-ghost use Rattle.std.specs.FinSet.{contains};
-ghost use Rattle.pg_base.specs.Sets.{both, either};
-ghost use Rattle.pg_graph.specs.Span.{IsReached};
-ghost use Rattle.pg_exchange.specs.Chain.{IsLeast, IsSettled, LeadsFrom};
+ghost use Rattle.pg_lehman.specs.Prelude.{contains, both, either, IsReached, IsLeast, IsSettled, LeadsFrom};
 ghost use Rattle.pg_lehman.specs.Taken.{IsTaken, IsPlaced, ReachesCommon, in_neither, only};
 
 use crate::class::Class;

@@ -1,7 +1,6 @@
 //! Claims of one node that stand on two sets, and those of a class.
 ghost use Rattle.std.specs.Prelude.{◌≡◌, ◌<◌, IfOk};
-ghost use Rattle.pg_base.specs.declared.side.Side.TheVariants.{X, Y};
-ghost use Rattle.pg_cert.specs.declared.cert.Version.TheVariants.{One};
+ghost use Rattle.pg_lehman.specs.Prelude.{X, Y, One};
 ghost use Rattle.pg_lehman.specs.ClassClaims.{class_claims, set_claim, sets_body, one_node};
 
 use crate::certificates::two_claims;

@@ -1,12 +1,6 @@
 -- A map of the board that fits keeps the value of a position.
 use Rattle.std.proofs.Common.{◌≡◌, Option, Some, subst}
-use Rattle.pg_base.specs.declared.goal.Goal.{Goal}
-use Rattle.pg_base.specs.declared.grid.Grid.{Grid}
-use Rattle.pg_base.specs.declared.side.Side.{Side}
-use Rattle.pg_game.specs.declared.game.Game.{Game}
-use Rattle.pg_game.specs.declared.position.Position.{Position}
-use Rattle.pg_game.specs.Game.{IsPosition}
-use Rattle.pg_game.specs.Value.{value, Forces}
+use Rattle.pg_maps.proofs.Common.{Goal, Grid, Side, Game, Position, IsPosition, value, Forces}
 use Rattle.pg_maps.specs.declared.grid_map.GridMap.{GridMap}
 use Rattle.pg_maps.specs.GridMaps.{image_of, reverse_of}
 use Rattle.pg_maps.specs.Images.{IsAutomorphism, Fits, board_of, image_on, image_position}

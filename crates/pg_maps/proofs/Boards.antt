@@ -1,18 +1,8 @@
 -- The maps of a game's board that fit it.
 use Rattle.std.proofs.Common.{◌≡◌, ℕ, ◌*◌, Option, Some, None, map, refl, sym, ap, ◌∙◌, subst}
-use Rattle.std.proofs.lemmas.Bool.{false≢true}
+use Rattle.pg_maps.proofs.Common.{false≢true, All-weaker, All, IsPermutation, Grid, Field, Lines, Game, field_points, IsLineOf, point_count, lines_of, lines-fit}
 use Rattle.std.proofs.lemmas.Option.{none-some}
-use Rattle.std.proofs.lemmas.List.Elements.{All-weaker}
-use Rattle.std.specs.List.{All}
-use Rattle.std.specs.List.Sorted.{IsPermutation}
-use Rattle.pg_base.specs.declared.grid.Grid.{Grid}
-use Rattle.pg_game.specs.declared.field.Field.{Field}
-use Rattle.pg_game.specs.declared.field.Field.TheVariants.{Lines, Graph as OnGraph}
-use Rattle.pg_game.specs.declared.game.Game.{Game}
-use Rattle.pg_game.specs.Field.{field_points}
-use Rattle.pg_game.specs.Fit.{IsLineOf}
-use Rattle.pg_game.specs.Game.{point_count, lines_of}
-use Rattle.pg_game.proofs.Limits.{lines-fit}
+use Rattle.pg_game.specs.declared.field.Field.TheVariants.{Graph as OnGraph}
 use Rattle.pg_maps.specs.declared.grid_map.GridMap.{GridMap}
 use Rattle.pg_maps.specs.GridMaps.{IsMapOf, numbered, number_of, image_of, identity, followed_by, reverse_of}
 use Rattle.pg_maps.specs.Images.{AreInverse, image_line, AreSameLines, IsAutomorphism, Fits, board_of, IsMapOn, image_on}

@@ -1,25 +1,6 @@
 -- A map that fits a game keeps potentials, threat lines and pairs.
 use Rattle.std.proofs.Common.{◌≡◌, ℕ, zero, suc, ◌+◌, ◌-◌, ◌*◌, ◌^◌, ◌<◌, ◌≤◌, Bool, true, List, [], ◌∷◌, length, map, cond, if◌then◌else◌, refl, sym, ap, ap₂, ◌∙◌, subst, inl, inr, arith, eqb, eq-eqb, ne_eqb}
-use Rattle.std.proofs.lemmas.Bool.{cases_Bool, both_ways}
-use Rattle.std.proofs.lemmas.List.Elements.{All-weaker, All-head, All-tail}
-use Rattle.std.proofs.lemmas.List.Sums.{sum_by-cons}
-use Rattle.std.proofs.lemmas.List.Sorted.{sum_by-IsPermutation, length_permutation}
-use Rattle.std.specs.List.{All, Contains, filter, count_by, sum_by, range_with_len}
-use Rattle.std.specs.List.Sorted.{IsPermutation}
-use Rattle.std.specs.FinSet.{FinSet, contains}
-use Rattle.std.specs.Ordering.{nat_cmp}
-use Rattle.pg_base.specs.Side.{is_same_side}
-use Rattle.pg_base.specs.declared.side.Side.{Side}
-use Rattle.pg_game.specs.declared.game.Game.{Game}
-use Rattle.pg_game.specs.declared.position.Position.{Position}
-use Rattle.pg_game.specs.Fit.{IsLineOf}
-use Rattle.pg_game.specs.Position.{is_free, points_of}
-use Rattle.pg_game.specs.Game.{point_count, lines_of, free_points}
-use Rattle.pg_game.specs.Potential.{greatest_length, is_on, line_weight, total_weight, point_weight, full_weight, greatest, weight, greatest_weight, times_counted, limit, PotentialHolds}
-use Rattle.pg_game.specs.Avoider.{x_takes_last, avoider_ends, avoider_total, AvoiderHolds}
-use Rattle.pg_game.proofs.Limits.{lines-fit}
-use Rattle.pg_game.proofs.Members.{Contains-head, Contains-tail, list_any-one, list_any-none, All-from_members}
-use Rattle.pg_game.proofs.Greatest.{free-member, member-free, member-within, greatest-le, greatest-ge}
+use Rattle.pg_maps.proofs.Common.{cases_Bool, both_ways, All-weaker, All-head, All-tail, sum_by-cons, sum_by-IsPermutation, length_permutation, All, Contains, filter, count_by, sum_by, range_with_len, IsPermutation, FinSet, contains, nat_cmp, is_same_side, Side, Game, Position, IsLineOf, is_free, points_of, point_count, lines_of, free_points, greatest_length, is_on, line_weight, total_weight, point_weight, full_weight, greatest, weight, greatest_weight, times_counted, limit, PotentialHolds, x_takes_last, avoider_ends, avoider_total, AvoiderHolds, lines-fit, Contains-head, Contains-tail, list_any-one, list_any-none, All-from_members, free-member, member-free, member-within, greatest-le, greatest-ge}
 use Rattle.pg_maps.specs.Images.{image_line, IsAutomorphism, IsImage}
 use Rattle.pg_maps.proofs.ImageLines.{is_in, filter-permutes, AreDistinct-map, AreDistinct-range, All-through}
 use Rattle.pg_maps.proofs.Imaging.{permuted, any-image, eqb-image, has-image, free-image}

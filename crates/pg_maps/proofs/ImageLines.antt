@@ -1,18 +1,7 @@
 -- Images of lines: their points are the images of the points, and maps that take the lines onto the
 -- lines are a group.
 use Rattle.std.proofs.Common.{◌≡◌, ℕ, zero, suc, ◌+◌, ◌<◌, ◌≤◌, Bool, false, ◌||◌, List, [], ◌∷◌, get_or, map, refl, sym, ap, ap₂, ◌∙◌, subst, inl, inr, arith, eqb, eq-eqb, ne_eqb}
-use Rattle.std.proofs.lemmas.Bool.{cases_Bool, cases_eq}
-use Rattle.std.proofs.lemmas.List.Elements.{All-weaker, All-head, All-tail, All-cons, filter_agree}
-use Rattle.std.proofs.lemmas.List.Folds.{list_any_none}
-use Rattle.std.proofs.lemmas.List.Kept.{AllPairs-from_increasing, AllPairs-filter}
-use Rattle.std.proofs.lemmas.List.FromFn.{length-range_with_len, get_or-range_with_len}
-use Rattle.std.proofs.lemmas.List.Sorted.{IsPermutation-refl, IsPermutation-cons, IsPermutation-middle, IsPermutation-trans, IsPermutation-sym, IsPermutation-map, list_any-IsPermutation}
-use Rattle.std.specs.List.{All, AllPairs, filter, list_any, range_with_len}
-use Rattle.std.specs.List.Sorted.{IsPermutation, IsStrictlyIncreasing}
-use Rattle.std.specs.FinSet.{FinSet, contains, from_list, contains-from_list_nat}
-use Rattle.std.specs.Ordering.{nat_cmp}
-use Rattle.pg_base.specs.Points.{points_below}
-use Rattle.pg_base.specs.WordLemmas.{same_points}
+use Rattle.pg_maps.proofs.Common.{cases_Bool, cases_eq, All-weaker, All-head, All-tail, All-cons, filter_agree, list_any_none, AllPairs-from_increasing, AllPairs-filter, length-range_with_len, get_or-range_with_len, IsPermutation-refl, IsPermutation-cons, IsPermutation-middle, IsPermutation-trans, IsPermutation-sym, IsPermutation-map, list_any-IsPermutation, All, AllPairs, filter, list_any, range_with_len, IsPermutation, IsStrictlyIncreasing, FinSet, contains, from_list, contains-from_list_nat, nat_cmp, points_below, same_points}
 use Rattle.pg_maps.specs.Images.{AreInverse, image_line, AreSameLines}
 use Rattle.pg_maps.specs.Rows.{IsRow}
 

@@ -1,36 +1,16 @@
 -- A map that fits a game keeps who has filled a line, when the game is over, its outcome, and its
 -- value.
 use Rattle.std.proofs.Common.{◌≡◌, ℕ, ◌<◌, ◌-◌, Bool, true, not, ◌&&◌, ◌||◌, List, [], ◌∷◌, length, map, nat_lt, if◌then◌else◌, refl, sym, ap, ap₂, ◌∙◌, subst, inl, inr, eqb, eq-eqb, ne_eqb}
-use Rattle.std.proofs.lemmas.Bool.{cases_Bool, cases_eq, both_ways, false≢true}
-use Rattle.std.proofs.lemmas.List.Elements.{All-weaker}
-use Rattle.std.proofs.lemmas.List.Sorted.{list_any-IsPermutation}
-use Rattle.std.specs.List.{list_any, list_all}
-use Rattle.std.specs.List.Sorted.{IsPermutation}
-use Rattle.std.specs.FinSet.{FinSet, contains, insert}
-use Rattle.std.specs.Ordering.{nat_cmp}
-use Rattle.pg_base.specs.declared.goal.Goal.{Goal}
+use Rattle.pg_maps.proofs.Common.{cases_Bool, cases_eq, both_ways, false≢true, All-weaker, list_any-IsPermutation, list_any, list_all, IsPermutation, FinSet, contains, insert, nat_cmp, Goal, Side, X, Y, other, in_insert, Field, Lines, Game, Position, field_joins, field_points, is_free, points_of, claims_in_turn, x_after, y_after, point_count, lines_of, after, is_filled, is_touched, has_filled, all_touched, is_full, is_over, outcome, is_over_by, outcome_by, short_joins, can_join, reaches, Forces, value, lines-fit, IsLineOf}
 use Rattle.pg_base.specs.declared.goal.Goal.TheVariants.{Win, Draw as AtLeastDraw}
 use Rattle.pg_base.specs.declared.score.Score.{Score}
 use Rattle.pg_base.specs.declared.score.Score.TheVariants.{XWins, Draw, YWins}
-use Rattle.pg_base.specs.declared.side.Side.{Side}
-use Rattle.pg_base.specs.declared.side.Side.TheVariants.{X, Y}
-use Rattle.pg_base.specs.Side.{other}
-use Rattle.pg_base.specs.WordLemmas.{in_insert}
 use Rattle.pg_graph.specs.Walks.{first_end, second_end}
 use Rattle.pg_graph.proofs.GraphLemmas.{joins_same}
-use Rattle.pg_game.specs.declared.field.Field.{Field}
-use Rattle.pg_game.specs.declared.field.Field.TheVariants.{Lines, Graph as OnGraph}
-use Rattle.pg_game.specs.declared.game.Game.{Game}
-use Rattle.pg_game.specs.declared.position.Position.{Position}
-use Rattle.pg_game.specs.Field.{field_joins, field_points}
-use Rattle.pg_game.specs.Position.{is_free, points_of, claims_in_turn, x_after, y_after}
-use Rattle.pg_game.specs.Game.{point_count, lines_of, after, is_filled, is_touched, has_filled, all_touched, is_full, is_over, outcome, is_over_by, outcome_by, short_joins, can_join}
-use Rattle.pg_game.specs.Value.{reaches, Forces, value}
+use Rattle.pg_game.specs.declared.field.Field.TheVariants.{Graph as OnGraph}
 use Rattle.pg_game.specs.Strategy.{Keeps}
 use Rattle.pg_game.proofs.Strategy.{Forces-from_keeps}
 use Rattle.pg_game.proofs.FreePoints.{none-full, is_full-none}
-use Rattle.pg_game.proofs.Limits.{lines-fit}
-use Rattle.pg_game.specs.Fit.{IsLineOf}
 use Rattle.pg_game.proofs.ValueLaws.{value-over, Forces-move-from, Forces-all-from}
 use Rattle.pg_maps.specs.Images.{image_line, IsAutomorphism, IsImage}
 use Rattle.pg_maps.proofs.ImageLines.{list_any-same, list_any-through, image_line-permutes}

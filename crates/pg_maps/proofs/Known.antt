@@ -1,11 +1,7 @@
 -- What the maps of lower numbers that fit tell of a map.
 use Rattle.std.proofs.Common.{◌≡◌, ◌↔◌, ◌<◌, Bool, true, false, List, refl, sym, ap, ap₂, ◌∙◌, subst, ◌&&◌}
-use Rattle.std.proofs.lemmas.Bool.{and_parts, false≢true}
-use Rattle.std.proofs.lemmas.List.Folds.{Any-from_list_any}
+use Rattle.pg_maps.proofs.Common.{and_parts, false≢true, Any-from_list_any, Contains, list_any, Game, list_any-one}
 use Rattle.std.proofs.Math.Bool.{beq}
-use Rattle.std.specs.List.{Contains, list_any}
-use Rattle.pg_game.specs.declared.game.Game.{Game}
-use Rattle.pg_game.proofs.Members.{list_any-one}
 use Rattle.pg_maps.specs.declared.grid_map.GridMap.{GridMap}
 use Rattle.pg_maps.specs.contracts.grid_map.GridMapPartialEq.TheImpl.{ghosts}
 use Rattle.pg_maps.specs.GridMaps.{number_of, followed_by, reverse_of}

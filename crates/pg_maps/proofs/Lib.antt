@@ -1,3 +1,4 @@
+mod Common
 pub mod ImageLines
 pub mod Turning
 pub mod Numbers

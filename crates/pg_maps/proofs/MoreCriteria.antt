@@ -1,26 +1,6 @@
 -- A map that fits a game keeps threat lines and pairs.
 use Rattle.std.proofs.Common.{◌≡◌, ◌≢◌, ℕ, suc, ◌<◌, Bool, true, not, ◌&&◌, ◌||◌, List, [], ◌∷◌, length, get_or, map, cond, sym, ap, ap₂, ◌∙◌, subst, arith, eqb, eqb-true}
-use Rattle.std.proofs.lemmas.Bool.{and_parts}
-use Rattle.std.proofs.lemmas.List.Elements.{All-weaker, All-head, All-tail, All-cons, All-contains}
-use Rattle.std.proofs.lemmas.List.Sums.{length-filter}
-use Rattle.std.proofs.lemmas.List.Kept.{AllPairs-cons}
-use Rattle.std.proofs.lemmas.List.Sorted.{sum_by-IsPermutation, Contains-permutation, All-permutation}
-use Rattle.std.specs.List.{All, AllPairs, Any, list_any}
-use Rattle.std.specs.FinSet.{contains}
-use Rattle.pg_base.specs.Side.{other}
-use Rattle.pg_base.specs.declared.pair.Pair.{Pair}
-use Rattle.pg_base.specs.declared.side.Side.{Side}
-use Rattle.pg_game.specs.declared.game.Game.{Game}
-use Rattle.pg_game.specs.declared.position.Position.{Position}
-use Rattle.pg_game.specs.Fit.{IsLineOf}
-use Rattle.pg_game.specs.Position.{is_free, points_of}
-use Rattle.pg_game.specs.Game.{point_count, lines_of, free_points, after}
-use Rattle.pg_game.specs.Potential.{is_on}
-use Rattle.pg_game.specs.Threat.{is_near, threatens, has_threat, IsAttack, Forcing, Filling, LeadsToLine, IsThreatLine}
-use Rattle.pg_game.specs.Pairs.{is_open, has_point, is_paired, IsInGame, SharesNone, HoldsPair, breaker_of, IsSafe, HoldLines, unpaired, unpaired_due, AreOpenPairs, PairsHold}
-use Rattle.pg_game.proofs.Limits.{lines-fit}
-use Rattle.pg_game.proofs.Greatest.{member-within}
-use Rattle.pg_game.proofs.Members.{All-from_members, member-from_any}
+use Rattle.pg_maps.proofs.Common.{and_parts, All-weaker, All-head, All-tail, All-cons, All-contains, length-filter, AllPairs-cons, sum_by-IsPermutation, Contains-permutation, All-permutation, All, AllPairs, Any, list_any, contains, other, Pair, Side, Game, Position, IsLineOf, is_free, points_of, point_count, lines_of, free_points, after, is_on, is_near, threatens, has_threat, IsAttack, Forcing, Filling, LeadsToLine, IsThreatLine, is_open, has_point, is_paired, IsInGame, SharesNone, HoldsPair, breaker_of, IsSafe, HoldLines, unpaired, unpaired_due, AreOpenPairs, PairsHold, lines-fit, member-within, All-from_members, member-from_any}
 use Rattle.pg_maps.specs.Images.{image_line, IsAutomorphism, IsImage, image_pair}
 use Rattle.pg_maps.proofs.ImageLines.{list_any-same, list_any-through}
 use Rattle.pg_maps.proofs.Imaging.{permuted, any-image, all-image, any-lines, eqb-image, has-image, free-image, filled-image, over-image, IsImage-after, one_to_one}

@@ -1,26 +1,7 @@
 -- The image of a position, of all replies, and of a position that is no worse.
 use Rattle.std.proofs.Common.{◌≡◌, ℕ, ◌+◌, ◌<◌, true, List, map, refl, sym, ap, ◌∙◌, subst, inl, inr, arith, eqb, eqb-true, eq-eqb}
-use Rattle.std.proofs.lemmas.Bool.{cases_Bool, both_ways}
-use Rattle.std.proofs.lemmas.List.Elements.{All-weaker, filter_agree}
-use Rattle.std.proofs.lemmas.List.Sorted.{list_any-IsPermutation, IsPermutation-trans, IsPermutation-sym, All-permutation}
-use Rattle.std.specs.List.{All, AllPairs, range_with_len}
-use Rattle.std.specs.List.Sorted.{IsPermutation}
-use Rattle.std.specs.FinSet.{FinSet, contains}
-use Rattle.std.specs.Ordering.{nat_cmp}
-use Rattle.pg_base.specs.Points.{AreBelow, AreWithin, members}
-use Rattle.pg_base.specs.WordLemmas.{same_points}
-use Rattle.pg_base.specs.Side.{other}
-use Rattle.pg_base.specs.declared.side.Side.{Side}
-use Rattle.pg_base.specs.declared.side.Side.TheVariants.{X, Y}
-use Rattle.pg_game.specs.declared.game.Game.{Game}
-use Rattle.pg_game.specs.declared.position.Position.{Position}
-use Rattle.pg_game.specs.Position.{is_free, points_of}
-use Rattle.pg_game.specs.Game.{point_count, free_points, IsPosition}
-use Rattle.pg_game.proofs.Limits.{point_count-le}
-use Rattle.pg_game.proofs.Greatest.{member-within}
-use Rattle.pg_game.proofs.Members.{list_any-one, member-from_any, All-from_members}
+use Rattle.pg_maps.proofs.Common.{cases_Bool, both_ways, All-weaker, filter_agree, list_any-IsPermutation, IsPermutation-trans, IsPermutation-sym, All-permutation, All, AllPairs, range_with_len, IsPermutation, FinSet, contains, nat_cmp, AreBelow, AreWithin, members, same_points, other, Side, X, Y, Game, Position, is_free, points_of, point_count, free_points, IsPosition, point_count-le, member-within, list_any-one, member-from_any, All-from_members, IsNoWorse}
 use Rattle.pg_maps.specs.Images.{IsAutomorphism, IsImage, image_set, image_position}
-use Rattle.pg_game.specs.Weaker.{IsNoWorse}
 use Rattle.pg_maps.proofs.ImageLines.{is_in, filter-rising, rising_range}
 use Rattle.pg_maps.proofs.SetImages.{member_of, of_member, in_image}
 use Rattle.pg_maps.proofs.Imaging.{has-image}

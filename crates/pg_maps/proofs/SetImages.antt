@@ -1,13 +1,7 @@
 -- The image of a set of points.
 use Rattle.std.proofs.Common.{◌≡◌, ℕ, ◌<◌, true, map, refl, sym, ◌∙◌, subst, inl, inr, eqb, eqb-true, eq-eqb, lt-ltb}
-use Rattle.std.proofs.lemmas.Bool.{cases_Bool, and_from, and_parts, both_ways}
-use Rattle.std.specs.List.{Contains}
-use Rattle.std.specs.FinSet.{FinSet, contains, contains-from_list_nat}
-use Rattle.std.specs.Ordering.{nat_cmp}
-use Rattle.pg_base.specs.Points.{AreBelow, members}
-use Rattle.pg_base.specs.WordLemmas.{same_points}
+use Rattle.pg_maps.proofs.Common.{cases_Bool, and_from, and_parts, both_ways, Contains, FinSet, contains, contains-from_list_nat, nat_cmp, AreBelow, members, same_points, list_any-one, member-from_any}
 use Rattle.pg_base.proofs.MemberLemmas.{has-points_below}
-use Rattle.pg_game.proofs.Members.{list_any-one, member-from_any}
 use Rattle.pg_maps.specs.Images.{image_set}
 use Rattle.pg_maps.proofs.ImageLines.{is_in}
 use Rattle.pg_maps.proofs.Criteria.{Contains-map, Contains-map-from}

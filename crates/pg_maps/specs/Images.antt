@@ -1,19 +1,9 @@
 -- Maps of a game's points onto themselves that take its lines onto its lines, the maps of its board
 -- that do so, and the images of positions.
 use Rattle.std.specs.Prelude.{◌≡◌, ◌≢◌, ℕ, ◌<◌, List, map, Option, Some, None}
-use Rattle.std.specs.List.{AllPairs, Contains}
-use Rattle.std.specs.List.Sorted.{IsPermutation}
-use Rattle.std.specs.FinSet.{FinSet, contains, from_list}
-use Rattle.std.specs.Ordering.{nat_cmp}
-use Rattle.pg_base.specs.declared.grid.Grid.{Grid}
-use Rattle.pg_base.specs.declared.pair.Pair.{Pair}
-use Rattle.pg_base.specs.Points.{points_below, members}
+use Rattle.pg_maps.specs.Prelude.{AllPairs, Contains, IsPermutation, FinSet, contains, from_list, nat_cmp, Grid, Pair, points_below, members, Field, Lines, Game, Position, point_count, lines_of}
 use Rattle.pg_graph.specs.declared.graph.Graph.{Graph}
-use Rattle.pg_game.specs.declared.field.Field.{Field}
-use Rattle.pg_game.specs.declared.field.Field.TheVariants.{Lines, Graph as OnGraph}
-use Rattle.pg_game.specs.declared.game.Game.{Game}
-use Rattle.pg_game.specs.declared.position.Position.{Position}
-use Rattle.pg_game.specs.Game.{point_count, lines_of}
+use Rattle.pg_game.specs.declared.field.Field.TheVariants.{Graph as OnGraph}
 use Rattle.pg_maps.specs.declared.grid_map.GridMap.{GridMap}
 use Rattle.pg_maps.specs.GridMaps.{IsMapOf, number_of, image_of, identity}
 

@@ -1,3 +1,4 @@
+pub mod Prelude
 pub mod GridMaps
 pub mod Images
 pub mod Rows

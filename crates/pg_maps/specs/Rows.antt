@@ -1,10 +1,6 @@
 -- Rows of points, and tables of what a map does.
 use Rattle.std.specs.Prelude.{◌≡◌, ℕ, ◌<◌, List, map, length}
-use Rattle.std.specs.Global.{Vec}
-use Rattle.std.specs.List.{All, range_with_len}
-use Rattle.std.specs.List.Sorted.{IsStrictlyIncreasing, IsPermutation, IsSorted}
-use Rattle.std.specs.Cmp.Lexicographic.{slice_cmp}
-use Rattle.std.specs.Ordering.{nat_cmp}
+use Rattle.pg_maps.specs.Prelude.{Vec, All, range_with_len, IsStrictlyIncreasing, IsPermutation, IsSorted, slice_cmp, nat_cmp}
 use Rattle.std.specs.declared.cmp.Ordering.{Ordering}
 use Rattle.pg_maps.specs.Images.{AreInverse}
 

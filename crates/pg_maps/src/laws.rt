@@ -2,24 +2,10 @@
 //! a law speaks of an automorphism it holds of each map of a board that fits, by
 //! `fitting_maps_are_automorphisms`.
 ghost use Rattle.std.specs.Prelude.{◌≡◌, ℕ, ◌*◌, ◌<◌, List, map, Some};
-ghost use Rattle.std.specs.List.{AllPairs};
-ghost use Rattle.std.specs.List.Sorted.{IsPermutation};
-ghost use Rattle.pg_base.specs.declared.goal.Goal.{Goal};
-ghost use Rattle.pg_base.specs.declared.grid.Grid.{Grid};
-ghost use Rattle.pg_base.specs.declared.pair.Pair.{Pair};
-ghost use Rattle.pg_base.specs.declared.side.Side.{Side};
-ghost use Rattle.pg_game.specs.Avoider.{AvoiderHolds};
-ghost use Rattle.pg_game.specs.Game.{point_count, free_points, is_over, outcome, after, IsPosition};
-ghost use Rattle.pg_game.specs.Pairs.{PairsHold};
-ghost use Rattle.pg_game.specs.Potential.{PotentialHolds};
-ghost use Rattle.pg_game.specs.Threat.{IsThreatLine};
-ghost use Rattle.pg_game.specs.Value.{value, Forces};
-ghost use Rattle.pg_game.specs.declared.game.Game.{Game};
-ghost use Rattle.pg_game.specs.declared.position.Position.{Position};
+ghost use Rattle.pg_maps.specs.Prelude.{AllPairs, IsPermutation, Goal, Grid, Pair, Side, AvoiderHolds, point_count, free_points, is_over, outcome, after, IsPosition, PairsHold, PotentialHolds, IsThreatLine, value, Forces, Game, Position, IsNoWorse};
 ghost use Rattle.pg_maps.specs.GridMaps.{IsMapOf, numbered, number_of, image_of, followed_by, reverse_of, identity};
 ghost use Rattle.pg_maps.specs.Images.{AreInverse, IsAutomorphism, Fits, IsImage, board_of, image_on, image_pair, image_position};
 ghost use Rattle.pg_maps.specs.declared.grid_map.GridMap.{GridMap};
-ghost use Rattle.pg_game.specs.Weaker.{IsNoWorse};
 
 /// The numbers from 0 to 7 name eight different maps, and all maps.
 pub fn maps_have_numbers()

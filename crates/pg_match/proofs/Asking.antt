@@ -1,29 +1,12 @@
 -- The lines meant one after the other, and the points left over.
 use Rattle.std.proofs.Common.{◌≡◌, ◌≢◌, ℕ, ◌+◌, ◌<◌, ◌≤◌, Bool, true, false, not, ◌&&◌, ◌||◌, eqb, cond, Option, Some, None, List, [], ◌∷◌, ◌++◌, length, map, get_or, take, ltb, refl, sym, ap, ◌∙◌, subst, subst₂, inl, inr, arith, append_assoc, append-nil}
 use Rattle.std.specs.Prelude.{option_to_list}
-use Rattle.std.proofs.lemmas.Bool.{cases_eq, lt-ltb, ltb-true, and_parts}
-use Rattle.std.proofs.lemmas.Bool.Decides.{nat_tests}
-use Rattle.std.proofs.lemmas.List.{take_all, map_push, map-id}
-use Rattle.std.proofs.lemmas.List.Elements.{All-push, All-weaker, All-nil, filter_more, filter_agree}
+use Rattle.pg_match.proofs.Common.{cases_eq, lt-ltb, ltb-true, and_parts, nat_tests, take_all, map_push, map-id, All-push, All-weaker, All-nil, filter_more, filter_agree, filter_of_map_range_with_len_more, All, AllPairs, filter, flat_map, range_with_len, FinSet, contains, insert, empty, contains-empty, len, count_same, nat_cmp, Pair, insert-self, insert-other, contains-insert_plus, len-count, plus, Game, Position, is_free, free_points, point_count, unpaired, is_paired, has_point, filter_both}
 use Rattle.std.proofs.lemmas.List.Quantifiers.{all_pairs_push}
-use Rattle.std.proofs.lemmas.List.FromFn.{filter_of_map_range_with_len_more}
 use Rattle.std.proofs.lemmas.List.Concat.{flat_map-append}
-use Rattle.std.specs.List.{All, AllPairs, filter, flat_map, range_with_len}
-use Rattle.std.specs.FinSet.{FinSet, contains, insert, empty, contains-empty, len}
 use Rattle.pg_base.specs.Points.{AreBelow}
-use Rattle.pg_base.proofs.SetLemmas.{count_same}
 use Rattle.pg_match.proofs.LeafLaws.{length-passed}
-use Rattle.std.specs.Ordering.{nat_cmp}
-use Rattle.pg_base.specs.declared.pair.Pair.{Pair}
-use Rattle.pg_base.proofs.PointSetLaws.{insert-self, insert-other, contains-insert_plus, len-count}
-use Rattle.pg_base.specs.Sets.{plus}
 use Rattle.std.proofs.lemmas.List.Folds.{list_any_more}
-use Rattle.pg_game.specs.declared.game.Game.{Game}
-use Rattle.pg_game.specs.declared.position.Position.{Position}
-use Rattle.pg_game.specs.Position.{is_free}
-use Rattle.pg_game.specs.Game.{free_points, point_count}
-use Rattle.pg_game.specs.Pairs.{unpaired, is_paired, has_point}
-use Rattle.pg_game.proofs.Members.{filter_both}
 use Rattle.pg_match.specs.Private.{line_at, CanMatch}
 use Rattle.pg_match.specs.Meant.{AreFree, PairUp, PairsOn, both_points}
 

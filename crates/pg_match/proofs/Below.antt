@@ -1,12 +1,6 @@
 -- The points of private pairs are points of lines.
 use Rattle.std.proofs.Common.{◌≡◌, ℕ, ◌<◌, List, [], ◌∷◌, length, ap, inl, inr, arith}
-use Rattle.std.proofs.lemmas.Bool.{cases_lt}
-use Rattle.std.proofs.lemmas.List.{get_or_past}
-use Rattle.std.proofs.lemmas.List.Elements.{All-contains, All-cons, All-nil}
-use Rattle.std.specs.List.{All, AllZip, Contains}
-use Rattle.std.specs.FinSet.{FinSet}
-use Rattle.std.specs.Ordering.{nat_cmp}
-use Rattle.pg_base.specs.declared.pair.Pair.{Pair}
+use Rattle.pg_match.proofs.Common.{cases_lt, get_or_past, All-contains, All-cons, All-nil, All, AllZip, Contains, FinSet, nat_cmp, Pair}
 use Rattle.pg_match.specs.Private.{line_at, IsPairOf, Answer, FoundPairs, FoundShort, IsAnswer, HasPointsBelow}
 
 point-below : (lines : List (List ℕ)) (j v : ℕ)

@@ -1,14 +1,6 @@
 -- Where counting shows that wanted lines hold too few free points.
 use Rattle.std.proofs.Common.{◌≡◌, ℕ, ◌+◌, ◌<◌, ◌≤◌, ◌/◌, ◌==◌, true, List, [], ◌∷◌, length, get_or, take, eqb, refl, sym, ◌∙◌, subst, arith, eq-eqb}
-use Rattle.std.proofs.lemmas.Bool.{and_parts, eqb-true}
-use Rattle.std.proofs.lemmas.List.{get_or-take, length-take-le}
-use Rattle.std.proofs.lemmas.List.Elements.{All-take, All-contains_itself, All-cons, All-nil}
-use Rattle.std.specs.List.{Contains, list_any, filter}
-use Rattle.std.specs.FinSet.{FinSet, contains, len}
-use Rattle.std.specs.Ordering.{nat_cmp}
-use Rattle.pg_base.specs.Sets.{count}
-use Rattle.pg_base.proofs.SetLemmas.{count_le}
-use Rattle.pg_game.proofs.Members.{list_any-one, member-from_any, Contains-filter}
+use Rattle.pg_match.proofs.Common.{and_parts, eqb-true, get_or-take, length-take-le, All-take, All-contains_itself, All-cons, All-nil, Contains, list_any, filter, FinSet, contains, len, nat_cmp, count, count_le, list_any-one, member-from_any, Contains-filter}
 use Rattle.pg_match.specs.Private.{line_at, is_covered, AreDifferent, IsShort}
 use Rattle.pg_match.proofs.Counting.{count-le, count-len, count-members}
 

@@ -1,16 +1,8 @@
 -- What a look-up, a move to the front and a put leave of a cache.
 use Rattle.std.proofs.Common.{◌≡◌, ◌≢◌, ℕ, zero, suc, ◌+◌, ◌-◌, ◌<◌, ◌≤◌, Bool, Some, None, List, [], ◌∷◌, ◌++◌, length, map, get_or, take, refl, sym, ap, ◌∙◌, subst, subst₂, inl, inr, arith, Result, Ok, Err}
-use Rattle.std.specs.Result.{OnOk, OnErr}
-use Rattle.std.proofs.lemmas.Bool.{cases_Bool, false≢true}
-use Rattle.std.proofs.lemmas.List.{take-map, length-take}
-use Rattle.std.proofs.lemmas.List.Elements.{All-map, All-cons, All-take, All-contains}
-use Rattle.std.proofs.lemmas.Option.{none-some, same_Some}
-use Rattle.std.specs.List.{All, Any, Contains}
+use Rattle.pg_match.proofs.Common.{OnOk, OnErr, cases_Bool, false≢true, take-map, length-take, All-map, All-cons, All-take, All-contains, none-some, same_Some, All, Any, Contains, lookup, lookup_entry, remove_entry, LruCache, lru_cache, promoted, put_entries, All-from_members, Contains-head, Contains-tail}
 use Rattle.std.specs.Option.{option_map_or}
-use Rattle.std.specs.Map.{lookup, lookup_entry, remove_entry}
-use Rattle.lru.specs.LruCache.{LruCache, lru_cache, promoted, put_entries}
 use Rattle.lru.proofs.CallerLemmas.{Contains-lookup, Contains-lookup_entry, Contains-promoted}
-use Rattle.pg_game.proofs.Members.{All-from_members, Contains-head, Contains-tail}
 use Rattle.pg_match.specs.declared.matching.Matching.{Matching}
 use Rattle.pg_match.specs.Private.{Answer, told, IsAnswer}
 use Rattle.pg_match.specs.Cache.{Asked, Kept, Cache, Fits, IsFor, keeps, leaves, Remembers, Keeps, stays, puts, same_asked, same_asked-decides, kept_of, one_more}

@@ -1,11 +1,8 @@
 -- A cache of what matching answered, for one list of lines.
 use Rattle.std.specs.Prelude.{◌≡◌, ℕ, ◌+◌, ◌-◌, ◌^◌, Bool, true, false, ◌&&◌, List, ◌∷◌, ◌++◌, min, take}
-use Rattle.std.specs.List.{All, Any}
-use Rattle.std.specs.FinSet.{FinSet}
-use Rattle.std.specs.Ordering.{nat_cmp}
+use Rattle.pg_match.specs.Prelude.{All, Any, FinSet, nat_cmp, IsEquivalence, IsPartialEquivalence, decided, partial_equiv_from_equiv}
 use Rattle.std.specs.Str.{bytes_eq}
 use Rattle.std.specs.Bool.{Decides}
-use Rattle.std.specs.Cmp.{IsEquivalence, IsPartialEquivalence, decided, partial_equiv_from_equiv}
 use Rattle.std.proofs.Common.{sym, ap, ◌∙◌}
 use Rattle.std.proofs.lemmas.Bool.{and_parts, and_from}
 use Rattle.std.proofs.lemmas.Slice.Eq.{bytes_eq-Decides}
@@ -14,16 +11,11 @@ use Rattle.pg_base.specs.PointLemmas as points
 use Rattle.std.proofs.Common.{◌⊎◌, inl, inr, refl}
 use Rattle.std.specs.Coded.{Coded, code_by, coded×, coded⊎, coded_list, coded_ℕ}
 use Rattle.std.specs.FinSet as set
-use Rattle.pg_base.specs.declared.pair.Pair.{Pair}
-use Rattle.pg_base.specs.declared.side.Side.{Side}
-use Rattle.pg_game.specs.declared.game.Game.{Game}
-use Rattle.pg_game.specs.declared.position.Position.{Position}
+use Rattle.pg_match.specs.Prelude.{Pair, Side, Game, Position, lookup, LruCache, lru_cache, put_entries}
 use Rattle.pg_match.specs.Meant.{AreMeant, AreFree}
 use Rattle.pg_match.specs.Private.{Answer, FoundPairs, FoundShort, IsAnswer, told}
 use Rattle.pg_match.specs.declared.matching.Matching.{Matching}
 use Rattle.std.specs.Prelude.{Some}
-use Rattle.std.specs.Map.{lookup}
-use Rattle.lru.specs.LruCache.{LruCache, lru_cache, put_entries}
 
 -- ---- what is asked
 

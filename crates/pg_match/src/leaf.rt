@@ -1,13 +1,9 @@
 //! The leaf of pairs at a position.
 ghost use Rattle.std.specs.Prelude.{◌≡◌, ◌≢◌, ◌<◌, ◌++◌, List, IfOk, IfSome, is_some, length};
-ghost use Rattle.std.specs.List.{All};
-ghost use Rattle.pg_base.specs.declared.kind.Kind.TheVariants.{AvoiderEnforcer};
-ghost use Rattle.pg_base.specs.declared.pair.Pair.{Pair};
+ghost use Rattle.pg_match.specs.Prelude.{All, AvoiderEnforcer, Pair};
 ghost use Rattle.pg_match.specs.Meant.{PairUp};
 ghost use Rattle.std.specs.FinSet as set;
-ghost use Rattle.pg_game.specs.Game.{lines_of, free_points};
-ghost use Rattle.pg_game.specs.Pairs.{PairsHold, unpaired};
-ghost use Rattle.pg_game.specs.Decided.{pairs_exist, avoider_can_pair, is_pairable};
+ghost use Rattle.pg_match.specs.Prelude.{lines_of, free_points, PairsHold, unpaired, pairs_exist, avoider_can_pair, is_pairable};
 ghost use Rattle.pg_match.specs.Cache.{Fits, IsAfterLeaf};
 
 use crate::cache::PairCache;

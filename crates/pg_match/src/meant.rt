@@ -1,7 +1,6 @@
 //! What is asked at a position: the lines that are meant.
 ghost use Rattle.std.specs.Prelude.{◌≡◌, ◌<◌, ◌≤◌, not, IfOk, length, map};
-ghost use Rattle.std.specs.List.{All, AllPairs, filter};
-ghost use Rattle.pg_game.specs.Game.{is_touched};
+ghost use Rattle.pg_match.specs.Prelude.{All, AllPairs, filter, is_touched};
 ghost use Rattle.pg_match.specs.Private.{line_at, CanMatch};
 
 use pg_base::{Lines, MAX_MEMBERS, Memory, PointSet};

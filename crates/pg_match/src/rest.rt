@@ -2,9 +2,7 @@
 ghost use Rattle.std.specs.Prelude.{◌≡◌, ◌<◌, ◌&&◌, not, ◌∷◌, [], ◌++◌, ℕ, List, IfOk, option_to_list};
 ghost use Rattle.std.specs.List.{All};
 ghost use Rattle.std.specs.FinSet as set;
-ghost use Rattle.pg_base.specs.declared.pair.Pair.{Pair};
-ghost use Rattle.pg_game.specs.Position.{is_free};
-ghost use Rattle.pg_game.specs.Pairs.{is_paired, unpaired};
+ghost use Rattle.pg_match.specs.Prelude.{Pair, is_free, is_paired, unpaired};
 ghost use Rattle.pg_match.specs.Meant.{PairUp, PairsOn};
 
 use pg_base::{MAX_MEMBERS, Memory, Pair, PointSet};

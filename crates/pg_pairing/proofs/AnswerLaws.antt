@@ -1,24 +1,7 @@
 -- The answer by pairs is a free point, and the rest of the pairs holds after it.
 use Rattle.std.proofs.Common.{◌≡◌, ◌≢◌, ℕ, ◌<◌, Bool, true, false, not, List, [], ◌∷◌, Option, Some, None, unwrap_or, eqb, eqb-true, refl, sym, ap, ◌∙◌, subst, inl, inr, ◌⊎◌, arith}
-use Rattle.std.proofs.lemmas.Bool.{cases_Bool, and_parts, and_from, or_from, not-true, not_from_false, false≢true}
-use Rattle.std.proofs.lemmas.List.Elements.{All-contains}
-use Rattle.std.proofs.lemmas.Option.{same_Some, none-some}
-use Rattle.std.specs.List.{find, Contains, All}
+use Rattle.pg_pairing.proofs.Common.{cases_Bool, and_parts, and_from, or_from, not-true, not_from_false, false≢true, All-contains, same_Some, none-some, find, Contains, All, Kind, MakerBreaker, MakerMaker, AvoiderEnforcer, Switching, Pair, Side, X, Y, other, Game, Position, is_free, point_count, free_points, is_full, after, IsPosition, lowest_free, is_open, has_point, is_paired, is_loose, IsInGame, PairsHold, unpaired_due, partner, if_free, free_partner, pairs_answer, Contains-head, Contains-tail, list_any-none, list_any-one, Contains-filter, free-stays, free-was, turn-after_x, any-free_points, first_free}
 use Rattle.std.specs.Option.{option_or}
-use Rattle.pg_base.specs.declared.kind.Kind.{Kind}
-use Rattle.pg_base.specs.declared.kind.Kind.TheVariants.{MakerBreaker, MakerMaker, AvoiderEnforcer, Switching}
-use Rattle.pg_base.specs.declared.pair.Pair.{Pair}
-use Rattle.pg_base.specs.declared.side.Side.{Side}
-use Rattle.pg_base.specs.declared.side.Side.TheVariants.{X, Y}
-use Rattle.pg_base.specs.Side.{other}
-use Rattle.pg_game.specs.declared.game.Game.{Game}
-use Rattle.pg_game.specs.declared.position.Position.{Position}
-use Rattle.pg_game.specs.Position.{is_free}
-use Rattle.pg_game.specs.Game.{point_count, free_points, is_full, after, IsPosition, lowest_free}
-use Rattle.pg_game.specs.Pairs.{is_open, has_point, is_paired, is_loose, IsInGame, PairsHold, unpaired_due, partner, if_free, free_partner, pairs_answer}
-use Rattle.pg_game.proofs.Members.{Contains-head, Contains-tail, list_any-none, list_any-one, Contains-filter}
-use Rattle.pg_game.proofs.Moves.{free-stays, free-was, turn-after_x}
-use Rattle.pg_game.proofs.FreePoints.{any-free_points, first_free}
 use Rattle.pg_pairing.specs.Rest.{ArePairsOf, rest, RestHolds, MayClaim, HeldBefore}
 use Rattle.pg_pairing.proofs.Filters.{filter_narrower, filter_member, find_member, find_none}
 use Rattle.pg_pairing.proofs.OpenPairs.{Joins, joins, has_joined, joined_turned, joined_free, open_joined, joined_apart, joined_same, same_pair, open_was, rest-after, breaker_of-same, breaker_of-avoider, PairsHold-guard, PairsHold-outside, PairsHold-answered}

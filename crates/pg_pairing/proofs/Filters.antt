@@ -1,12 +1,7 @@
 -- Lists without the elements that fail a test, and counts of numbers.
 use Rattle.std.proofs.Common.{◌≡◌, ℕ, zero, suc, ◌+◌, ◌<◌, ◌≤◌, Bool, true, false, not, ◌&&◌, ◌||◌, List, [], ◌∷◌, length, Some, None, eqb, refl, sym, ap, ◌∙◌, subst, inl, inr, arith, eq-eqb, ne_eqb}
-use Rattle.std.proofs.lemmas.Bool.{cases_Bool, cases_eq, false≢true}
-use Rattle.std.proofs.lemmas.List.Elements.{All-head, All-tail, All-contains, All-filter, All-contains_itself, filter_passes}
+use Rattle.pg_pairing.proofs.Common.{cases_Bool, cases_eq, false≢true, All-head, All-tail, All-contains, All-filter, All-contains_itself, filter_passes, same_Some, none-some, filter, find, range_with_len, Contains, All, list_any, Contains-head, Contains-tail, find_same}
 use Rattle.std.proofs.lemmas.List.FromFn.{length-range_with_len, get_or-range_with_len}
-use Rattle.std.proofs.lemmas.Option.{same_Some, none-some}
-use Rattle.std.specs.List.{filter, find, range_with_len, Contains, All, list_any}
-use Rattle.pg_game.proofs.Members.{Contains-head, Contains-tail}
-use Rattle.pg_game.proofs.Lowest.{find_same}
 
 module _ {X : Type 0} where
   -- a list of which all pass stays whole

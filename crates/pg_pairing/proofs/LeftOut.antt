@@ -1,21 +1,7 @@
 -- The free points that are in no pair, before and after a move.
 use Rattle.std.proofs.Common.{◌≡◌, ◌≢◌, ℕ, ◌+◌, ◌<◌, ◌≤◌, Bool, true, false, not, ◌&&◌, List, [], ◌∷◌, length, eqb, refl, sym, ap, ◌∙◌, subst, inl, inr, arith, eq-eqb, ne_eqb}
-use Rattle.std.proofs.lemmas.Bool.{cases_Bool, cases_eq, and_parts, and_from, not-true, not_from_false, false≢true}
-use Rattle.std.proofs.lemmas.List.Elements.{All-contains}
-use Rattle.std.specs.List.{filter, Contains, range_with_len}
-use Rattle.pg_base.specs.declared.pair.Pair.{Pair}
-use Rattle.pg_base.specs.declared.side.Side.{Side}
-use Rattle.pg_base.specs.declared.side.Side.TheVariants.{X, Y}
-use Rattle.pg_game.specs.declared.game.Game.{Game}
-use Rattle.pg_game.specs.declared.position.Position.{Position}
-use Rattle.pg_game.specs.Position.{is_free}
-use Rattle.pg_game.specs.Game.{point_count, free_points, after}
-use Rattle.pg_game.specs.Pairs.{is_open, has_point, is_paired, is_loose, IsInGame, PairsHold, PairsLeaveNone, unpaired, unpaired_due}
-use Rattle.pg_game.proofs.Members.{filter_both, Contains-head, list_any-none, list_any-one, member-from_any, Contains-filter, All-from_members, false-at}
-use Rattle.pg_game.proofs.Moves.{free-stays, free-was}
-use Rattle.pg_game.proofs.FreePoints.{is_free-after}
+use Rattle.pg_pairing.proofs.Common.{cases_Bool, cases_eq, and_parts, and_from, not-true, not_from_false, false≢true, All-contains, filter, Contains, range_with_len, Pair, Side, X, Y, Game, Position, is_free, point_count, free_points, after, is_open, has_point, is_paired, is_loose, IsInGame, PairsHold, PairsLeaveNone, unpaired, unpaired_due, filter_both, Contains-head, list_any-none, list_any-one, member-from_any, Contains-filter, All-from_members, false-at, free-stays, free-was, is_free-after, any_both}
 use Rattle.pg_pairing.specs.Rest.{rest}
-use Rattle.pg_game.proofs.Lowest.{any_both}
 use Rattle.pg_pairing.proofs.Filters.{filter_all, filter_member, filter_agree-range, in_range, below_range, one_equal, one_without, some_length}
 use Rattle.pg_pairing.proofs.OpenPairs.{Joins, joins, has_joined, joined_turned, one_of_joined, joined_free, joined_apart, outside_pair, same_pair, open_stays, open-of}
 

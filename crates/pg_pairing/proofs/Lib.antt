@@ -1,3 +1,4 @@
+mod Common
 pub mod PairLoops
 pub mod Filters
 pub mod OpenPairs

@@ -1,25 +1,7 @@
 -- Pairs whose points are free, and that those which are left go on holding after moves.
 use Rattle.std.proofs.Common.{◌≡◌, ◌≢◌, ℕ, true, false, List, eqb, refl, sym, ap, ◌∙◌, subst, inl, inr, ◌⊎◌, eq-eqb, ne_eqb, eqb-true}
-use Rattle.std.proofs.lemmas.Bool.{cases_Bool, cases_eq, and_parts, and_from, or_parts, or_from, or_cases, or_left, or_right, false≢true}
-use Rattle.std.proofs.lemmas.List.Elements.{All-filter, filter_passes, All-contains}
+use Rattle.pg_pairing.proofs.Common.{cases_Bool, cases_eq, and_parts, and_from, or_parts, or_from, or_cases, or_left, or_right, false≢true, All-filter, filter_passes, All-contains, filter, Contains, Any, AllPairs, FinSet, contains, nat_cmp, ShareNone, Kind, MakerBreaker, MakerMaker, AvoiderEnforcer, Switching, Pair, Side, Y, other, Game, Position, is_free, points_of, is_touched, is_filled, has_filled, lines_of, after, is_open, has_point, is_paired, IsInGame, SharesNone, HoldsPair, PairsHold, PairsLeaveNone, breaker_of, true-at, false-at, list_any-none, Contains-filter, All-from_members, apart-or_same, points_of-waiter, points-stay, own-point, free-of, free-stays, free-was, apart}
 use Rattle.std.proofs.lemmas.List.Kept.{AllPairs-filter}
-use Rattle.std.specs.List.{filter, Contains, Any, AllPairs}
-use Rattle.std.specs.FinSet.{FinSet, contains}
-use Rattle.std.specs.Ordering.{nat_cmp}
-use Rattle.pg_base.specs.Points.{ShareNone}
-use Rattle.pg_base.specs.declared.kind.Kind.{Kind}
-use Rattle.pg_base.specs.declared.kind.Kind.TheVariants.{MakerBreaker, MakerMaker, AvoiderEnforcer, Switching}
-use Rattle.pg_base.specs.declared.pair.Pair.{Pair}
-use Rattle.pg_base.specs.declared.side.Side.{Side}
-use Rattle.pg_base.specs.declared.side.Side.TheVariants.{Y}
-use Rattle.pg_base.specs.Side.{other}
-use Rattle.pg_game.specs.declared.game.Game.{Game}
-use Rattle.pg_game.specs.declared.position.Position.{Position}
-use Rattle.pg_game.specs.Position.{is_free, points_of}
-use Rattle.pg_game.specs.Game.{is_touched, is_filled, has_filled, lines_of, after}
-use Rattle.pg_game.specs.Pairs.{is_open, has_point, is_paired, IsInGame, SharesNone, HoldsPair, PairsHold, PairsLeaveNone, breaker_of}
-use Rattle.pg_game.proofs.Members.{true-at, false-at, list_any-none, Contains-filter, All-from_members, apart-or_same}
-use Rattle.pg_game.proofs.Moves.{points_of-waiter, points-stay, own-point, free-of, free-stays, free-was, apart}
 use Rattle.pg_pairing.specs.Rest.{ArePairsOf, rest, RestHolds}
 use Rattle.pg_pairing.proofs.Filters.{filter_all, filter_narrower}
 

@@ -1,24 +1,10 @@
 -- Pairs that hold force the claim: a win for Breaker and for Avoider, and a draw at least for
 -- either side of Maker-Maker.
 use Rattle.std.proofs.Common.{◌≡◌, ◌≢◌, ℕ, ◌<◌, ◌≤◌, true, false, List, Option, Some, None, refl, sym, ap, ◌∙◌, subst, inl, inr, ◌⊎◌, arith}
-use Rattle.pg_base.specs.Points.{ShareNone}
+use Rattle.pg_pairing.proofs.Common.{ShareNone, Win, Kind, MakerBreaker, MakerMaker, AvoiderEnforcer, Pair, Side, X, Y, other, Game, Position, is_free, claims_in_turn, point_count, bias_of, has_filled, is_over, outcome, after, IsPosition, PairsHold, breaker_of, pairs_answer, reaches, Forces, is_full-one, side≢other, turn-replied, IsPosition-after}
 use Rattle.pg_base.specs.declared.goal.Goal.{Goal}
-use Rattle.pg_base.specs.declared.goal.Goal.TheVariants.{Win, Draw as AtLeastDraw}
-use Rattle.pg_base.specs.declared.kind.Kind.{Kind}
-use Rattle.pg_base.specs.declared.kind.Kind.TheVariants.{MakerBreaker, MakerMaker, AvoiderEnforcer}
-use Rattle.pg_base.specs.declared.pair.Pair.{Pair}
-use Rattle.pg_base.specs.declared.side.Side.{Side}
-use Rattle.pg_base.specs.declared.side.Side.TheVariants.{X, Y}
-use Rattle.pg_base.specs.Side.{other}
-use Rattle.pg_game.specs.declared.game.Game.{Game}
-use Rattle.pg_game.specs.declared.position.Position.{Position}
-use Rattle.pg_game.specs.Position.{is_free, claims_in_turn}
-use Rattle.pg_game.specs.Game.{point_count, bias_of, has_filled, is_over, outcome, after, IsPosition}
-use Rattle.pg_game.specs.Pairs.{PairsHold, breaker_of, pairs_answer}
+use Rattle.pg_base.specs.declared.goal.Goal.TheVariants.{Draw as AtLeastDraw}
 use Rattle.pg_game.specs.Strategy.{Keeps}
-use Rattle.pg_game.specs.Value.{reaches, Forces}
-use Rattle.pg_game.proofs.FreePoints.{is_full-one}
-use Rattle.pg_game.proofs.Moves.{side≢other, turn-replied, IsPosition-after}
 use Rattle.pg_game.proofs.Strategy.{Forces-from_keeps, free_point}
 use Rattle.pg_game.proofs.Unfilled.{unfilled-breaker, unfilled-draw, unfilled-avoider, maker_bias}
 use Rattle.pg_pairing.specs.Rest.{ArePairsOf, rest, RestHolds, MayClaim, HeldBefore}

@@ -1,26 +1,8 @@
 -- The steps of the tests of pairs.
 use Rattle.std.proofs.Common.{All, Any, eqb-true, ◌≡◌, ◌≢◌, ℕ, ◌+◌, ◌<◌, Bool, true, false, cond, not, ◌&&◌, ◌||◌, List, [], ◌∷◌, ◌++◌, length, get_or, take, eqb, nat_lt, refl, sym, ap, ◌∙◌, subst, inl, inr, arith, eq-eqb, ne_eqb, ltb-true, lt-ltb, IsTrue, if◌then◌else◌, ◌≤◌, length-take-le, get_or-take, take_all}
-use Rattle.std.proofs.lemmas.Bool.{cases_eq, and_parts, and_from, or_parts, or_from, not-true, not_from_false, false≢true}
-use Rattle.std.specs.FinSet.{FinSet, contains, insert}
-use Rattle.std.specs.Ordering.{nat_cmp}
-use Rattle.pg_game.specs.declared.position.Position.{Position}
-use Rattle.pg_game.specs.Position.{is_free}
-use Rattle.pg_base.specs.WordLemmas.{in_insert}
-use Rattle.pg_base.specs.declared.pair.Pair.{Pair}
-use Rattle.pg_game.specs.declared.game.Game.{Game}
-use Rattle.pg_game.specs.Pairs.{has_point, is_open, AreOpenPairs, SharesNone, IsInGame, HoldsPair, HoldLines, PairsHold, PairsLeaveNone, is_paired, unpaired}
+use Rattle.pg_pairing.proofs.Common.{cases_eq, and_parts, and_from, or_parts, or_from, not-true, not_from_false, false≢true, FinSet, contains, insert, nat_cmp, Position, is_free, in_insert, Pair, Game, has_point, is_open, AreOpenPairs, SharesNone, IsInGame, HoldsPair, HoldLines, PairsHold, PairsLeaveNone, is_paired, unpaired, point_count, free_points, AvoiderEnforcer, filter_agree, point_count-le, All-weaker, false-at, list_any-none, list_any-one, member-from_any, Side, filter, list_any, Contains, take_more, get_or_default, All-nil, All-push, All-get_or, Contains-get_or}
 use Rattle.pg_pairing.specs.Taking.{CanTake}
-use Rattle.pg_game.specs.Game.{point_count, free_points}
-use Rattle.pg_base.specs.declared.kind.Kind.TheVariants.{AvoiderEnforcer}
-use Rattle.std.proofs.lemmas.List.Elements.{filter_agree}
-use Rattle.pg_game.proofs.Limits.{point_count-le}
-use Rattle.std.proofs.lemmas.List.Elements.{All-weaker}
-use Rattle.pg_game.proofs.Members.{false-at, list_any-none, list_any-one, member-from_any}
-use Rattle.pg_base.specs.declared.side.Side.{Side}
-use Rattle.std.specs.List.{filter, list_any, Contains}
-use Rattle.std.proofs.lemmas.List.{take_more, get_or_default}
 use Rattle.std.proofs.lemmas.List.Folds.{list_any_more}
-use Rattle.std.proofs.lemmas.List.Elements.{All-nil, All-push, All-get_or, Contains-get_or}
 use Rattle.std.proofs.lemmas.List.Quantifiers.{all_pairs_push}
 
 swap_or : (a b c : Bool) → (b || (a || c)) ≡ ((a || b) || c)

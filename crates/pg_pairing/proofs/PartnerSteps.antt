@@ -1,19 +1,6 @@
 -- The steps of the walks over pairs and over the points of a line.
 use Rattle.std.proofs.Common.{◌≡◌, ◌≢◌, ◌∙◌, ℕ, ◌+◌, ◌-◌, ◌<◌, ◌≤◌, Bool, true, false, ◌||◌, List, length, get_or, set, eqb, eqb-true, eq-eqb, refl, sym, ap, subst, inl, inr, arith}
-use Rattle.std.proofs.lemmas.Bool.{cases_eq, or_cases, false≢true}
-use Rattle.std.proofs.lemmas.List.{length-set, get_or-set_same, get_or-set_other, get_or_default}
-use Rattle.std.proofs.lemmas.List.Elements.{Contains-get_or, All-weaker}
-use Rattle.std.specs.List.{All, AllPairs, Any, Contains}
-use Rattle.std.specs.FinSet.{FinSet, contains, insert}
-use Rattle.std.specs.Ordering.{nat_cmp}
-use Rattle.pg_base.specs.WordLemmas.{in_insert}
-use Rattle.pg_base.specs.declared.limits.TheConstants.{MAX_MEMBERS}
-use Rattle.pg_base.specs.declared.pair.Pair.{Pair}
-use Rattle.pg_game.specs.declared.game.Game.{Game}
-use Rattle.pg_game.specs.Game.{is_touched}
-use Rattle.pg_game.specs.Pairs.{HoldsPair, IsInGame, IsSafe, SharesNone}
-use Rattle.pg_game.proofs.Limits.{point_count-le}
-use Rattle.pg_game.proofs.Members.{list_any-none, list_any-one}
+use Rattle.pg_pairing.proofs.Common.{cases_eq, or_cases, false≢true, length-set, get_or-set_same, get_or-set_other, get_or_default, Contains-get_or, All-weaker, All, AllPairs, Any, Contains, FinSet, contains, insert, nat_cmp, in_insert, MAX_MEMBERS, Pair, Game, is_touched, HoldsPair, IsInGame, IsSafe, SharesNone, point_count-le, list_any-none, list_any-one}
 use Rattle.pg_pairing.specs.Partners.{AreSmall, ArePartners, IsPairOf}
 use Rattle.pg_pairing.specs.declared.partners.TheConstants.{NO_POINT}
 

@@ -1,8 +1,6 @@
 -- The other point of each pair.
 use Rattle.std.specs.Prelude.{◌≡◌, ◌≢◌, ◌⊎◌, ℕ, ◌+◌, ◌<◌, List, length, get_or}
-use Rattle.std.specs.List.{Any, Contains}
-use Rattle.pg_base.specs.declared.limits.TheConstants.{MAX_MEMBERS}
-use Rattle.pg_base.specs.declared.pair.Pair.{Pair}
+use Rattle.pg_pairing.specs.Prelude.{Any, Contains, MAX_MEMBERS, Pair}
 
 -- the pair is of these two points
 abbrev pub IsPairOf : ℕ → ℕ → Pair → Type 0

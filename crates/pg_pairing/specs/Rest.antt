@@ -1,17 +1,6 @@
 -- The rest of the pairs: those whose two points are both free.
 use Rattle.std.specs.Prelude.{◌≡◌, ◌≢◌, ℕ, ◌<◌, true, List, Option, Some, filter}
-use Rattle.std.specs.List.{All, AllPairs}
-use Rattle.pg_base.specs.declared.kind.Kind.{Kind}
-use Rattle.pg_base.specs.declared.kind.Kind.TheVariants.{AvoiderEnforcer}
-use Rattle.pg_base.specs.declared.pair.Pair.{Pair}
-use Rattle.pg_base.specs.declared.side.Side.{Side}
-use Rattle.pg_base.specs.declared.side.Side.TheVariants.{X}
-use Rattle.pg_base.specs.Side.{other}
-use Rattle.pg_game.specs.declared.game.Game.{Game}
-use Rattle.pg_game.specs.declared.position.Position.{Position}
-use Rattle.pg_game.specs.Position.{is_free}
-use Rattle.pg_game.specs.Game.{point_count, after}
-use Rattle.pg_game.specs.Pairs.{is_open, IsInGame, SharesNone, PairsHold}
+use Rattle.pg_pairing.specs.Prelude.{All, AllPairs, Kind, AvoiderEnforcer, Pair, Side, X, other, Game, Position, is_free, point_count, after, is_open, IsInGame, SharesNone, PairsHold}
 
 -- the pairs are of points of the game, all different
 pub record ArePairsOf (g : Game) (pairs : List Pair) : Type 0 where

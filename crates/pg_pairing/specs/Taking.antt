@@ -1,10 +1,6 @@
 -- One pair after another put to those that are taken.
 use Rattle.std.specs.Prelude.{◌≡◌, ◌≢◌, ℕ, ◌<◌, true, false}
-use Rattle.std.specs.FinSet.{FinSet, contains}
-use Rattle.std.specs.Ordering.{nat_cmp}
-use Rattle.pg_base.specs.declared.pair.Pair.{Pair}
-use Rattle.pg_game.specs.declared.position.Position.{Position}
-use Rattle.pg_game.specs.Pairs.{is_open}
+use Rattle.pg_pairing.specs.Prelude.{FinSet, contains, nat_cmp, Pair, Position, is_open}
 
 -- both points of the pair are free points of the game, different, and not among those that are
 -- taken

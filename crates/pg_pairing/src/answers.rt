@@ -2,12 +2,7 @@
 ghost use Rattle.std.specs.Prelude.{◌≡◌, ℕ, ◌<◌, ◌&&◌, ◌||◌, not, false, true, None, Option};
 ghost use Rattle.std.specs.List.{All, find, list_any};
 ghost use Rattle.std.specs.FinSet as set;
-ghost use Rattle.pg_base.specs.declared.kind.Kind.TheVariants.{MakerBreaker};
-ghost use Rattle.pg_base.specs.declared.pair.Pair.{Pair};
-ghost use Rattle.pg_base.specs.declared.side.Side.{Side};
-ghost use Rattle.pg_game.specs.Position.{is_free};
-ghost use Rattle.pg_game.specs.Game.{point_count, free_points, is_full, after, IsPosition};
-ghost use Rattle.pg_game.specs.Pairs.{is_open, has_point, is_loose, partner, free_partner, pairs_answer};
+ghost use Rattle.pg_pairing.specs.Prelude.{MakerBreaker, Pair, Side, is_free, point_count, free_points, is_full, after, IsPosition, is_open, has_point, is_loose, partner, free_partner, pairs_answer};
 ghost use Rattle.pg_pairing.specs.Rest.{ArePairsOf, RestHolds, MayClaim, HeldBefore};
 
 use crate::condition::is_outside;

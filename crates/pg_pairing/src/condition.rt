@@ -2,12 +2,7 @@
 ghost use Rattle.std.specs.Prelude.{◌≡◌, ◌==◌, ℕ, ◌<◌, ◌≤◌, ◌↔◌, ◌&&◌, ◌||◌, not, IsTrue, IsSome, IfSome, nat_lt, if◌then◌else◌, length};
 ghost use Rattle.std.specs.List.{filter};
 ghost use Rattle.std.specs.FinSet as set;
-ghost use Rattle.pg_base.specs.declared.goal.Goal.TheVariants.{Win, Draw};
-ghost use Rattle.pg_base.specs.declared.kind.Kind.TheVariants.{AvoiderEnforcer};
-ghost use Rattle.pg_game.specs.Position.{is_free};
-ghost use Rattle.pg_game.specs.Game.{free_points, IsPosition};
-ghost use Rattle.pg_game.specs.Pairs.{PairsHold, PairsLeaveNone, AreOpenPairs, HoldLines, has_point, is_paired, unpaired_due};
-ghost use Rattle.pg_game.specs.Value.{Forces};
+ghost use Rattle.pg_pairing.specs.Prelude.{Win, Draw, AvoiderEnforcer, is_free, free_points, IsPosition, PairsHold, PairsLeaveNone, AreOpenPairs, HoldLines, has_point, is_paired, unpaired_due, Forces};
 ghost use Rattle.pg_pairing.specs.Taking.{CanTake};
 
 use crate::partners::{is_safe, partners_of};

@@ -1,15 +1,6 @@
 //! What pairs that hold force, as laws.
 ghost use Rattle.std.specs.Prelude.{◌≡◌, List};
-ghost use Rattle.pg_base.specs.declared.goal.Goal.TheVariants.{Win, Draw};
-ghost use Rattle.pg_base.specs.declared.kind.Kind.TheVariants.{MakerBreaker, MakerMaker, AvoiderEnforcer};
-ghost use Rattle.pg_base.specs.declared.pair.Pair.{Pair};
-ghost use Rattle.pg_base.specs.declared.side.Side.{Side};
-ghost use Rattle.pg_base.specs.declared.side.Side.TheVariants.{X, Y};
-ghost use Rattle.pg_game.specs.declared.game.Game.{Game};
-ghost use Rattle.pg_game.specs.declared.position.Position.{Position};
-ghost use Rattle.pg_game.specs.Game.{IsPosition};
-ghost use Rattle.pg_game.specs.Pairs.{PairsHold};
-ghost use Rattle.pg_game.specs.Value.{Forces};
+ghost use Rattle.pg_pairing.specs.Prelude.{Win, Draw, MakerBreaker, MakerMaker, AvoiderEnforcer, Pair, Side, X, Y, Game, Position, IsPosition, PairsHold, Forces};
 
 /// In Maker-Breaker, pairs that hold for Breaker are a win for Breaker, whoever is to move and
 /// however many points Breaker claims a turn.

@@ -1,8 +1,6 @@
 //! The other point of each pair, found at once.
 ghost use Rattle.std.specs.Prelude.{◌≢◌, ◌<◌, List, IsTrue, ◌↔◌};
-ghost use Rattle.std.specs.List.{All, AllPairs};
-ghost use Rattle.pg_base.specs.declared.pair.Pair.{Pair};
-ghost use Rattle.pg_game.specs.Pairs.{SharesNone, IsSafe};
+ghost use Rattle.pg_pairing.specs.Prelude.{All, AllPairs, Pair, SharesNone, IsSafe};
 ghost use Rattle.pg_pairing.specs.Partners.{ArePartners, AreSmall};
 
 use pg_base::{Line, MAX_MEMBERS, Pair, PointSet};

@@ -1,15 +1,6 @@
 -- The best of the values after the moves from a point on.
 use Rattle.std.proofs.Common.{◌≡◌, ℕ, ◌+◌, ◌<◌, true, false, List, ◌∷◌, Some, None, if◌then◌else◌, refl, sym, ◌∙◌, subst, inl, inr}
-use Rattle.std.proofs.lemmas.Bool.{cases_Bool, cond-true, cond-false}
-use Rattle.pg_base.specs.declared.side.Side.{Side}
-use Rattle.pg_base.specs.declared.side.Side.TheVariants.{X, Y}
-use Rattle.pg_base.specs.declared.score.Score.{Score}
-use Rattle.pg_game.specs.declared.game.Game.{Game}
-use Rattle.pg_game.specs.declared.position.Position.{Position}
-use Rattle.pg_game.specs.Fit.{AreBelow}
-use Rattle.pg_game.specs.Game.{point_count, after, is_over, outcome}
-use Rattle.pg_game.specs.Position.{is_free}
-use Rattle.pg_game.specs.Value.{best, better, value}
+use Rattle.pg_plain.proofs.Common.{cases_Bool, cond-true, cond-false, Side, X, Y, Score, Game, Position, AreBelow, point_count, after, is_over, outcome, is_free, best, better, value}
 use Rattle.pg_game.proofs.Moves.{points-from}
 use Rattle.pg_plain.proofs.MovesFrom.{told_from, from-free, from-all}
 use Rattle.pg_game.proofs.ValueLaws.{value-step, value-over}

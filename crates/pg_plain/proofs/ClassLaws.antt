@@ -1,11 +1,6 @@
 -- The class by the two values.
 use Rattle.std.proofs.Common.{◌≡◌, ap, ◌∙◌}
-use Rattle.pg_base.specs.declared.score.Score.{Score}
-use Rattle.pg_base.specs.declared.side.Side.TheVariants.{X, Y}
-use Rattle.pg_game.specs.declared.game.Game.{Game}
-use Rattle.pg_game.specs.Game.{with_turn}
-use Rattle.pg_game.specs.Value.{value}
-use Rattle.pg_game.specs.Class.{class_by, class_of}
+use Rattle.pg_plain.proofs.Common.{Score, X, Y, Game, with_turn, value, class_by, class_of}
 
 pub class_of-values : (g : Game) (s t : Score)
     → s ≡ value g (with_turn g X)

@@ -1,17 +1,7 @@
 -- The first criterion that applies, asked one after the other.
 use Rattle.std.proofs.Common.{◌≡◌, ℕ, Bool, true, false, ◌&&◌, Some, None, List, if◌then◌else◌, refl, sym, ap, ◌∙◌, ltb, lt-ltb, inl, inr}
-use Rattle.std.specs.FinSet.{FinSet, contains}
-use Rattle.std.specs.Ordering.{nat_cmp}
-use Rattle.std.proofs.lemmas.Bool.{cases_Bool, cond-true, cond-false}
+use Rattle.pg_plain.proofs.Common.{FinSet, contains, nat_cmp, cases_Bool, cond-true, cond-false, Score, Side, Game, Position, is_free, points_of, is_over, outcome, lines_of, point_count, breaker_of, decided, first_criterion, at_least, answer_for, defender, defends, attack_wins, pairs_exist, has_lines, avoider_can_pair}
 use Rattle.std.proofs.lemmas.Option.{same_Some, none-some}
-use Rattle.pg_base.specs.declared.score.Score.{Score}
-use Rattle.pg_base.specs.declared.side.Side.{Side}
-use Rattle.pg_game.specs.declared.game.Game.{Game}
-use Rattle.pg_game.specs.declared.position.Position.{Position}
-use Rattle.pg_game.specs.Position.{is_free, points_of}
-use Rattle.pg_game.specs.Game.{is_over, outcome, lines_of, point_count}
-use Rattle.pg_game.specs.Pairs.{breaker_of}
-use Rattle.pg_game.specs.Decided.{decided, first_criterion, at_least, answer_for, defender, defends, attack_wins, pairs_exist, has_lines, avoider_can_pair}
 use Rattle.pg_game.proofs.Limits.{lines-range}
 use Rattle.pg_plain.specs.PairSearch.{have_pairs}
 use Rattle.pg_plain.proofs.PairSearches.{pairs-within}

@@ -1,3 +1,4 @@
+mod Common
 pub mod MovesFrom
 pub mod BestPlay
 pub mod ClassLaws

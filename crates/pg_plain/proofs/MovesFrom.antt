@@ -1,10 +1,6 @@
 -- What is told of a position from the moves to its free points, from one point on.
 use Rattle.std.proofs.Common.{◌≡◌, ℕ, suc, ◌+◌, ◌-◌, ◌<◌, true, false, List, ◌∷◌, [], map, refl, ap, ◌∙◌, arith}
-use Rattle.std.specs.List.{filter, range_with_len}
-use Rattle.pg_game.specs.declared.game.Game.{Game}
-use Rattle.pg_game.specs.declared.position.Position.{Position}
-use Rattle.pg_game.specs.Game.{point_count, free_points}
-use Rattle.pg_game.specs.Position.{is_free}
+use Rattle.pg_plain.proofs.Common.{filter, range_with_len, Game, Position, point_count, free_points, is_free}
 
 -- what a list of answers tells, and each move's answer
 module _ {A : Type 0} (g : Game) (p : Position) (of : List A → A) (answer : ℕ → A) where

@@ -1,20 +1,8 @@
 -- Threats are at points of lines, which are few; and threat lines by their first two points.
 use Rattle.std.specs.Prelude.{◌↔◌, IsTrue}
 use Rattle.std.proofs.Common.{◌≡◌, ℕ, ◌<◌, Bool, true, ◌&&◌, ◌||◌, ◌==◌, ◌≤◌, ◌-◌, List, [], ◌∷◌, length, get_or, take, drop, ap, ◌∙◌, subst, subst₂, arith}
-use Rattle.std.proofs.lemmas.Bool.{and_parts, eqb-true}
+use Rattle.pg_plain.proofs.Common.{and_parts, eqb-true, All-contains, All, list_all, contains, Side, Game, Position, lines_of, after, is_free, points_of, is_on, is_near, threatens, Forcing, LeadsToLine, member-from_any, small_points}
 use Rattle.std.proofs.lemmas.List.{take_all}
-use Rattle.std.proofs.lemmas.List.Elements.{All-contains}
-use Rattle.std.specs.List.{All, list_all}
-use Rattle.std.specs.FinSet.{contains}
-use Rattle.pg_base.specs.declared.side.Side.{Side}
-use Rattle.pg_game.specs.declared.game.Game.{Game}
-use Rattle.pg_game.specs.declared.position.Position.{Position}
-use Rattle.pg_game.specs.Game.{lines_of, after}
-use Rattle.pg_game.specs.Position.{is_free, points_of}
-use Rattle.pg_game.specs.Potential.{is_on}
-use Rattle.pg_game.specs.Threat.{is_near, threatens, Forcing, LeadsToLine}
-use Rattle.pg_game.proofs.Members.{member-from_any}
-use Rattle.pg_game.proofs.WeightBounds.{small_points}
 
 -- a point of a line of small points is small
 pub on-small : (line : List ℕ) (u : ℕ) → All (λ v. v < 256) line → is_on u line ≡ true → u < 256

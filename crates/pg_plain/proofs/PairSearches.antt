@@ -1,16 +1,8 @@
 -- A private pair for a line, found point by point.
 use Rattle.std.proofs.Common.{◌≡◌, ℕ, zero, suc, ◌+◌, ◌<◌, ◌≤◌, Bool, true, false, not, ◌&&◌, ◌||◌, nat_lt, eqb, List, [], ◌∷◌, length, take, get_or, refl, sym, ap, ap₂, ◌∙◌, inl, inr, arith, take_all, drop, ◌-◌, All}
-use Rattle.std.proofs.lemmas.Bool.{cases_Bool, or_right}
+use Rattle.pg_plain.proofs.Common.{cases_Bool, or_right, list_any, filter, Contains, FinSet, nat_cmp, All-contains, All-filter, All-contains_itself, minus, is_touched, has_private_pairs, Contains-head, Contains-tail}
 use Rattle.std.proofs.lemmas.List.Folds.{list_any_more}
-use Rattle.std.specs.List.{list_any, filter, Contains}
-use Rattle.std.specs.FinSet.{FinSet}
-use Rattle.std.specs.Ordering.{nat_cmp}
-use Rattle.std.proofs.lemmas.List.Elements.{All-contains, All-filter, All-contains_itself}
-use Rattle.pg_base.specs.Sets.{minus}
-use Rattle.pg_game.specs.Game.{is_touched}
 use Rattle.pg_plain.specs.PairSearch.{untouched, have_pairs, is_lesser}
-use Rattle.pg_game.specs.Decided.{has_private_pairs}
-use Rattle.pg_game.proofs.Members.{Contains-head, Contains-tail}
 use Rattle.pg_game.proofs.Lowest.{any_both}
 
 -- no point before the place passes both tests

@@ -1,17 +1,6 @@
 -- What is known from the moves to the points from one on.
 use Rattle.std.proofs.Common.{◌≡◌, ℕ, ◌+◌, ◌<◌, Bool, true, false, Option, Some, None, is_some, List, ◌∷◌, [], refl, sym, ◌∙◌, inl, inr}
-use Rattle.std.proofs.lemmas.Bool.{cases_Bool, false≢true}
-use Rattle.std.specs.List.{list_any, list_all}
-use Rattle.pg_base.specs.declared.score.Score.{Score}
-use Rattle.pg_base.specs.declared.side.Side.{Side}
-use Rattle.pg_base.specs.declared.side.Side.TheVariants.{X, Y}
-use Rattle.pg_game.specs.declared.game.Game.{Game}
-use Rattle.pg_game.specs.declared.position.Position.{Position}
-use Rattle.pg_game.specs.Game.{point_count, after}
-use Rattle.pg_game.specs.Position.{is_free}
-use Rattle.pg_game.specs.Decided.{decided}
-use Rattle.pg_game.specs.Settled.{by_moves, is_answer, is_listed, settled}
-use Rattle.pg_game.proofs.SettledLaws.{settle-decided, settle-listed}
+use Rattle.pg_plain.proofs.Common.{cases_Bool, false≢true, list_any, list_all, Score, Side, X, Y, Game, Position, point_count, after, is_free, decided, by_moves, is_answer, is_listed, settled, settle-decided, settle-listed}
 use Rattle.pg_plain.proofs.MovesFrom.{told_from, from-free, from-all}
 use Rattle.pg_plain.specs.Known.{with_move}
 

@@ -1,21 +1,12 @@
 -- Trying every attack and every reply finds each threat line.
 use Rattle.std.specs.Prelude.{◌↔◌, IsTrue}
+use Rattle.pg_plain.proofs.Common.{cases_Bool, false≢true, ltb-true, ltb-false, list_any, Switching, Side, Game, Position, is_graph, is_switching, lines_of, is_filled, point_count, after, points_of, Forcing, Filling, LeadsToLine, has_threat_line}
 use Rattle.std.specs.Cmp.{both_ways}
 use Rattle.std.proofs.Common.{◌≡◌, ◌≢◌, ℕ, ◌<◌, ◌≤◌, ◌+◌, ◌-◌, nat_lt, Bool, true, false, List, [], ◌∷◌, refl, sym, ap, ◌∙◌, subst, inl, inr, arith}
-use Rattle.std.proofs.lemmas.Bool.{cases_Bool, false≢true, ltb-true, ltb-false}
-use Rattle.std.specs.List.{list_any}
 use Rattle.pg_base.specs.declared.kind.Kind.{Kind}
-use Rattle.pg_base.specs.declared.kind.Kind.TheVariants.{Switching}
-use Rattle.pg_base.specs.declared.side.Side.{Side}
 use Rattle.pg_game.specs.declared.field.Field.{Field}
 use Rattle.pg_game.specs.declared.field.Field.TheVariants.{Lines, Graph as OnGraph}
-use Rattle.pg_game.specs.declared.game.Game.{Game}
-use Rattle.pg_game.specs.declared.position.Position.{Position}
 use Rattle.pg_game.specs.Field.{field_lines}
-use Rattle.pg_game.specs.Fit.{is_graph, is_switching}
-use Rattle.pg_game.specs.Game.{lines_of, is_filled, point_count, after}
-use Rattle.pg_game.specs.Position.{points_of}
-use Rattle.pg_game.specs.Threat.{Forcing, Filling, LeadsToLine, has_threat_line}
 use Rattle.pg_game.proofs.ThreatLaws.{near-from, near-range}
 use Rattle.pg_game.proofs.ThreatSearch.{line-within, within-line}
 use Rattle.pg_plain.specs.Attacks.{IsGoing, LeadsWithin, ReplyLeads}

@@ -1,11 +1,6 @@
 -- Lists of attacks and forced replies, by how many replies they force.
 use Rattle.std.specs.Prelude.{◌≡◌, ◌≢◌, ℕ, ◌≤◌, false, List}
-use Rattle.pg_base.specs.declared.kind.Kind.TheVariants.{Switching}
-use Rattle.pg_base.specs.declared.side.Side.{Side}
-use Rattle.pg_game.specs.declared.game.Game.{Game}
-use Rattle.pg_game.specs.declared.position.Position.{Position}
-use Rattle.pg_game.specs.Game.{is_over, after}
-use Rattle.pg_game.specs.Threat.{Forcing, LeadsToLine, depth_of}
+use Rattle.pg_plain.specs.Prelude.{Switching, Side, Game, Position, is_over, after, Forcing, LeadsToLine, depth_of}
 
 -- each side claims one point a turn in a game on lines that isn't over
 pub record IsGoing (g : Game) (p : Position) : Type 0 where

@@ -1,7 +1,6 @@
 -- What is known of a position with one move more.
 use Rattle.std.specs.Prelude.{Bool, true, false, Option, Some, None}
-use Rattle.pg_base.specs.declared.side.Side.{Side}
-use Rattle.pg_base.specs.declared.side.Side.TheVariants.{X, Y}
+use Rattle.pg_plain.specs.Prelude.{Side, X, Y}
 
 -- the answer of the move where the side to move wants it, what was known where the move has the
 -- other answer, and else only what the side wants

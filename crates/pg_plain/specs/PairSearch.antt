@@ -1,11 +1,6 @@
 -- A private pair for a line, point by point, where the other lines have pairs too.
 use Rattle.std.specs.Prelude.{ℕ, Bool, not, ◌&&◌, nat_lt, List, filter}
-use Rattle.std.specs.List.{list_any}
-use Rattle.std.specs.FinSet.{FinSet}
-use Rattle.std.specs.Ordering.{nat_cmp}
-use Rattle.pg_base.specs.Sets.{minus}
-use Rattle.pg_game.specs.Game.{is_touched}
-use Rattle.pg_game.specs.Decided.{has_private_pairs}
+use Rattle.pg_plain.specs.Prelude.{list_any, FinSet, nat_cmp, minus, is_touched, has_private_pairs}
 
 -- the lines without a point of the set
 abbrev pub untouched : FinSet nat_cmp → List (List ℕ) → List (List ℕ)

@@ -1,9 +1,6 @@
 //! The value of a position, by trying every move.
 ghost use Rattle.std.specs.Prelude.{◌≡◌, []};
-ghost use Rattle.pg_game.specs.Fit.{AreBelow};
-ghost use Rattle.pg_game.specs.Game.{point_count};
-ghost use Rattle.pg_game.specs.Judge.{IsMadeForGame};
-ghost use Rattle.pg_game.specs.Value.{best, better, value};
+ghost use Rattle.pg_plain.specs.Prelude.{AreBelow, point_count, IsMadeForGame, best, better, value};
 
 use pg_base::{Score, Side};
 use pg_game::{Game, Judge, Position};

@@ -1,7 +1,6 @@
 //! The class of a switching game, by its values.
 ghost use Rattle.std.specs.Prelude.{◌≡◌, option_map};
-ghost use Rattle.pg_game.specs.Class.{class_by, class_of};
-ghost use Rattle.pg_game.specs.Judge.{IsMadeForGame};
+ghost use Rattle.pg_plain.specs.Prelude.{class_by, class_of, IsMadeForGame};
 ghost use Rattle.pg_plain.specs.Classes.{class_named};
 
 use crate::best_play::value;

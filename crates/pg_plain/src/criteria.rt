@@ -1,10 +1,6 @@
 //! Which positions are decided, criterion by criterion.
 ghost use Rattle.std.specs.Prelude.{◌≡◌};
-ghost use Rattle.pg_game.specs.Decided.{defends, answer_for, is_pairable, avoider_can_pair, has_lines, pairs_exist, decided};
-ghost use Rattle.pg_game.specs.Fit.{AreBelow};
-ghost use Rattle.pg_game.specs.Game.{point_count};
-ghost use Rattle.pg_game.specs.Judge.{IsMadeForGame};
-ghost use Rattle.pg_game.specs.Pairs.{breaker_of};
+ghost use Rattle.pg_plain.specs.Prelude.{defends, answer_for, is_pairable, avoider_can_pair, has_lines, pairs_exist, decided, AreBelow, point_count, IsMadeForGame, breaker_of};
 
 use crate::leaves::{avoider_holds, potential_holds};
 use crate::private_pairs::have_private_pairs;

@@ -1,8 +1,6 @@
 //! Private pairs of points for lines, by trying all pairs of one line after the other.
 ghost use Rattle.std.specs.Prelude.{◌≡◌, ◌<◌, filter};
-ghost use Rattle.std.specs.List.{All, list_any};
-ghost use Rattle.std.specs.FinSet.{contains};
-ghost use Rattle.pg_base.specs.Sets.{minus};
+ghost use Rattle.pg_plain.specs.Prelude.{All, list_any, contains, minus};
 ghost use Rattle.pg_plain.specs.PairSearch.{have_pairs, is_pair, is_lesser};
 
 use pg_base::{Line, MAX_MEMBERS, PointSet};

@@ -1,9 +1,6 @@
 //! Which positions a list of positions settles, by trying every move of its members.
 ghost use Rattle.std.specs.Prelude.{◌≡◌, []};
-ghost use Rattle.pg_game.specs.Fit.{AreBelow};
-ghost use Rattle.pg_game.specs.Game.{point_count};
-ghost use Rattle.pg_game.specs.Judge.{IsMadeForGame};
-ghost use Rattle.pg_game.specs.Settled.{by_moves, is_listed, settled};
+ghost use Rattle.pg_plain.specs.Prelude.{AreBelow, point_count, IsMadeForGame, by_moves, is_listed, settled};
 ghost use Rattle.pg_plain.specs.Known.{with_move};
 
 use crate::criteria::decided;

@@ -1,7 +1,6 @@
 //! Whether there is a threat line, by trying every attack and every reply.
 ghost use Rattle.std.specs.Prelude.{◌≡◌, ◌↔◌, ℕ, IsTrue};
-ghost use Rattle.pg_game.specs.Decided.{attack_wins};
-ghost use Rattle.pg_game.specs.Threat.{Filling, has_threat_line};
+ghost use Rattle.pg_plain.specs.Prelude.{attack_wins, Filling, has_threat_line};
 ghost use Rattle.pg_plain.specs.Attacks.{LeadsWithin, ReplyLeads};
 
 use crate::threats::{is_filling, is_forcing, is_going};

@@ -1,9 +1,6 @@
 //! Threat lines, attack by attack.
 ghost use Rattle.std.specs.Prelude.{◌≡◌, ◌≢◌, ◌==◌, ◌||◌, ◌<◌, ◌↔◌, IsTrue};
-ghost use Rattle.std.specs.List.{All, list_all, list_any};
-ghost use Rattle.std.specs.FinSet.{contains};
-ghost use Rattle.pg_game.specs.Game.{has_filled, all_touched, is_over};
-ghost use Rattle.pg_game.specs.Threat.{is_near, threatens, has_threat, IsAttack, Forcing, Filling, LeadsToLine, IsThreatLine};
+ghost use Rattle.pg_plain.specs.Prelude.{All, list_all, list_any, contains, has_filled, all_touched, is_over, is_near, threatens, has_threat, IsAttack, Forcing, Filling, LeadsToLine, IsThreatLine};
 ghost use Rattle.pg_plain.specs.Attacks.{IsGoing};
 
 use crate::leaves::is_on;

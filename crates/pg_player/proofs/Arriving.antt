@@ -1,28 +1,9 @@
 -- What a player has at a node of its claim when it comes there.
 use Rattle.std.proofs.Common.{◌≡◌, ◌∙◌, ℕ, zero, suc, ◌<◌, true, false, Option, Some, None, option_map, slice_get, refl, sym, ap, subst, inl, inr, arith}
-use Rattle.std.proofs.Math.Logic.{∥∥₁_elim}
-use Rattle.std.proofs.Math.Bridge.{le_prop}
-use Rattle.std.proofs.lemmas.Bool.{false≢true}
-use Rattle.std.specs.Coded.{Coded-set, coded_bool}
-use Rattle.pg_base.specs.Side.{other}
-use Rattle.pg_base.specs.declared.kind.Kind.{Kind}
-use Rattle.pg_base.specs.declared.kind.Kind.TheVariants.{MakerBreaker, MakerMaker, AvoiderEnforcer, Switching}
-use Rattle.pg_base.specs.declared.side.Side.{Side}
-use Rattle.pg_game.specs.declared.game.Game.{Game}
-use Rattle.pg_game.specs.declared.position.Position.{Position}
-use Rattle.pg_game.specs.Game.{is_over, IsPosition}
-use Rattle.pg_game.specs.Value.{Forces}
-use Rattle.pg_game.proofs.Moves.{side≢other}
+use Rattle.pg_player.proofs.Common.{∥∥₁_elim, le_prop, false≢true, Coded-set, coded_bool, other, Kind, MakerBreaker, MakerMaker, AvoiderEnforcer, Switching, Side, Game, Position, is_over, IsPosition, Forces, side≢other, Claim, Node, Body, Over, Move, All, Pairs, Potential, Trees, Cuts, Threat, Weaker}
 use Rattle.pg_pairing.proofs.OpenPairs.{RestHolds-from, ArePairsOf-from}
-use Rattle.pg_cert.specs.declared.cert.Claim.{Claim}
-use Rattle.pg_cert.specs.declared.node.Node.{Node}
-use Rattle.pg_cert.specs.declared.node.Body.{Body}
-use Rattle.pg_cert.specs.declared.node.Body.TheVariants.{Over, Move, All, Pairs, Potential, Trees, Cuts, Threat, Weaker}
 use Rattle.pg_cert.specs.declared.node_fault.NodeFault.TheVariants as faults
-use Rattle.pg_cert.specs.Node.{position_of}
-use Rattle.pg_cert.specs.OwnMove.{Standing, settles_by, settled_within, arrives}
-use Rattle.pg_cert.specs.Valid.{is_allowed, NamesEarlier, FollowMoves, HasTurn, TakesFree, EndsRight, PotentialFits, HasPairs, HasPotential, HasTrees, HasCuts, HasThreat, IsNoWorseThanNode, HasWeaker, IsNodeOf, IsOwed, IsSound}
-use Rattle.pg_check.proofs.ForcedNodes.{breaker_at, node_limits, some-left, Forces-node}
+use Rattle.pg_player.proofs.Common.{position_of, Standing, settles_by, settled_within, arrives, is_allowed, NamesEarlier, FollowMoves, HasTurn, TakesFree, EndsRight, PotentialFits, HasPairs, HasPotential, HasTrees, HasCuts, HasThreat, IsNoWorseThanNode, HasWeaker, IsNodeOf, IsOwed, IsSound, breaker_at, node_limits, some-left, Forces-node}
 use Rattle.pg_player.specs.Beside.{IsBeside}
 use Rattle.pg_player.specs.InPlay.{Ready, Waiting, Stands, PotentialWaiting, IsSoundClaim, GoesOn}
 use Rattle.pg_player.specs.Stand.{Settles}

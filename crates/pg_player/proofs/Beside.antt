@@ -1,15 +1,6 @@
 -- What a player that imagines a position does in the true one.
 use Rattle.std.proofs.Common.{◌≡◌, ◌∙◌, ℕ, ◌<◌, true, false, sym, ap, subst, inl, inr}
-use Rattle.std.proofs.lemmas.Bool.{cond-true}
-use Rattle.pg_base.specs.Side.{other}
-use Rattle.pg_base.specs.declared.goal.Goal.{Goal}
-use Rattle.pg_base.specs.declared.side.Side.{Side}
-use Rattle.pg_game.specs.declared.game.Game.{Game}
-use Rattle.pg_game.specs.declared.position.Position.{Position}
-use Rattle.pg_game.specs.Position.{is_free}
-use Rattle.pg_game.specs.Game.{point_count, is_over, after, IsPosition}
-use Rattle.pg_game.specs.Value.{Forces}
-use Rattle.pg_game.specs.Weaker.{free_or_lowest}
+use Rattle.pg_player.proofs.Common.{cond-true, other, Goal, Side, Game, Position, is_free, point_count, is_over, after, IsPosition, Forces, free_or_lowest}
 use Rattle.pg_game.proofs.Imagining.{Forces-imagined, imagined-going, imagined-move, imagined-reply}
 use Rattle.pg_game.proofs.NoWorse.{IsNoWorse-trans}
 use Rattle.pg_player.specs.Beside.{IsBeside}

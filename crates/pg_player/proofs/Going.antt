@@ -1,21 +1,7 @@
 -- What a player keeps through a move and through a reply.
 use Rattle.std.proofs.Common.{◌≡◌, ◌∙◌, ℕ, ◌<◌, true, false, Option, Some, None, Ok, if◌then◌else◌, sym, subst, inl, inr, arith}
-use Rattle.std.proofs.lemmas.Bool.{false≢true}
-use Rattle.pg_base.specs.Points.{AreBelow}
-use Rattle.pg_base.specs.Side.{other}
-use Rattle.pg_base.specs.declared.score.Score.{Score}
-use Rattle.pg_graph.specs.Joiner.{Room}
-use Rattle.pg_game.specs.declared.game.Game.{Game}
-use Rattle.pg_game.specs.declared.position.Position.{Position}
-use Rattle.pg_game.specs.Position.{is_free}
-use Rattle.pg_game.specs.Game.{point_count, is_over, outcome, after}
-use Rattle.pg_game.specs.Judge.{IsMadeForGame, HasJoiner, judged_move}
-use Rattle.pg_game.specs.Value.{Forces}
+use Rattle.pg_player.proofs.Common.{false≢true, AreBelow, other, Score, Room, Game, Position, is_free, point_count, is_over, outcome, after, IsMadeForGame, HasJoiner, judged_move, Forces, IsPosition-after, free_or_lowest, Claim, Standing, replied_by}
 use Rattle.pg_game.proofs.Limits.{point_count-le}
-use Rattle.pg_game.proofs.Moves.{IsPosition-after}
-use Rattle.pg_game.specs.Weaker.{free_or_lowest}
-use Rattle.pg_cert.specs.declared.cert.Claim.{Claim}
-use Rattle.pg_cert.specs.OwnMove.{Standing, replied_by}
 use Rattle.pg_player.specs.InPlay.{GoesOn, IsPlaying, IsReached, KeepsUp}
 use Rattle.pg_player.specs.Player.{Play, Waits, TakesReply, Moves, Answers}
 use Rattle.pg_player.specs.Stand.{LeadsOn}

@@ -1,45 +1,12 @@
 -- What an own move keeps, body by body.
 use Rattle.std.proofs.Common.{◌≡◌, ◌≢◌, ◌∙◌, ℕ, ◌<◌, Bool, true, false, ◌&&◌, ◌==◌, ◌+◌, suc, List, [], ◌∷◌, drop, get_or, length, arith, Option, Some, None, refl, sym, ap, subst, subst₂, inl, inr, ◌⊎◌, eqb-true}
-use Rattle.std.proofs.lemmas.Bool.{cases_Bool, cases_lt, and_parts, false≢true}
+use Rattle.pg_player.proofs.Common.{cases_Bool, cases_lt, and_parts, false≢true, FinSet, nat_cmp, other, Goal, Win, Kind, MakerBreaker, MakerMaker, AvoiderEnforcer, Switching, Pair, Side, X, Y, Field, Lines, Game, Position, is_free, point_count, is_over, outcome, after, IsPosition, reaches, Forces, pairs_answer, PotentialHolds, potential_answer, AvoiderHolds, avoider_answer, may_attack, LeadsToLine, IsAttack, IsAttacking, unfilled-going, over-filling, Forces-attacked, Answered, TreesHold, CutsHold, turn-after_x, IsPosition-after, Forces-over, Forces-all, Forces-any, rest, RestHolds, MayClaim, HeldBefore, Forces-potential_breaker, Forces-potential_draw, Forces-avoider, HeldUntil, IsTreesAnswer, IsCutsAnswer, Claim, Body, Move, Pairs, Potential, Trees, Cuts, Threat, Standing, own_move, arrives, stays, potential_point, trees_point, cuts_point, stays_with_trees, stays_with_cuts, is_allowed, shows_defence, shows_trees, shows_cuts, pairs_fit, PotentialFits, with_e_named, pairs_at}
 use Rattle.std.proofs.lemmas.List.{drop_all}
 use Rattle.std.proofs.Math.Seq.{drop-cons}
-use Rattle.std.specs.FinSet.{FinSet}
-use Rattle.std.specs.Ordering.{nat_cmp}
-use Rattle.pg_base.specs.Side.{other}
-use Rattle.pg_base.specs.declared.goal.Goal.{Goal}
-use Rattle.pg_base.specs.declared.goal.Goal.TheVariants.{Win, Draw as AtLeastDraw}
-use Rattle.pg_base.specs.declared.kind.Kind.{Kind}
-use Rattle.pg_base.specs.declared.kind.Kind.TheVariants.{MakerBreaker, MakerMaker, AvoiderEnforcer, Switching}
-use Rattle.pg_base.specs.declared.pair.Pair.{Pair}
+use Rattle.pg_base.specs.declared.goal.Goal.TheVariants.{Draw as AtLeastDraw}
 use Rattle.pg_base.specs.declared.score.Score.TheVariants.{XWins}
-use Rattle.pg_base.specs.declared.side.Side.{Side}
-use Rattle.pg_base.specs.declared.side.Side.TheVariants.{X, Y}
-use Rattle.pg_game.specs.declared.field.Field.{Field}
-use Rattle.pg_game.specs.declared.field.Field.TheVariants.{Lines, Graph as OnGraph}
-use Rattle.pg_game.specs.declared.game.Game.{Game}
-use Rattle.pg_game.specs.declared.position.Position.{Position}
-use Rattle.pg_game.specs.Position.{is_free}
-use Rattle.pg_game.specs.Game.{point_count, is_over, outcome, after, IsPosition}
-use Rattle.pg_game.specs.Value.{reaches, Forces}
-use Rattle.pg_game.specs.Pairs.{pairs_answer}
-use Rattle.pg_game.specs.Potential.{PotentialHolds, potential_answer}
-use Rattle.pg_game.specs.Avoider.{AvoiderHolds, avoider_answer}
-use Rattle.pg_game.specs.Threat.{may_attack, LeadsToLine, IsAttack, IsAttacking}
-use Rattle.pg_game.proofs.ThreatLaws.{unfilled-going, over-filling, Forces-attacked}
-use Rattle.pg_game.specs.Trees.{Answered, TreesHold, CutsHold}
-use Rattle.pg_game.proofs.Moves.{turn-after_x, IsPosition-after}
-use Rattle.pg_game.proofs.ValueLaws.{Forces-over, Forces-all, Forces-any}
-use Rattle.pg_pairing.specs.Rest.{rest, RestHolds, MayClaim, HeldBefore}
-use Rattle.pg_potential.proofs.PotentialLaws.{Forces-potential_breaker, Forces-potential_draw}
-use Rattle.pg_avoider.proofs.AvoiderLaws.{Forces-avoider}
-use Rattle.pg_switch.specs.Replies.{HeldUntil, IsTreesAnswer, IsCutsAnswer}
+use Rattle.pg_game.specs.declared.field.Field.TheVariants.{Graph as OnGraph}
 use Rattle.pg_switch.proofs.SwitchLaws.{Forces-trees, Forces-cuts}
-use Rattle.pg_cert.specs.declared.cert.Claim.{Claim}
-use Rattle.pg_cert.specs.declared.node.Body.{Body}
-use Rattle.pg_cert.specs.declared.node.Body.TheVariants.{Move, Pairs, Potential, Trees, Cuts, Threat}
-use Rattle.pg_cert.specs.OwnMove.{Standing, own_move, arrives, stays, potential_point, trees_point, cuts_point, stays_with_trees, stays_with_cuts}
-use Rattle.pg_cert.specs.Valid.{is_allowed, shows_defence, shows_trees, shows_cuts, pairs_fit, PotentialFits, with_e_named}
-use Rattle.pg_check.proofs.ForcedNodes.{pairs_at}
 use Rattle.pg_player.specs.InPlay.{PotentialWaiting, MustReply, Waiting, InPlay, KeepsUp}
 use Rattle.pg_player.proofs.Plays.{single, not-again}
 use Rattle.pg_player.proofs.Arriving.{goes_on, arrived}

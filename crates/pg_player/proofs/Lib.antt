@@ -1,3 +1,4 @@
+mod Common
 pub mod Stable
 pub mod Plays
 pub mod Beside

@@ -1,27 +1,8 @@
 -- What a player has when it is opened.
 use Rattle.std.proofs.Common.{◌≡◌, ◌∙◌, ℕ, ◌-◌, ◌<◌, Bool, true, List, [], ◌∷◌, Option, Some, None, find, length, get_or, slice_get, if◌then◌else◌, IfSome, refl, sym, ap, subst, inl, inr, arith, Contains}
-use Rattle.std.proofs.Math.Logic.{∥∥₁_elim, ∥∥₁_map}
-use Rattle.std.proofs.Math.Bridge.{le_prop}
-use Rattle.std.proofs.lemmas.Bool.{cases_Bool, and_parts, false≢true}
-use Rattle.std.proofs.lemmas.Option.{slice_get-get_or, slice_get_read, slice_get_within}
-use Rattle.std.specs.Option.{option_or}
-use Rattle.pg_base.specs.Side.{is_same_side}
-use Rattle.pg_base.specs.declared.score.Score.{Score}
-use Rattle.pg_base.specs.declared.side.Side.{Side}
-use Rattle.pg_base.specs.declared.side.Side.TheVariants.{X, Y}
-use Rattle.pg_game.specs.declared.game.Game.{Game}
-use Rattle.pg_game.specs.declared.position.Position.{Position}
-use Rattle.pg_game.specs.Game.{is_over, outcome, start, with_turn}
-use Rattle.pg_game.specs.Value.{reaches, Forces}
-use Rattle.pg_game.proofs.ValueLaws.{value-over}
-use Rattle.pg_pairing.proofs.Filters.{find_member}
-use Rattle.pg_cert.specs.declared.cert.Cert.{Cert}
-use Rattle.pg_cert.specs.declared.cert.Claim.{Claim}
-use Rattle.pg_cert.specs.declared.node.Node.{Node}
+use Rattle.pg_player.proofs.Common.{∥∥₁_elim, ∥∥₁_map, le_prop, cases_Bool, and_parts, false≢true, slice_get-get_or, slice_get_read, slice_get_within, option_or, is_same_side, Score, Side, X, Y, Game, Position, is_over, outcome, start, with_turn, reaches, Forces, value-over, find_member, Cert, Claim, Node}
 use Rattle.pg_cert.specs.declared.node_fault.NodeFault.TheVariants as faults
-use Rattle.pg_cert.specs.Limits.{IsClaim, IsWithinLimits}
-use Rattle.pg_cert.specs.OwnMove.{Standing, arrives}
-use Rattle.pg_cert.specs.Valid.{IsNodeOf, IsValid}
+use Rattle.pg_player.proofs.Common.{IsClaim, IsWithinLimits, Standing, arrives, IsNodeOf, IsValid}
 use Rattle.pg_player.specs.InPlay.{GoesOn, IsSoundClaim}
 use Rattle.pg_player.specs.Stand.{Settles}
 use Rattle.pg_player.specs.Player.{is_claim_of, is_win_of, is_win, chosen_claim}

@@ -1,17 +1,8 @@
 -- Legal plays that go on, and turns that pass.
 use Rattle.std.proofs.Common.{◌≡◌, ◌∙◌, ℕ, ◌<◌, ◌≤◌, true, false, List, [], ◌∷◌, ◌++◌, refl, sym, ap, subst, inl, inr, arith}
-use Rattle.std.proofs.lemmas.Bool.{cases_Bool, false≢true}
-use Rattle.pg_base.specs.Side.{other}
-use Rattle.pg_base.specs.declared.kind.Kind.{Kind}
-use Rattle.pg_base.specs.declared.side.Side.{Side}
-use Rattle.pg_game.specs.declared.game.Game.{Game}
-use Rattle.pg_game.specs.declared.position.Position.{Position}
+use Rattle.pg_player.proofs.Common.{cases_Bool, false≢true, other, Kind, Side, Game, Position, is_free, point_count, is_over, is_full, after, start, IsPosition, IsLegalPlay, played, side≢other, turn-alternates, IsPosition-start, IsPosition-played}
 use Rattle.pg_game.specs.Fit.{greatest_bias}
-use Rattle.pg_game.specs.Position.{is_free}
-use Rattle.pg_game.specs.Game.{point_count, is_over, is_full, after, start, IsPosition}
-use Rattle.pg_game.specs.Play.{IsLegalPlay, played}
 use Rattle.pg_game.proofs.Strategy.{over-where_full}
-use Rattle.pg_game.proofs.Moves.{side≢other, turn-alternates, IsPosition-start, IsPosition-played}
 use Rattle.pg_player.specs.InPlay.{IsReached}
 
 -- a position that is reached is one of the game

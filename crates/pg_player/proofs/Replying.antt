@@ -1,36 +1,9 @@
 -- What a reply of the other side keeps, body by body.
 use Rattle.std.proofs.Common.{◌≡◌, ◌∙◌, ℕ, ◌<◌, ◌≤◌, Bool, true, false, ◌&&◌, ◌==◌, List, [], ◌∷◌, Option, Some, None, map, find, refl, sym, ap, subst, inl, inr, ◌⊎◌, arith, eqb, eqb-true, eq-eqb, ltb-true, nat_lt, if◌then◌else◌, Ok, Err}
-use Rattle.std.proofs.lemmas.Bool.{cases_Bool, false≢true, both_ways}
-use Rattle.std.specs.List.{list_any}
-use Rattle.pg_base.specs.Side.{other}
-use Rattle.pg_base.specs.declared.goal.Goal.{Goal}
-use Rattle.pg_base.specs.declared.kind.Kind.{Kind}
-use Rattle.pg_base.specs.declared.kind.Kind.TheVariants.{MakerBreaker, MakerMaker, AvoiderEnforcer, Switching}
-use Rattle.pg_base.specs.declared.side.Side.{Side}
-use Rattle.pg_base.specs.declared.side.Side.TheVariants.{X, Y}
-use Rattle.pg_game.specs.declared.game.Game.{Game}
-use Rattle.pg_game.specs.declared.position.Position.{Position}
+use Rattle.pg_player.proofs.Common.{cases_Bool, false≢true, both_ways, list_any, other, Goal, Kind, MakerBreaker, MakerMaker, AvoiderEnforcer, Switching, Side, X, Y, Game, Position}
 use Rattle.pg_game.specs.declared.position.Illegal.TheVariants as illegal
-use Rattle.pg_game.specs.Judge.{judged_move}
-use Rattle.pg_game.specs.Position.{is_free}
-use Rattle.pg_game.specs.Game.{point_count, bias_of, free_points, is_over, after, IsPosition}
-use Rattle.pg_game.specs.Value.{Forces}
-use Rattle.pg_game.specs.Avoider.{AvoiderHolds}
+use Rattle.pg_player.proofs.Common.{judged_move, is_free, point_count, bias_of, free_points, is_over, after, IsPosition, Forces, AvoiderHolds, side≢other, other_other, turn-passes, IsPosition-after, LeadsToLine, near-from, near-stays, near-filling, Forces-all-from, find_member, find_none, kept-reply_breaker, kept-reply_draw, kept-y, Claim, Node, Body, Over, Move, All, Pairs, Potential, Trees, Cuts, Threat, Weaker, Reply, Standing, arrives, replied_by, shows_defence, pairs_fit, PotentialFits, FollowsMove, IsNodeOf}
 use Rattle.pg_game.proofs.FreePoints.{any-free_points}
-use Rattle.pg_game.proofs.Moves.{side≢other, other_other, turn-passes, IsPosition-after}
-use Rattle.pg_game.specs.Threat.{LeadsToLine}
-use Rattle.pg_game.proofs.ThreatLaws.{near-from, near-stays, near-filling}
-use Rattle.pg_game.proofs.ValueLaws.{Forces-all-from}
-use Rattle.pg_pairing.proofs.Filters.{find_member, find_none}
-use Rattle.pg_potential.proofs.PotentialLaws.{kept-reply_breaker, kept-reply_draw}
-use Rattle.pg_avoider.proofs.AvoiderLaws.{kept-y}
-use Rattle.pg_cert.specs.declared.cert.Claim.{Claim}
-use Rattle.pg_cert.specs.declared.node.Node.{Node}
-use Rattle.pg_cert.specs.declared.node.Body.{Body}
-use Rattle.pg_cert.specs.declared.node.Body.TheVariants.{Over, Move, All, Pairs, Potential, Trees, Cuts, Threat, Weaker}
-use Rattle.pg_cert.specs.declared.reply.Reply.{Reply}
-use Rattle.pg_cert.specs.OwnMove.{Standing, arrives, replied_by}
-use Rattle.pg_cert.specs.Valid.{shows_defence, pairs_fit, PotentialFits, FollowsMove, IsNodeOf}
 use Rattle.pg_player.specs.Stand.{LeadsOn}
 use Rattle.pg_player.specs.InPlay.{Stands, PotentialWaiting, InPlay, GoesOn}
 use Rattle.pg_player.proofs.Plays.{single}

@@ -1,10 +1,6 @@
 -- From `weaker` to its child, until a node has another body.
 use Rattle.std.proofs.Common.{◌≡◌, ◌∙◌, ℕ, zero, suc, ◌<◌, List, length, get_or, Option, Some, None, slice_get, refl, sym, ap, subst, inl, inr, ◌⊎◌, arith}
-use Rattle.std.proofs.lemmas.Option.{slice_get_within, slice_get-get_or}
-use Rattle.pg_cert.specs.declared.node.Node.{Node}
-use Rattle.pg_cert.specs.declared.node.Body.{Body}
-use Rattle.pg_cert.specs.declared.node.Body.TheVariants.{Over, Move, All, Pairs, Potential, Trees, Cuts, Threat, Weaker}
-use Rattle.pg_cert.specs.OwnMove.{settles_by, settles_at, settled_within}
+use Rattle.pg_player.proofs.Common.{slice_get_within, slice_get-get_or, Node, Body, Over, Move, All, Pairs, Potential, Trees, Cuts, Threat, Weaker, settles_by, settles_at, settled_within}
 
 -- the body isn't `weaker`
 abbrev pub IsOwn : Body → Type 0

@@ -1,49 +1,24 @@
 -- The soundness of a node is decided by tests, so that it holds wherever it is known to hold
 -- without a proof at hand.
 use Rattle.std.proofs.Common.{◌≡◌, ◌∙◌, ℕ, suc, ◌<◌, ◌≤◌, Bool, true, false, ◌&&◌, List, Option, Some, None, slice_get, refl, sym, ap, subst, inl, inr, ◌⊎◌, arith, eqb, Any}
-use Rattle.std.proofs.Math.Logic.{∥∥₁_elim, ∥∥₁_map}
-use Rattle.std.proofs.Math.Bridge.{le_prop}
-use Rattle.std.proofs.lemmas.Bool.{cases_lt, and_parts}
-use Rattle.std.specs.Coded.{Coded-set, coded_ℕ, coded_bool, coded_list}
-use Rattle.std.specs.FinSet.{FinSet, contains}
-use Rattle.std.specs.List.{list_any}
-use Rattle.std.specs.Ordering.{nat_cmp}
-use Rattle.pg_base.specs.Points.{AreBelow}
+use Rattle.pg_player.proofs.Common.{∥∥₁_elim, ∥∥₁_map, le_prop, cases_lt, and_parts, Coded-set, coded_ℕ, coded_bool, coded_list, FinSet, contains, list_any, nat_cmp, AreBelow, Goal, Kind, MakerBreaker, MakerMaker, AvoiderEnforcer, Switching, Pair, Side, X, Y}
 use Rattle.pg_base.specs.Sets.{IsBelow}
-use Rattle.pg_base.specs.declared.goal.Goal.{Goal}
-use Rattle.pg_base.specs.declared.kind.Kind.{Kind}
-use Rattle.pg_base.specs.declared.kind.Kind.TheVariants.{MakerBreaker, MakerMaker, AvoiderEnforcer, Switching}
-use Rattle.pg_base.specs.declared.pair.Pair.{Pair}
-use Rattle.pg_base.specs.declared.side.Side.{Side}
-use Rattle.pg_base.specs.declared.side.Side.TheVariants.{X, Y}
 use Rattle.pg_base.specs.contracts.side.Side as side_row
 use Rattle.pg_graph.specs.declared.graph.Graph.{Graph}
 use Rattle.pg_graph.specs.Graph.{edge_count, IsJoinedIn}
 use Rattle.pg_graph.proofs.GraphLemmas.{joins_in-sound, joins_in-complete}
 use Rattle.pg_game.specs.contracts.position.Position as position_row
-use Rattle.pg_game.specs.declared.field.Field.{Field}
-use Rattle.pg_game.specs.declared.field.Field.TheVariants.{Lines, Graph as OnGraph}
-use Rattle.pg_game.specs.declared.game.Game.{Game}
-use Rattle.pg_game.specs.declared.position.Position.{Position}
+use Rattle.pg_player.proofs.Common.{Field, Lines, Game, Position, point_count, after, is_free, PairsHold, HoldsPair, IsThreatLine, IsFreeEdge, AreFreeWithE, AreTrees, AreCuts, TreesHoldOn, CutsHoldOn, with_set, IsNoWorse, Claim, Node, Body, Over, Move, Pairs, Potential, Trees, Cuts, Threat, Weaker}
+use Rattle.pg_game.specs.declared.field.Field.TheVariants.{Graph as OnGraph}
 use Rattle.pg_game.specs.Field.{field_points}
-use Rattle.pg_game.specs.Game.{point_count, after}
-use Rattle.pg_game.specs.Position.{is_free}
-use Rattle.pg_game.specs.Pairs.{PairsHold, HoldsPair}
-use Rattle.pg_game.specs.Threat.{IsThreatLine}
 use Rattle.pg_game.proofs.ThreatSearch.{leads_test, leads-tested, tested-leads}
-use Rattle.pg_game.specs.Trees.{IsFreeEdge, AreFreeWithE, AreTrees, AreCuts, TreesHoldOn, CutsHoldOn, with_set}
 use Rattle.pg_game.proofs.Members.{list_any-one, member-from_any}
 use Rattle.pg_switch.proofs.EdgeSets.{with_e-edges, free-edges, with_set-edges}
 use Rattle.pg_pairing.proofs.PairLoops.{Contains-any, any-Contains}
-use Rattle.pg_game.specs.Weaker.{IsNoWorse}
-use Rattle.pg_cert.specs.declared.cert.Claim.{Claim}
-use Rattle.pg_cert.specs.declared.node.Node.{Node}
-use Rattle.pg_cert.specs.declared.node.Body.{Body}
-use Rattle.pg_cert.specs.declared.node.Body.TheVariants.{Over, Move, All as Every, Pairs, Potential, Trees, Cuts, Threat, Weaker}
+use Rattle.pg_cert.specs.declared.node.Body.TheVariants.{All as Every}
 use Rattle.pg_cert.specs.declared.node_fault.NodeFault.{NodeFault}
 use Rattle.pg_cert.specs.declared.node_fault.NodeFault.TheVariants as faults
-use Rattle.pg_cert.specs.Node.{position_of}
-use Rattle.pg_cert.specs.Valid.{IsInGame, NamesEarlier, IsNodeOf, FollowsMove, FollowMoves, HasTurn, TakesFree, EndsRight, PotentialFits, with_e_named, HasPairs, HasPotential, HasTrees, HasCuts, HasThreat, IsNoWorseThanNode, HasWeaker, Passes, IsSound, IsValidClaim}
+use Rattle.pg_player.proofs.Common.{position_of, IsInGame, NamesEarlier, IsNodeOf, FollowsMove, FollowMoves, HasTurn, TakesFree, EndsRight, PotentialFits, with_e_named, HasPairs, HasPotential, HasTrees, HasCuts, HasThreat, IsNoWorseThanNode, HasWeaker, Passes, IsSound, IsValidClaim}
 
 -- ---- facts that have one proof at most
 

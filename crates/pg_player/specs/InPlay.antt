@@ -1,36 +1,9 @@
 -- What keeps a player going: facts on its claim, its position and where it stands, which every move
 -- and every reply keep.
 use Rattle.std.specs.Prelude.{◌≡◌, ◌⊎◌, ℕ, ◌<◌, true, false, List, [], ◌∷◌, map, Option, Some, None, if◌then◌else◌}
+use Rattle.pg_player.specs.Prelude.{other, Kind, MakerBreaker, MakerMaker, AvoiderEnforcer, Pair, Score, Side, Room, Game, Position, is_free, point_count, free_points, is_over, outcome, after, start, IsPosition, IsMadeForGame, HasJoiner, IsLegalPlay, played, Forces, PotentialHolds, AvoiderHolds, threatens, has_threat, LeadsToLine, TreesHold, CutsHold, Claim, Node, Body, Over, Move, All, Pairs, Potential, Trees, Cuts, Threat, Weaker, Reply, IsClaim, is_allowed, IsNodeOf, FollowsMove, PotentialFits, with_e_named, IsValidClaim, Standing, own_move, ArePairsOf, RestHolds, HeldBefore, HeldUntil}
 use Rattle.std.specs.List.{All as Each}
-use Rattle.pg_base.specs.Side.{other}
-use Rattle.pg_base.specs.declared.kind.Kind.{Kind}
-use Rattle.pg_base.specs.declared.kind.Kind.TheVariants.{MakerBreaker, MakerMaker, AvoiderEnforcer}
-use Rattle.pg_base.specs.declared.pair.Pair.{Pair}
-use Rattle.pg_base.specs.declared.score.Score.{Score}
-use Rattle.pg_base.specs.declared.side.Side.{Side}
-use Rattle.pg_graph.specs.Joiner.{Room}
-use Rattle.pg_game.specs.declared.game.Game.{Game}
-use Rattle.pg_game.specs.declared.position.Position.{Position}
-use Rattle.pg_game.specs.Position.{is_free}
-use Rattle.pg_game.specs.Game.{point_count, free_points, is_over, outcome, after, start, IsPosition}
-use Rattle.pg_game.specs.Judge.{IsMadeForGame, HasJoiner}
-use Rattle.pg_game.specs.Play.{IsLegalPlay, played}
-use Rattle.pg_game.specs.Value.{Forces}
-use Rattle.pg_game.specs.Potential.{PotentialHolds}
-use Rattle.pg_game.specs.Avoider.{AvoiderHolds}
-use Rattle.pg_game.specs.Threat.{threatens, has_threat, LeadsToLine}
-use Rattle.pg_game.specs.Trees.{TreesHold, CutsHold}
-use Rattle.pg_cert.specs.declared.cert.Claim.{Claim}
-use Rattle.pg_cert.specs.declared.node.Node.{Node}
-use Rattle.pg_cert.specs.declared.node.Body.{Body}
-use Rattle.pg_cert.specs.declared.node.Body.TheVariants.{Over, Move, All, Pairs, Potential, Trees, Cuts, Threat, Weaker}
-use Rattle.pg_cert.specs.declared.reply.Reply.{Reply}
-use Rattle.pg_cert.specs.Limits.{IsClaim}
-use Rattle.pg_cert.specs.Valid.{is_allowed, IsNodeOf, FollowsMove, PotentialFits, with_e_named, IsValidClaim}
-use Rattle.pg_cert.specs.OwnMove.{Standing, own_move}
-use Rattle.pg_pairing.specs.Rest.{ArePairsOf, RestHolds, HeldBefore}
 use Rattle.pg_player.specs.Beside.{IsBeside}
-use Rattle.pg_switch.specs.Replies.{HeldUntil}
 
 -- ---- what keeps a player going at its body while the game goes on
 

@@ -1,3 +1,4 @@
+pub mod Prelude
 pub mod Player
 pub mod Stand
 pub mod Beside

@@ -1,19 +1,8 @@
 -- What is seen of a player: the game, the claim that it plays, the position, and where it stands,
 -- with the position that it imagines.
 use Rattle.std.specs.Prelude.{◌≡◌, ◌⊎◌, ℕ, ◌<◌, Bool, true, false, ◌&&◌, Option, Some, None, Ok, find}
-use Rattle.std.specs.Option.{option_or}
-use Rattle.pg_base.specs.Side.{other, is_same_side}
-use Rattle.pg_base.specs.declared.goal.Goal.{Goal}
-use Rattle.pg_base.specs.declared.goal.Goal.TheVariants.{Win, Draw as AtLeastDraw}
-use Rattle.pg_base.specs.declared.side.Side.{Side}
-use Rattle.pg_game.specs.declared.game.Game.{Game}
-use Rattle.pg_game.specs.declared.position.Position.{Position}
-use Rattle.pg_game.specs.Position.{is_free}
-use Rattle.pg_game.specs.Game.{point_count, is_over, after}
-use Rattle.pg_game.specs.Judge.{judged_move}
-use Rattle.pg_cert.specs.declared.cert.Cert.{Cert}
-use Rattle.pg_cert.specs.declared.cert.Claim.{Claim}
-use Rattle.pg_cert.specs.OwnMove.{Standing, OwnMove, own_move, played_point, replied}
+use Rattle.pg_player.specs.Prelude.{option_or, other, is_same_side, Goal, Win, Side, Game, Position, is_free, point_count, is_over, after, judged_move, Cert, Claim, Standing, OwnMove, own_move, played_point, replied}
+use Rattle.pg_base.specs.declared.goal.Goal.TheVariants.{Draw as AtLeastDraw}
 
 -- the game, the claim that is played, the true position, and where the player stands
 pub record Play : Type 0 where

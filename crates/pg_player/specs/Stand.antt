@@ -1,10 +1,6 @@
 -- What the code keeps of a standing.
 use Rattle.std.specs.Prelude.{◌≡◌, ◌==◌, ℕ, false, List, [], ◌∷◌, drop, Option, Some, None, find, slice_get}
-use Rattle.pg_cert.specs.declared.node.Body.{Body}
-use Rattle.pg_cert.specs.declared.node.Body.TheVariants.{Over, Move, All, Trees, Cuts, Threat, Weaker}
-use Rattle.pg_cert.specs.declared.node.Node.{Node}
-use Rattle.pg_cert.specs.declared.reply.Reply.{Reply}
-use Rattle.pg_cert.specs.OwnMove.{Standing, settled}
+use Rattle.pg_player.specs.Prelude.{Body, Over, Move, All, Trees, Cuts, Threat, Weaker, Node, Reply, Standing, settled}
 use Rattle.pg_player.specs.declared.standing.Rest.{Rest}
 use Rattle.pg_player.specs.declared.standing.Rest.TheVariants as rest
 use Rattle.pg_player.specs.declared.standing.Stand.{Stand}

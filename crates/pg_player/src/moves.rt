@@ -1,16 +1,8 @@
 //! The own moves of a player, in the position p that it imagines.
 ghost use Rattle.std.specs.Prelude.{◌≡◌, ◌≢◌, ◌<◌, ℕ, false, Option, drop, slice_get};
-ghost use Rattle.pg_base.specs.declared.kind.Kind.TheVariants.{Switching};
-ghost use Rattle.pg_base.specs.declared.limits.TheConstants.{MAX_MEMBERS};
-ghost use Rattle.pg_base.specs.declared.side.Side.TheVariants.{X, Y};
-ghost use Rattle.pg_cert.specs.declared.cert.Claim.{Claim};
-ghost use Rattle.pg_cert.specs.declared.node.Body.TheVariants.{Potential, Trees, Cuts, Threat};
-ghost use Rattle.pg_game.specs.Game.{is_over, after, IsPosition};
-ghost use Rattle.pg_game.specs.Trees.{TreesHold, CutsHold};
-ghost use Rattle.pg_game.specs.Judge.{HasJoiner};
+ghost use Rattle.pg_player.specs.Prelude.{Switching, MAX_MEMBERS, X, Y, Claim, Potential, Trees, Cuts, Threat, is_over, after, IsPosition, TreesHold, CutsHold, HasJoiner, HeldUntil};
 ghost use Rattle.pg_player.specs.InPlay.{InPlay, KeepsUp};
 ghost use Rattle.pg_player.specs.Stand.{body_at, threat_of, standing_of};
-ghost use Rattle.pg_switch.specs.Replies.{HeldUntil};
 
 use crate::standing::{Rest, Stand, arrive, body_at, threat_at};
 use pg_base::Kind;

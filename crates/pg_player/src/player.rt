@@ -1,10 +1,6 @@
 //! A player of one side by a checked claim.
 ghost use Rattle.std.specs.Prelude.{◌≡◌, ◌-◌, ℕ, List, Some, None, Err, length, true, false, IfOk, IfErr, IfSome, OnOk, if◌then◌else◌};
-ghost use Rattle.pg_cert.specs.OwnMove.{arrives};
-ghost use Rattle.pg_game.specs.Game.{start, is_over, outcome};
-ghost use Rattle.pg_game.specs.Judge.{judged_move};
-ghost use Rattle.pg_game.specs.Play.{IsLegalPlay, played};
-ghost use Rattle.pg_game.specs.Value.{reaches, Forces};
+ghost use Rattle.pg_player.specs.Prelude.{arrives, start, is_over, outcome, judged_move, IsLegalPlay, played, reaches, Forces};
 ghost use Rattle.pg_player.specs.Player.{Moves, Answers, MakesMove, TakesReply, Waits, chosen_claim};
 
 use crate::choice::chosen_claim;

@@ -1,11 +1,6 @@
 //! Where a player stands, and where it goes.
 ghost use Rattle.std.specs.Prelude.{◌≡◌, ◌==◌, ◌<◌, ◌-◌, Some, drop, length, find, option_map, slice_get};
-ghost use Rattle.pg_base.specs.declared.limits.TheConstants.{MAX_MEMBERS};
-ghost use Rattle.pg_cert.specs.OwnMove.{settled, arrives, replied_by};
-ghost use Rattle.pg_cert.specs.declared.node.Body.TheVariants.{Threat};
-ghost use Rattle.pg_game.specs.Game.{after};
-ghost use Rattle.pg_game.specs.declared.game.Game.{Game};
-ghost use Rattle.pg_game.specs.declared.position.Position.{Position};
+ghost use Rattle.pg_player.specs.Prelude.{MAX_MEMBERS, settled, arrives, replied_by, Threat, after, Game, Position};
 ghost use Rattle.pg_player.specs.Stand.{body_at, body_of, threat_of, standing_of, Settles, LeadsOn};
 
 use pg_cert::{Body, Claim, Reply};

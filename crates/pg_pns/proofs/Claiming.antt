@@ -1,37 +1,18 @@
 -- The claim that the root's answer makes.
 use Rattle.std.proofs.Common.{◌≡◌, ℕ, suc, ◌+◌, ◌*◌, ◌<◌, ◌≤◌, ◌⊎◌, inl, inr, Bool, true, false, Option, Some, List, [], length, get_or, take, sym, ap, ◌∙◌, subst, arith, slice_get}
-use Rattle.std.proofs.lemmas.Bool.{cases_eq}
-use Rattle.std.proofs.lemmas.Option.{slice_get_within, slice_get-get_or}
-use Rattle.std.proofs.lemmas.List.{length-take-le}
-use Rattle.std.specs.List.{Contains, count_by}
-use Rattle.pg_game.specs.declared.position.Position.{Position}
-use Rattle.pg_base.specs.declared.side.Side.{Side}
-use Rattle.pg_cert.specs.declared.node.Body.{Body}
-use Rattle.pg_cert.specs.declared.node.Body.TheVariants.{Over, Move, All as AllReplies, Pairs, Potential, Trees, Cuts, Threat, Weaker}
-use Rattle.pg_cert.specs.declared.node.Node.{Node}
-use Rattle.pg_leaf.proofs.Nodes.{nodes-cut}
+use Rattle.pg_pns.proofs.Common.{cases_eq, slice_get_within, slice_get-get_or, length-take-le, Contains, count_by, Position, Side, Body, Over, Move, Pairs, Potential, Trees, Cuts, Threat, Weaker, Node, nodes-cut, Game, Goal, Score, free_points, start, with_turn, NodesHold, position_of, Claim, claimer, claimed_goal, criterion_of, AreMarked, IsMoved, IsPruned, IsUsed, Renumbers, is_none, one_at, from_take, in_take, same_some}
+use Rattle.pg_cert.specs.declared.node.Body.TheVariants.{All as AllReplies}
 use Rattle.pg_pns.proofs.ValidNodes.{valid-claim, within-limits, of-version}
-use Rattle.pg_game.specs.declared.game.Game.{Game}
-use Rattle.pg_base.specs.declared.goal.Goal.{Goal}
-use Rattle.pg_base.specs.declared.score.Score.{Score}
-use Rattle.pg_game.specs.Game.{free_points, start, with_turn}
-use Rattle.pg_leaf.specs.Sound.{NodesHold}
-use Rattle.pg_cert.specs.Node.{position_of}
 use Rattle.pg_pns.specs.declared.known.Answered.{Answered}
 use Rattle.pg_pns.specs.declared.table.Table.{Table}
-use Rattle.pg_cert.specs.declared.cert.Claim.{Claim}
 use Rattle.pg_pns.specs.Claims.{nodes_of}
-use Rattle.pg_game.specs.Decided.{claimer, claimed_goal, first_criterion}
-use Rattle.pg_leaf.specs.Leaf.{criterion_of}
+use Rattle.pg_game.specs.Decided.{first_criterion}
 use Rattle.pg_base.specs.Sets.{IsMarked}
-use Rattle.pg_leaf.specs.Pruned.{AreMarked, IsMoved, IsPruned, IsUsed, Renumbers}
 use Rattle.pg_pns.specs.Search.{Follows, IsSearch}
 use Rattle.pg_pns.specs.Found.{IsClaimOf}
 use Rattle.pg_leaf.proofs.KeptNodes.{names-earlier, renumbers-names}
-use Rattle.std.specs.Option.{is_none}
 use Rattle.std.proofs.Common.{add-one}
 use Rattle.pg_pns.proofs.Showing.{number_of}
-use Rattle.pg_base.proofs.Stands.{one_at, from_take, in_take, same_some}
 
 side-fewer : (nodes : Bool → List Node) (b : Bool) (n : ℕ) (total : ℕ)
     → length (nodes true) + length (nodes false) + n ≡ total

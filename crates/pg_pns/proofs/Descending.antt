@@ -1,15 +1,6 @@
 -- The walk from the root comes to a place that can be expanded.
 use Rattle.std.proofs.Common.{◌≡◌, ℕ, zero, suc, ◌+◌, ◌<◌, ◌≤◌, Option, Some, None, List, [], ◌∷◌, ◌++◌, take, length, get_or, refl, sym, ap, ◌∙◌, subst, inl, inr, arith, slice_get}
-use Rattle.std.proofs.lemmas.List.{take_more}
-use Rattle.std.proofs.lemmas.List.Elements.{Contains-get_or}
-use Rattle.std.proofs.lemmas.Option.{slice_get_within, slice_get-get_or, get_or_from_slice_get, slice_get_read}
-use Rattle.std.specs.List.{All, Contains}
-use Rattle.pg_base.specs.declared.score.Score.{Score}
-use Rattle.pg_game.specs.declared.game.Game.{Game}
-use Rattle.pg_game.specs.declared.position.Position.{Position}
-use Rattle.pg_game.specs.Game.{free_points, start, after}
-use Rattle.pg_board.specs.Board.{Stand, View}
-use Rattle.pg_game.proofs.FreePoints.{length-free_points-after}
+use Rattle.pg_pns.proofs.Common.{take_more, Contains-get_or, slice_get_within, slice_get-get_or, get_or_from_slice_get, slice_get_read, All, Contains, Score, Game, Position, free_points, start, after, Stand, View, length-free_points-after, in_free_points, some≢none, contains_push}
 use Rattle.pg_pns.specs.declared.known.Answered.{Answered}
 use Rattle.pg_pns.specs.declared.table.Table.{Table}
 use Rattle.pg_pns.specs.Descent.{IsOpenMove, HasOpen, IsOnWay, IsStep, IsAtStart, GoesDown, GoesUp, first_stand, free_at}
@@ -19,8 +10,6 @@ use Rattle.pg_pns.specs.Search.{IsSearch, IsNext}
 use Rattle.pg_pns.specs.Search.IsNext.{at_root, below}
 use Rattle.pg_pns.proofs.Closing.{open-move}
 use Rattle.pg_pns.proofs.SettleLaws.{Contains-map, option_cases}
-use Rattle.pg_game.proofs.SettledLaws.{in_free_points}
-use Rattle.pg_base.proofs.Stands.{some≢none, contains_push}
 
 -- ---- moves without an answer
 

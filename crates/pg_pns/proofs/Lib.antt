@@ -1,3 +1,4 @@
+mod Common
 pub mod ByMoves
 pub mod SettleLaws
 pub mod KnownLemmas

@@ -1,20 +1,8 @@
 -- What is closed under the rules of settling has all that is settled, and a longer list settles
 -- more.
 use Rattle.std.proofs.Common.{◌≡◌, ℕ, zero, suc, get_or, ◌<◌, ◌≤◌, Bool, true, Option, Some, None, List, [], ◌∷◌, map, length, refl, sym, ap, ◌∙◌, subst, inl, inr, ◌⊎◌, arith}
-use Rattle.std.proofs.lemmas.Bool.{cases_Bool}
-use Rattle.std.specs.List.{Contains}
-use Rattle.pg_game.specs.declared.position.Position.{Position}
-use Rattle.pg_game.specs.declared.game.Game.{Game}
-use Rattle.pg_base.specs.declared.score.Score.{Score}
-use Rattle.pg_game.specs.Game.{free_points, after}
-use Rattle.pg_game.proofs.FreePoints.{length-free_points-after}
-use Rattle.pg_game.proofs.Members.{Contains-head, Contains-tail}
-use Rattle.pg_game.proofs.Strategy.{free_point}
-use Rattle.pg_game.specs.Decided.{decided}
-use Rattle.pg_game.specs.Settled.{by_moves, is_listed, settled}
-use Rattle.pg_game.proofs.SettledLaws.{undecided-going, in_free_points, settle-decided, settle-listed, settle-unlisted}
+use Rattle.pg_pns.proofs.Common.{cases_Bool, Contains, Position, Game, Score, free_points, after, length-free_points-after, Contains-head, Contains-tail, free_point, decided, by_moves, is_listed, settled, undecided-going, in_free_points, settle-decided, settle-listed, settle-unlisted, some≢none}
 use Rattle.pg_pns.proofs.ByMoves.{by_moves-more}
-use Rattle.pg_base.proofs.Stands.{some≢none}
 
 -- ---- answers that are closed under the rules have all that is settled
 

@@ -1,44 +1,18 @@
 -- Nodes that show answers, when one is added.
 use Rattle.std.proofs.Common.{◌≡◌, ℕ, zero, suc, ◌+◌, ◌<◌, ◌≤◌, Bool, true, false, not, cond, Option, Some, None, List, [], ◌∷◌, ◌++◌, map, length, get_or, refl, sym, ap, ◌∙◌, subst, inl, inr, ◌⊎◌, arith, slice_get, slice_set, length-append}
-use Rattle.std.proofs.lemmas.Bool.{cases_Bool, cases_eq, false≢true, le-leb, and_from}
 use Rattle.std.specs.Prelude.{nat_le}
-use Rattle.std.specs.List.{filter, range_with_len}
-use Rattle.std.proofs.lemmas.Option.{slice_get_within, slice_get-get_or, get_or_from_slice_get}
-use Rattle.std.proofs.lemmas.List.Sums.{sum_by-set}
-use Rattle.std.proofs.Math.ListN.{length-set}
-use Rattle.std.specs.List.{Contains, count_by}
-use Rattle.std.specs.Option.{is_none}
-use Rattle.pg_game.specs.declared.position.Position.{Position}
-use Rattle.pg_base.specs.declared.side.Side.{Side}
-use Rattle.pg_base.specs.declared.side.Side.TheVariants.{X, Y}
+use Rattle.pg_pns.proofs.Common.{cases_Bool, cases_eq, false≢true, le-leb, and_from, filter, range_with_len, slice_get_within, slice_get-get_or, get_or_from_slice_get, sum_by-set, length-set, Contains, count_by, is_none, Position, Side, X, Y, is_free, Node, Body, Over, Move, Pairs, Potential, Trees, Cuts, Threat, Weaker, Reply, IsNodeOf, point_count-le, criterion_of, first_criterion, nodes-push, Game, Goal, Score, NodesHold, BodyHolds, position_of, is_over, free_points, point_count, after, decided, claimer, claimed_goal, answer_for, undecided-going, in_free_points, at_push, at_old, at_new, at_contains, at_set_other, at_set_same, map-same_at, same_some}
 use Rattle.pg_base.specs.Side.{other}
-use Rattle.pg_game.specs.Position.{is_free}
-use Rattle.pg_cert.specs.declared.node.Node.{Node}
-use Rattle.pg_cert.specs.declared.node.Body.{Body}
-use Rattle.pg_cert.specs.declared.node.Body.TheVariants.{Over, Move, All, Pairs, Potential, Trees, Cuts, Threat, Weaker}
-use Rattle.pg_cert.specs.declared.reply.Reply.{Reply}
+use Rattle.pg_cert.specs.declared.node.Body.TheVariants.{All}
 use Rattle.pg_text.specs.Text.{ascend_from}
-use Rattle.pg_cert.specs.Valid.{IsNodeOf}
-use Rattle.pg_game.proofs.Limits.{point_count-le}
-use Rattle.pg_leaf.specs.Leaf.{criterion_of, first_criterion}
-use Rattle.pg_leaf.proofs.Nodes.{nodes-push}
 use Rattle.pg_leaf.proofs.FirstCriterion.{undecided-criterion}
-use Rattle.pg_game.specs.declared.game.Game.{Game}
-use Rattle.pg_base.specs.declared.goal.Goal.{Goal}
-use Rattle.pg_base.specs.declared.score.Score.{Score}
-use Rattle.pg_leaf.specs.Sound.{NodesHold, BodyHolds}
-use Rattle.pg_cert.specs.Node.{position_of}
-use Rattle.pg_game.specs.Game.{is_over, free_points, point_count, after}
 use Rattle.pg_pns.specs.declared.known.Answered.{Answered}
 use Rattle.pg_pns.specs.declared.claims.Claims.{Claims}
-use Rattle.pg_game.specs.Decided.{decided, claimer, claimed_goal, answer_for}
 use Rattle.pg_pns.specs.Known.{answer_of, IsShown, IsBodyBy, HaveReplies}
 use Rattle.pg_pns.specs.Claims.{nodes_of}
 use Rattle.pg_pns.specs.Settles.{IsSettledAt, IsLeftOpen}
 use Rattle.pg_pns.specs.Table.{HasShape, AreShown}
 use Rattle.pg_pns.proofs.SettleLaws.{Contains-map}
-use Rattle.pg_game.proofs.SettledLaws.{undecided-going, in_free_points}
-use Rattle.pg_base.proofs.Stands.{at_push, at_old, at_new, at_contains, at_set_other, at_set_same, map-same_at, same_some}
 
 -- ---- the body that an answer by moves gives holds
 

@@ -1,11 +1,6 @@
 -- The walk from the root to the position that is expanded next, on the board too.
 use Rattle.std.specs.Prelude.{◌≡◌, ◌<◌, ℕ, true, List, [], get_or, length, Option, Some, None, slice_get, ◌⊎◌}
-use Rattle.std.specs.List.{Contains}
-use Rattle.pg_game.specs.declared.game.Game.{Game}
-use Rattle.pg_game.specs.declared.position.Position.{Position}
-use Rattle.pg_game.specs.Position.{is_free}
-use Rattle.pg_game.specs.Game.{free_points, point_count, start, after}
-use Rattle.pg_board.specs.Board.{Stand, View}
+use Rattle.pg_pns.specs.Prelude.{Contains, Game, Position, is_free, free_points, point_count, start, after, Stand, View}
 use Rattle.pg_pns.specs.declared.known.Answered.{Answered}
 use Rattle.pg_pns.specs.declared.table.Table.{Table}
 use Rattle.pg_pns.specs.Known.{answer_at}

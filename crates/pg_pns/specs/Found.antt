@@ -1,22 +1,8 @@
 -- What a search may answer.
 use Rattle.std.specs.Prelude.{◌≡◌, ℕ, suc, ◌<◌, ◌≤◌, ◌+◌, ◌*◌, Bool, true, false, List, length, Some, slice_get, ◌⊎◌}
-use Rattle.std.specs.List.{Contains}
-use Rattle.pg_game.specs.declared.position.Position.{Position}
-use Rattle.pg_cert.specs.declared.node.Node.{Node}
-use Rattle.pg_game.specs.declared.game.Game.{Game}
-use Rattle.pg_base.specs.declared.score.Score.{Score}
-use Rattle.pg_game.specs.Game.{start, free_points}
-use Rattle.pg_cert.specs.Limits.{IsClaim, IsOfVersion}
-use Rattle.pg_cert.specs.Valid.{IsValidClaim}
-use Rattle.pg_leaf.specs.Leaf.{criterion_of, first_criterion}
-use Rattle.pg_cert.specs.Node.{position_of}
-use Rattle.pg_cert.specs.declared.cert.Claim.{Claim}
-use Rattle.pg_cert.specs.declared.cert.Version.TheVariants.{One}
+use Rattle.pg_pns.specs.Prelude.{Contains, Position, Node, Game, Score, start, free_points, IsClaim, IsOfVersion, IsValidClaim, criterion_of, first_criterion, position_of, Claim, One, claimer, claimed_goal, IsOpenTable, IsUsed}
 use Rattle.pg_pns.specs.declared.work.Found.{Found}
 use Rattle.pg_pns.specs.declared.work.Found.TheVariants.{Yes, No, Unknown}
-use Rattle.pg_game.specs.Decided.{claimer, claimed_goal}
-use Rattle.pg_game.specs.Settled.{IsOpenTable}
-use Rattle.pg_leaf.specs.Pruned.{IsUsed}
 use Rattle.pg_pns.specs.Search.{Follows}
 
 -- The claim shows the answer: it is valid and within the limits of version 1 of the format, a

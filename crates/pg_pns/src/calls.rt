@@ -1,13 +1,8 @@
 //! The search as it is called.
 ghost use Rattle.std.specs.Prelude.{◌≡◌, ◌≢◌, ◌≤◌, ◌*◌, Some, IfOk, length};
-ghost use Rattle.pg_base.specs.declared.kind.Kind.TheVariants.{Switching};
-ghost use Rattle.pg_game.specs.Decided.{IsQuestion};
-ghost use Rattle.pg_game.specs.Game.{free_points, lines_of, start};
-ghost use Rattle.pg_game.specs.Settled.{IsTable};
-ghost use Rattle.pg_match.specs.Cache.{Fits};
+ghost use Rattle.pg_pns.specs.Prelude.{Switching, IsQuestion, free_points, lines_of, start, IsTable, Fits, MAX_CLAIM_NODES};
 ghost use Rattle.pg_pns.specs.Budget.{budget_for, most_for};
 ghost use Rattle.pg_pns.specs.Found.{IsAnswer};
-ghost use Rattle.pg_cert.specs.declared.limits.TheConstants.{MAX_CLAIM_NODES};
 
 use crate::expansion::explore;
 use crate::limits::{MAX_EXPANDED_MOVES, MAX_SEARCH_ANSWERS};

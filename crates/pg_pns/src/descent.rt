@@ -1,9 +1,6 @@
 //! The walk on the board from the root to the position that is expanded next, and back.
 ghost use Rattle.std.specs.Prelude.{◌≡◌, ◌<◌, IfSome, IfNone, None, Some, List, length, get_or, slice_get, []};
-ghost use Rattle.std.specs.List.{All};
-ghost use Rattle.pg_base.specs.declared.score.Score.{Score};
-ghost use Rattle.pg_game.specs.declared.game.Game.{Game};
-ghost use Rattle.pg_game.specs.declared.position.Position.{Position};
+ghost use Rattle.pg_pns.specs.Prelude.{All, Score, Game, Position};
 ghost use Rattle.pg_pns.specs.Descent.{IsOpenMove, HasOpen, IsAtStart, first_stand};
 ghost use Rattle.pg_pns.specs.Known.{answer_at};
 ghost use Rattle.pg_pns.specs.Search.{IsSearch, IsNext};

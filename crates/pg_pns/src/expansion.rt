@@ -1,23 +1,11 @@
 //! The search: expansion after expansion, until the root has an answer or the budget is spent.
 ghost use Rattle.std.specs.Prelude.{◌≡◌, ◌≢◌, ◌<◌, ◌≤◌, ◌+◌, ◌*◌, ◌^◌, [], ◌∷◌, ◌++◌, List, ℕ, length, slice_get, slice_set, true, false, Some, None, IfOk, IfSome, IfNone, OnOk, OnErr};
-ghost use Rattle.pg_game.specs.declared.position.Position.{Position};
-ghost use Rattle.pg_game.specs.declared.game.Game.{Game};
-ghost use Rattle.pg_base.specs.declared.score.Score.{Score};
-ghost use Rattle.pg_game.specs.Game.{start, free_points, point_count, lines_of};
-ghost use Rattle.pg_match.specs.Cache.{Fits};
-ghost use Rattle.pg_base.specs.declared.kind.Kind.TheVariants.{Switching};
-ghost use Rattle.pg_game.specs.Position.{is_free};
-ghost use Rattle.pg_game.specs.Settled.{IsTable};
-ghost use Rattle.std.specs.Map.{keys_of};
-ghost use Rattle.pg_game.specs.Decided.{IsQuestion, claimer as claimer_of, claimed_goal as claimed_by};
+ghost use Rattle.pg_pns.specs.Prelude.{Position, Game, Score, start, free_points, point_count, lines_of, Fits, Switching, is_free, IsTable, keys_of, IsQuestion, IsAt, Contains, MAX_CLAIM_NODES, MAX_MEMBERS};
+ghost use Rattle.pg_game.specs.Decided.{claimer as claimer_of, claimed_goal as claimed_by};
 ghost use Rattle.pg_pns.specs.Found.{IsAnswer};
-ghost use Rattle.pg_leaf.specs.At.{IsAt};
 ghost use Rattle.pg_pns.specs.Descent.{IsAtStart};
 ghost use Rattle.pg_pns.specs.Known.{answer_at};
-ghost use Rattle.std.specs.List.{Contains};
 ghost use Rattle.pg_pns.specs.Search.{IsSearch, CanGrow, IsGrowing};
-ghost use Rattle.pg_cert.specs.declared.limits.TheConstants.{MAX_CLAIM_NODES};
-ghost use Rattle.pg_base.specs.declared.limits.TheConstants.{MAX_MEMBERS};
 ghost use Rattle.pg_pns.specs.declared.limits.TheConstants.{MAX_EXPANDED_MOVES};
 
 use crate::descent::{go_down, go_up};

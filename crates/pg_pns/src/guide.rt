@@ -1,9 +1,8 @@
 //! What leads a search to the position that it expands next. No promise rests on it.
 ghost use Rattle.std.specs.Prelude.{◌≡◌, ◌<◌, ◌≤◌, IfSome, IsTrue, None, length};
-ghost use Rattle.std.specs.List.{All};
+ghost use Rattle.pg_pns.specs.Prelude.{All, MAX_CLAIM_NODES};
 ghost use Rattle.pg_pns.specs.Descent.{IsOpenMove};
 ghost use Rattle.pg_pns.specs.Known.{answer_at};
-ghost use Rattle.pg_cert.specs.declared.limits.TheConstants.{MAX_CLAIM_NODES};
 
 use crate::known::Answered;
 use crate::numbers::{Numbers, fresh_numbers, numbers_at};

@@ -1,20 +1,9 @@
 //! The positions that a search has met.
 ghost use Rattle.std.specs.Prelude.{◌≡◌, ◌≢◌, ◌<◌, ◌^◌, [], length, Some, None, IfOk, true, false};
-ghost use Rattle.std.specs.HashMap.{get};
-ghost use Rattle.pg_base.specs.declared.kind.Kind.TheVariants.{Switching};
-ghost use Rattle.pg_base.specs.declared.score.Score.{Score};
-ghost use Rattle.pg_game.specs.declared.game.Game.{Game};
-ghost use Rattle.pg_game.specs.declared.position.Position.{Position};
-ghost use Rattle.pg_game.specs.Decided.{IsQuestion};
-ghost use Rattle.pg_game.specs.Game.{lines_of, point_count, after, IsPosition};
-ghost use Rattle.pg_game.specs.Position.{is_free};
-ghost use Rattle.pg_game.specs.PositionLemmas.{equal_positions};
-ghost use Rattle.pg_match.specs.Cache.{Fits};
+ghost use Rattle.pg_pns.specs.Prelude.{get, Switching, Score, Game, Position, IsQuestion, lines_of, point_count, after, IsPosition, is_free, equal_positions, Fits, IsAt, MAX_MEMBERS};
 ghost use Rattle.pg_pns.specs.Claims.{nodes_of};
-ghost use Rattle.pg_leaf.specs.At.{IsAt};
 ghost use Rattle.pg_pns.specs.Met.{LeafAdds};
 ghost use Rattle.pg_pns.specs.Tree.{IsTreeOf, IsMetAt};
-ghost use Rattle.pg_base.specs.declared.limits.TheConstants.{MAX_MEMBERS};
 
 use crate::claims::Claims;
 use crate::known::Answered;

@@ -1,12 +1,7 @@
 -- Lists of lines to which lines are added.
 use Rattle.std.proofs.Common.{◌≡◌, ℕ, ◌+◌, ◌<◌, ◌≤◌, Bool, true, false, List, [], ◌∷◌, ◌++◌, refl, sym, subst, arith, inl, inr}
 use Rattle.std.specs.Prelude.{◌⊎◌}
-use Rattle.std.specs.List.{Contains}
-use Rattle.std.specs.List.Sorted.{IsPermutation}
-use Rattle.std.proofs.lemmas.Bool.{cases_eq}
-use Rattle.std.proofs.lemmas.List.Elements.{Contains-append_left, Contains-push, Contains-push_cases}
-use Rattle.std.proofs.lemmas.List.Sorted.{IsPermutation-sym, IsPermutation-trans}
-use Rattle.pg_base.specs.declared.grid.Grid.{Grid}
+use Rattle.pg_poly.proofs.Common.{Contains, IsPermutation, cases_eq, Contains-append_left, Contains-push, Contains-push_cases, IsPermutation-sym, IsPermutation-trans, Grid}
 use Rattle.pg_poly.specs.declared.cell.Cell.{Cell}
 use Rattle.pg_poly.specs.declared.motion.Motion.{Motion}
 use Rattle.pg_poly.specs.Motions.{Adds, IsImage, IsMoved, IsSet, IsSetBefore, motion_to, moved_points}

@@ -1,3 +1,4 @@
+mod Common
 pub mod Added
 pub mod Decides
 pub mod Labels

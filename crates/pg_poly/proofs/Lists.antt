@@ -1,12 +1,7 @@
 -- Lists of lists in order.
 use Rattle.std.proofs.Common.{◌≡◌, ◌∙◌, ℕ, zero, suc, ◌+◌, ◌<◌, ◌≤◌, Bool, true, false, cond, ◌||◌, List, [], ◌∷◌, ◌++◌, map, length, refl, sym, subst, ap, ap₂, arith, inl, inr, true≢false}
 use Rattle.std.specs.Prelude.{◌⊎◌, ⊤, filter}
-use Rattle.std.specs.List.{AllPairs, Contains, list_any, remove}
-use Rattle.std.specs.List.Sorted.{IsPermutation, IsStrictlyIncreasing}
-use Rattle.std.proofs.lemmas.Bool.{cases_Bool, cases_eq, or_cases}
-use Rattle.std.proofs.lemmas.List.Elements.{Contains-append_cases, Contains-append_left, Contains-append_right, Contains-get_or}
-use Rattle.std.proofs.lemmas.List.Kept.{AllPairs-cons, AllPairs-from_increasing}
-use Rattle.std.proofs.lemmas.List.Sorted.{IsPermutation-cons, IsPermutation-refl, IsPermutation-remove, IsPermutation-sym, IsPermutation-trans, Contains-permutation, length_permutation}
+use Rattle.pg_poly.proofs.Common.{AllPairs, Contains, list_any, remove, IsPermutation, IsStrictlyIncreasing, cases_Bool, cases_eq, or_cases, Contains-append_cases, Contains-append_left, Contains-append_right, Contains-get_or, AllPairs-cons, AllPairs-from_increasing, IsPermutation-cons, IsPermutation-refl, IsPermutation-remove, IsPermutation-sym, IsPermutation-trans, Contains-permutation, length_permutation}
 use Rattle.pg_poly.specs.Placements.{IsBefore}
 use Rattle.pg_poly.specs.Listed.{lists_from}
 

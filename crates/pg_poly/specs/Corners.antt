@@ -1,7 +1,6 @@
 -- The cells of a shape that lie farthest in each direction.
 use Rattle.std.specs.Prelude.{ℕ, ◌+◌, ◌-◌, ◌&&◌, nat_lt, Bool, List}
-use Rattle.std.specs.List.{Contains}
-use Rattle.pg_base.specs.declared.grid.Grid.{Grid}
+use Rattle.pg_poly.specs.Prelude.{Contains, Grid}
 use Rattle.pg_poly.specs.declared.cell.Cell.{Cell}
 use Rattle.pg_poly.specs.declared.corners.Corners.{Corners}
 use Rattle.pg_poly.specs.declared.motion.Motion.{Motion}

@@ -1,7 +1,6 @@
 //! What the test of a word and the list of placements tell, as laws.
 ghost use Rattle.std.specs.Prelude.{◌≡◌, ◌<◌, true, length, List};
-ghost use Rattle.pg_base.specs.declared.grid.Grid.{Grid};
-ghost use Rattle.pg_text.specs.Text.{Bytes};
+ghost use Rattle.pg_poly.specs.Prelude.{Grid, Bytes};
 ghost use Rattle.pg_poly.specs.declared.cell.Cell.{Cell};
 ghost use Rattle.pg_poly.specs.Decided.{is_shape};
 ghost use Rattle.pg_poly.specs.Listed.{placements_of};

@@ -1,19 +1,9 @@
 -- The greatest weight of a free point.
 use Rattle.std.proofs.Common.{◌≡◌, ◌≢◌, ℕ, ◌+◌, ◌<◌, ◌≤◌, List, map, get_or, unwrap_or, ◌==◌, ap, ap₂, false, ◌∙◌, arith}
-use Rattle.pg_base.specs.declared.kind.Kind.TheVariants.{Switching}
-use Rattle.pg_base.specs.declared.side.Side.{Side}
-use Rattle.pg_game.specs.declared.game.Game.{Game}
-use Rattle.pg_game.specs.declared.position.Position.{Position}
-use Rattle.pg_game.specs.Position.{points_of}
-use Rattle.std.specs.List.{Contains, find}
-use Rattle.pg_game.specs.Game.{free_points, is_full}
+use Rattle.pg_potential.proofs.Common.{Switching, Side, Game, Position, points_of, Contains, find, free_points, is_full, find_same, total, weight, greatest, greatest_weight, potential_answer, greatest-le, greatest-same, member-within, few_points-lines}
 use Rattle.pg_game.proofs.FreePoints.{first_free}
-use Rattle.pg_game.proofs.Lowest.{find_same}
 use Rattle.pg_potential.proofs.PotentialLaws.{answer-heaviest}
-use Rattle.pg_game.specs.Potential.{total, weight, greatest, greatest_weight, potential_answer}
-use Rattle.pg_game.proofs.Greatest.{greatest-le, greatest-same, member-within}
 use Rattle.pg_game.proofs.LineSums.{weight-le-total}
-use Rattle.pg_game.proofs.WeightBounds.{few_points-lines}
 
 pub greatest_weight-is : (g : Game) (p : Position) (side : Side) (points : List ℕ) (most : ℕ)
     → g.kind ≢ Switching

@@ -1,3 +1,4 @@
+mod Common
 pub mod GreatestWeight
 pub mod PotentialLaws
 pub mod Raised

@@ -1,31 +1,17 @@
 -- A potential that holds forces the claim: a win for Breaker, and a draw at least for either side
 -- of Maker-Maker.
 use Rattle.std.proofs.Common.{◌≡◌, ◌≢◌, ℕ, zero, suc, ◌+◌, ◌-◌, ◌*◌, ◌<◌, ◌≤◌, Bool, true, false, ◌==◌, if◌then◌else◌, List, [], ◌∷◌, map, Some, unwrap_or, eqb-true, eq-eqb, refl, sym, ap, ◌∙◌, subst, inl, inr, arith}
-use Rattle.std.proofs.lemmas.Bool.{cases_Bool, cases_lt, false≢true}
-use Rattle.std.proofs.Math.Nat.{mul-le-mul_left, add-mul}
-use Rattle.std.specs.List.{Contains, find}
+use Rattle.pg_potential.proofs.Common.{cases_Bool, cases_lt, false≢true, mul-le-mul_left, add-mul, Contains, find, Win, MakerBreaker, MakerMaker, Side, X, Y, other, is_same_side, Game, Position, is_free, points_of, point_count, bias_of, free_points, has_filled, outcome, after, lines_of, IsPosition, total, weight, limit, greatest, greatest_weight, times_counted, PotentialHolds, total_weight, point_weight, potential_answer, reaches, Forces, free-member, member-free, member-within, greatest-le, greatest-ge, greatest-at, find-some}
 use Rattle.std.specs.FinSet.{FinSet}
 use Rattle.std.specs.Ordering.{nat_cmp}
 use Rattle.pg_base.specs.declared.goal.Goal.{Goal}
-use Rattle.pg_base.specs.declared.goal.Goal.TheVariants.{Win, Draw as AtLeastDraw}
-use Rattle.pg_base.specs.declared.kind.Kind.TheVariants.{MakerBreaker, MakerMaker}
-use Rattle.pg_base.specs.declared.side.Side.{Side}
-use Rattle.pg_base.specs.declared.side.Side.TheVariants.{X, Y}
-use Rattle.pg_base.specs.Side.{other, is_same_side}
-use Rattle.pg_game.specs.declared.game.Game.{Game}
-use Rattle.pg_game.specs.declared.position.Position.{Position}
-use Rattle.pg_game.specs.Position.{is_free, points_of}
-use Rattle.pg_game.specs.Game.{point_count, bias_of, free_points, has_filled, outcome, after, lines_of, IsPosition}
-use Rattle.pg_game.specs.Potential.{total, weight, limit, greatest, greatest_weight, times_counted, PotentialHolds, total_weight, point_weight, potential_answer}
+use Rattle.pg_base.specs.declared.goal.Goal.TheVariants.{Draw as AtLeastDraw}
 use Rattle.pg_game.specs.Strategy.{Keeps}
-use Rattle.pg_game.specs.Value.{reaches, Forces}
 use Rattle.pg_game.proofs.Members.{Contains-head, Contains-tail}
 use Rattle.pg_game.proofs.Moves.{points_of-mover, points_of-waiter, turn-stays, left-falls, turn-passes, left-passes, turn-replied, free-was, other_other, IsPosition-after}
 use Rattle.pg_game.proofs.Strategy.{Forces-from_keeps, free_point}
 use Rattle.pg_game.proofs.Unfilled.{unfilled-breaker, unfilled-draw, maker_bias, claims_one}
 use Rattle.pg_game.proofs.LineWeights.{stand_once, total-grown, total-taken, weight-falls, unfilled-below}
-use Rattle.pg_game.proofs.Greatest.{free-member, member-free, member-within, greatest-le, greatest-ge, greatest-at}
-use Rattle.pg_game.proofs.Lowest.{find-some}
 
 -- ---- sums
 

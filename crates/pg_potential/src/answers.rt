@@ -1,10 +1,6 @@
 //! The answer by the potential.
 ghost use Rattle.std.specs.Prelude.{◌≡◌, ◌≢◌, ◌<◌, false, true};
-ghost use Rattle.pg_base.specs.declared.kind.Kind.TheVariants.{MakerBreaker, MakerMaker, Switching};
-ghost use Rattle.pg_base.specs.declared.side.Side.TheVariants.{Y};
-ghost use Rattle.pg_game.specs.Position.{is_free};
-ghost use Rattle.pg_game.specs.Game.{point_count, is_full, after, IsPosition};
-ghost use Rattle.pg_game.specs.Potential.{PotentialHolds, potential_answer};
+ghost use Rattle.pg_potential.specs.Prelude.{MakerBreaker, MakerMaker, Switching, Y, is_free, point_count, is_full, after, IsPosition, PotentialHolds, potential_answer};
 
 use crate::condition::{greatest_free, weights_for};
 use pg_base::Side;

@@ -1,11 +1,6 @@
 //! Whether the potential holds.
 ghost use Rattle.std.specs.Prelude.{◌≡◌, ◌≢◌, ◌+◌, ◌&&◌, nat_lt, ◌↔◌, ◌<◌, ◌≤◌, ◌^◌, ℕ, IsTrue, length, get_or, map, true, if◌then◌else◌};
-ghost use Rattle.pg_base.specs.declared.goal.Goal.TheVariants.{Win, Draw};
-ghost use Rattle.pg_base.specs.declared.kind.Kind.TheVariants.{Switching};
-ghost use Rattle.pg_game.specs.Position.{is_free};
-ghost use Rattle.pg_game.specs.Game.{point_count, free_points, IsPosition};
-ghost use Rattle.pg_game.specs.Potential.{total, weight, limit, greatest, greatest_weight, times_counted, PotentialHolds};
-ghost use Rattle.pg_game.specs.Value.{Forces};
+ghost use Rattle.pg_potential.specs.Prelude.{Win, Draw, Switching, is_free, point_count, free_points, IsPosition, total, weight, limit, greatest, greatest_weight, times_counted, PotentialHolds, Forces};
 
 use pg_base::{Kind, Side};
 use pg_game::{Game, MAX_BIAS, MAX_POINTS, Position, Weights, full_weight, total_weight, weigh};

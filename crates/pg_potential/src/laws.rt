@@ -1,16 +1,6 @@
 //! What the potential forces where it holds, as laws.
 ghost use Rattle.std.specs.Prelude.{◌≡◌, ◌<◌, ℕ, true};
-ghost use Rattle.pg_base.specs.Side.{other};
-ghost use Rattle.pg_base.specs.declared.goal.Goal.TheVariants.{Win, Draw};
-ghost use Rattle.pg_base.specs.declared.kind.Kind.TheVariants.{MakerBreaker, MakerMaker};
-ghost use Rattle.pg_base.specs.declared.side.Side.{Side};
-ghost use Rattle.pg_base.specs.declared.side.Side.TheVariants.{X, Y};
-ghost use Rattle.pg_game.specs.declared.game.Game.{Game};
-ghost use Rattle.pg_game.specs.declared.position.Position.{Position};
-ghost use Rattle.pg_game.specs.Position.{is_free};
-ghost use Rattle.pg_game.specs.Game.{point_count, after, IsPosition};
-ghost use Rattle.pg_game.specs.Potential.{PotentialHolds};
-ghost use Rattle.pg_game.specs.Value.{Forces};
+ghost use Rattle.pg_potential.specs.Prelude.{other, Win, Draw, MakerBreaker, MakerMaker, Side, X, Y, Game, Position, is_free, point_count, after, IsPosition, PotentialHolds, Forces};
 
 /// In Maker-Breaker, a potential that holds for Breaker is a win for Breaker, whoever is to move
 /// and however many points Breaker claims a turn (Erdős and Selfridge 1973; Beck 1982 for several

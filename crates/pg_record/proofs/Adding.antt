@@ -1,9 +1,7 @@
 -- One event more, where nothing is wrong with it.
 use Rattle.std.proofs.Common.{◌≡◌, ℕ, ◌<◌, false, List, [], ◌∷◌, ◌++◌, length, refl, arith, Ok}
 use Rattle.std.specs.Prelude.{◌==◌, is_err}
-use Rattle.std.proofs.lemmas.Bool.Decides.{nat_tests}
-use Rattle.pg_game.specs.declared.game.Game.{Game}
-use Rattle.pg_game.specs.Judge.{judged_move}
+use Rattle.pg_record.proofs.Common.{nat_tests, Game, judged_move}
 use Rattle.pg_record.specs.declared.event.Event.{Event}
 use Rattle.pg_record.specs.declared.event.Event.TheVariants.{Play, Back}
 use Rattle.pg_record.specs.Replay.{replay}

@@ -1,14 +1,7 @@
 -- The events that are read are those of a session.
 use Rattle.std.proofs.Common.{◌≡◌, ℕ, ◌+◌, ◌<◌, Bool, true, false, inl, inr, List, [], ◌∷◌, ◌++◌, length, refl, ap, subst, Result, Ok, Err, arith}
 use Rattle.std.specs.Prelude.{◌==◌, nat_lt, is_err, is_ok, codes}
-use Rattle.std.specs.Str.{bytes_eq}
-use Rattle.std.proofs.lemmas.Bool.Decides.{nat_tests}
-use Rattle.pg_text.specs.Faults.{and_then, go_on, least, reading, unless}
-use Rattle.pg_text.specs.Text.{Bytes, lines}
-use Rattle.pg_game.specs.declared.game.Game.{Game}
-use Rattle.pg_game.specs.declared.position.Position.{Position}
-use Rattle.pg_game.specs.declared.position.Illegal.{Illegal}
-use Rattle.pg_game.specs.Judge.{judged_move}
+use Rattle.pg_record.proofs.Common.{bytes_eq, nat_tests, and_then, go_on, least, reading, unless, Bytes, lines, Game, Position, Illegal, judged_move}
 use Rattle.pg_record.specs.declared.event.Event.{Event}
 use Rattle.pg_record.specs.declared.event.Event.TheVariants.{Play, Back}
 use Rattle.pg_record.specs.Replay.{position_after, standing, IsRecord}

@@ -1,9 +1,6 @@
 -- The positions along a play.
 use Rattle.std.proofs.Common.{◌≡◌, ℕ, ◌+◌, List, [], ◌∷◌, ◌++◌, length, refl, ap, arith}
-use Rattle.pg_game.specs.declared.game.Game.{Game}
-use Rattle.pg_game.specs.declared.position.Position.{Position}
-use Rattle.pg_game.specs.Game.{after}
-use Rattle.pg_game.specs.Play.{played}
+use Rattle.pg_record.proofs.Common.{Game, Position, after, played}
 use Rattle.pg_record.specs.Replay.{positions_along}
 
 pub along-more : (g : Game) (p : Position) (moves : List ℕ) (v : ℕ)

@@ -1,12 +1,6 @@
 -- Boards on which moves were played.
 use Rattle.std.proofs.Common.{◌≡◌, ◌≢◌, ◌∙◌, ℕ, ◌-◌, ◌<◌, List, [], ◌∷◌, ◌++◌, length, map, take, refl, sym, ap, subst, arith, Result, Ok, Err, OnOk}
-use Rattle.std.proofs.lemmas.List.{length_push, length-map, map-append}
-use Rattle.pg_base.specs.declared.kind.Kind.TheVariants.{Switching}
-use Rattle.pg_game.specs.declared.game.Game.{Game}
-use Rattle.pg_game.specs.declared.position.Position.{Position}
-use Rattle.pg_game.specs.declared.position.Illegal.{Illegal}
-use Rattle.pg_game.specs.Game.{after, start}
-use Rattle.pg_board.specs.Board.{Stand, View}
+use Rattle.pg_record.proofs.Common.{length_push, length-map, map-append, Switching, Game, Position, Illegal, after, start, Stand, View}
 use Rattle.pg_record.specs.Replay.{position_after, positions_along}
 use Rattle.pg_record.specs.Session.{positions_of, IsBoardAfter}
 use Rattle.pg_record.proofs.Along.{along-more, along-last, length-along}

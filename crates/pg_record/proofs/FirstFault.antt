@@ -1,13 +1,8 @@
 -- The fault that is told is the first.
 use Rattle.std.proofs.Common.{◌≡◌, ◌∙◌, ℕ, Bool, true, false, cond, ◌⊎◌, inl, inr, List, [], ◌∷◌, ◌++◌, length, refl, sym, ap, Option, Some, None, Result, Ok, Err, arith}
 use Rattle.std.specs.Prelude.{nat_lt, not, is_none, codes}
-use Rattle.std.specs.Str.{bytes_eq}
-use Rattle.std.proofs.lemmas.Bool.{ltb-true, false≢true}
+use Rattle.pg_record.proofs.Common.{bytes_eq, ltb-true, false≢true, and_then, least, reading, Bytes, lines, number, parts, first_fault, is_least, unless_err, Game}
 use Rattle.std.proofs.lemmas.Slice.Eq.{bytes_eq-Decides}
-use Rattle.pg_text.specs.Faults.{and_then, least, reading}
-use Rattle.pg_text.specs.Text.{Bytes, lines, number, parts}
-use Rattle.pg_text.proofs.Reading.{first_fault, is_least, unless_err}
-use Rattle.pg_game.specs.declared.game.Game.{Game}
 use Rattle.pg_record.specs.declared.event.Event.{Event}
 use Rattle.pg_record.specs.declared.event.Event.TheVariants.{Play, Back}
 use Rattle.pg_record.specs.RecordFile.{move_of, event_from, event_of, event_faults, is_full, with_one, after, said, record_of}

@@ -1,13 +1,9 @@
 -- The lines of a printed record, and how long they are.
 use Rattle.std.proofs.Common.{◌≡◌, ◌∙◌, ◌+◌, ◌*◌, ◌<◌, ◌≤◌, lit<, List, [], ◌∷◌, ◌++◌, length, map, refl, ap, append_assoc, arith}
 use Rattle.std.specs.Prelude.{codes}
-use Rattle.std.specs.Fmt.{decimal}
-use Rattle.std.specs.List.{flat_map, AllByRecursion}
+use Rattle.pg_record.proofs.Common.{decimal, flat_map, AllByRecursion, length-append, Bytes, lines, spaced, spelled, IsWord, decimal_is_word, spaced_quiet, quiet_lacks_feed}
 use Rattle.std.proofs.lemmas.Fmt.{length-decimal-le}
-use Rattle.std.proofs.lemmas.List.{length-append}
-use Rattle.pg_text.specs.Text.{Bytes, lines, spaced, spelled}
 use Rattle.pg_text.proofs.FirstLine.{lines_feed, no_lines}
-use Rattle.pg_text.proofs.PlainWords.{IsWord, decimal_is_word, spaced_quiet, quiet_lacks_feed}
 use Rattle.pg_record.specs.declared.event.Event.{Event}
 use Rattle.pg_record.specs.declared.event.Event.TheVariants.{Play, Back}
 use Rattle.pg_record.specs.Print.{header, event_words, printed_record}

@@ -1,22 +1,8 @@
 -- A printed record is read again as the same events.
 use Rattle.std.proofs.Common.{◌≡◌, ◌∙◌, ℕ, ◌+◌, ◌<◌, ◌≤◌, Bool, true, false, cond, List, [], ◌∷◌, ◌++◌, length, map, refl, sym, ap, subst, append_assoc, arith, Result, Ok, Err}
 use Rattle.std.specs.Prelude.{nat_lt, is_ok, is_err, codes}
-use Rattle.std.specs.Fmt.{decimal}
-use Rattle.std.specs.List.{AllByRecursion}
-use Rattle.std.proofs.lemmas.Bool.{ltb-true}
-use Rattle.std.proofs.lemmas.Bool.Decides.{nat_tests}
-use Rattle.std.proofs.lemmas.List.{append-nil, length_push}
-use Rattle.pg_text.specs.Faults.{reading}
+use Rattle.pg_record.proofs.Common.{decimal, AllByRecursion, ltb-true, nat_tests, append-nil, length_push, reading, words_spaced, reads_on, is_over, Game, Position, Illegal, Range, point_count, judged_move, point_count-le}
 use Rattle.pg_text.proofs.Decimals.{number_decimal}
-use Rattle.pg_text.proofs.PlainWords.{words_spaced}
-use Rattle.pg_text.proofs.Reading.{reads_on, is_over}
-use Rattle.pg_game.specs.declared.game.Game.{Game}
-use Rattle.pg_game.specs.declared.position.Position.{Position}
-use Rattle.pg_game.specs.declared.position.Illegal.{Illegal}
-use Rattle.pg_game.specs.declared.position.Illegal.TheVariants.{Range}
-use Rattle.pg_game.specs.Game.{point_count}
-use Rattle.pg_game.specs.Judge.{judged_move}
-use Rattle.pg_game.proofs.Limits.{point_count-le}
 use Rattle.pg_record.specs.declared.event.Event.{Event}
 use Rattle.pg_record.specs.declared.event.Event.TheVariants.{Play, Back}
 use Rattle.pg_record.specs.Print.{printed_record}

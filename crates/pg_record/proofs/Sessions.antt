@@ -1,9 +1,6 @@
 -- What a session keeps when it is opened, and after each event.
 use Rattle.std.proofs.Common.{◌≡◌, ◌∙◌, ℕ, ◌-◌, ◌<◌, ◌≤◌, true, List, [], ◌∷◌, ◌++◌, length, take, refl, sym, ap, subst, arith, is_ok, Result, Ok, Err}
-use Rattle.pg_game.specs.declared.game.Game.{Game}
-use Rattle.pg_game.specs.declared.position.Position.{Position}
-use Rattle.pg_game.specs.declared.position.Illegal.{Illegal}
-use Rattle.pg_game.specs.Judge.{judged_move}
+use Rattle.pg_record.proofs.Common.{Game, Position, Illegal, judged_move}
 use Rattle.pg_record.specs.declared.event.Event.{Event}
 use Rattle.pg_record.specs.declared.event.Event.TheVariants.{Play, Back}
 use Rattle.pg_record.specs.declared.table.Table.{Table}

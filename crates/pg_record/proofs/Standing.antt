@@ -1,15 +1,9 @@
 -- Events one by one: what stands, and that it is a legal play.
 use Rattle.std.proofs.Common.{◌≡◌, ◌∙◌, ℕ, zero, suc, ◌+◌, ◌-◌, ◌<◌, ◌≤◌, Bool, true, false, cond, List, [], ◌∷◌, ◌++◌, length, take, get_or, refl, ap, arith, Ok, Err, is_ok}
 use Rattle.std.specs.Prelude.{nat_lt}
-use Rattle.std.proofs.lemmas.Bool.{ltb-true}
-use Rattle.std.proofs.lemmas.List.{length_push, length-take-le, take_at}
-use Rattle.pg_game.specs.declared.game.Game.{Game}
-use Rattle.pg_game.specs.declared.position.Position.{Position}
-use Rattle.pg_game.specs.declared.position.Illegal.TheVariants.{Range, Taken, Over}
+use Rattle.pg_record.proofs.Common.{ltb-true, length_push, length-take-le, take_at, Game, Position, Range, Taken, Over, point_count, after, start, IsPosition, IsLegalPlay, played, IsPosition-start, IsPosition-played}
 use Rattle.pg_game.specs.Position.{is_free}
-use Rattle.pg_game.specs.Game.{point_count, is_over, after, start, IsPosition}
-use Rattle.pg_game.specs.Play.{IsLegalPlay, played}
-use Rattle.pg_game.proofs.Moves.{IsPosition-start, IsPosition-played}
+use Rattle.pg_game.specs.Game.{is_over}
 use Rattle.pg_record.specs.declared.event.Event.{Event}
 use Rattle.pg_record.specs.declared.event.Event.TheVariants.{Play, Back}
 use Rattle.pg_record.specs.Replay.{with_event, standing_after, standing, position_after, MayFollow, AreAllowed, IsRecord}

@@ -1,3 +1,4 @@
+pub mod Prelude
 pub mod Replay
 pub mod Session
 pub mod SessionCode

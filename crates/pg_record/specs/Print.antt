@@ -1,8 +1,6 @@
 -- The text of a record.
 use Rattle.std.specs.Prelude.{List, [], ◌∷◌, ◌++◌, codes}
-use Rattle.std.specs.Fmt.{decimal}
-use Rattle.std.specs.List.{flat_map}
-use Rattle.pg_text.specs.Text.{Bytes, spelled}
+use Rattle.pg_record.specs.Prelude.{decimal, flat_map, Bytes, spelled}
 use Rattle.pg_record.specs.declared.event.Event.{Event}
 use Rattle.pg_record.specs.declared.event.Event.TheVariants.{Play, Back}
 

@@ -1,11 +1,6 @@
 -- Record files: what each line says, and the first fault.
 use Rattle.std.specs.Prelude.{ℕ, ◌==◌, Bool, nat_lt, nat_le, is_err, if◌then◌else◌, List, [], ◌∷◌, ◌++◌, length, Option, Some, None, Result, Ok, Err, codes}
-use Rattle.std.specs.Str.{bytes_eq}
-use Rattle.pg_base.specs.declared.signs.TheConstants.{SPACE}
-use Rattle.pg_text.specs.Faults.{and_then, least, reading, unless}
-use Rattle.pg_text.specs.Text.{Bytes, lines, number, parts}
-use Rattle.pg_game.specs.declared.game.Game.{Game}
-use Rattle.pg_game.specs.Judge.{judged_move}
+use Rattle.pg_record.specs.Prelude.{bytes_eq, SPACE, and_then, least, reading, unless, Bytes, lines, number, parts, Game, judged_move}
 use Rattle.pg_record.specs.declared.event.Event.{Event}
 use Rattle.pg_record.specs.declared.event.Event.TheVariants.{Play, Back}
 use Rattle.pg_record.specs.declared.event.TheConstants.{MAX_EVENTS}

@@ -1,10 +1,6 @@
 -- What the events of a session leave standing, and which event may follow others.
 use Rattle.std.specs.Prelude.{◌≡◌, ℕ, ◌-◌, ◌<◌, ◌≤◌, true, is_ok, List, [], ◌∷◌, ◌++◌, length, take}
-use Rattle.pg_game.specs.declared.game.Game.{Game}
-use Rattle.pg_game.specs.declared.position.Position.{Position}
-use Rattle.pg_game.specs.Game.{start, after}
-use Rattle.pg_game.specs.Judge.{judged_move}
-use Rattle.pg_game.specs.Play.{played}
+use Rattle.pg_record.specs.Prelude.{Game, Position, start, after, judged_move, played}
 use Rattle.pg_record.specs.declared.event.Event.{Event}
 use Rattle.pg_record.specs.declared.event.Event.TheVariants.{Play, Back}
 use Rattle.pg_record.specs.declared.event.TheConstants.{MAX_EVENTS}

@@ -1,12 +1,6 @@
 -- What a session is seen as, and what it keeps.
 use Rattle.std.specs.Prelude.{◌≡◌, ◌≢◌, ℕ, ◌≤◌, List, [], ◌∷◌, ◌++◌, map, Result, Ok, Err}
-use Rattle.pg_base.specs.declared.kind.Kind.TheVariants.{Switching}
-use Rattle.pg_game.specs.declared.game.Game.{Game}
-use Rattle.pg_game.specs.declared.position.Position.{Position}
-use Rattle.pg_game.specs.declared.position.Illegal.{Illegal}
-use Rattle.pg_game.specs.Game.{start}
-use Rattle.pg_game.specs.Judge.{IsMadeForGame}
-use Rattle.pg_board.specs.Board.{Stand, View}
+use Rattle.pg_record.specs.Prelude.{Switching, Game, Position, Illegal, start, IsMadeForGame, Stand, View}
 use Rattle.pg_record.specs.declared.event.Event.{Event}
 use Rattle.pg_record.specs.declared.event.TheConstants.{MAX_EVENTS}
 use Rattle.pg_record.specs.declared.table.Table.{Table}

@@ -1,9 +1,7 @@
 //! Laws of replaying and of reading. Each function is empty: what it promises is a law of the
 //! definitions alone.
 ghost use Rattle.std.specs.Prelude.{◌≡◌, ℕ, ◌≤◌, List, [], ◌∷◌, ◌++◌, length, Ok, Err};
-ghost use Rattle.pg_game.specs.Game.{start, IsPosition, after};
-ghost use Rattle.pg_game.specs.Play.{IsLegalPlay};
-ghost use Rattle.pg_game.specs.declared.game.Game.{Game};
+ghost use Rattle.pg_record.specs.Prelude.{start, IsPosition, after, IsLegalPlay, Game};
 ghost use Rattle.pg_record.specs.Replay.{replay, standing, IsRecord};
 ghost use Rattle.pg_record.specs.declared.event.Event.{Event};
 ghost use Rattle.pg_record.specs.Print.{printed_record};

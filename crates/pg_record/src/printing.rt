@@ -1,7 +1,6 @@
 //! The text of a record.
 ghost use Rattle.std.specs.Prelude.{◌≡◌, ◌++◌, OnOk, IfOk, string_bytes};
-ghost use Rattle.std.specs.List.{flat_map};
-ghost use Rattle.pg_text.specs.Text.{spelled};
+ghost use Rattle.pg_record.specs.Prelude.{flat_map, spelled};
 ghost use Rattle.pg_record.specs.Print.{event_words, printed_record};
 ghost use Rattle.pg_record.specs.Replay.{IsRecord};
 

@@ -1,8 +1,6 @@
 //! Sessions.
 ghost use Rattle.std.specs.Prelude.{◌≡◌, ◌+◌, ◌<◌, ◌++◌, [], ◌∷◌, length, get_or, nat_lt, is_ok, IfOk, if◌then◌else◌};
-ghost use Rattle.pg_game.specs.Game.{start, IsPosition};
-ghost use Rattle.pg_game.specs.Judge.{judged_move};
-ghost use Rattle.pg_game.specs.Play.{IsLegalPlay};
+ghost use Rattle.pg_record.specs.Prelude.{start, IsPosition, judged_move, IsLegalPlay};
 ghost use Rattle.pg_record.specs.Replay.{replay, IsRecord};
 ghost use Rattle.pg_record.specs.Session.{refusal_of};
 

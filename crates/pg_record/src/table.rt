@@ -1,9 +1,6 @@
 //! What the standing moves of a session are played on.
 ghost use Rattle.std.specs.Prelude.{◌≡◌, ◌-◌, ◌<◌, ◌++◌, [], ◌∷◌, length, take, IfOk, OnOk, OnErr};
-ghost use Rattle.pg_base.specs.declared.kind.Kind.TheVariants.{Switching};
-ghost use Rattle.pg_game.specs.Game.{start, after};
-ghost use Rattle.pg_game.specs.Judge.{judged_move};
-ghost use Rattle.pg_game.specs.Play.{IsLegalPlay};
+ghost use Rattle.pg_record.specs.Prelude.{Switching, start, after, judged_move, IsLegalPlay};
 ghost use Rattle.pg_record.specs.Replay.{position_after};
 ghost use Rattle.pg_record.specs.Session.{refusal_of, IsTableAfter};
 

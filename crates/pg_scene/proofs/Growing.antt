@@ -1,8 +1,6 @@
 -- Lists of items that grow at their ends.
 use Rattle.std.proofs.Common.{◌≡◌, ℕ, zero, suc, ◌+◌, ◌<◌, Bool, true, false, List, [], ◌∷◌, ◌++◌, length, map, filter, get_or, take, add-one, refl, sym, ap, ◌∙◌, inl, inr, arith, append_assoc}
-use Rattle.std.specs.List.{range_with_len}
-use Rattle.std.proofs.lemmas.Bool.{cases_Bool}
-use Rattle.std.proofs.lemmas.List.{append-nil, length-take-le, map-append, take_more}
+use Rattle.pg_scene.proofs.Common.{range_with_len, cases_Bool, append-nil, length-take-le, map-append, take_more}
 use Rattle.pg_scene.specs.Items.{numbered}
 use Rattle.pg_scene.specs.declared.item.Item.{Item}
 

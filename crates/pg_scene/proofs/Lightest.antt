@@ -1,19 +1,6 @@
 -- The lightest lines, and the base of weights.
 use Rattle.std.proofs.Common.{◌≡◌, ℕ, ◌+◌, ◌^◌, ◌<◌, ◌≤◌, max, true, false, List, length, get_or, drop, refl, sym, ap, subst, arith}
-use Rattle.std.proofs.lemmas.List.{at_drop_more}
-use Rattle.std.specs.FinSet.{FinSet}
-use Rattle.std.specs.List.{count_by}
-use Rattle.std.specs.Ordering.{nat_cmp}
-use Rattle.pg_base.specs.declared.kind.Kind.{Kind}
-use Rattle.pg_base.specs.declared.kind.Kind.TheVariants.{MakerBreaker, MakerMaker, AvoiderEnforcer, Switching}
-use Rattle.pg_game.specs.Game.{is_touched, lines_of}
-use Rattle.pg_game.specs.Position.{is_free}
-use Rattle.pg_game.specs.Potential.{IsBaseOf, full_weight, greatest_length}
-use Rattle.pg_game.specs.declared.game.Game.{Game}
-use Rattle.pg_game.specs.declared.position.Position.{Position}
-use Rattle.pg_game.proofs.WeightBounds.{IsBaseOf-bias, IsBaseOf-two}
-use Rattle.pg_game.proofs.LineSums.{length-le-greatest}
-use Rattle.std.proofs.Math.Nat.{pow-le-pow_right}
+use Rattle.pg_scene.proofs.Common.{at_drop_more, FinSet, count_by, nat_cmp, Kind, MakerBreaker, MakerMaker, AvoiderEnforcer, Switching, is_touched, lines_of, is_free, IsBaseOf, full_weight, greatest_length, Game, Position, IsBaseOf-bias, IsBaseOf-two, length-le-greatest, pow-le-pow_right}
 use Rattle.pg_scene.specs.Items.{base_of, free_on, most_free}
 
 pub free_on-touched : (own : FinSet nat_cmp) (p : Position) (line : List ℕ)

@@ -1,9 +1,8 @@
 -- Lists that agree place by place.
 use Rattle.std.proofs.Common.{◌≡◌, ℕ, Bool, true, ◌&&◌, List, [], ◌∷◌, refl, sym, ap₂, arith, true≢false}
 use Rattle.std.specs.Prelude.{nat_eq}
-use Rattle.std.proofs.lemmas.Bool.Decides.{nat_tests}
+use Rattle.pg_scene.proofs.Common.{nat_tests, and_parts}
 use lib.Pointwise.{pointwise}
-use Rattle.std.proofs.lemmas.Bool.{and_parts}
 
 pub same-lists : {A : Type 0} (E : A → A → Bool)
     → ((a b : A) → E a b ≡ true → a ≡ b)

@@ -1,18 +1,8 @@
 -- Weights in units.
 use Rattle.std.proofs.Common.{◌≡◌, ℕ, zero, suc, ◌+◌, ◌-◌, ◌*◌, ◌/◌, ◌^◌, ◌<◌, ◌≤◌, Bool, true, false, if◌then◌else◌, List, [], ◌∷◌, length, get_or, sym, ap, ap₂, ◌∙◌, inl, inr, arith}
-use Rattle.std.proofs.Math.Nat.{mul-div_cancel_left, one-le-pow}
-use Rattle.std.proofs.lemmas.Bool.{cases_Bool}
+use Rattle.pg_scene.proofs.Common.{mul-div_cancel_left, one-le-pow, cases_Bool, FinSet, count_by, sum_by, nat_cmp, is_touched, lines_of, is_free, greatest_length, is_on, line_weight, point_weight, Game, Position, line_weight-clear, line_weight-touched}
 use Rattle.std.proofs.lemmas.List.Sums.{count_by-le-length, sum_by-cons}
 use Rattle.std.proofs.lemmas.Nat.{pow-add}
-use Rattle.std.specs.FinSet.{FinSet}
-use Rattle.std.specs.List.{count_by, sum_by}
-use Rattle.std.specs.Ordering.{nat_cmp}
-use Rattle.pg_game.specs.Game.{is_touched, lines_of}
-use Rattle.pg_game.specs.Position.{is_free}
-use Rattle.pg_game.specs.Potential.{greatest_length, is_on, line_weight, point_weight}
-use Rattle.pg_game.specs.declared.game.Game.{Game}
-use Rattle.pg_game.specs.declared.position.Position.{Position}
-use Rattle.pg_game.proofs.LineSums.{line_weight-clear, line_weight-touched}
 use Rattle.pg_scene.proofs.Lightest.{free_on-clear, free_on-touched}
 use Rattle.pg_scene.specs.Items.{free_on, most_free, unit_weight, units_by}
 

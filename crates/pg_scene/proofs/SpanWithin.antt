@@ -1,15 +1,8 @@
 -- Each item of a connectivity game's scene can stand on its board.
 use Rattle.std.proofs.Common.{◌≡◌, ℕ, ◌<◌, ◌≤◌, [], ◌∷◌, ◌++◌, length, Option, Some, None, sym, ap, subst, arith}
 use Rattle.std.specs.Prelude.{nat_lt}
-use Rattle.std.specs.List.{All}
-use Rattle.std.proofs.lemmas.List.Elements.{All-append, All-nil}
-use Rattle.pg_graph.specs.Graph.{edge_count}
+use Rattle.pg_scene.proofs.Common.{All, All-append, All-nil, edge_count, marks_at, SpanBody, Trees, Parts, SpanClaim, SpanGame}
 use Rattle.pg_span.specs.Fits.{AreSpanParts}
-use Rattle.pg_span.specs.Game.{marks_at}
-use Rattle.pg_span.specs.declared.cert.SpanBody.{SpanBody}
-use Rattle.pg_span.specs.declared.cert.SpanBody.TheVariants.{Trees, Parts}
-use Rattle.pg_span.specs.declared.cert.SpanClaim.{SpanClaim}
-use Rattle.pg_span.specs.declared.game.SpanGame.{SpanGame}
 use Rattle.pg_scene.specs.Items.{fault_items, member_items, point_items}
 use Rattle.pg_scene.specs.Limits.{IsBoard, IsItemOn, IsScene, points_on, vertices_on}
 use Rattle.pg_scene.specs.Scenes.{IsDrawnGraph}

@@ -1,37 +1,14 @@
 -- Each item of a scene can stand on its board.
 use Rattle.std.proofs.Common.{◌≡◌, ℕ, zero, suc, ◌+◌, ◌*◌, ◌<◌, ◌≤◌, Bool, true, false, ◌&&◌, List, [], ◌∷◌, ◌++◌, length, get_or, Option, Some, None, refl, sym, ap, ◌∙◌, inl, inr, subst, true≢false, arith}
 use Rattle.std.specs.Prelude.{nat_lt, ◌==◌}
-use Rattle.std.specs.FinSet.{FinSet}
-use Rattle.std.specs.Fmt.{decimal}
-use Rattle.std.specs.List.{All, AllByRecursion, flat_map, range_with_len}
-use Rattle.std.specs.Ordering.{nat_cmp}
-use Rattle.std.proofs.lemmas.Bool.{and_parts, cases_Bool}
-use Rattle.std.proofs.lemmas.Bool.Decides.{nat_tests}
-use Rattle.std.proofs.lemmas.List.{length-append}
-use Rattle.std.proofs.lemmas.List.Concat.{flat_map-cons}
-use Rattle.std.proofs.lemmas.List.Elements.{All-append, All-map, All-nil, Contains-get_or}
+use Rattle.pg_scene.proofs.Common.{FinSet, decimal, All, AllByRecursion, flat_map, range_with_len, nat_cmp, and_parts, cases_Bool, nat_tests, length-append, flat_map-cons, All-append, All-map, All-nil, Contains-get_or, points_below, Kind, Pair, Side, position_of, Claim, Node, Body}
 use Rattle.std.proofs.lemmas.List.FromFn.{get_or-range_with_len, length-range_with_len}
-use Rattle.pg_base.specs.Points.{points_below}
 use Rattle.pg_base.specs.declared.grid.Grid.{Grid as Cells}
-use Rattle.pg_base.specs.declared.kind.Kind.{Kind}
-use Rattle.pg_base.specs.declared.pair.Pair.{Pair}
-use Rattle.pg_base.specs.declared.side.Side.{Side}
 use Rattle.pg_base.proofs.MemberLemmas.{points_below-small}
-use Rattle.pg_cert.specs.Node.{position_of}
-use Rattle.pg_cert.specs.declared.cert.Claim.{Claim}
-use Rattle.pg_cert.specs.declared.node.Node.{Node}
-use Rattle.pg_cert.specs.declared.node.Body.{Body}
 use Rattle.pg_cert.specs.declared.node.Body.TheVariants as bodies
-use Rattle.pg_cert.specs.declared.reply.Reply.{Reply}
-use Rattle.pg_game.specs.Field.{field_points}
-use Rattle.pg_game.specs.Fit.{AreLinesOf, FieldFits, IsFit, IsLineOf, is_graph, longest}
-use Rattle.pg_game.specs.Game.{free_points, lines_of, point_count, start}
-use Rattle.pg_game.specs.declared.field.Field.{Field}
-use Rattle.pg_game.specs.declared.field.Field.TheVariants.{Lines, Graph as OnGraph}
-use Rattle.pg_game.specs.declared.game.Game.{Game}
-use Rattle.pg_game.specs.declared.position.Position.{Position}
+use Rattle.pg_scene.proofs.Common.{Reply, field_points, AreLinesOf, FieldFits, IsFit, IsLineOf, is_graph, longest, free_points, lines_of, point_count, start, Field, Lines, Game, Position, line-fit}
+use Rattle.pg_game.specs.declared.field.Field.TheVariants.{Graph as OnGraph}
 use Rattle.pg_game.proofs.Greatest.{member-within}
-use Rattle.pg_game.proofs.WeightBounds.{line-fit}
 use Rattle.pg_scene.specs.Items.{are_drawn, body_items, fault_items, line_items, mark_of, member_items, numbered, pair_item, point_items, reply_item, seen_if, set_items, step_item, units, weight_items}
 use Rattle.pg_scene.specs.Limits.{IsBoard, IsItemOn, IsScene, points_on, terminals_on}
 use Rattle.pg_scene.specs.Scenes.{IsBoardOf, IsSceneOf, IsSceneOfGame, line_board}

@@ -1,24 +1,9 @@
 -- What is to be seen on a board, of a position, of lines, and of the bodies of nodes.
 use Rattle.std.specs.Prelude.{ℕ, suc, ◌+◌, ◌-◌, ◌^◌, max, nat_lt, nat_le, Bool, true, false, ◌&&◌, List, [], ◌∷◌, ◌++◌, length, map, Option, Some, None, if◌then◌else◌}
-use Rattle.std.specs.FinSet.{FinSet, contains}
-use Rattle.std.specs.Fmt.{decimal}
-use Rattle.std.specs.List.{count_by, flat_map, range_with_len, sum_by}
-use Rattle.std.specs.Ordering.{nat_cmp}
-use Rattle.pg_base.specs.Points.{points_below}
-use Rattle.pg_base.specs.declared.kind.Kind.{Kind}
-use Rattle.pg_base.specs.declared.kind.Kind.TheVariants.{AvoiderEnforcer}
-use Rattle.pg_base.specs.declared.pair.Pair.{Pair}
-use Rattle.pg_base.specs.declared.side.Side.{Side}
+use Rattle.pg_scene.specs.Prelude.{FinSet, contains, decimal, count_by, flat_map, range_with_len, sum_by, nat_cmp, points_below, Kind, AvoiderEnforcer, Pair, Side, Body}
 use Rattle.pg_base.specs.declared.side.Side.TheVariants.{X, Y}
-use Rattle.pg_cert.specs.declared.node.Body.{Body}
 use Rattle.pg_cert.specs.declared.node.Body.TheVariants as bodies
-use Rattle.pg_cert.specs.declared.reply.Reply.{Reply}
-use Rattle.pg_game.specs.Fit.{is_graph}
-use Rattle.pg_game.specs.Game.{free_points, is_touched, lines_of, point_count}
-use Rattle.pg_game.specs.Position.{is_free, points_of}
-use Rattle.pg_game.specs.Potential.{greatest_length, is_on, line_weight}
-use Rattle.pg_game.specs.declared.game.Game.{Game}
-use Rattle.pg_game.specs.declared.position.Position.{Position}
+use Rattle.pg_scene.specs.Prelude.{Reply, is_graph, free_points, is_touched, lines_of, point_count, is_free, points_of, greatest_length, is_on, line_weight, Game, Position}
 use Rattle.pg_scene.specs.declared.item.Item.{Item}
 use Rattle.pg_scene.specs.declared.item.Item.TheVariants as items
 use Rattle.pg_scene.specs.declared.item.Set.{Set}

@@ -1,8 +1,7 @@
 -- What a picture is laid out from: a board within the limits of games, and items whose points and
 -- vertices are the board's.
 use Rattle.std.specs.Prelude.{◌≡◌, ℕ, ◌+◌, ◌*◌, ◌-◌, ◌<◌, ◌≤◌, true, List, [], ◌∷◌, length, Option, IfSome}
-use Rattle.std.specs.List.{All}
-use Rattle.pg_base.specs.declared.limits.TheConstants.{MAX_EDGES}
+use Rattle.pg_scene.specs.Prelude.{All, MAX_EDGES}
 use Rattle.pg_game.specs.declared.bounds.TheConstants.{MAX_POINTS, MAX_LINE_POINTS, MAX_VERTICES}
 use Rattle.pg_gen.specs.Bridge.{bridge_ends, has_bridge}
 use Rattle.pg_graph.specs.declared.graph.Graph.{Graph as Multigraph}

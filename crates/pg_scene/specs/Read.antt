@@ -1,8 +1,6 @@
 -- What is read off the items of a picture, in their order.
 use Rattle.std.specs.Prelude.{ℕ, List, [], ◌∷◌, Option}
-use Rattle.pg_base.specs.declared.pair.Pair.{Pair}
-use Rattle.pg_base.specs.declared.side.Side.{Side}
-use Rattle.pg_cert.specs.declared.reply.Reply.{Reply}
+use Rattle.pg_scene.specs.Prelude.{Pair, Side, Reply}
 use Rattle.pg_scene.specs.declared.item.Item.{Item}
 use Rattle.pg_scene.specs.declared.item.Item.TheVariants as items
 use Rattle.pg_scene.specs.declared.item.Set.TheVariants.{First, Second}

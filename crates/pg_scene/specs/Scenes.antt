@@ -1,13 +1,8 @@
 -- What is to be seen of a game, and of a node of a certificate.
 use Rattle.std.specs.Prelude.{◌≡◌, ℕ, List, [], ◌∷◌, ◌++◌, Option, Some, None, IfSome, IfNone, slice_get}
-use Rattle.pg_cert.specs.Node.{position_of}
+use Rattle.pg_scene.specs.Prelude.{position_of, Claim, Node, lines_of, point_count, start, Field, Lines, Game}
 use Rattle.pg_cert.specs.declared.cert.Cert.{Cert}
-use Rattle.pg_cert.specs.declared.cert.Claim.{Claim}
-use Rattle.pg_cert.specs.declared.node.Node.{Node}
-use Rattle.pg_game.specs.Game.{lines_of, point_count, start}
-use Rattle.pg_game.specs.declared.field.Field.{Field}
-use Rattle.pg_game.specs.declared.field.Field.TheVariants.{Lines, Graph as OnGraph}
-use Rattle.pg_game.specs.declared.game.Game.{Game}
+use Rattle.pg_game.specs.declared.field.Field.TheVariants.{Graph as OnGraph}
 use Rattle.pg_base.specs.declared.grid.Grid.{Grid as Cells}
 use Rattle.pg_scene.specs.Items.{body_items, fault_items, line_items, point_items}
 use Rattle.pg_scene.specs.Limits.{IsBridge}

@@ -1,17 +1,9 @@
 -- What is to be seen of a connectivity game, and of a claim of its certificate.
 use Rattle.std.specs.Prelude.{◌≡◌, ℕ, nat_lt, List, [], ◌∷◌, ◌++◌, length, codes, Option, Some, None, slice_get}
-use Rattle.pg_base.specs.Side.{side_word}
-use Rattle.pg_game.specs.declared.position.Position.{Position}
-use Rattle.pg_graph.specs.Graph.{edge_count}
-use Rattle.pg_span.specs.Game.{marks_at}
-use Rattle.pg_span.specs.declared.cert.SpanBody.{SpanBody}
-use Rattle.pg_span.specs.declared.cert.SpanBody.TheVariants.{Trees, Parts}
+use Rattle.pg_scene.specs.Prelude.{side_word, Position, edge_count, marks_at, SpanBody, Trees, Parts, SpanClaim, SpanGame, count_text}
 use Rattle.pg_span.specs.declared.cert.SpanCert.{SpanCert}
-use Rattle.pg_span.specs.declared.cert.SpanClaim.{SpanClaim}
-use Rattle.pg_span.specs.declared.game.SpanGame.{SpanGame}
 use Rattle.pg_scene.specs.Items.{fault_items, member_items, numbered, point_items, seen_if}
 use Rattle.pg_scene.specs.Scenes.{IsDrawnGraph}
-use Rattle.pg_base.specs.Texts.{count_text}
 use Rattle.pg_scene.specs.Words.{size_text, turn_line}
 use Rattle.pg_scene.specs.declared.item.Item.{Item}
 use Rattle.pg_scene.specs.declared.item.Item.TheVariants.{Step, Part}

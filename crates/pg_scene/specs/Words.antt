@@ -1,20 +1,10 @@
 -- Titles and legends.
 use Rattle.std.specs.Prelude.{ℕ, ◌++◌, nat_lt, List, [], ◌∷◌, length, codes, Option, Some, None, if◌then◌else◌}
-use Rattle.std.specs.Fmt.{decimal}
+use Rattle.pg_scene.specs.Prelude.{decimal, side_word, count_text, Kind, Side, Claim, Body}
 use Rattle.pg_base.specs.Goal.{goal_word}
 use Rattle.pg_base.specs.Kind.{kind_word}
-use Rattle.pg_base.specs.Side.{side_word}
-use Rattle.pg_base.specs.Texts.{count_text}
-use Rattle.pg_base.specs.declared.kind.Kind.{Kind}
-use Rattle.pg_base.specs.declared.side.Side.{Side}
-use Rattle.pg_cert.specs.declared.cert.Claim.{Claim}
-use Rattle.pg_cert.specs.declared.node.Body.{Body}
 use Rattle.pg_cert.specs.declared.node.Body.TheVariants as bodies
-use Rattle.pg_game.specs.Game.{lines_of}
-use Rattle.pg_game.specs.declared.field.Field.{Field}
-use Rattle.pg_game.specs.declared.field.Field.TheVariants.{Lines, Graph}
-use Rattle.pg_game.specs.declared.game.Game.{Game}
-use Rattle.pg_game.specs.declared.position.Position.{Position}
+use Rattle.pg_scene.specs.Prelude.{lines_of, Field, Lines, Graph, Game, Position}
 use Rattle.pg_scene.specs.Items.{are_drawn, base_of, most_free, own_of}
 
 -- ---- titles

@@ -1,7 +1,6 @@
 //! What the bodies of nodes name.
 ghost use Rattle.std.specs.Prelude.{◌≡◌, ◌++◌, ◌&&◌, OnOk};
-ghost use Rattle.std.specs.List.{flat_map};
-ghost use Rattle.pg_game.specs.Fit.{is_graph};
+ghost use Rattle.pg_scene.specs.Prelude.{flat_map, is_graph};
 ghost use Rattle.pg_scene.specs.Items.{body_items, fault_items, reply_item, seen_if, set_items};
 
 use crate::item::{Item, Set};

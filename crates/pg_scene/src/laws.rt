@@ -1,24 +1,13 @@
 //! Laws of scenes. Each function is empty: what it promises is a law of the definitions alone.
 ghost use Rattle.std.specs.Prelude.{◌≡◌, ◌<◌, ℕ, Bool, List, Option, map};
-ghost use Rattle.std.specs.FinSet.{FinSet};
-ghost use Rattle.std.specs.List.{All, flat_map, range_with_len};
-ghost use Rattle.std.specs.Ordering.{nat_cmp};
-ghost use Rattle.pg_base.specs.Points.{points_below};
-ghost use Rattle.pg_base.specs.declared.pair.Pair.{Pair};
-ghost use Rattle.pg_cert.specs.Node.{position_of};
-ghost use Rattle.pg_cert.specs.declared.cert.Claim.{Claim};
+ghost use Rattle.pg_scene.specs.Prelude.{FinSet, All, flat_map, range_with_len, nat_cmp, points_below, Pair, position_of, Claim};
 ghost use Rattle.pg_cert.specs.declared.node.Body.TheVariants as bodies;
-ghost use Rattle.pg_cert.specs.declared.node.Node.{Node};
-ghost use Rattle.pg_cert.specs.declared.reply.Reply.{Reply};
-ghost use Rattle.pg_game.specs.Game.{point_count, start};
-ghost use Rattle.pg_game.specs.declared.game.Game.{Game};
+ghost use Rattle.pg_scene.specs.Prelude.{Node, Reply, point_count, start, Game, SpanClaim, SpanGame};
 ghost use Rattle.pg_scene.specs.Items.{mark_of};
 ghost use Rattle.pg_scene.specs.Limits.{IsScene};
 ghost use Rattle.pg_scene.specs.Read.{first_in, pair_in, point_in, reply_in, second_in};
 ghost use Rattle.pg_scene.specs.Scenes.{IsSceneOf, IsSceneOfGame};
 ghost use Rattle.pg_scene.specs.declared.scene.Scene.{Scene};
-ghost use Rattle.pg_span.specs.declared.cert.SpanClaim.{SpanClaim};
-ghost use Rattle.pg_span.specs.declared.game.SpanGame.{SpanGame};
 ghost use Rattle.pg_scene.specs.SpanScenes.{IsSceneOfSpan, IsSceneOfSpanGame};
 
 /// Each item of a scene can stand on its board.

@@ -1,7 +1,6 @@
 //! What is to be seen of games and of nodes.
 ghost use Rattle.std.specs.Prelude.{◌≡◌, ◌++◌, IfOk, IfSome, IfNone};
-ghost use Rattle.pg_cert.specs.Node.{position_of};
-ghost use Rattle.pg_game.specs.Game.{lines_of, point_count, start};
+ghost use Rattle.pg_scene.specs.Prelude.{position_of, lines_of, point_count, start};
 ghost use Rattle.pg_scene.specs.Items.{body_items, fault_items, line_items, point_items};
 ghost use Rattle.pg_scene.specs.Scenes.{IsSceneOf, IsSceneOfGame, IsSceneOfNode, LacksNode};
 

@@ -1,7 +1,6 @@
 //! What is to be seen of connectivity games and of claims.
 ghost use Rattle.std.specs.Prelude.{◌≡◌, ◌≤◌, ◌++◌, ◌∷◌, [], IfOk, IfSome, IfNone, OnOk, slice_get, Some, None, string_bytes};
-ghost use Rattle.pg_graph.specs.Graph.{edge_count};
-ghost use Rattle.pg_span.specs.Game.{marks_at};
+ghost use Rattle.pg_scene.specs.Prelude.{edge_count, marks_at};
 ghost use Rattle.pg_scene.specs.Items.{fault_items, point_items};
 ghost use Rattle.pg_scene.specs.SpanScenes.{IsSceneOfSpan, IsSceneOfSpanClaim, IsSceneOfSpanGame, span_claim_text, span_fault_text, span_items, span_legend, span_line};
 

@@ -1,11 +1,6 @@
 //! The weights of free points.
 ghost use Rattle.std.specs.Prelude.{◌≡◌, ◌<◌, ◌≤◌, ◌++◌, ◌/◌, OnOk, length, get_or, map, ℕ};
-ghost use Rattle.std.specs.Fmt.{decimal};
-ghost use Rattle.std.specs.List.{All};
-ghost use Rattle.pg_base.specs.declared.limits.TheConstants.{MAX_MEMBERS};
-ghost use Rattle.pg_game.specs.Game.{free_points, lines_of, point_count};
-ghost use Rattle.pg_game.specs.Position.{is_free};
-ghost use Rattle.pg_game.specs.Potential.{greatest_length, point_weight};
+ghost use Rattle.pg_scene.specs.Prelude.{decimal, All, MAX_MEMBERS, free_points, lines_of, point_count, is_free, greatest_length, point_weight};
 ghost use Rattle.pg_scene.specs.Items.{base_of, free_on, most_free, own_of, unit_weight, units, weight_items};
 
 use crate::item::Item;

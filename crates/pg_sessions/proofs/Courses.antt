@@ -1,14 +1,6 @@
 -- Parts of a log by rules, put together.
 use Rattle.std.proofs.Common.{◌≡◌, ◌≢◌, ℕ, List, [], ◌∷◌, ◌++◌, Option, Result, Ok, Err, refl, sym, subst}
-use Rattle.pg_io.specs.Files.{Bytes}
-use Rattle.pg_io.specs.Console.{ConsoleTold, Grows, Consumes}
-use Rattle.pg_io.specs.declared.entry.Entry.{Entry}
-use Rattle.pg_io.specs.declared.entry.Entry.TheVariants.{Said}
-use Rattle.pg_io.specs.declared.stop.Stop.{Stop}
-use Rattle.pg_talk.specs.Hearing.{Hearing}
-use Rattle.pg_talk.specs.Talk.{with_left}
-use Rattle.pg_talk.specs.declared.dialogue.TheConstants.{MAX_REPLY}
-use Rattle.pg_talk.proofs.Speaking.{Grows-nothing, Grows-then}
+use Rattle.pg_sessions.proofs.Common.{Bytes, ConsoleTold, Grows, Consumes, Entry, Said, Stop, Hearing, with_left, MAX_REPLY, Grows-nothing, Grows-then}
 use Rattle.pg_talk.proofs.Talking.{Hearing-heard, Hearing-nothing, Hearing-said, Hearing-then}
 use Rattle.pg_sessions.specs.Course.{LeadsBy, Course, BreaksOff, Goes}
 

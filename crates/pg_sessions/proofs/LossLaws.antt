@@ -1,16 +1,7 @@
 -- The losses of moves, one by one.
 use Rattle.std.proofs.Common.{◌≡◌, ◌∙◌, ◌↔◌, ℕ, zero, suc, ◌+◌, ◌<◌, Bool, true, false, List, [], ◌∷◌, ◌++◌, length, take, Some, slice_get, refl, sym, ap, subst, inl, inr, arith, append_assoc, if◌then◌else◌}
-use Rattle.std.specs.List.{AllPairs, Contains}
-use Rattle.std.proofs.lemmas.Bool.{cases_Bool, false≢true}
-use Rattle.std.proofs.lemmas.List.{append-nil}
-use Rattle.std.proofs.lemmas.List.Elements.{Contains-append_cases, Contains-append_left, Contains-append_right}
-use Rattle.std.proofs.lemmas.Option.{none-some}
+use Rattle.pg_sessions.proofs.Common.{AllPairs, Contains, cases_Bool, false≢true, append-nil, Contains-append_cases, Contains-append_left, Contains-append_right, none-some, after, played, value, Game, Position}
 use Rattle.lru.proofs.Splits.{Contains-cons, Contains-head, Contains-nil}
-use Rattle.pg_game.specs.Game.{after}
-use Rattle.pg_game.specs.Play.{played}
-use Rattle.pg_game.specs.Value.{value}
-use Rattle.pg_game.specs.declared.game.Game.{Game}
-use Rattle.pg_game.specs.declared.position.Position.{Position}
 use Rattle.pg_poly.proofs.Lists.{pairs_cons}
 use Rattle.pg_sessions.specs.Losses.{Loss, IsLoss, is_worse, loses_value, loss_at, losses, losses_from}
 

@@ -1,13 +1,6 @@
 -- Nodes of claims with a position.
 use Rattle.std.proofs.Common.{◌≡◌, ◌∙◌, ℕ, zero, suc, ◌+◌, ◌<◌, List, [], ◌∷◌, Some, slice_get, length, map, get_or, refl, sym, ap, subst, inl, inr, arith}
-use Rattle.std.specs.List.{All}
-use Rattle.std.proofs.lemmas.Bool.{cases_order}
-use Rattle.std.proofs.lemmas.Option.{none-some, slice_get_within, slice_get-get_or}
-use Rattle.pg_cert.specs.Node.{position_of}
-use Rattle.pg_cert.specs.declared.cert.Claim.{Claim}
-use Rattle.pg_cert.specs.declared.node.Node.{Node}
-use Rattle.pg_game.specs.declared.position.Position.{Position}
-use Rattle.pg_solve.specs.Due.{Heading, heading}
+use Rattle.pg_sessions.proofs.Common.{All, cases_order, none-some, slice_get_within, slice_get-get_or, position_of, Claim, Node, Position, Heading, heading}
 
 -- a member that is read with itself as the default
 pub read-at : {A : Type 0} (xs : List A) (k : ℕ) (x : A)

@@ -1,32 +1,11 @@
 -- What names hold, and runs by what was read of them.
 use Rattle.std.proofs.Common.{◌≡◌, ◌∙◌, ℕ, ◌+◌, false, List, [], take, Option, Some, None, Result, Ok, Err, IfErr, refl, sym, ap, subst, inl, inr}
 use Rattle.std.specs.Prelude.{IfSome, IsErrAnd, nat_lt}
-use Rattle.pg_files.specs.Views.{entry}
-use Rattle.pg_game.specs.declared.game.Game.{Game}
+use Rattle.pg_sessions.proofs.Common.{entry, Game, ConsoleTold, Bytes, Holding, FilesTold, Entry, Read, Write, Memory, OpensGame, game_held, Expanded, Event, record_of, number_of, Fault, cut_same, opens_whole, performs_more, runs_halt, runs_read, Done, End, Finished, Follows, Performs, stop_end, BothCauses, HaltCauses, IsLackingOne, IsReadAs, Opens, held_as, lacking, Runs, Halt, Refused, Stopped, Refusal, LeavesSearch}
 use Rattle.pg_io.specs.Causes.{Faults, Rose}
-use Rattle.pg_io.specs.Console.{ConsoleTold}
-use Rattle.pg_io.specs.Files.{Bytes, Holding, FilesTold}
 use Rattle.pg_io.specs.Reading.{IsFile}
-use Rattle.pg_io.specs.declared.entry.Entry.{Entry}
-use Rattle.pg_io.specs.declared.stop.Stop.TheVariants.{Read, Write, Memory}
-use Rattle.pg_talk.specs.Opening.{OpensGame, game_held}
-use Rattle.pg_pns.specs.Expanded.{Expanded}
-use Rattle.pg_record.specs.declared.event.Event.{Event}
-use Rattle.pg_record.specs.RecordFile.{record_of}
-use Rattle.pg_record.specs.Views.{number_of}
-use Rattle.pg_record.specs.declared.fault.Fault.{Fault}
 use Rattle.pg_record.specs.declared.fault.Fault.TheVariants.{Size}
 use Rattle.pg_record.specs.declared.fault.TheConstants.{MAX_RECORD_BYTES}
-use Rattle.pg_talk.proofs.Openings.{cut_same, opens_whole}
-use Rattle.pg_talk.proofs.Runs.{performs_more, runs_halt, runs_read}
-use Rattle.pg_talk.specs.Done.{Done, End, Finished, Follows, Performs, stop_end}
-use Rattle.pg_talk.specs.Halts.{BothCauses, HaltCauses}
-use Rattle.pg_talk.specs.Reading.{IsLackingOne, IsReadAs, Opens, held_as, lacking}
-use Rattle.pg_talk.specs.Runs.{Runs}
-use Rattle.pg_talk.specs.declared.halt.Halt.{Halt}
-use Rattle.pg_talk.specs.declared.halt.Halt.TheVariants.{Refused, Stopped}
-use Rattle.pg_messages.specs.declared.refusal.Refusal.{Refusal}
-use Rattle.pg_solve.specs.Left.{LeavesSearch}
 use Rattle.pg_sessions.proofs.Standing.{leaves-more}
 use Rattle.pg_sessions.specs.Along.{IsOfMoves, IsOfNames}
 use Rattle.pg_sessions.specs.Review.{IsReviewLacking, IsTextHalt, RefusesReview, Reviews, ReviewsMoves, ReviewsRead, ReviewsRecord, StandsAgainst, moves_held, moves_told, record_fault}

@@ -1,30 +1,9 @@
 -- A session and its record, put together.
 use Rattle.std.proofs.Common.{◌≡◌, ◌≢◌, ℕ, List, [], ◌∷◌, ◌++◌, Option, Some, None, Result, Ok, Err, refl, sym, ◌∙◌, ap, subst, inl, inr, IfOk}
 use Rattle.std.specs.Prelude.{IfErr, IfSome, ⊤}
-use Rattle.pg_io.specs.Console.{ConsoleTold}
-use Rattle.pg_io.specs.Files.{Bytes, Holding, FilesTold}
-use Rattle.pg_io.specs.declared.entry.Entry.{Entry}
-use Rattle.pg_io.specs.declared.entry.Entry.TheVariants.{Said}
-use Rattle.pg_io.specs.declared.stop.Stop.{Stop}
-use Rattle.pg_io.specs.declared.stop.Stop.TheVariants.{Read, Write, Memory}
+use Rattle.pg_sessions.proofs.Common.{ConsoleTold, Bytes, Holding, FilesTold, Entry, Said, Stop, Read, Write, Memory, entry, Game, OpensGame, game_held, Event, Done, End, Finished, Failed, Starved, Changes, Does, Follows, Stops, stop_end, talk, IsWriteHalt, QuietsBy, Runs, Delivers, IsCutShort, delivered, Halt, Refused, Stopped, not_opened, opened, kept, runs_halt, Grows-then, recorded_text, Refusal, DONE, OUT_OF_REPLIES}
 use Rattle.pg_files.specs.GameFile.{Entry as GameEntry}
-use Rattle.pg_files.specs.Views.{entry}
-use Rattle.pg_game.specs.declared.game.Game.{Game}
-use Rattle.pg_talk.specs.Opening.{OpensGame, game_held}
-use Rattle.pg_record.specs.declared.event.Event.{Event}
-use Rattle.pg_talk.specs.Done.{Done, End, Finished, Failed, Starved, Changes, Does, Follows, Stops, stop_end, talk}
-use Rattle.pg_talk.specs.Halts.{IsWriteHalt}
-use Rattle.pg_talk.specs.Runs.{QuietsBy, Runs}
-use Rattle.pg_talk.specs.Storing.{Delivers, IsCutShort, delivered}
-use Rattle.pg_talk.specs.declared.halt.Halt.{Halt}
-use Rattle.pg_talk.specs.declared.halt.Halt.TheVariants.{Refused, Stopped}
-use Rattle.pg_talk.proofs.Openings.{not_opened, opened}
 use Rattle.pg_talk.proofs.Parts.{hears_then}
-use Rattle.pg_talk.proofs.Runs.{kept, runs_halt}
-use Rattle.pg_talk.proofs.Speaking.{Grows-then}
-use Rattle.pg_messages.specs.Texts.{recorded_text}
-use Rattle.pg_messages.specs.declared.refusal.Refusal.{Refusal}
-use Rattle.pg_messages.specs.declared.statuses.TheConstants.{DONE, OUT_OF_REPLIES}
 use Rattle.pg_sessions.specs.Course.{LeadsBy, Course, BreaksOff}
 use Rattle.pg_sessions.specs.Recording.{GivesRecord, GivesSession, Records, RecordsGame, record_file}
 use Rattle.pg_sessions.specs.SessionLog.{Listens, Closes, Over, Steps, IsOpen, IsClosingLog, standing_count}

@@ -1,21 +1,8 @@
 -- How many lines a log refuses.
 use Rattle.std.proofs.Common.{◌≡◌, ◌≢◌, ℕ, ◌+◌, ◌<◌, nat_eq, nat_lt, if◌then◌else◌, Bool, true, false, List, [], ◌∷◌, length, Result, Ok, Err, refl, sym, ap, subst, inl, inr, arith}
-use Rattle.std.proofs.lemmas.Bool.Decides.{nat_tests}
+use Rattle.pg_sessions.proofs.Common.{nat_tests, count_by, Bytes, Entry, Said, Heard, Skipped, Ended, judged_move, Game, replay, Event, MAX_EVENTS, MAX_REFUSALS, recorded_text, reply_text, standing_text, ReplyFault, NoNumber, NoPoint, Taken, NothingToTakeBack, OUT_OF_REPLIES}
 use Rattle.std.proofs.lemmas.List.Sums.{sum_by-cons}
-use Rattle.std.specs.List.{count_by}
-use Rattle.pg_io.specs.Files.{Bytes}
-use Rattle.pg_io.specs.declared.entry.Entry.{Entry}
-use Rattle.pg_io.specs.declared.entry.Entry.TheVariants.{Said, Heard, Skipped, Ended}
-use Rattle.pg_game.specs.Judge.{judged_move}
-use Rattle.pg_game.specs.declared.game.Game.{Game}
-use Rattle.pg_record.specs.Replay.{replay}
-use Rattle.pg_record.specs.declared.event.Event.{Event}
-use Rattle.pg_record.specs.declared.event.TheConstants.{MAX_EVENTS}
-use Rattle.pg_talk.specs.declared.dialogue.TheConstants.{MAX_REFUSALS}
-use Rattle.pg_messages.specs.Texts.{recorded_text, reply_text, standing_text}
-use Rattle.pg_messages.specs.declared.message.ReplyFault.{ReplyFault}
-use Rattle.pg_messages.specs.declared.message.ReplyFault.TheVariants.{NoNumber, NoPoint, Taken, Over as GameOver, NothingToTakeBack}
-use Rattle.pg_messages.specs.declared.statuses.TheConstants.{OUT_OF_REPLIES}
+use Rattle.pg_messages.specs.declared.message.ReplyFault.TheVariants.{Over as GameOver}
 use Rattle.pg_sessions.specs.Course.{LeadsBy}
 use Rattle.pg_sessions.specs.Request.{request_of}
 use Rattle.pg_sessions.specs.SessionLog.{Stage, Listens, Stands, Refuses, Closes, Over, Steps, IsWholeLog, EndsWith, after_answer, after_event, after_refusal, after_request, back_or_refusal, is_refusal, move_or_refusal, standing_count}

@@ -1,35 +1,6 @@
 -- What a review has said, move by move.
 use Rattle.std.proofs.Common.{◌≡◌, ◌∙◌, ℕ, ◌+◌, ◌-◌, ◌<◌, ◌≤◌, Bool, true, false, List, [], ◌∷◌, ◌++◌, length, take, drop, get_or, map, Option, Ok, Err, refl, sym, ap, subst, inl, inr, arith, if◌then◌else◌}
-use Rattle.std.proofs.lemmas.List.{length-take-le, map-append, take-append-drop, take_all, take_more}
-use Rattle.pg_base.specs.declared.kind.Kind.{Kind}
-use Rattle.pg_base.specs.declared.score.Score.{Score}
-use Rattle.pg_base.specs.declared.side.Side.{Side}
-use Rattle.pg_game.proofs.Moves.{IsPosition-played, IsPosition-start}
-use Rattle.pg_game.specs.Fit.{is_switching}
-use Rattle.pg_game.specs.Field.{field_points}
-use Rattle.pg_game.specs.Game.{after, point_count, start, IsPosition}
-use Rattle.pg_game.specs.Play.{IsLegalPlay}
-use Rattle.pg_game.specs.Position.{is_free}
-use Rattle.pg_game.specs.Value.{value}
-use Rattle.pg_game.specs.declared.field.Field.{Field}
-use Rattle.pg_game.specs.declared.game.Game.{Game}
-use Rattle.pg_game.specs.declared.position.Position.{Position}
-use Rattle.pg_io.specs.Console.{ConsoleTold, Grows}
-use Rattle.pg_io.specs.Files.{Bytes}
-use Rattle.pg_io.specs.declared.entry.Entry.{Entry}
-use Rattle.pg_io.specs.declared.entry.Entry.TheVariants.{Said}
-use Rattle.pg_io.specs.declared.stop.Stop.{Stop}
-use Rattle.pg_io.specs.declared.stop.Stop.TheVariants.{Read, Write, Memory}
-use Rattle.pg_pns.specs.Expanded.{Expanded}
-use Rattle.pg_record.proofs.Standing.{legal-first, played-more}
-use Rattle.pg_record.specs.Replay.{position_after}
-use Rattle.pg_solve.specs.Left.{budget, IsLeftOpen}
-use Rattle.pg_talk.proofs.Runs.{talked_texts}
-use Rattle.pg_talk.proofs.Speaking.{Grows-nothing, Grows-then}
-use Rattle.pg_talk.specs.Done.{Finished, Performs, SaysFirst, stop_end}
-use Rattle.pg_talk.specs.declared.halt.Halt.TheVariants.{Stopped}
-use Rattle.pg_messages.specs.Texts.{lost_text, reviewed_text, unknown_at_text}
-use Rattle.pg_messages.specs.declared.statuses.TheConstants.{DONE, UNKNOWN}
+use Rattle.pg_sessions.proofs.Common.{length-take-le, map-append, take-append-drop, take_all, take_more, Kind, Score, Side, IsPosition-played, IsPosition-start, is_switching, field_points, after, point_count, start, IsPosition, IsLegalPlay, is_free, value, Field, Game, Position, ConsoleTold, Grows, Bytes, Entry, Said, Stop, Read, Write, Memory, Expanded, legal-first, played-more, position_after, budget, IsLeftOpen, talked_texts, Grows-nothing, Grows-then, Finished, Performs, SaysFirst, stop_end, Stopped, lost_text, reviewed_text, unknown_at_text, DONE, UNKNOWN}
 use Rattle.pg_sessions.proofs.LossLaws.{told_append, told_more}
 use Rattle.pg_sessions.proofs.Standing.{after-at, at-after, legal-at, start-at}
 use Rattle.pg_sessions.specs.Losses.{Loss, loses_value, loss_at, losses, losses_from}

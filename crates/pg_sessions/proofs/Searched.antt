@@ -1,19 +1,6 @@
 -- Which positions of a review were searched, and what was said before that.
 use Rattle.std.proofs.Common.{◌≡◌, ◌∙◌, ℕ, suc, ◌+◌, ◌-◌, ◌<◌, ◌≤◌, List, [], ◌++◌, length, take, drop, map, refl, sym, ap, subst, inl, inr, arith, append_assoc}
-use Rattle.std.proofs.lemmas.Bool.{cases_order}
-use Rattle.std.proofs.lemmas.List.{append-nil, map-append, take-append-drop, take-take}
-use Rattle.pg_cert.specs.declared.cert.Cert.{Cert}
-use Rattle.pg_game.specs.Game.{start}
-use Rattle.pg_game.specs.declared.game.Game.{Game}
-use Rattle.pg_game.specs.declared.position.Position.{Position}
-use Rattle.pg_io.specs.Console.{ConsoleTold, Grows}
-use Rattle.pg_io.specs.Files.{Bytes}
-use Rattle.pg_io.specs.declared.entry.Entry.{Entry}
-use Rattle.pg_io.specs.declared.entry.Entry.TheVariants.{Said}
-use Rattle.pg_pns.specs.Expanded.{Expanded}
-use Rattle.pg_record.specs.Replay.{position_after}
-use Rattle.pg_solve.specs.Left.{LeavesSearch}
-use Rattle.pg_messages.specs.Texts.{lost_text}
+use Rattle.pg_sessions.proofs.Common.{cases_order, append-nil, map-append, take-append-drop, take-take, Cert, start, Game, Position, ConsoleTold, Grows, Bytes, Entry, Said, Expanded, position_after, LeavesSearch, lost_text}
 use Rattle.pg_sessions.proofs.LossLaws.{told_append}
 use Rattle.pg_sessions.proofs.Standing.{leaves-more, leaves-then}
 use Rattle.pg_sessions.specs.Along.{IsAlong, IsReached, SaysAtLeast}

@@ -1,20 +1,6 @@
 -- What follows from the rules of logs.
 use Rattle.std.proofs.Common.{◌≡◌, ℕ, ◌+◌, ◌<◌, nat_eq, nat_lt, if◌then◌else◌, Bool, true, false, List, [], ◌∷◌, length, Result, Ok, Err, is_ok, refl, sym, ◌∙◌, ap, subst, arith}
-use Rattle.std.proofs.lemmas.Bool.{ltb-true}
-use Rattle.pg_io.specs.declared.entry.Entry.{Entry}
-use Rattle.pg_io.specs.declared.entry.Entry.TheVariants.{Said, Heard, Skipped, Ended}
-use Rattle.pg_game.specs.Judge.{judged_move}
-use Rattle.pg_game.specs.declared.game.Game.{Game}
-use Rattle.pg_game.specs.declared.position.Illegal.{Illegal}
-use Rattle.pg_game.specs.declared.position.Position.{Position}
-use Rattle.pg_record.specs.Replay.{IsRecord, replay}
-use Rattle.pg_record.specs.declared.event.Event.{Event}
-use Rattle.pg_record.specs.declared.event.Event.TheVariants.{Play, Back}
-use Rattle.pg_record.specs.declared.event.TheConstants.{MAX_EVENTS}
-use Rattle.pg_record.proofs.Standing.{record-more}
-use Rattle.pg_talk.specs.declared.dialogue.TheConstants.{MAX_REFUSALS}
-use Rattle.pg_messages.specs.declared.message.ReplyFault.TheVariants.{NothingToTakeBack}
-use Rattle.pg_messages.specs.declared.statuses.TheConstants.{OUT_OF_REPLIES}
+use Rattle.pg_sessions.proofs.Common.{ltb-true, Entry, Said, Heard, Skipped, Ended, judged_move, Game, Illegal, Position, IsRecord, replay, Event, Play, Back, MAX_EVENTS, record-more, MAX_REFUSALS, NothingToTakeBack, OUT_OF_REPLIES}
 use Rattle.pg_sessions.specs.Course.{LeadsBy}
 use Rattle.pg_sessions.specs.Request.{request_of}
 use Rattle.pg_sessions.specs.SessionLog.{Stage, Listens, Stands, Refuses, Closes, Over, Steps, IsLogTo, after_answer, after_event, after_refusal, after_request, events_at, move_or_refusal, standing_count}

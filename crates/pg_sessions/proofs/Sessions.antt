@@ -1,20 +1,6 @@
 -- What the code does line by line, put together.
 use Rattle.std.proofs.Common.{◌≡◌, ◌≢◌, ℕ, ◌+◌, ◌<◌, ◌≤◌, nat_eq, nat_lt, true, false, List, [], ◌∷◌, ◌++◌, length, Result, Ok, Err, refl, sym, ◌∙◌, ap, subst, arith}
-use Rattle.std.proofs.lemmas.Bool.Decides.{nat_tests}
-use Rattle.std.proofs.lemmas.List.{length_push}
-use Rattle.pg_io.specs.Console.{ConsoleTold}
-use Rattle.pg_io.specs.declared.stop.Stop.{Stop}
-use Rattle.pg_game.specs.Game.{point_count}
-use Rattle.pg_game.specs.Judge.{judged_move}
-use Rattle.pg_game.specs.declared.game.Game.{Game}
-use Rattle.pg_game.specs.declared.position.Illegal.{Illegal}
-use Rattle.pg_game.specs.declared.position.Position.{Position}
-use Rattle.pg_record.specs.Replay.{replay}
-use Rattle.pg_record.specs.Session.{Recorded, refusal_of}
-use Rattle.pg_record.specs.declared.event.Event.{Event}
-use Rattle.pg_record.specs.declared.event.Event.TheVariants.{Play, Back}
-use Rattle.pg_record.specs.declared.event.TheConstants.{MAX_EVENTS}
-use Rattle.pg_talk.specs.declared.dialogue.TheConstants.{MAX_REFUSALS}
+use Rattle.pg_sessions.proofs.Common.{nat_tests, length_push, ConsoleTold, Stop, point_count, judged_move, Game, Illegal, Position, replay, Recorded, refusal_of, Event, Play, Back, MAX_EVENTS, MAX_REFUSALS}
 use Rattle.pg_messages.specs.declared.message.ReplyFault.TheVariants as fault
 use Rattle.pg_messages.specs.declared.statuses.TheConstants.{OUT_OF_REPLIES}
 use Rattle.pg_sessions.specs.Course.{Course, BreaksOff, Goes}

@@ -1,22 +1,8 @@
 -- A game that stands at other marks: its rules, values and position.
 use Rattle.std.proofs.Common.{◌≡◌, ◌∙◌, ℕ, zero, suc, ◌<◌, true, not, List, [], ◌∷◌, length, take, get_or, refl, sym, ap, ap₂, subst, inl, inr, arith}
+use Rattle.pg_sessions.proofs.Common.{filter, list_all, list_any, range_with_len, Kind, MakerBreaker, MakerMaker, AvoiderEnforcer, Switching, Side, X, Y, field_joins, field_lines, field_points, after, free_points, is_empty, is_filled, is_over, is_over_by, is_touched, outcome, outcome_by, point_count, start, IsPosition, IsLegalPlay, played, after_with, claims_in_turn, is_free, points_of, rules_of, value, Field, Game, Position, Expanded, budget, IsLeft, LeavesSearch}
 use Rattle.std.specs.FinSet.{contains}
-use Rattle.std.specs.List.{filter, list_all, list_any, range_with_len}
-use Rattle.pg_base.specs.declared.kind.Kind.{Kind}
-use Rattle.pg_base.specs.declared.kind.Kind.TheVariants.{MakerBreaker, MakerMaker, AvoiderEnforcer, Switching}
-use Rattle.pg_base.specs.declared.side.Side.{Side}
-use Rattle.pg_base.specs.declared.side.Side.TheVariants.{X, Y}
-use Rattle.pg_game.specs.Field.{field_joins, field_lines, field_points}
-use Rattle.pg_game.specs.Game.{after, free_points, is_empty, is_filled, is_over, is_over_by, is_touched, outcome, outcome_by, point_count, start, IsPosition}
-use Rattle.pg_game.specs.Play.{IsLegalPlay, played}
-use Rattle.pg_game.specs.Position.{after_with, claims_in_turn, is_free, points_of}
 use Rattle.pg_game.specs.Rules.{Rules, value_by}
-use Rattle.pg_game.specs.Value.{rules_of, value}
-use Rattle.pg_game.specs.declared.field.Field.{Field}
-use Rattle.pg_game.specs.declared.game.Game.{Game}
-use Rattle.pg_game.specs.declared.position.Position.{Position}
-use Rattle.pg_pns.specs.Expanded.{Expanded}
-use Rattle.pg_solve.specs.Left.{budget, IsLeft, LeavesSearch}
 use Rattle.pg_sessions.specs.Known.{HaveNodes, IsKnown}
 use Rattle.pg_sessions.specs.Review.{IsGameAt}
 use Rattle.pg_sessions.specs.declared.known.Known.{Known}

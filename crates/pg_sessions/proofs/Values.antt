@@ -1,30 +1,13 @@
 -- What is known of a game's values, by what solving tells.
 use Rattle.std.proofs.Common.{◌≡◌, ◌∙◌, ℕ, zero, suc, List, [], ◌∷◌, Some, slice_get, map, refl, sym, ap, subst, IfSome}
-use Rattle.std.proofs.lemmas.Option.{none-some}
-use Rattle.pg_base.specs.declared.score.Score.{Score}
-use Rattle.pg_base.specs.declared.score.Score.TheVariants.{XWins, Draw, YWins}
-use Rattle.pg_base.specs.declared.side.Side.{Side}
-use Rattle.pg_base.specs.declared.side.Side.TheVariants.{X, Y}
-use Rattle.pg_cert.specs.Limits.{IsWithinLimits}
-use Rattle.pg_cert.specs.Node.{position_of}
-use Rattle.pg_cert.specs.Valid.{IsNodeOf, IsValid}
-use Rattle.pg_cert.specs.declared.cert.Cert.{Cert}
-use Rattle.pg_cert.specs.declared.cert.Claim.{Claim}
-use Rattle.pg_cert.specs.declared.node.Node.{Node}
+use Rattle.pg_sessions.proofs.Common.{none-some, Score, XWins, Draw, YWins, Side, X, Y, IsWithinLimits, position_of, IsNodeOf, IsValid, Cert, Claim, Node, start, with_turn, value, Forces, Game, Position, Heading, due_for_value, heading, winner, IsShown, IsTrueOf, certificate_of, due, Solution, Value, Unknown}
 use Rattle.pg_check.proofs.ForcedNodes.{Forces-node, claim_limits}
 use Rattle.pg_game.specs.Class.{class_by, class_of}
-use Rattle.pg_game.specs.Game.{start, with_turn}
-use Rattle.pg_game.specs.Value.{value, Forces}
-use Rattle.pg_game.specs.declared.game.Game.{Game}
-use Rattle.pg_game.specs.declared.position.Position.{Position}
 use Rattle.pg_solve.proofs.Values.{both-draw, x-wins, y-wins}
-use Rattle.pg_solve.specs.Due.{Heading, due_for_value, heading, winner}
 use Rattle.pg_solve.specs.EdgeClaims.{AreClassClaims, named}
-use Rattle.pg_solve.specs.Solved.{IsShown, IsTrueOf, certificate_of, due}
 use Rattle.pg_solve.specs.declared.solution.Class.{Class}
 use Rattle.pg_solve.specs.declared.solution.Class.TheVariants.{Short, Cut, First}
-use Rattle.pg_solve.specs.declared.solution.Solution.{Solution}
-use Rattle.pg_solve.specs.declared.solution.Solution.TheVariants.{Value, Class as ForClass, Unknown}
+use Rattle.pg_solve.specs.declared.solution.Solution.TheVariants.{Class as ForClass}
 use Rattle.pg_sessions.proofs.Nodes.{headed, member}
 use Rattle.pg_sessions.specs.Known.{HasNode, HaveNodes, IsKnown, known_by, won_by}
 use Rattle.pg_sessions.specs.declared.known.Known.{Known}

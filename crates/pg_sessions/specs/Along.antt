@@ -1,13 +1,6 @@
 -- Where along the moves of a record a review stands, and what it has said by then.
 use Rattle.std.specs.Prelude.{◌≡◌, ℕ, ◌-◌, ◌≤◌, List, ◌++◌, length, map, take, Option, Some, None, Ok, ⊤}
-use Rattle.pg_io.specs.Console.{ConsoleTold, Grows}
-use Rattle.pg_io.specs.Files.{Bytes, Holding}
-use Rattle.pg_io.specs.declared.entry.Entry.{Entry}
-use Rattle.pg_io.specs.declared.entry.Entry.TheVariants.{Said}
-use Rattle.pg_files.specs.Views.{entry}
-use Rattle.pg_game.specs.declared.game.Game.{Game}
-use Rattle.pg_talk.specs.Opening.{game_held}
-use Rattle.pg_record.specs.Replay.{position_after}
+use Rattle.pg_sessions.specs.Prelude.{ConsoleTold, Grows, Bytes, Holding, Entry, Said, entry, Game, game_held, position_after}
 use Rattle.pg_sessions.specs.Review.{IsGameAt, loss_texts, moves_held}
 
 -- the game with the marks and the turn of the position after some of the moves

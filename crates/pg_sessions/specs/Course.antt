@@ -1,12 +1,7 @@
 -- Logs by rules: how entries lead from one stage to another. It is asked neither what the stages
 -- are nor what the rules say.
 use Rattle.std.specs.Prelude.{◌≡◌, List, [], ◌∷◌, Option, Result, Ok, Err}
-use Rattle.pg_io.specs.Console.{ConsoleTold, Grows}
-use Rattle.pg_io.specs.Files.{Bytes}
-use Rattle.pg_io.specs.declared.entry.Entry.{Entry}
-use Rattle.pg_io.specs.declared.stop.Stop.{Stop}
-use Rattle.pg_talk.specs.Hearing.{Hearing}
-use Rattle.pg_talk.specs.Talk.{with_left}
+use Rattle.pg_sessions.specs.Prelude.{ConsoleTold, Grows, Bytes, Entry, Stop, Hearing, with_left}
 
 -- by rules that say which entry may come next and where it leads, the entries lead from one stage
 -- to another

@@ -1,23 +1,7 @@
 -- What is known of the values of a game, and where else it holds.
 use Rattle.std.specs.Prelude.{◌≡◌, ◌≢◌, ◌⊎◌, ℕ, Option, Some, None}
-use Rattle.std.specs.List.{All}
-use Rattle.pg_base.specs.declared.kind.Kind.TheVariants.{Switching}
-use Rattle.pg_base.specs.declared.score.Score.{Score}
-use Rattle.pg_base.specs.declared.score.Score.TheVariants.{XWins, YWins}
-use Rattle.pg_base.specs.declared.side.Side.{Side}
-use Rattle.pg_base.specs.declared.side.Side.TheVariants.{X, Y}
-use Rattle.pg_cert.specs.Valid.{IsNodeOf, IsValid}
-use Rattle.pg_cert.specs.declared.cert.Cert.{Cert}
-use Rattle.pg_cert.specs.declared.cert.Claim.{Claim}
-use Rattle.pg_game.specs.Value.{value}
-use Rattle.pg_game.specs.declared.game.Game.{Game}
-use Rattle.pg_game.specs.declared.position.Position.{Position}
-use Rattle.pg_pns.specs.Expanded.{Expanded}
-use Rattle.pg_solve.specs.Due.{winner}
-use Rattle.pg_solve.specs.Left.{budget, IsAskedLast, IsLeft}
-use Rattle.pg_solve.specs.Solved.{certificate_of, IsShown, IsTrueOf}
-use Rattle.pg_solve.specs.declared.solution.Solution.{Solution}
-use Rattle.pg_solve.specs.declared.solution.Solution.TheVariants.{Value, Class as ForClass, Unknown}
+use Rattle.pg_sessions.specs.Prelude.{All, Switching, Score, XWins, YWins, Side, X, Y, IsNodeOf, IsValid, Cert, Claim, value, Game, Position, Expanded, winner, budget, IsAskedLast, IsLeft, certificate_of, IsShown, IsTrueOf, Solution, Value, Unknown}
+use Rattle.pg_solve.specs.declared.solution.Solution.TheVariants.{Class as ForClass}
 use Rattle.pg_sessions.specs.declared.known.Known.{Known}
 
 -- ---- where it holds

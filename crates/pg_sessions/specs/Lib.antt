@@ -1,3 +1,4 @@
+pub mod Prelude
 pub mod Course
 pub mod Request
 pub mod SessionLog

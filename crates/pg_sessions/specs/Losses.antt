@@ -1,15 +1,8 @@
 -- Which moves of a play lost value: the game's value after them is worse for the side that moved
 -- than before.
 use Rattle.std.specs.Prelude.{◌≡◌, ℕ, ◌+◌, Bool, true, not, if◌then◌else◌, List, [], ◌∷◌, ◌++◌, take, Some, slice_get}
-use Rattle.pg_base.specs.declared.score.Score.{Score}
-use Rattle.pg_base.specs.declared.side.Side.{Side}
-use Rattle.pg_base.specs.declared.side.Side.TheVariants.{X, Y}
+use Rattle.pg_sessions.specs.Prelude.{Score, Side, X, Y, after, played, value, Game, Position}
 use Rattle.pg_game.specs.Decided.{at_least}
-use Rattle.pg_game.specs.Game.{after}
-use Rattle.pg_game.specs.Play.{played}
-use Rattle.pg_game.specs.Value.{value}
-use Rattle.pg_game.specs.declared.game.Game.{Game}
-use Rattle.pg_game.specs.declared.position.Position.{Position}
 
 -- whether a score is worse for the side than one before: less for X, greater for Y
 abbrev pub is_worse : Side → Score → Score → Bool

@@ -1,16 +1,7 @@
 -- What recording a session does.
 use Rattle.std.specs.Prelude.{◌≡◌, ◌⊎◌, ℕ, ◌==◌, List, [], ◌∷◌, Result, Ok, Err, if◌then◌else◌, ⊤}
-use Rattle.pg_io.specs.Files.{Bytes, Making}
-use Rattle.pg_game.specs.declared.game.Game.{Game}
+use Rattle.pg_sessions.specs.Prelude.{Bytes, Making, Game, IsSaidBy, printed_record, Event, Done, End, Finished, Failed, Starved, IsGameHalt, Halt, Refused, Stopped, DONE, OUT_OF_REPLIES}
 use Rattle.pg_files.specs.GameFile.{Entry as GameEntry}
-use Rattle.pg_talk.specs.Opening.{IsSaidBy}
-use Rattle.pg_record.specs.Print.{printed_record}
-use Rattle.pg_record.specs.declared.event.Event.{Event}
-use Rattle.pg_talk.specs.Done.{Done, End, Finished, Failed, Starved}
-use Rattle.pg_talk.specs.Halts.{IsGameHalt}
-use Rattle.pg_talk.specs.declared.halt.Halt.{Halt}
-use Rattle.pg_talk.specs.declared.halt.Halt.TheVariants.{Refused, Stopped}
-use Rattle.pg_messages.specs.declared.statuses.TheConstants.{DONE, OUT_OF_REPLIES}
 use Rattle.pg_sessions.specs.SessionLog.{IsClosingLog, IsOpenLog, IsWholeLog}
 
 -- the record of these events as the file under a name

@@ -1,7 +1,6 @@
 -- What a line that was heard asks of a session.
 use Rattle.std.specs.Prelude.{ℕ, Option, Some, None, codes, if◌then◌else◌}
-use Rattle.std.specs.Str.{bytes_eq}
-use Rattle.pg_io.specs.Files.{Bytes}
+use Rattle.pg_sessions.specs.Prelude.{bytes_eq, Bytes}
 use Rattle.pg_text.specs.Text.{number}
 use Rattle.pg_talk.specs.Reply.{trimmed}
 use Rattle.pg_sessions.specs.declared.request.Request.{Request}

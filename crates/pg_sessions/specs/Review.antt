@@ -1,31 +1,8 @@
 -- What a review of a recorded game does: it says which of the standing moves lost value.
 use Rattle.std.specs.Prelude.{◌≡◌, ◌⊎◌, ℕ, zero, suc, ◌-◌, ◌<◌, ◌≤◌, nat_lt, false, if◌then◌else◌, List, [], ◌∷◌, ◌++◌, length, map, take, Option, Some, None, Result, Ok, Err, ⊤}
-use Rattle.pg_io.specs.Files.{Bytes, Holding}
-use Rattle.pg_io.specs.declared.entry.Entry.{Entry}
-use Rattle.pg_io.specs.declared.entry.Entry.TheVariants.{Said}
-use Rattle.pg_io.specs.declared.stop.Stop.TheVariants.{Memory}
-use Rattle.pg_cert.specs.declared.cert.Cert.{Cert}
-use Rattle.pg_game.specs.Fit.{is_switching}
-use Rattle.pg_game.specs.Game.{start, IsGameOf}
-use Rattle.pg_game.specs.declared.game.Game.{Game}
-use Rattle.pg_game.specs.declared.position.Position.{Position}
+use Rattle.pg_sessions.specs.Prelude.{Bytes, Holding, Entry, Said, Memory, Cert, is_switching, start, IsGameOf, Game, Position, position_after, standing, Event, record_of, number_of, Fault, Expanded, budget, IsLeftOpen, lost_text, reviewed_text, unknown_at_text, Refusal, DONE, UNKNOWN, Done, End, Finished, Failed, Starved, SaysFirst, game_fault, held_as, lacking, Halt, Refused, Stopped, IsSaidBy, game_held}
 use Rattle.pg_files.specs.GameFile.{Entry as GameEntry}
-use Rattle.pg_record.specs.Replay.{position_after, standing}
-use Rattle.pg_record.specs.declared.event.Event.{Event}
-use Rattle.pg_record.specs.RecordFile.{record_of}
-use Rattle.pg_record.specs.Views.{number_of}
-use Rattle.pg_record.specs.declared.fault.Fault.{Fault}
-use Rattle.pg_pns.specs.Expanded.{Expanded}
-use Rattle.pg_solve.specs.Left.{budget, IsLeftOpen}
-use Rattle.pg_messages.specs.Texts.{lost_text, reviewed_text, unknown_at_text}
-use Rattle.pg_messages.specs.declared.refusal.Refusal.{Refusal}
 use Rattle.pg_messages.specs.declared.refusal.Refusal.TheVariants.{Game as FaultyGame, Record as FaultyRecord}
-use Rattle.pg_messages.specs.declared.statuses.TheConstants.{DONE, UNKNOWN}
-use Rattle.pg_talk.specs.Done.{Done, End, Finished, Failed, Starved, SaysFirst}
-use Rattle.pg_talk.specs.Reading.{game_fault, held_as, lacking}
-use Rattle.pg_talk.specs.declared.halt.Halt.{Halt}
-use Rattle.pg_talk.specs.declared.halt.Halt.TheVariants.{Refused, Stopped}
-use Rattle.pg_talk.specs.Opening.{IsSaidBy, game_held}
 use Rattle.pg_sessions.specs.Known.{HaveNodes, IsSolvedBy}
 use Rattle.pg_sessions.specs.Losses.{Loss, losses}
 use Rattle.pg_sessions.specs.declared.opening.TheConstants.{SEVERAL_A_TURN}

@@ -1,14 +1,6 @@
 -- What the code of a review says, one move after the other.
 use Rattle.std.specs.Prelude.{◌≡◌, ℕ, if◌then◌else◌, List, [], ◌∷◌, map, Option, Result, Ok, Err}
-use Rattle.pg_base.specs.declared.kind.Kind.{Kind}
-use Rattle.pg_base.specs.declared.score.Score.{Score}
-use Rattle.pg_base.specs.declared.side.Side.{Side}
-use Rattle.pg_io.specs.Console.{Grows}
-use Rattle.pg_io.specs.Files.{Bytes}
-use Rattle.pg_io.specs.declared.entry.Entry.{Entry}
-use Rattle.pg_io.specs.declared.entry.Entry.TheVariants.{Said}
-use Rattle.pg_io.specs.declared.stop.Stop.{Stop}
-use Rattle.pg_messages.specs.Texts.{lost_text}
+use Rattle.pg_sessions.specs.Prelude.{Kind, Score, Side, Grows, Bytes, Entry, Said, Stop, lost_text}
 use Rattle.pg_sessions.specs.Losses.{is_worse}
 
 -- what is said of the move of this number, by the values before and after it: its loss, or nothing

@@ -1,21 +1,9 @@
 -- THE LOG OF A RECORDED SESSION: each entry heard is followed by the one text due to it, and the
 -- session is then the one after it. It is asked neither how the session is kept nor what keeps it.
 use Rattle.std.specs.Prelude.{◌≡◌, ◌⊎◌, ℕ, ◌+◌, ◌<◌, ◌==◌, nat_lt, Bool, false, List, [], ◌∷◌, ◌++◌, length, take, Result, Ok, Err, codes, if◌then◌else◌, ⊤}
-use Rattle.std.specs.Str.{bytes_eq}
-use Rattle.pg_io.specs.declared.entry.Entry.{Entry}
-use Rattle.pg_io.specs.declared.entry.Entry.TheVariants.{Said, Heard, Skipped, Ended}
-use Rattle.pg_game.specs.Judge.{judged_move}
-use Rattle.pg_game.specs.declared.game.Game.{Game}
-use Rattle.pg_game.specs.declared.position.Illegal.{Illegal}
+use Rattle.pg_sessions.specs.Prelude.{bytes_eq, Entry, Said, Heard, Skipped, Ended, judged_move, Game, Illegal}
 use Rattle.pg_game.specs.declared.position.Illegal.TheVariants as illegal
-use Rattle.pg_game.specs.declared.position.Position.{Position}
-use Rattle.pg_record.specs.Replay.{replay}
-use Rattle.pg_record.specs.declared.event.Event.{Event}
-use Rattle.pg_record.specs.declared.event.Event.TheVariants.{Play, Back}
-use Rattle.pg_record.specs.declared.event.TheConstants.{MAX_EVENTS}
-use Rattle.pg_talk.specs.declared.dialogue.TheConstants.{MAX_REFUSALS}
-use Rattle.pg_messages.specs.Texts.{recorded_text, reply_text, standing_text}
-use Rattle.pg_messages.specs.declared.message.ReplyFault.{ReplyFault}
+use Rattle.pg_sessions.specs.Prelude.{Position, replay, Event, Play, Back, MAX_EVENTS, MAX_REFUSALS, recorded_text, reply_text, standing_text, ReplyFault}
 use Rattle.pg_messages.specs.declared.message.ReplyFault.TheVariants as fault
 use Rattle.pg_messages.specs.declared.statuses.TheConstants.{DONE, OUT_OF_REPLIES}
 use Rattle.pg_sessions.specs.Course.{LeadsBy}

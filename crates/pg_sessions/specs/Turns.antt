@@ -1,9 +1,6 @@
 -- What the code does line by line.
 use Rattle.std.specs.Prelude.{◌≡◌, ℕ, ◌+◌, List, length, Result, Ok, Err, ⊤}
-use Rattle.pg_io.specs.declared.stop.Stop.{Stop}
-use Rattle.pg_record.specs.Session.{Recorded}
-use Rattle.pg_record.specs.declared.event.Event.{Event}
-use Rattle.pg_messages.specs.declared.statuses.TheConstants.{OUT_OF_REPLIES}
+use Rattle.pg_sessions.specs.Prelude.{Stop, Recorded, Event, OUT_OF_REPLIES}
 use Rattle.pg_sessions.specs.SessionLog.{Stage, Closes, Over, after_event, after_refusal}
 use Rattle.pg_sessions.specs.declared.dialogue.Close.{Close}
 use Rattle.pg_sessions.specs.declared.dialogue.Close.TheVariants as close

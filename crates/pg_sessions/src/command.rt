@@ -1,16 +1,8 @@
 //! Reviewing the record of a game.
 ghost use Rattle.std.specs.Prelude.{◌≡◌, ◌≤◌, [], Err, ⊤};
-ghost use Rattle.pg_game.specs.declared.bounds.TheConstants.{MAX_POSITIONS};
-ghost use Rattle.pg_io.specs.Console.{Grows};
-ghost use Rattle.pg_io.specs.Files.{ReadsOnly};
-ghost use Rattle.pg_solve.specs.declared.solving.TheConstants.{MIN_POSITIONS};
-ghost use Rattle.pg_talk.specs.Halts.{BothCauses};
-ghost use Rattle.pg_talk.specs.Reading.{IsLackingOne};
-ghost use Rattle.pg_talk.specs.Runs.{QuietsBy, Runs};
-ghost use Rattle.pg_talk.specs.declared.halt.Halt.TheVariants.{Refused};
+ghost use Rattle.pg_sessions.specs.Prelude.{MAX_POSITIONS, Grows, ReadsOnly, MIN_POSITIONS, BothCauses, IsLackingOne, QuietsBy, Runs, Refused, LeavesSearch};
 ghost use Rattle.pg_sessions.specs.Along.{IsAlong, IsOfMoves, IsOfNames, IsReached};
 ghost use Rattle.pg_sessions.specs.Review.{GivesReview, IsReviewLacking, RefusesReview, Reviews, ReviewsRecord, moves_held};
-ghost use Rattle.pg_solve.specs.Left.{LeavesSearch};
 
 use crate::opening::open_moves;
 use crate::reviewing::review_moves;

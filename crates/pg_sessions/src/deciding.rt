@@ -1,13 +1,6 @@
 //! Deciding a game at its position.
 ghost use Rattle.std.specs.Prelude.{◌≡◌, ◌≢◌, ◌≤◌, IfOk, IfSome, None, Ok, false};
-ghost use Rattle.pg_base.specs.declared.kind.Kind.TheVariants.{Switching};
-ghost use Rattle.pg_cert.specs.Limits.{IsWithinLimits};
-ghost use Rattle.pg_cert.specs.Valid.{IsValid};
-ghost use Rattle.pg_game.specs.Fit.{is_switching};
-ghost use Rattle.pg_game.specs.Game.{start};
-ghost use Rattle.pg_game.specs.declared.bounds.TheConstants.{MAX_POSITIONS};
-ghost use Rattle.pg_solve.specs.Left.{budget, IsLeft, IsLeftOpen};
-ghost use Rattle.pg_solve.specs.declared.solving.TheConstants.{MIN_POSITIONS};
+ghost use Rattle.pg_sessions.specs.Prelude.{Switching, IsWithinLimits, IsValid, is_switching, start, MAX_POSITIONS, budget, IsLeft, IsLeftOpen, MIN_POSITIONS};
 ghost use Rattle.pg_sessions.specs.Known.{IsKnown, IsSolvedBy};
 
 use crate::known::{Known, known_by};

@@ -1,9 +1,6 @@
 //! The dialogue of a session: lines are heard and answered until it ends.
 ghost use Rattle.std.specs.Prelude.{◌≡◌, ◌≢◌, ◌<◌, ℕ, [], List, Err, length, IfOk};
-ghost use Rattle.pg_io.specs.Stop.{Causes};
-ghost use Rattle.pg_game.specs.declared.game.Game.{Game};
-ghost use Rattle.pg_record.specs.declared.event.Event.{Event};
-ghost use Rattle.pg_record.specs.declared.event.TheConstants.{MAX_EVENTS};
+ghost use Rattle.pg_sessions.specs.Prelude.{Causes, Game, Event, MAX_EVENTS};
 ghost use Rattle.pg_sessions.specs.Course.{Goes};
 ghost use Rattle.pg_sessions.specs.SessionLog.{IsOpen, Listens, Refuses, Stands, Steps, after_request, reason_of};
 ghost use Rattle.pg_sessions.specs.Turns.{Turns, closed, turned};

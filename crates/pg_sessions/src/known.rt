@@ -1,7 +1,6 @@
 //! What is known of the values of a game, and where else it holds.
 ghost use Rattle.std.specs.Prelude.{◌≡◌, ◌↔◌, IsTrue};
-ghost use Rattle.pg_base.specs.declared.side.Side.{Side};
-ghost use Rattle.pg_solve.specs.Due.{winner};
+ghost use Rattle.pg_sessions.specs.Prelude.{Side, winner};
 ghost use Rattle.pg_sessions.specs.Known.{HasNode, HaveNodes, known_by, won_by};
 
 use pg_base::{Score, Side};

@@ -1,16 +1,8 @@
 //! What the log of a session tells, and what the losses of a play are. Each function is empty: what
 //! it promises is a law of the definitions alone.
 ghost use Rattle.std.specs.Prelude.{◌≡◌, ℕ, Ok, List, count_by, ◌<◌, ◌↔◌, [], ◌∷◌, ◌++◌, length};
-ghost use Rattle.pg_game.specs.declared.game.Game.{Game};
-ghost use Rattle.pg_io.specs.declared.entry.Entry.{Entry};
-ghost use Rattle.pg_record.specs.Print.{printed_record};
-ghost use Rattle.pg_record.specs.Replay.{IsRecord};
-ghost use Rattle.pg_record.specs.declared.event.Event.{Event};
-ghost use Rattle.pg_record.specs.RecordFile.{record_of};
+ghost use Rattle.pg_sessions.specs.Prelude.{Game, Entry, printed_record, IsRecord, Event, record_of, AllPairs, Contains, played, Position};
 ghost use Rattle.pg_sessions.specs.SessionLog.{EndsWith, IsLogTo, IsWholeLog, Stage, events_at, is_refusal};
-ghost use Rattle.std.specs.List.{AllPairs, Contains};
-ghost use Rattle.pg_game.specs.Play.{played};
-ghost use Rattle.pg_game.specs.declared.position.Position.{Position};
 ghost use Rattle.pg_sessions.specs.Losses.{Loss, IsLoss, loss_at, losses};
 
 /// The log alone tells which session it is of, and where it stands.

@@ -1,13 +1,6 @@
 //! The moves that are reviewed, from the name of a record.
 ghost use Rattle.std.specs.Prelude.{◌≡◌, ◌≤◌, IfErr, IfOk, length};
-ghost use Rattle.pg_game.specs.Game.{start};
-ghost use Rattle.pg_game.specs.Play.{IsLegalPlay};
-ghost use Rattle.pg_io.specs.Files.{ReadsOnly};
-ghost use Rattle.pg_record.specs.Replay.{standing};
-ghost use Rattle.pg_record.specs.declared.event.TheConstants.{MAX_EVENTS};
-ghost use Rattle.pg_talk.specs.Halts.{HaltCauses};
-ghost use Rattle.pg_talk.specs.Reading.{IsLackingOne, IsReadAs, Opens};
-ghost use Rattle.pg_record.specs.RecordFile.{record_of};
+ghost use Rattle.pg_sessions.specs.Prelude.{start, IsLegalPlay, ReadsOnly, standing, MAX_EVENTS, HaltCauses, IsLackingOne, IsReadAs, Opens, record_of};
 ghost use Rattle.pg_sessions.specs.Review.{IsReviewHalt, IsTextHalt, moves_held, moves_told};
 
 use pg_base::Memory;

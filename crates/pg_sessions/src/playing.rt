@@ -1,11 +1,6 @@
 //! A move played in a game whose value is known.
 ghost use Rattle.std.specs.Prelude.{◌≡◌, ◌<◌, ◌≤◌, Ok, true, false};
-ghost use Rattle.pg_game.specs.Fit.{is_switching};
-ghost use Rattle.pg_game.specs.Game.{after, point_count, start, IsPosition};
-ghost use Rattle.pg_game.specs.Position.{is_free};
-ghost use Rattle.pg_game.specs.declared.bounds.TheConstants.{MAX_POSITIONS};
-ghost use Rattle.pg_solve.specs.Left.{budget, IsLeftOpen, LeavesSearch};
-ghost use Rattle.pg_solve.specs.declared.solving.TheConstants.{MIN_POSITIONS};
+ghost use Rattle.pg_sessions.specs.Prelude.{is_switching, after, point_count, start, IsPosition, is_free, MAX_POSITIONS, budget, IsLeftOpen, LeavesSearch, MIN_POSITIONS};
 ghost use Rattle.pg_sessions.specs.Known.{HaveNodes, IsKnown, IsKnownThere};
 ghost use Rattle.pg_sessions.specs.Review.{IsGameAt};
 

@@ -1,13 +1,6 @@
 //! Recording a session of a game, and storing its record.
 ghost use Rattle.std.specs.Prelude.{◌≡◌, [], ◌∷◌, Err, IfErr, IfOk, ⊤};
-ghost use Rattle.pg_messages.specs.Texts.{recorded_text};
-ghost use Rattle.pg_messages.specs.declared.statuses.TheConstants.{DONE};
-ghost use Rattle.pg_talk.specs.Opening.{IsGameLacking, game_held};
-ghost use Rattle.pg_talk.specs.Done.{Does};
-ghost use Rattle.pg_talk.specs.Halts.{BothCauses, IsWriteHalt};
-ghost use Rattle.pg_talk.specs.Runs.{QuietsBy, Runs};
-ghost use Rattle.pg_talk.specs.Storing.{Delivers, StoresAt};
-ghost use Rattle.pg_talk.specs.declared.halt.Halt.TheVariants.{Refused};
+ghost use Rattle.pg_sessions.specs.Prelude.{recorded_text, DONE, IsGameLacking, game_held, Does, BothCauses, IsWriteHalt, QuietsBy, Runs, Delivers, StoresAt, Refused};
 ghost use Rattle.pg_sessions.specs.Recording.{GivesRecord, GivesSession, Records, RecordsGame, record_file};
 ghost use Rattle.pg_sessions.specs.SessionLog.{standing_count};
 

@@ -1,17 +1,9 @@
 //! Reviewing moves of a game, one after the other.
 ghost use Rattle.std.specs.Prelude.{◌≡◌, ◌≤◌, IfErr, IfOk, length};
-ghost use Rattle.pg_game.specs.Game.{start};
-ghost use Rattle.pg_game.specs.Play.{IsLegalPlay};
-ghost use Rattle.pg_game.specs.declared.bounds.TheConstants.{MAX_POSITIONS};
-ghost use Rattle.pg_io.specs.Stop.{Causes};
-ghost use Rattle.pg_record.specs.declared.event.TheConstants.{MAX_EVENTS};
-ghost use Rattle.pg_solve.specs.declared.solving.TheConstants.{MIN_POSITIONS};
-ghost use Rattle.pg_talk.specs.Done.{Performs};
-ghost use Rattle.pg_talk.specs.Halts.{HaltCauses, IsWriteHalt};
+ghost use Rattle.pg_sessions.specs.Prelude.{start, IsLegalPlay, MAX_POSITIONS, Causes, MAX_EVENTS, MIN_POSITIONS, Performs, HaltCauses, IsWriteHalt, LeavesSearch};
 ghost use Rattle.pg_sessions.specs.Along.{IsAlong, IsReached};
 ghost use Rattle.pg_sessions.specs.Review.{IsReviewEnd, ReviewsMoves};
 ghost use Rattle.pg_sessions.specs.Saying.{SaysAtOnce, move_texts};
-ghost use Rattle.pg_solve.specs.Left.{LeavesSearch};
 
 use crate::deciding::decide;
 use crate::losses::is_worse;

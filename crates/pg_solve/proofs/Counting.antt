@@ -1,12 +1,6 @@
 -- Different positions of one list that all stand in another are no more than that one has.
 use Rattle.std.proofs.Common.{◌≡◌, ℕ, zero, suc, ◌<◌, ◌≤◌, Some, List, [], ◌∷◌, length, refl, subst, arith, slice_get}
-use Rattle.std.proofs.lemmas.Option.{none-some, slice_get_within}
-use Rattle.pg_base.specs.declared.score.Score.{Score}
-use Rattle.pg_game.specs.Settled.{IsOpenTable}
-use Rattle.pg_game.specs.declared.game.Game.{Game}
-use Rattle.pg_game.specs.declared.position.Position.{Position}
-use Rattle.pg_base.proofs.Stands.{contains_at, one_at}
-use Rattle.pg_pns.proofs.TableLaws.{table-reached}
+use Rattle.pg_solve.proofs.Common.{none-some, slice_get_within, Score, IsOpenTable, Game, Position, contains_at, one_at, table-reached}
 use Rattle.pg_solve.specs.Reached.{AreReachable, HasAllReachable}
 
 module _ {A : Type 0} where

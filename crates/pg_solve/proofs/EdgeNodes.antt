@@ -1,43 +1,20 @@
 -- Claims of one node by trees or by cuts are valid and within the limits.
 use Rattle.std.proofs.Common.{◌≡◌, ◌∙◌, ℕ, zero, suc, Bool, true, false, if◌then◌else◌, List, refl, sym, subst, inl, inr, arith}
-use Rattle.std.proofs.lemmas.Bool.{both_ways, cases_Bool, cases_eq, false_from_ne_true}
-use Rattle.std.proofs.lemmas.Option.{none-some}
-use Rattle.std.specs.FinSet.{FinSet, contains, insert, remove}
-use Rattle.std.specs.Ordering.{nat_cmp}
+use Rattle.pg_solve.proofs.Common.{both_ways, cases_Bool, cases_eq, false_from_ne_true, none-some, FinSet, contains, insert, remove, nat_cmp, Win, Kind, Switching, Side, X, Y, ArePoints, IsBody, IsClaim, IsOfVersion, has_body, position_of, AreEdgeSets, EndsRight, FollowMoves, HasCuts, HasPairs, HasPotential, HasThreat, HasTrees, HasTurn, IsValidClaim, NamesEarlier, TakesFree, is_allowed, with_e_named, Claim, One, Body, Trees, Cuts, Node, IsPosition-with_turn, point_count, with_turn, AreFreeEdges, AreFreeWithE, TreesHoldOn, CutsHoldOn, Game, Position, one_at, SetsHold}
 use Rattle.pg_base.proofs.PointSetLaws.{insert-remove, remove-old, remove-other, remove-self}
 use Rattle.pg_base.specs.Points.{AreBelow}
 use Rattle.pg_base.specs.Side.{other}
 use Rattle.pg_base.specs.WordLemmas.{same_points}
-use Rattle.pg_base.specs.declared.goal.Goal.TheVariants.{Win}
-use Rattle.pg_base.specs.declared.kind.Kind.{Kind}
-use Rattle.pg_base.specs.declared.kind.Kind.TheVariants.{Switching}
-use Rattle.pg_base.specs.declared.side.Side.{Side}
-use Rattle.pg_base.specs.declared.side.Side.TheVariants.{X, Y}
-use Rattle.pg_cert.specs.Limits.{ArePoints, IsBody, IsClaim, IsOfVersion, has_body}
-use Rattle.pg_cert.specs.Node.{position_of}
-use Rattle.pg_cert.specs.Valid.{AreEdgeSets, EndsRight, FollowMoves, HasCuts, HasPairs, HasPotential, HasThreat, HasTrees, HasTurn, IsValidClaim, NamesEarlier, TakesFree, is_allowed, with_e_named}
-use Rattle.pg_cert.specs.declared.cert.Claim.{Claim}
-use Rattle.pg_cert.specs.declared.cert.Version.TheVariants.{One}
-use Rattle.pg_cert.specs.declared.node.Body.{Body}
-use Rattle.pg_cert.specs.declared.node.Body.TheVariants.{Trees, Cuts}
-use Rattle.pg_cert.specs.declared.node.Node.{Node}
 use Rattle.pg_game.proofs.Limits.{point_count-le}
-use Rattle.pg_game.proofs.Moves.{IsPosition-with_turn}
 use Rattle.pg_game.proofs.Sides.{side≢other}
 use Rattle.pg_game.specs.Field.{field_points}
-use Rattle.pg_game.specs.Game.{point_count, with_turn}
-use Rattle.pg_game.specs.Trees.{AreFreeEdges, AreFreeWithE, TreesHoldOn, CutsHoldOn}
 use Rattle.pg_game.specs.declared.field.Field.{Field}
 use Rattle.pg_game.specs.declared.field.Field.TheVariants.{Lines, Graph as OnGraph}
-use Rattle.pg_game.specs.declared.game.Game.{Game}
-use Rattle.pg_game.specs.declared.position.Position.{Position}
 use Rattle.pg_graph.specs.Graph.{edge_count}
 use Rattle.pg_graph.specs.declared.graph.Graph.{Graph}
-use Rattle.pg_base.proofs.Stands.{one_at}
 use Rattle.pg_pns.proofs.ValidNodes.{valid-claim, within-limits, of-version}
 use Rattle.pg_pns.specs.Sound.{BodyHolds, NodesHold}
 use Rattle.pg_lehman.specs.ClassClaims.{class_claims, node_at, one_node, set_claim, sets_body}
-use Rattle.pg_lehman.specs.Sets.{SetsHold}
 use Rattle.pg_lehman.specs.declared.class.Class.{Class as Sets}
 use Rattle.pg_lehman.specs.declared.class.Class.TheVariants as sets
 use Rattle.pg_solve.specs.EdgeClaims.{AreClassClaims, EdgeSetsHold, IsEdgeBody, IsEdgeClaim, without_sets}

@@ -1,27 +1,8 @@
 -- What is found by questions and by classes, as the clauses of solving say it.
 use Rattle.std.proofs.Common.{◌≡◌, ◌∙◌, ℕ, zero, suc, ◌<◌, ◌≤◌, true, false, List, [], ◌∷◌, Some, length, map, refl, sym, ap, subst, subst₂, arith, slice_get, IfSome}
-use Rattle.std.proofs.lemmas.Option.{none-some}
-use Rattle.std.specs.List.{All}
-use Rattle.pg_base.specs.declared.goal.Goal.{Goal}
-use Rattle.pg_base.specs.declared.goal.Goal.TheVariants.{Win, Draw as AtLeastDraw}
-use Rattle.pg_base.specs.declared.kind.Kind.{Kind}
-use Rattle.pg_base.specs.declared.kind.Kind.TheVariants.{MakerBreaker, MakerMaker, AvoiderEnforcer, Switching}
-use Rattle.pg_base.specs.declared.score.Score.{Score}
-use Rattle.pg_base.specs.declared.score.Score.TheVariants.{XWins, Draw, YWins}
-use Rattle.pg_base.specs.declared.side.Side.{Side}
-use Rattle.pg_base.specs.declared.side.Side.TheVariants.{X, Y}
-use Rattle.pg_cert.specs.Limits.{IsClaim, IsOfVersion, IsWithinLimits, node_count}
-use Rattle.pg_cert.specs.Valid.{IsValid, IsValidClaim}
-use Rattle.pg_cert.specs.declared.cert.Cert.{Cert}
-use Rattle.pg_cert.specs.declared.cert.Claim.{Claim}
+use Rattle.pg_solve.proofs.Common.{none-some, All, Goal, Win, Kind, MakerBreaker, MakerMaker, AvoiderEnforcer, Switching, Score, XWins, Draw, YWins, Side, X, Y, IsClaim, IsOfVersion, IsWithinLimits, node_count, IsValid, IsValidClaim, Cert, Claim, One, claimed_goal, is_switching, IsTable, IsOpenTable, Game, Position, Expanded}
+use Rattle.pg_base.specs.declared.goal.Goal.TheVariants.{Draw as AtLeastDraw}
 use Rattle.pg_cert.specs.declared.cert.Version.{Version}
-use Rattle.pg_cert.specs.declared.cert.Version.TheVariants.{One}
-use Rattle.pg_game.specs.Decided.{claimed_goal}
-use Rattle.pg_game.specs.Fit.{is_switching}
-use Rattle.pg_game.specs.Settled.{IsTable, IsOpenTable}
-use Rattle.pg_game.specs.declared.game.Game.{Game}
-use Rattle.pg_game.specs.declared.position.Position.{Position}
-use Rattle.pg_pns.specs.Expanded.{Expanded}
 use Rattle.pg_solve.proofs.Searching.{claims-value, denied-value, yes-win, no-win}
 use Rattle.pg_solve.specs.Due.{Heading, heading, due_for_value}
 use Rattle.pg_solve.specs.Left.{IsLeft, IsLeftOpen, IsAskedLast}

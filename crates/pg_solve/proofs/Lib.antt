@@ -1,3 +1,4 @@
+mod Common
 pub mod Values
 pub mod Searching
 pub mod EdgeNodes

@@ -1,28 +1,7 @@
 -- What the claims that searches find show of the value.
 use Rattle.std.proofs.Common.{◌≡◌, ◌≢◌, ℕ, Bool, true, false, List, Some, slice_get, refl, sym, subst, inl, inr}
-use Rattle.pg_base.specs.declared.goal.Goal.{Goal}
-use Rattle.pg_base.specs.declared.goal.Goal.TheVariants.{Win}
-use Rattle.pg_base.specs.declared.kind.Kind.{Kind}
-use Rattle.pg_base.specs.declared.kind.Kind.TheVariants.{MakerBreaker, MakerMaker, AvoiderEnforcer, Switching}
-use Rattle.pg_base.specs.declared.score.Score.{Score}
-use Rattle.pg_base.specs.declared.score.Score.TheVariants.{XWins, Draw, YWins}
-use Rattle.pg_base.specs.declared.side.Side.{Side}
-use Rattle.pg_base.specs.declared.side.Side.TheVariants.{X, Y}
-use Rattle.pg_cert.specs.Node.{position_of}
-use Rattle.pg_cert.specs.declared.cert.Claim.{Claim}
-use Rattle.pg_cert.specs.declared.node.Node.{Node}
+use Rattle.pg_solve.proofs.Common.{Goal, Win, Kind, MakerBreaker, MakerMaker, AvoiderEnforcer, Switching, Score, XWins, Draw, YWins, Side, X, Y, position_of, Claim, Node, IsPosition-start, IsPosition-after, claimer, claimed_goal, start, IsPosition, IsTable, value, Forces, Game, Position, contains_at, table-reached, IsClaimOf, IsReachable}
 use Rattle.pg_check.proofs.ForcedNodes.{Forces-standing}
-use Rattle.pg_game.proofs.Moves.{IsPosition-start, IsPosition-after}
-use Rattle.pg_game.specs.Decided.{claimer, claimed_goal}
-use Rattle.pg_game.specs.Game.{start, IsPosition}
-use Rattle.pg_game.specs.Settled.{IsTable}
-use Rattle.pg_game.specs.Value.{value, Forces}
-use Rattle.pg_game.specs.declared.game.Game.{Game}
-use Rattle.pg_game.specs.declared.position.Position.{Position}
-use Rattle.pg_base.proofs.Stands.{contains_at}
-use Rattle.pg_pns.proofs.TableLaws.{table-reached}
-use Rattle.pg_pns.specs.Found.{IsClaimOf}
-use Rattle.pg_pns.specs.Reachable.{IsReachable}
 use Rattle.pg_pns.specs.Reachable.IsReachable.{by_start, by_move}
 use Rattle.pg_solve.proofs.Values.{x-wins, y-wins, x-denied, both-draw}
 use Rattle.pg_solve.specs.Searched.{last_question, IsSearched, AreValueClaims}

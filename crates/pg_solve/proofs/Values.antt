@@ -1,11 +1,7 @@
 -- What a value is by what the sides force.
 use Rattle.std.proofs.Common.{◌≡◌, ◌≢◌, IsTrue, refl}
-use Rattle.std.proofs.lemmas.Bool.{false≢true}
-use Rattle.pg_base.specs.declared.goal.Goal.TheVariants.{Win, Draw as AtLeastDraw}
-use Rattle.pg_base.specs.declared.score.Score.{Score}
-use Rattle.pg_base.specs.declared.score.Score.TheVariants.{XWins, Draw, YWins}
-use Rattle.pg_base.specs.declared.side.Side.TheVariants.{X, Y}
-use Rattle.pg_game.specs.Value.{reaches}
+use Rattle.pg_solve.proofs.Common.{false≢true, Win, Score, XWins, Draw, YWins, X, Y, reaches}
+use Rattle.pg_base.specs.declared.goal.Goal.TheVariants.{Draw as AtLeastDraw}
 
 pub x-wins : (s : Score) → IsTrue (reaches X Win s) → s ≡ XWins
 x-wins XWins h = refl

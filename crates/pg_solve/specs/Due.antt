@@ -1,12 +1,7 @@
 -- The claims that are due for an answer, by their headings.
 use Rattle.std.specs.Prelude.{List, [], ◌∷◌}
-use Rattle.pg_base.specs.declared.goal.Goal.{Goal}
-use Rattle.pg_base.specs.declared.goal.Goal.TheVariants.{Win, Draw as AtLeastDraw}
-use Rattle.pg_base.specs.declared.score.Score.{Score}
-use Rattle.pg_base.specs.declared.score.Score.TheVariants.{XWins, Draw, YWins}
-use Rattle.pg_base.specs.declared.side.Side.{Side}
-use Rattle.pg_base.specs.declared.side.Side.TheVariants.{X, Y}
-use Rattle.pg_cert.specs.declared.cert.Claim.{Claim}
+use Rattle.pg_solve.specs.Prelude.{Goal, Win, Score, XWins, Draw, YWins, Side, X, Y, Claim}
+use Rattle.pg_base.specs.declared.goal.Goal.TheVariants.{Draw as AtLeastDraw}
 use Rattle.pg_solve.specs.declared.solution.Class.{Class}
 use Rattle.pg_solve.specs.declared.solution.Class.TheVariants.{Short, Cut, First}
 

@@ -1,24 +1,8 @@
 -- Claims of one node that stand on two sets of edges.
 use Rattle.std.specs.Prelude.{◌≡◌, Bool, true, false, List, [], ◌∷◌}
-use Rattle.std.specs.FinSet.{FinSet}
-use Rattle.std.specs.Ordering.{nat_cmp}
-use Rattle.pg_base.specs.declared.goal.Goal.TheVariants.{Win}
-use Rattle.pg_base.specs.declared.side.Side.{Side}
-use Rattle.pg_base.specs.declared.side.Side.TheVariants.{X, Y}
-use Rattle.pg_cert.specs.Limits.{IsClaim, IsOfVersion}
-use Rattle.pg_cert.specs.Node.{position_of}
-use Rattle.pg_cert.specs.Valid.{IsValidClaim}
-use Rattle.pg_cert.specs.declared.cert.Claim.{Claim}
-use Rattle.pg_cert.specs.declared.cert.Version.TheVariants.{One}
-use Rattle.pg_cert.specs.declared.node.Body.{Body}
-use Rattle.pg_cert.specs.declared.node.Body.TheVariants.{Trees, Cuts}
-use Rattle.pg_cert.specs.declared.node.Node.{Node}
+use Rattle.pg_solve.specs.Prelude.{FinSet, nat_cmp, Win, Side, X, Y, IsClaim, IsOfVersion, position_of, IsValidClaim, Claim, One, Body, Trees, Cuts, Node, with_turn, TreesHold, CutsHold, Game, Position}
 use Rattle.pg_game.specs.Class.{Class as Named}
 use Rattle.pg_game.specs.Class.Class.{Short as ForShort, Cut as ForCut, First as ForFirst}
-use Rattle.pg_game.specs.Game.{with_turn}
-use Rattle.pg_game.specs.Trees.{TreesHold, CutsHold}
-use Rattle.pg_game.specs.declared.game.Game.{Game}
-use Rattle.pg_game.specs.declared.position.Position.{Position}
 use Rattle.pg_lehman.specs.declared.class.Class.{Class as Sets}
 use Rattle.pg_lehman.specs.declared.class.Class.TheVariants.{Short as ShortSets, Cut as CutSets, First as FirstSets}
 use Rattle.pg_solve.specs.Due.{winner}

@@ -1,15 +1,7 @@
 -- What solving leaves in the work.
 use Rattle.std.specs.Prelude.{◌≡◌, ◌≢◌, ◌≤◌, ◌⊎◌, ℕ, length, Option, Some}
-use Rattle.pg_base.specs.declared.kind.Kind.{Kind}
-use Rattle.pg_base.specs.declared.kind.Kind.TheVariants.{MakerMaker, Switching}
-use Rattle.pg_base.specs.declared.score.Score.{Score}
-use Rattle.pg_base.specs.declared.score.Score.TheVariants.{XWins, Draw, YWins}
-use Rattle.pg_game.specs.Game.{free_points, start}
-use Rattle.pg_game.specs.Settled.{IsTable, IsOpenTable}
-use Rattle.pg_game.specs.Value.{value}
-use Rattle.pg_game.specs.declared.game.Game.{Game}
+use Rattle.pg_solve.specs.Prelude.{Kind, MakerMaker, Switching, Score, XWins, Draw, YWins, free_points, start, IsTable, IsOpenTable, value, Game, Expanded}
 use Rattle.pg_pns.specs.Budget.{budget_for}
-use Rattle.pg_pns.specs.Expanded.{Expanded}
 use Rattle.pg_solve.specs.Searched.{last_question}
 use Rattle.pg_solve.specs.declared.solution.Solution.{Solution}
 use Rattle.pg_solve.specs.declared.solution.Solution.TheVariants.{Value, Class as ForClass, Unknown}

@@ -1,11 +1,6 @@
 -- How many positions can be reached.
 use Rattle.std.specs.Prelude.{◌≡◌, ℕ, List, length, None, Some, slice_get}
-use Rattle.std.specs.List.{Contains}
-use Rattle.pg_base.specs.declared.score.Score.{Score}
-use Rattle.pg_game.specs.Decided.{decided}
-use Rattle.pg_game.specs.declared.game.Game.{Game}
-use Rattle.pg_game.specs.declared.position.Position.{Position}
-use Rattle.pg_pns.specs.Reachable.{IsReachable}
+use Rattle.pg_solve.specs.Prelude.{Contains, Score, decided, Game, Position, IsReachable}
 
 -- so many different positions that can be reached from the game's, none of them decided
 pub record AreReachable (g : Game) (t : Score) (count : ℕ)

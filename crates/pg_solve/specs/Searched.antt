@@ -1,14 +1,6 @@
 -- Claims that a search has found, and the value that they show.
 use Rattle.std.specs.Prelude.{◌≡◌, ◌≤◌, ℕ, Bool, true, false, List, [], ◌∷◌, length}
-use Rattle.pg_base.specs.declared.kind.Kind.{Kind}
-use Rattle.pg_base.specs.declared.kind.Kind.TheVariants.{MakerMaker}
-use Rattle.pg_base.specs.declared.score.Score.{Score}
-use Rattle.pg_base.specs.declared.score.Score.TheVariants.{XWins, Draw, YWins}
-use Rattle.pg_cert.specs.declared.cert.Claim.{Claim}
-use Rattle.pg_game.specs.Settled.{IsTable}
-use Rattle.pg_game.specs.declared.game.Game.{Game}
-use Rattle.pg_game.specs.declared.position.Position.{Position}
-use Rattle.pg_pns.specs.Found.{IsClaimOf}
+use Rattle.pg_solve.specs.Prelude.{Kind, MakerMaker, Score, XWins, Draw, YWins, Claim, IsTable, Game, Position, IsClaimOf}
 
 -- the question whose answer tells that the value is this one: whether X wins, and in Maker-Maker
 -- after a no whether X at least draws

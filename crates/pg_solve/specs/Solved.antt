@@ -1,16 +1,9 @@
 -- What solving says of a game, and how it is shown.
 use Rattle.std.specs.Prelude.{◌≡◌, ℕ, Bool, true, false, List, [], Option, Some, None}
-use Rattle.pg_base.specs.declared.side.Side.{Side}
-use Rattle.pg_cert.specs.declared.cert.Cert.{Cert}
-use Rattle.pg_cert.specs.declared.cert.Version.TheVariants.{One}
+use Rattle.pg_solve.specs.Prelude.{Side, Cert, One, start, value, Game, Position, Expanded}
 use Rattle.pg_game.specs.Class.{class_of}
-use Rattle.pg_game.specs.Game.{start}
-use Rattle.pg_game.specs.Value.{value}
-use Rattle.pg_game.specs.declared.game.Game.{Game}
-use Rattle.pg_game.specs.declared.position.Position.{Position}
 use Rattle.pg_solve.specs.Due.{Heading, due_for_value, due_for_class}
 use Rattle.pg_solve.specs.EdgeClaims.{named, AreClassClaims}
-use Rattle.pg_pns.specs.Expanded.{Expanded}
 use Rattle.pg_solve.specs.Left.{IsLeftOpen}
 use Rattle.pg_solve.specs.Searched.{last_question, AreValueClaims}
 use Rattle.pg_solve.specs.declared.solution.Solution.{Solution}

@@ -1,8 +1,6 @@
 //! Solving a switching game: its class, with the claims that show it.
 ghost use Rattle.std.specs.Prelude.{◌≡◌, IfOk};
-ghost use Rattle.pg_base.specs.declared.kind.Kind.TheVariants.{Switching};
-ghost use Rattle.pg_cert.specs.declared.cert.Version.TheVariants.{One};
-ghost use Rattle.pg_lehman.specs.Sets.{SetsHold};
+ghost use Rattle.pg_solve.specs.Prelude.{Switching, One, SetsHold};
 ghost use Rattle.pg_solve.specs.EdgeClaims.{without_sets, AreClassClaims};
 ghost use Rattle.pg_solve.specs.Solved.{IsClassified};
 

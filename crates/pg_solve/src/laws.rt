@@ -1,10 +1,7 @@
 //! What an open question means, as laws. Each function is empty: what it promises is a law of the
 //! definitions.
 ghost use Rattle.std.specs.Prelude.{◌≤◌, ℕ, List, length};
-ghost use Rattle.pg_base.specs.declared.score.Score.{Score};
-ghost use Rattle.pg_game.specs.Settled.{IsOpenTable};
-ghost use Rattle.pg_game.specs.declared.game.Game.{Game};
-ghost use Rattle.pg_game.specs.declared.position.Position.{Position};
+ghost use Rattle.pg_solve.specs.Prelude.{Score, IsOpenTable, Game, Position};
 ghost use Rattle.pg_solve.specs.Reached.{AreReachable, HasAllReachable};
 
 /// Positions that leave a question open are as many as the budget, different, undecided, and can

@@ -1,8 +1,6 @@
 //! The questions that are asked of a game on lines: whether X wins, and whether X at least draws.
 ghost use Rattle.std.specs.Prelude.{◌≡◌, ◌≢◌, ◌≤◌, ◌*◌, length, false, IfOk};
-ghost use Rattle.pg_base.specs.declared.kind.Kind.TheVariants.{MakerMaker, Switching};
-ghost use Rattle.pg_base.specs.declared.score.Score.TheVariants.{XWins};
-ghost use Rattle.pg_game.specs.Game.{free_points, start};
+ghost use Rattle.pg_solve.specs.Prelude.{MakerMaker, Switching, XWins, free_points, start};
 ghost use Rattle.pg_game.specs.declared.bounds.TheConstants.{MAX_POSITIONS};
 ghost use Rattle.pg_pns.specs.declared.limits.TheConstants.{MAX_EXPANDED_MOVES};
 ghost use Rattle.pg_solve.specs.Left.{IsLeft};

@@ -1,10 +1,6 @@
 //! Solving a game.
 ghost use Rattle.std.specs.Prelude.{◌≡◌, ◌≢◌, ◌≤◌, map, IfOk, IfSome, Ok};
-ghost use Rattle.pg_base.specs.declared.kind.Kind.TheVariants.{Switching};
-ghost use Rattle.pg_cert.specs.Limits.{IsWithinLimits};
-ghost use Rattle.pg_cert.specs.Valid.{IsValid};
-ghost use Rattle.pg_cert.specs.declared.cert.Version.TheVariants.{One};
-ghost use Rattle.pg_game.specs.Fit.{is_switching};
+ghost use Rattle.pg_solve.specs.Prelude.{Switching, IsWithinLimits, IsValid, One, is_switching};
 ghost use Rattle.pg_solve.specs.Due.{heading};
 ghost use Rattle.pg_solve.specs.Left.{budget, IsLeft, IsLeftOpen, IsAskedLast};
 ghost use Rattle.pg_solve.specs.Solved.{certificate_of, due, is_class, IsTrueOf, IsShown};

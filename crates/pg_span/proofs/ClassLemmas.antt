@@ -1,23 +1,8 @@
 -- What holds of a solved game tells its class.
 use Rattle.std.proofs.Common.{◌≡◌, ℕ, ◌<◌, Some, None, List, [], ◌∷◌, zero, suc, refl, sym, subst, arith, true}
 use Rattle.std.specs.Prelude.{Option}
-use Rattle.std.specs.List.{All}
-use Rattle.std.proofs.lemmas.Bool.{both_ways}
-use Rattle.std.specs.FinSet.{FinSet}
-use Rattle.std.specs.Ordering.{nat_cmp}
-use Rattle.pg_base.specs.declared.goal.Goal.TheVariants.{Win}
-use Rattle.pg_base.specs.declared.score.Score.{Score}
-use Rattle.pg_base.specs.declared.score.Score.TheVariants.{XWins, Draw, YWins}
-use Rattle.pg_base.specs.declared.side.Side.{Side}
-use Rattle.pg_base.specs.declared.side.Side.TheVariants.{X, Y}
 use Rattle.std.specs.Prelude.{slice_index}
-use Rattle.pg_graph.specs.Graph.{edge_count, first_end_of, second_end_of}
-use Rattle.pg_graph.proofs.GraphLemmas.{ends_in_range}
-use Rattle.pg_game.specs.declared.position.Position.{Position}
-use Rattle.pg_game.specs.Rules.{value_by, reaches, ForcesBy}
-use Rattle.pg_switch.specs.Claims.{IsPlace}
-use Rattle.pg_switch.proofs.JoinLaws.{ForcesBy-joining_trees}
-use Rattle.pg_switch.proofs.PartLaws.{ForcesBy-parts}
+use Rattle.pg_span.proofs.Common.{All, both_ways, FinSet, nat_cmp, Win, Score, XWins, Draw, YWins, Side, X, Y, edge_count, first_end_of, second_end_of, ends_in_range, Position, value_by, reaches, ForcesBy, IsPlace, ForcesBy-joining_trees, ForcesBy-parts}
 use Rattle.pg_span.specs.declared.game.SpanGame.{SpanGame}
 use Rattle.pg_span.specs.declared.cert.SpanBody.{SpanBody}
 use Rattle.pg_span.specs.declared.cert.SpanBody.TheVariants.{Trees, Parts}

@@ -1,25 +1,8 @@
 -- Edges that join every two vertices, and a judge's tests of them.
 use Rattle.std.proofs.Common.{◌≡◌, ℕ, ◌<◌, ◌≤◌, zero, suc, Bool, true, false, ◌&&◌, ◌||◌, ◌⊎◌, not, Option, Some, None, [], refl, inl, inr, sym, ap, ◌∙◌, subst, arith}
 use Rattle.std.specs.Prelude.{IfSome, IfNone, is_some, nat_lt}
-use Rattle.std.proofs.lemmas.Bool.{cases_Bool, both_ways, and_from, false_from_ne_true, lt-ltb, ltb-true}
-use Rattle.std.specs.FinSet.{FinSet, contains}
-use Rattle.std.specs.Ordering.{nat_cmp}
-use Rattle.pg_base.specs.Sets.{below, either, IsBelow}
-use Rattle.pg_base.proofs.BelowLemmas.{below_from}
-use Rattle.pg_base.proofs.SetLemmas.{either_right}
-use Rattle.pg_graph.specs.declared.graph.Graph.{Graph}
-use Rattle.pg_graph.specs.Graph.{IsGraph, edge_count, first_end_of, second_end_of, IsJoinedIn}
-use Rattle.pg_graph.specs.Joiner.{Crosses, IsLowest}
+use Rattle.pg_span.proofs.Common.{cases_Bool, both_ways, and_from, false_from_ne_true, lt-ltb, ltb-true, FinSet, contains, nat_cmp, below, either, IsBelow, below_from, either_right, Graph, IsGraph, edge_count, first_end_of, second_end_of, IsJoinedIn, Crosses, IsLowest, uncrossed_joins, ends_in_range, joins_same, joined_on, joined_back, joined_more, joins_sound, joins_complete, joins_below, joins_pairs, joined_pairs, YWins, Position, ending_by, kept}
 use Rattle.pg_graph.specs.Walks.{joins}
-use Rattle.pg_graph.proofs.EdgeTests.{uncrossed_joins}
-use Rattle.pg_graph.proofs.GraphLemmas.{ends_in_range, joins_same}
-use Rattle.pg_graph.proofs.WalkLemmas.{joined_on, joined_back, joined_more, joins_sound, joins_complete}
-use Rattle.pg_switch.specs.Span.{joins_below, joins_pairs}
-use Rattle.pg_switch.proofs.PartLemmas.{joined_pairs}
-use Rattle.pg_base.specs.declared.score.Score.TheVariants.{YWins}
-use Rattle.pg_game.specs.declared.position.Position.{Position}
-use Rattle.pg_game.specs.Judging.{ending_by}
-use Rattle.pg_switch.specs.Claims.{kept}
 use Rattle.pg_span.specs.declared.game.SpanGame.{SpanGame}
 use Rattle.pg_span.specs.Judge.{connects}
 use Rattle.pg_span.specs.Game.{span_rules_of}

@@ -1,19 +1,11 @@
 -- Counting different numbers of vertices, and edges between them.
 use Rattle.std.proofs.Common.{◌≡◌, ℕ, ◌<◌, ◌+◌, suc, Bool, true, false, ◌&&◌, ◌||◌, ◌==◌, refl, inl, inr, ap, ◌∙◌, subst, slice_index, arith, zero}
-use Rattle.std.proofs.lemmas.Bool.{cases_Bool, eqb-true, false_from_ne_true}
-use Rattle.std.specs.FinSet.{contains}
-use Rattle.pg_base.specs.Sets.{count, one_if, plus}
-use Rattle.pg_base.proofs.SetLemmas.{count_same, count_plus}
 use Rattle.std.specs.Prelude.{◌↔◌, IsTrue, List, length}
-use Rattle.pg_graph.specs.Graph.{edge_count, first_end_of, second_end_of}
-use Rattle.pg_game.specs.Position.{is_free}
-use Rattle.pg_game.specs.declared.position.Position.{Position}
+use Rattle.pg_span.proofs.Common.{cases_Bool, eqb-true, false_from_ne_true, contains, count, one_if, plus, count_same, count_plus, edge_count, first_end_of, second_end_of, is_free, Position, crosses, crossing, image, image-at}
 use Rattle.pg_span.specs.Conditions.{AreFew}
 use Rattle.pg_span.specs.Valid.{ArePartsOfGame}
 use Rattle.pg_span.specs.declared.cert.TheConstants.{PART_NUMBERS}
 use Rattle.pg_span.specs.declared.game.SpanGame.{SpanGame}
-use Rattle.pg_switch.specs.Span.{crosses, crossing, image}
-use Rattle.pg_switch.proofs.PartLemmas.{image-at}
 
 -- the next number, as loops say it
 next : (P : ℕ → Type 0) (n : ℕ) → P (suc n) → P (n + 1)

@@ -1,36 +1,11 @@
 -- The own move keeps the plan, and so the side goes on to its win.
 use Rattle.std.proofs.Common.{◌≡◌, ◌≢◌, ◌⊎◌, ℕ, ◌<◌, ◌≤◌, suc, Bool, true, false, ◌&&◌, List, [], ◌∷◌, ◌++◌, Option, Some, None, Result, Ok, Err, inl, inr, refl, sym, ap, ◌∙◌, subst, subst₂, arith}
-use Rattle.std.proofs.lemmas.Bool.{cases_Bool, both_ways, false_from_ne_true, ltb-true}
 use Rattle.std.specs.Prelude.{IfSome, nat_lt, if◌then◌else◌, length, slice_index}
-use Rattle.std.specs.FinSet.{FinSet, contains, insert, remove}
-use Rattle.std.specs.Ordering.{nat_cmp}
-use Rattle.pg_base.specs.Points.{AreBelow}
-use Rattle.pg_base.specs.Sets.{plus, minus, either, below}
-use Rattle.pg_base.specs.Side.{other}
-use Rattle.pg_base.specs.declared.goal.Goal.TheVariants.{Win}
-use Rattle.pg_base.specs.declared.score.Score.{Score}
-use Rattle.pg_base.specs.declared.side.Side.{Side}
-use Rattle.pg_base.specs.declared.side.Side.TheVariants.{X, Y}
-use Rattle.pg_base.proofs.BelowLemmas.{below_parts, below_from}
-use Rattle.pg_base.proofs.PointSetLaws.{contains-insert_plus}
-use Rattle.pg_base.proofs.SetLemmas.{minus_parts, minus_from, either_cases, plus_cases}
-use Rattle.pg_graph.specs.Graph.{edge_count, first_end_of, second_end_of}
-use Rattle.pg_graph.specs.Joiner.{Room, AreEdges}
-use Rattle.pg_graph.proofs.GraphLemmas.{ends_in_range}
+use Rattle.pg_span.proofs.Common.{cases_Bool, both_ways, false_from_ne_true, ltb-true, FinSet, contains, insert, remove, nat_cmp, AreBelow, plus, minus, either, below, other, Win, Score, Side, X, Y, below_parts, below_from, contains-insert_plus, minus_parts, minus_from, either_cases, plus_cases, edge_count, first_end_of, second_end_of, Room, AreEdges, ends_in_range, Position, is_free, ending_by, judged_by, Rules, moved, reaches, IsEnding, IsPlayBy, played_by, ForcesBy, IsFreeEdge, answered_edge, short_edge, trees_answer, IsPlace, joins_all, AreJoiningTrees, turn-next, free-next, x-plus, x-same, IsPlace-next, IsEnding-claims, ForcesBy-joining_trees, joins_all-more, ForcesBy-parts}
 use Rattle.pg_game.specs.declared.position.Illegal.{Illegal}
 use Rattle.pg_game.specs.declared.position.Illegal.TheVariants.{Range, Taken, Over}
-use Rattle.pg_game.specs.declared.position.Position.{Position}
-use Rattle.pg_game.specs.Position.{is_free}
-use Rattle.pg_game.specs.Judging.{ending_by, judged_by}
-use Rattle.pg_game.specs.Rules.{Rules, moved, reaches, IsEnding, IsPlayBy, played_by, ForcesBy}
-use Rattle.pg_game.specs.Trees.{IsFreeEdge, answered_edge, short_edge, trees_answer}
 use Rattle.pg_game.proofs.RulesLaws.{some_free, value_by-over, ForcesBy-all-from}
 use Rattle.pg_game.proofs.Sides.{side≢other, side_cases}
-use Rattle.pg_switch.specs.Claims.{IsPlace}
-use Rattle.pg_switch.specs.Span.{joins_all, AreJoiningTrees}
-use Rattle.pg_switch.proofs.ClaimLaws.{turn-next, free-next, x-plus, x-same, IsPlace-next, IsEnding-claims}
-use Rattle.pg_switch.proofs.JoinLaws.{ForcesBy-joining_trees}
-use Rattle.pg_switch.proofs.PartLaws.{joins_all-more, ForcesBy-parts}
 use Rattle.pg_span.specs.declared.cert.SpanBody.{SpanBody}
 use Rattle.pg_span.specs.declared.cert.SpanBody.TheVariants.{Trees, Parts}
 use Rattle.pg_span.specs.declared.game.SpanGame.{SpanGame}

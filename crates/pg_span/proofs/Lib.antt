@@ -1,3 +1,4 @@
+mod Common
 pub mod Connects
 pub mod Counting
 pub mod Checking

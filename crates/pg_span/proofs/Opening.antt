@@ -1,22 +1,10 @@
 -- What a player has when it is opened.
 use Rattle.std.proofs.Common.{◌≡◌, ◌∙◌, ℕ, ◌≤◌, Bool, true, List, [], Option, Some, None, find, get_or, slice_get, suc, ◌∷◌, inl, inr, refl, sym, ap, subst}
+use Rattle.pg_span.proofs.Common.{All-get_or, slice_get-get_or, slice_get_within, All, and_parts, false≢true, cases_Bool, Coded-set, coded_ℕ, coded_bool, FinSet, nat_cmp, is_same_side, Side, X, Y}
 use Rattle.std.proofs.Math.Logic.{∥∥₁_elim, ∥∥₁_map}
 use Rattle.std.proofs.Math.Bridge.{le_prop}
-use Rattle.std.proofs.lemmas.List.Elements.{All-get_or}
-use Rattle.std.proofs.lemmas.Option.{slice_get-get_or, slice_get_within}
-use Rattle.std.specs.List.{All}
-use Rattle.std.proofs.lemmas.Bool.{and_parts, false≢true, cases_Bool}
-use Rattle.std.specs.Coded.{Coded-set, coded_ℕ, coded_bool}
-use Rattle.std.specs.FinSet.{FinSet}
-use Rattle.std.specs.Ordering.{nat_cmp}
-use Rattle.pg_base.specs.Side.{is_same_side}
-use Rattle.pg_base.specs.declared.side.Side.{Side}
-use Rattle.pg_base.specs.declared.side.Side.TheVariants.{X, Y}
 use Rattle.pg_base.specs.contracts.side.Side as side_row
-use Rattle.pg_graph.specs.Graph.{edge_count}
-use Rattle.pg_game.specs.declared.position.Position.{Position}
-use Rattle.pg_switch.specs.Claims.{IsPlace}
-use Rattle.pg_switch.specs.Span.{AreParts, AreJoiningTrees, IsFirst}
+use Rattle.pg_span.proofs.Common.{edge_count, Position, IsPlace, AreParts, AreJoiningTrees, IsFirst}
 use Rattle.pg_span.specs.declared.cert.SpanBody.{SpanBody}
 use Rattle.pg_span.specs.declared.cert.SpanBody.TheVariants.{Trees, Parts}
 use Rattle.pg_span.specs.declared.cert.SpanCert.{SpanCert}

@@ -1,25 +1,8 @@
 -- Parts of vertices: what a reply and the answer to it keep.
 use Rattle.std.proofs.Common.{◌≡◌, ◌≢◌, ℕ, ◌+◌, ◌<◌, ◌≤◌, Bool, true, false, ◌&&◌, ◌⊎◌, Option, refl, inl, inr, sym, ap, ◌∙◌, subst, arith}
-use Rattle.std.proofs.lemmas.Bool.{cases_Bool, both_ways, and_parts, and_from, false_from_ne_true, not-true}
-use Rattle.std.specs.FinSet.{contains}
 use Rattle.std.specs.Prelude.{unwrap_or, List, slice_index}
-use Rattle.pg_base.specs.Sets.{plus, minus, below, count, IsWithin}
-use Rattle.pg_base.specs.declared.side.Side.{Side}
-use Rattle.pg_base.specs.declared.side.Side.TheVariants.{X, Y}
-use Rattle.pg_base.specs.Side.{other}
-use Rattle.pg_base.proofs.BelowLemmas.{below_parts, below_from}
-use Rattle.pg_base.proofs.SetLemmas.{minus_parts, minus_from, plus_cases, plus_old, plus_new, count_le, count_plus, count_minus}
-use Rattle.pg_graph.specs.declared.graph.Graph.{Graph}
-use Rattle.pg_graph.specs.Graph.{edge_count, first_end_of, second_end_of}
-use Rattle.pg_game.specs.declared.position.Position.{Position}
-use Rattle.pg_game.specs.Position.{is_free}
-use Rattle.pg_game.specs.Trees.{IsFreeEdge, lowest_free_edge}
-use Rattle.pg_switch.specs.Claims.{IsPlace}
-use Rattle.pg_switch.specs.Span.{joins_all, crosses, crossing, spare, AreParts}
-use Rattle.pg_switch.proofs.ClaimLaws.{next, turn-next, free-next, x-plus, x-same}
-use Rattle.pg_switch.proofs.PartLaws.{crossing-less, crossing-minus, crossing-none, crossing-plus, crossing-plus_off}
+use Rattle.pg_span.proofs.Common.{cases_Bool, both_ways, and_parts, and_from, false_from_ne_true, not-true, contains, plus, minus, below, count, IsWithin, Side, X, Y, other, below_parts, below_from, minus_parts, minus_from, plus_cases, plus_old, plus_new, count_le, count_plus, count_minus, Graph, edge_count, first_end_of, second_end_of, Position, is_free, IsFreeEdge, lowest_free_edge, IsPlace, joins_all, crosses, crossing, spare, AreParts, next, turn-next, free-next, x-plus, x-same, crossing-less, crossing-minus, crossing-none, crossing-plus, crossing-plus_off, find_below-cases, lowest_free-free}
 use Rattle.pg_span.specs.Answers.{parts_edge}
-use Rattle.pg_switch.proofs.Finding.{find_below-cases, lowest_free-free}
 
 module _ (a b : ℕ → ℕ) (m n bound : ℕ) (label : ℕ → ℕ) where
   abbrev all : (ℕ → Bool) → Bool

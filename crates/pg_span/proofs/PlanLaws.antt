@@ -1,21 +1,12 @@
 -- The moves that the code makes are those of the definitions.
 use Rattle.std.proofs.Common.{◌≡◌, ℕ, ◌≤◌, Option, Some, None, inl, inr, sym, ap, ◌∙◌, subst, arith}
-use Rattle.std.proofs.lemmas.Bool.{cases_Bool}
-use Rattle.std.specs.FinSet.{FinSet, contains, remove}
-use Rattle.std.specs.Ordering.{nat_cmp}
 use Rattle.std.specs.Prelude.{unwrap_or, ◌&&◌, List}
-use Rattle.pg_graph.specs.declared.graph.Graph.{Graph}
-use Rattle.pg_graph.specs.Graph.{edge_count, first_end_of, second_end_of, joins_in}
-use Rattle.pg_game.specs.declared.position.Position.{Position}
-use Rattle.pg_game.specs.Position.{is_free}
-use Rattle.pg_game.specs.Trees.{differ, lowest_free_edge, with_set, answered_edge, short_edge, claimed, trees_answer, Answered}
+use Rattle.pg_span.proofs.Common.{cases_Bool, FinSet, contains, remove, nat_cmp, Graph, edge_count, first_end_of, second_end_of, joins_in, Position, is_free, differ, lowest_free_edge, with_set, answered_edge, short_edge, claimed, trees_answer, Answered, short_reply, find_below-cases}
 use Rattle.pg_span.specs.declared.cert.SpanBody.{SpanBody}
 use Rattle.pg_span.specs.declared.cert.SpanBody.TheVariants.{Trees, Parts}
 use Rattle.pg_span.specs.declared.plan.TreePlan.{TreePlan}
 use Rattle.pg_span.specs.Answers.{SpanMove, span_move, parts_edge}
-use Rattle.pg_switch.specs.Replies.{short_reply}
 use Rattle.pg_span.specs.Plan.{plan_of}
-use Rattle.pg_switch.proofs.Finding.{find_below-cases}
 
 -- no answer is above the number of edges
 free-bound : (h : Graph) (p : Position) → lowest_free_edge h p ≤ edge_count h

@@ -1,27 +1,7 @@
 -- What two settled bases of a connectivity game's free edges show.
 use Rattle.std.proofs.Common.{◌≡◌, ◌≢◌, ℕ, ◌<◌, ◌≤◌, ◌+◌, zero, suc, Bool, true, false, not, eqb, length, List, [], ◌∷◌, Some, None, inl, inr, refl, sym, ◌∙◌, subst, arith}
 use Rattle.std.specs.Prelude.{slice_index, Option, IfSome, IfNone, is_some}
-use Rattle.std.specs.List.{All}
-use Rattle.std.proofs.lemmas.List.Elements.{All-from_get_or}
-use Rattle.pg_base.specs.Points.{IsLeastFrom}
-use Rattle.std.proofs.lemmas.Bool.{both_ways, and_parts, and_from, or_cases, or_left, false_from_ne_true, not-true, not_from_false, eqb-false, eqb-true, true_from_ne_false}
-use Rattle.std.specs.FinSet.{FinSet, contains}
-use Rattle.std.specs.Ordering.{nat_cmp}
-use Rattle.pg_base.specs.Sets.{minus, either, outside, both, count, IsBelow}
-use Rattle.pg_base.specs.declared.side.Side.{Side}
-use Rattle.pg_base.specs.declared.side.Side.TheVariants.{X, Y}
-use Rattle.pg_base.proofs.BelowLemmas.{below_parts, below_from, same_sets}
-use Rattle.pg_base.proofs.SetLemmas.{either_cases, either_left, either_right, find_below, minus_from, count_minus, both_parts, both_from, outside_parts, outside_from}
-use Rattle.pg_graph.specs.declared.graph.Graph.{Graph}
-use Rattle.pg_graph.specs.Graph.{edge_count, first_end_of, second_end_of, IsJoinedIn}
-use Rattle.pg_graph.specs.Labels.{AreLabels}
-use Rattle.pg_graph.specs.Span.{IsBase}
-use Rattle.pg_graph.proofs.GraphLemmas.{ends_in_range, joins_in-complete, loops_after}
-use Rattle.pg_graph.proofs.WalkLemmas.{joins_sound}
-use Rattle.pg_exchange.specs.Chain.{AreBases}
-use Rattle.pg_exchange.specs.Forest.{elements_of}
-use Rattle.pg_game.specs.Position.{is_free}
-use Rattle.pg_switch.specs.Span.{joins_all, spare}
+use Rattle.pg_span.proofs.Common.{All, All-from_get_or, IsLeastFrom, both_ways, and_parts, and_from, or_cases, or_left, false_from_ne_true, not-true, not_from_false, eqb-false, eqb-true, true_from_ne_false, FinSet, contains, nat_cmp, minus, either, outside, both, count, IsBelow, Side, X, Y, below_parts, below_from, same_sets, either_cases, either_left, either_right, find_below, minus_from, count_minus, both_parts, both_from, outside_parts, outside_from, Graph, edge_count, first_end_of, second_end_of, IsJoinedIn, AreLabels, IsBase, ends_in_range, joins_in-complete, loops_after, joins_sound, AreBases, elements_of, is_free, joins_all, spare}
 use Rattle.pg_switch.proofs.Settled.{AreParts-shared, AreParts-apart, joined_by_base, AreJoiningTrees-none, AreJoiningTrees-one}
 use Rattle.pg_span.specs.declared.game.SpanGame.{SpanGame}
 use Rattle.pg_span.specs.Game.{marks_at}

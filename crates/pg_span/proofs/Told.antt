@@ -2,15 +2,8 @@
 -- winners' claims.
 use Rattle.std.proofs.Common.{◌≡◌, ◌≢◌, ℕ, ◌<◌, Some, List, [], ◌∷◌, inl, inr, refl, sym, ◌∙◌, subst, subst₂, arith}
 use Rattle.std.specs.Prelude.{length, slice_get, get_or}
-use Rattle.std.specs.List.{All}
-use Rattle.std.proofs.lemmas.Bool.{cases_order}
-use Rattle.std.proofs.lemmas.Option.{slice_get-get_or, slice_get_within}
+use Rattle.pg_span.proofs.Common.{All, cases_order, slice_get-get_or, slice_get_within, Win, Side, X, Y, ForcesBy, Position}
 use Rattle.pg_base.proofs.Stands.{same_some}
-use Rattle.pg_base.specs.declared.goal.Goal.TheVariants.{Win}
-use Rattle.pg_base.specs.declared.side.Side.{Side}
-use Rattle.pg_base.specs.declared.side.Side.TheVariants.{X, Y}
-use Rattle.pg_game.specs.Rules.{ForcesBy}
-use Rattle.pg_game.specs.declared.position.Position.{Position}
 use Rattle.pg_span.specs.Game.{marks_at, span_class, span_rules_of}
 use Rattle.pg_span.specs.Solved.{AreDueClaims, named, winner}
 use Rattle.pg_span.specs.Valid.{HasFlaw, IsBodyAt, IsFirstFlaw, IsSpanClaimValid, IsSpanValid}

@@ -1,27 +1,10 @@
 -- Two sets of edges each of which joins every two vertices with X's edges: what the answer to a
 -- lost edge keeps.
 use Rattle.std.proofs.Common.{◌≡◌, ◌≢◌, ℕ, ◌<◌, ◌≤◌, Bool, true, false, Option, inl, inr, sym, ap, ◌∙◌, subst, subst₂, arith}
-use Rattle.std.proofs.lemmas.Bool.{cases_Bool, cases_eq, both_ways, false_from_ne_true}
-use Rattle.std.specs.FinSet.{FinSet, contains, remove}
-use Rattle.std.specs.Ordering.{nat_cmp}
 use Rattle.std.specs.Prelude.{unwrap_or}
-use Rattle.pg_base.specs.Sets.{plus, minus, either, IsWithin}
-use Rattle.pg_base.specs.Points.{AreBelow}
-use Rattle.pg_base.proofs.BelowLemmas.{same_sets}
-use Rattle.pg_base.proofs.PointSetLaws.{contains-remove_minus}
-use Rattle.pg_base.proofs.SetLemmas.{minus_parts, minus_from, plus_new, either_cases, either_left, sets}
-use Rattle.pg_graph.specs.declared.graph.Graph.{Graph}
-use Rattle.pg_graph.specs.Graph.{IsGraph, edge_count, spans_in, first_end_of, second_end_of, IsJoinedIn}
-use Rattle.pg_graph.specs.Joiner.{AreEdges, Crosses}
-use Rattle.pg_graph.proofs.EdgeTests.{crosses-unspanned, uncrossed_joins}
-use Rattle.pg_graph.proofs.GraphLemmas.{IsSpan-graph, spans_in-sound, spans_in-complete, ends_in_range}
+use Rattle.pg_span.proofs.Common.{cases_Bool, cases_eq, both_ways, false_from_ne_true, FinSet, contains, remove, nat_cmp, plus, minus, either, IsWithin, AreBelow, same_sets, contains-remove_minus, minus_parts, minus_from, plus_new, either_cases, either_left, sets, Graph, IsGraph, edge_count, spans_in, first_end_of, second_end_of, IsJoinedIn, AreEdges, Crosses, crosses-unspanned, uncrossed_joins, IsSpan-graph, spans_in-sound, spans_in-complete, ends_in_range, joined_on, joined_back, joined_by, joined_edge, joined_more, Position, IsFreeEdge, with_set, lowest_free_edge, short_edge, short_reply, crossing-cases, lowest_free-free}
 use Rattle.pg_graph.proofs.Swap.{spans_trade}
-use Rattle.pg_graph.proofs.WalkLemmas.{joined_on, joined_back, joined_by, joined_edge, joined_more}
-use Rattle.pg_game.specs.declared.position.Position.{Position}
-use Rattle.pg_game.specs.Trees.{IsFreeEdge, with_set, lowest_free_edge, short_edge}
-use Rattle.pg_switch.specs.Replies.{short_reply}
 use Rattle.pg_span.proofs.Connects.{JoinsAll}
-use Rattle.pg_switch.proofs.Finding.{crossing-cases, lowest_free-free}
 use Rattle.pg_switch.proofs.EdgeSets.{with_set-edges}
 
 -- with s each of two disjoint sets joins every two vertices

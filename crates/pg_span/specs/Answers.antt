@@ -1,13 +1,7 @@
 -- A player's own moves in a connectivity game: by trees as Short's in the switching game, and by
 -- parts.
 use Rattle.std.specs.Prelude.{ℕ, List, ◌&&◌, Option, Some, None, find, unwrap_or, slice_index}
-use Rattle.std.specs.List.{range_with_len}
-use Rattle.pg_graph.specs.declared.graph.Graph.{Graph}
-use Rattle.pg_graph.specs.Graph.{edge_count, first_end_of, second_end_of}
-use Rattle.pg_game.specs.declared.position.Position.{Position}
-use Rattle.pg_game.specs.Position.{is_free}
-use Rattle.pg_game.specs.Trees.{lowest_free_edge, trees_answer}
-use Rattle.pg_switch.specs.Span.{crosses}
+use Rattle.pg_span.specs.Prelude.{range_with_len, Graph, edge_count, first_end_of, second_end_of, Position, is_free, lowest_free_edge, trees_answer, crosses}
 use Rattle.pg_span.specs.declared.cert.SpanBody.{SpanBody}
 use Rattle.pg_span.specs.declared.cert.SpanBody.TheVariants.{Trees, Parts}
 

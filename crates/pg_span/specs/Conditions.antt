@@ -1,12 +1,6 @@
 -- Parts of the conditions on trees and on parts.
 use Rattle.std.specs.Prelude.{◌≡◌, ◌<◌, ◌≤◌, ◌+◌, ◌*◌, ℕ, true, false}
-use Rattle.std.specs.FinSet.{FinSet, contains}
-use Rattle.std.specs.Ordering.{nat_cmp}
-use Rattle.pg_base.specs.declared.side.Side.TheVariants.{X}
-use Rattle.pg_graph.specs.Graph.{edge_count}
-use Rattle.pg_game.specs.Position.{is_free}
-use Rattle.pg_base.specs.declared.side.Side.{Side}
-use Rattle.pg_switch.specs.Span.{spare}
+use Rattle.pg_span.specs.Prelude.{FinSet, contains, nat_cmp, X, edge_count, is_free, Side, spare}
 use Rattle.pg_span.specs.Game.{marks_at}
 use Rattle.pg_span.specs.declared.game.SpanGame.{SpanGame}
 

@@ -1,11 +1,6 @@
 -- The limits of a connectivity game.
 use Rattle.std.specs.Prelude.{◌≡◌, ◌≤◌}
-use Rattle.std.specs.FinSet.{FinSet}
-use Rattle.std.specs.Ordering.{nat_cmp}
-use Rattle.pg_base.specs.Points.{AreBelow, ShareNone}
-use Rattle.pg_game.specs.declared.bounds.TheConstants.{MAX_VERTICES}
-use Rattle.pg_graph.specs.Graph.{IsGraph, edge_count}
-use Rattle.pg_graph.specs.declared.graph.Graph.{Graph}
+use Rattle.pg_span.specs.Prelude.{FinSet, nat_cmp, AreBelow, ShareNone, MAX_VERTICES, IsGraph, edge_count, Graph}
 
 -- a multigraph within the limits, with the terminals 0 and 1, and sides with different edges
 pub record AreSpanParts (h : Graph) (x y : FinSet nat_cmp) : Type 0 where

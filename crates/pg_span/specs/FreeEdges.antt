@@ -1,8 +1,6 @@
 -- The free edges as a matroid.
 use Rattle.std.specs.Prelude.{false}
-use Rattle.std.specs.FinSet.{contains}
-use Rattle.pg_exchange.specs.Matroid.{Matroid}
-use Rattle.pg_exchange.specs.Forest.{graph_matroid, elements_of}
+use Rattle.pg_span.specs.Prelude.{contains, Matroid, graph_matroid, elements_of}
 use Rattle.pg_span.specs.declared.game.SpanGame.{SpanGame}
 
 -- the free edges over X's

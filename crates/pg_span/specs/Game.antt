@@ -1,12 +1,7 @@
 -- Connectivity games by their rules: values, and the class.
 use Rattle.std.specs.Prelude.{Option}
-use Rattle.pg_base.specs.declared.side.Side.{Side}
-use Rattle.pg_base.specs.declared.side.Side.TheVariants.{X, Y}
-use Rattle.pg_graph.specs.Graph.{edge_count, first_end_of, second_end_of}
+use Rattle.pg_span.specs.Prelude.{Side, X, Y, edge_count, first_end_of, second_end_of, Rules, value_by, Position, connectivity_rules}
 use Rattle.pg_game.specs.Class.{Class, class_by}
-use Rattle.pg_game.specs.Rules.{Rules, value_by}
-use Rattle.pg_game.specs.declared.position.Position.{Position}
-use Rattle.pg_switch.specs.Span.{connectivity_rules}
 use Rattle.pg_span.specs.declared.game.SpanGame.{SpanGame}
 
 -- X wins where his edges join every two vertices, and Y where those that aren't hers don't

@@ -1,9 +1,6 @@
 -- What a judge of a connectivity game knows.
 use Rattle.std.specs.Prelude.{◌≡◌, ℕ, Bool, true}
-use Rattle.pg_graph.specs.declared.graph.Graph.{Graph}
-use Rattle.pg_graph.specs.Graph.{edge_count, first_end_of, second_end_of}
-use Rattle.pg_graph.specs.Joiner.{IsMadeFor}
-use Rattle.pg_switch.specs.Span.{joins_all}
+use Rattle.pg_span.specs.Prelude.{Graph, edge_count, first_end_of, second_end_of, IsMadeFor, joins_all}
 use Rattle.pg_span.specs.declared.game.SpanGame.{SpanGame}
 use Rattle.pg_span.specs.declared.judge.SpanJudge.{SpanJudge}
 

@@ -1,3 +1,4 @@
+pub mod Prelude
 pub mod Fits
 pub mod Flaw
 pub mod Game

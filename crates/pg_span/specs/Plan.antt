@@ -1,10 +1,6 @@
 -- What the code keeps of a plan.
 use Rattle.std.specs.Prelude.{◌≡◌, ℕ, ◌≤◌, length, Option}
-use Rattle.std.specs.FinSet.{contains}
-use Rattle.pg_graph.specs.declared.graph.Graph.{Graph}
-use Rattle.pg_graph.specs.Graph.{edge_count}
-use Rattle.pg_graph.specs.Joiner.{AreEdges}
-use Rattle.pg_game.specs.Trees.{answered_edge}
+use Rattle.pg_span.specs.Prelude.{contains, Graph, edge_count, AreEdges, answered_edge}
 use Rattle.pg_span.specs.declared.cert.SpanBody.{SpanBody}
 use Rattle.pg_span.specs.declared.cert.SpanBody.TheVariants.{Trees, Parts}
 use Rattle.pg_span.specs.declared.plan.TreePlan.{TreePlan}

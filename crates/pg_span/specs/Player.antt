@@ -1,14 +1,6 @@
 -- What is seen of a player of a connectivity game, and what it does.
 use Rattle.std.specs.Prelude.{◌≡◌, ◌⊎◌, ℕ, ◌<◌, Bool, true, false, ◌&&◌, List, Option, Some, None, Ok, find}
-use Rattle.pg_base.specs.Side.{other, is_same_side}
-use Rattle.pg_base.specs.declared.goal.Goal.TheVariants.{Win}
-use Rattle.pg_base.specs.declared.side.Side.{Side}
-use Rattle.pg_graph.specs.Graph.{edge_count}
-use Rattle.pg_game.specs.declared.position.Position.{Position}
-use Rattle.pg_game.specs.Position.{is_free}
-use Rattle.pg_game.specs.Judging.{judged_by}
-use Rattle.pg_game.specs.Rules.{moved, IsPlayBy, played_by, ForcesBy}
-use Rattle.pg_switch.specs.Claims.{IsPlace}
+use Rattle.pg_span.specs.Prelude.{other, is_same_side, Win, Side, edge_count, Position, is_free, judged_by, moved, IsPlayBy, played_by, ForcesBy, IsPlace}
 use Rattle.pg_span.specs.declared.cert.SpanBody.{SpanBody}
 use Rattle.pg_span.specs.declared.cert.SpanCert.{SpanCert}
 use Rattle.pg_span.specs.declared.cert.SpanClaim.{SpanClaim}

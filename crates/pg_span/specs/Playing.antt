@@ -1,14 +1,6 @@
 -- What a player keeps of its fields.
 use Rattle.std.specs.Prelude.{◌≡◌, ◌<◌, ℕ, true, false, Option, Some, None}
-use Rattle.pg_base.specs.Side.{other}
-use Rattle.pg_base.specs.declared.score.Score.{Score}
-use Rattle.pg_base.specs.declared.side.Side.{Side}
-use Rattle.pg_graph.specs.Graph.{edge_count}
-use Rattle.pg_game.specs.declared.position.Position.{Position}
-use Rattle.pg_game.specs.Judging.{ending_by}
-use Rattle.pg_game.specs.Position.{is_free}
-use Rattle.pg_game.specs.Rules.{moved}
-use Rattle.pg_switch.specs.Claims.{IsPlace}
+use Rattle.pg_span.specs.Prelude.{other, Score, Side, edge_count, Position, ending_by, is_free, moved, IsPlace}
 use Rattle.pg_span.specs.declared.cert.SpanBody.{SpanBody}
 use Rattle.pg_span.specs.declared.game.SpanGame.{SpanGame}
 use Rattle.pg_span.specs.declared.judge.SpanJudge.{SpanJudge}

@@ -1,10 +1,6 @@
 -- Who wins a connectivity game, and the certificate that shows it.
 use Rattle.std.specs.Prelude.{◌≡◌, ◌<◌, ℕ, List, [], ◌∷◌, Option, Some, None, ⊤}
-use Rattle.std.specs.FinSet.{FinSet}
-use Rattle.std.specs.List.{All}
-use Rattle.std.specs.Ordering.{nat_cmp}
-use Rattle.pg_base.specs.declared.side.Side.{Side}
-use Rattle.pg_base.specs.declared.side.Side.TheVariants.{X, Y}
+use Rattle.pg_span.specs.Prelude.{FinSet, All, nat_cmp, Side, X, Y}
 use Rattle.pg_game.specs.Class.{Class as Named}
 use Rattle.pg_game.specs.Class.Class.{Short as ForShort, Cut as ForCut, First as ForFirst}
 use Rattle.pg_span.specs.Game.{marks_at}

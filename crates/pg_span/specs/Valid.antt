@@ -1,13 +1,6 @@
 -- When certificates of connectivity games are valid.
 use Rattle.std.specs.Prelude.{◌≡◌, ◌<◌, ℕ, List, length, Option, Some, slice_get, slice_index}
-use Rattle.std.specs.List.{All}
-use Rattle.std.specs.FinSet.{FinSet}
-use Rattle.std.specs.Ordering.{nat_cmp}
-use Rattle.pg_base.specs.declared.side.Side.{Side}
-use Rattle.pg_base.specs.declared.side.Side.TheVariants.{X, Y}
-use Rattle.pg_graph.specs.Graph.{edge_count, first_end_of, second_end_of}
-use Rattle.pg_game.specs.declared.position.Position.{Position}
-use Rattle.pg_switch.specs.Span.{AreParts, AreJoiningTrees}
+use Rattle.pg_span.specs.Prelude.{All, FinSet, nat_cmp, Side, X, Y, edge_count, first_end_of, second_end_of, Position, AreParts, AreJoiningTrees}
 use Rattle.pg_span.specs.Game.{marks_at}
 use Rattle.pg_span.specs.declared.cert.SpanBody.{SpanBody}
 use Rattle.pg_span.specs.declared.cert.SpanBody.TheVariants.{Trees, Parts}

@@ -1,7 +1,6 @@
 //! The edge that a player by parts claims.
 ghost use Rattle.std.specs.Prelude.{◌≡◌, ◌≤◌, length, slice_index};
-ghost use Rattle.pg_graph.specs.Graph.{IsGraph, edge_count, first_end_of, second_end_of};
-ghost use Rattle.pg_switch.specs.Span.{crosses};
+ghost use Rattle.pg_span.specs.Prelude.{IsGraph, edge_count, first_end_of, second_end_of, crosses};
 ghost use Rattle.pg_span.specs.Answers.{parts_edge};
 
 use pg_game::Position;

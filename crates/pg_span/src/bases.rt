@@ -1,7 +1,6 @@
 //! Two settled bases.
 ghost use Rattle.std.specs.Prelude.{◌≡◌};
-ghost use Rattle.std.specs.FinSet.{contains};
-ghost use Rattle.pg_exchange.specs.Chain.{AreBases};
+ghost use Rattle.pg_span.specs.Prelude.{contains, AreBases};
 
 use pg_base::PointSet;
 use pg_exchange::{Exchange, Ground};

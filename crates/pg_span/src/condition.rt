@@ -1,17 +1,10 @@
 //! Whether trees and parts hold.
 ghost use Rattle.std.specs.Prelude.{◌≡◌, ◌&&◌, ℕ, ◌<◌, ◌≤◌, ◌↔◌, IfSome, IsTrue, Some, length, slice_index, true};
-ghost use Rattle.std.specs.FinSet.{contains};
-ghost use Rattle.pg_base.specs.declared.side.Side.TheVariants.{X};
-ghost use Rattle.pg_graph.specs.Graph.{edge_count, first_end_of, second_end_of};
+ghost use Rattle.pg_span.specs.Prelude.{contains, X, edge_count, first_end_of, second_end_of, is_free, MAX_VERTICES, IsFirst, crosses, crossing, image, with_first, AreBelow, count, either};
 ghost use Rattle.pg_base.specs.declared.limits.TheConstants.{MAX_EDGES};
-ghost use Rattle.pg_game.specs.Position.{is_free};
-ghost use Rattle.pg_game.specs.declared.bounds.TheConstants.{MAX_VERTICES};
-ghost use Rattle.pg_switch.specs.Span.{IsFirst, crosses, crossing, image, with_first};
 ghost use Rattle.pg_span.specs.Game.{marks_at};
 ghost use Rattle.pg_span.specs.Conditions.{AreFew, AreFree, AreFreePair};
 ghost use Rattle.pg_span.specs.Judge.{IsJudgeOf, connects};
-ghost use Rattle.pg_base.specs.Points.{AreBelow};
-ghost use Rattle.pg_base.specs.Sets.{count, either};
 ghost use Rattle.pg_span.specs.Valid.{AreTreesOfGame, ArePartsOfGame};
 ghost use Rattle.pg_span.specs.declared.cert.TheConstants.{PART_NUMBERS};
 

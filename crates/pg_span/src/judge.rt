@@ -1,10 +1,6 @@
 //! Whether a connectivity game is over and who has won.
 ghost use Rattle.std.specs.Prelude.{◌≡◌, ◌<◌, true, IfOk};
-ghost use Rattle.std.specs.FinSet.{contains};
-ghost use Rattle.pg_base.specs.Points.{AreBelow};
-ghost use Rattle.pg_graph.specs.Graph.{IsGraph, edge_count};
-ghost use Rattle.pg_graph.specs.Joiner.{IsMadeFor};
-ghost use Rattle.pg_game.specs.Judging.{ending_by, judged_by};
+ghost use Rattle.pg_span.specs.Prelude.{contains, AreBelow, IsGraph, edge_count, IsMadeFor, ending_by, judged_by};
 ghost use Rattle.pg_span.specs.Judge.{connects, IsJudgeOf};
 ghost use Rattle.pg_span.specs.Game.{span_rules_of};
 

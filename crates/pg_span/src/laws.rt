@@ -1,8 +1,7 @@
 //! Laws of connectivity games. Each function is empty: what it promises is a law of the definitions
 //! alone.
 ghost use Rattle.std.specs.Prelude.{◌≡◌, ℕ, Some};
-ghost use Rattle.pg_base.specs.declared.goal.Goal.TheVariants.{Win};
-ghost use Rattle.pg_game.specs.Rules.{ForcesBy};
+ghost use Rattle.pg_span.specs.Prelude.{Win, ForcesBy};
 ghost use Rattle.pg_span.specs.Game.{marks_at, span_class, span_rules_of};
 ghost use Rattle.pg_span.specs.Solved.{AreDueClaims, named};
 ghost use Rattle.pg_span.specs.Valid.{IsFirstFlaw, IsSpanClaimValid, IsSpanValid};

@@ -1,10 +1,6 @@
 //! A player's own moves by trees and by parts.
 ghost use Rattle.std.specs.Prelude.{◌≡◌, ◌<◌, Option, Some, None};
-ghost use Rattle.std.specs.FinSet.{remove};
-ghost use Rattle.pg_base.specs.Points.{AreBelow};
-ghost use Rattle.pg_graph.specs.Graph.{IsGraph, edge_count};
-ghost use Rattle.pg_graph.specs.Joiner.{IsMadeFor};
-ghost use Rattle.pg_game.specs.Trees.{answered_edge};
+ghost use Rattle.pg_span.specs.Prelude.{remove, AreBelow, IsGraph, edge_count, IsMadeFor, answered_edge};
 ghost use Rattle.pg_span.specs.Answers.{span_move};
 ghost use Rattle.pg_span.specs.Plan.{plan_of, AreTreesOf, IsMovable};
 

@@ -1,8 +1,6 @@
 //! A player of one side of a connectivity game by a checked claim.
 ghost use Rattle.std.specs.Prelude.{◌≡◌, ℕ, List, Some, None, Err, true, false, IfOk, IfErr, IfSome, IsTrue, ◌↔◌, option_map};
-ghost use Rattle.pg_base.specs.declared.goal.Goal.TheVariants.{Win};
-ghost use Rattle.pg_game.specs.Judging.{ending_by, judged_by};
-ghost use Rattle.pg_game.specs.Rules.{reaches, ForcesBy, IsPlayBy, played_by};
+ghost use Rattle.pg_span.specs.Prelude.{Win, ending_by, judged_by, reaches, ForcesBy, IsPlayBy, played_by};
 ghost use Rattle.pg_span.specs.Player.{is_span_claim_of, chosen_span_claim, span_start, SpanWaits, MakesSpanMove, MovesInSpan, AnswersInSpan};
 ghost use Rattle.pg_span.specs.Playing.{IsDue};
 ghost use Rattle.pg_span.specs.Game.{span_rules_of};

@@ -1,7 +1,6 @@
 //! Who wins a connectivity game.
 ghost use Rattle.std.specs.Prelude.{◌≡◌, ◌<◌, ◌↔◌, ℕ, length, slice_index, Some, IfOk, IsTrue};
-ghost use Rattle.std.specs.FinSet.{contains};
-ghost use Rattle.pg_exchange.specs.Chain.{AreBases};
+ghost use Rattle.pg_span.specs.Prelude.{contains, AreBases};
 ghost use Rattle.pg_span.specs.FreeEdges.{free_matroid};
 ghost use Rattle.pg_span.specs.Game.{span_class};
 ghost use Rattle.pg_span.specs.Solved.{AreDueClaims, HavePartsBelow, SolvedHolds, SolvedIsSmall, named};

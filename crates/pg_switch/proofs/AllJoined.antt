@@ -1,11 +1,7 @@
 -- Edges join every two vertices where walks do.
 use Rattle.std.proofs.Common.{◌≡◌, ℕ, ◌<◌, ◌≤◌, zero, suc, Bool, true, refl, ◌∙◌, arith}
 use Rattle.std.specs.Prelude.{◌↔◌, IsTrue}
-use Rattle.std.proofs.lemmas.Bool.{and_from}
-use Rattle.pg_base.specs.Sets.{below}
-use Rattle.pg_graph.specs.Walks.{joins}
-use Rattle.pg_graph.proofs.GraphLemmas.{joins-below}
-use Rattle.pg_graph.proofs.WalkLemmas.{joins_sound, joins_complete}
+use Rattle.pg_switch.proofs.Common.{and_from, below, joins, joins-below, joins_sound, joins_complete}
 use Rattle.pg_switch.specs.Span.{joins_below, joins_pairs, joins_all, AreAllJoined}
 use Rattle.pg_switch.proofs.PartLemmas.{joined_pairs}
 

@@ -1,33 +1,11 @@
 -- The answers by trees and by cuts are free edges, and the sets hold after them.
 use Rattle.std.proofs.Common.{◌≡◌, ◌≢◌, ℕ, ◌<◌, ◌≤◌, suc, Bool, true, false, Option, Some, None, inl, inr, sym, ap, ◌∙◌, subst, subst₂, arith}
-use Rattle.std.proofs.lemmas.Bool.{cases_Bool, cases_eq, both_ways, false_from_ne_true}
-use Rattle.std.specs.FinSet.{FinSet, contains, remove}
-use Rattle.std.specs.Ordering.{nat_cmp}
 use Rattle.std.specs.Prelude.{unwrap_or}
-use Rattle.pg_base.specs.Sets.{plus, minus, either, outside}
-use Rattle.pg_base.specs.declared.side.Side.{Side}
-use Rattle.pg_base.specs.declared.side.Side.TheVariants.{X, Y}
-use Rattle.pg_base.specs.Side.{other}
-use Rattle.pg_base.proofs.BelowLemmas.{same_sets}
-use Rattle.pg_base.proofs.PointSetLaws.{contains-remove_minus}
-use Rattle.pg_base.proofs.SetLemmas.{minus_parts, minus_from}
-use Rattle.pg_graph.specs.declared.graph.Graph.{Graph}
-use Rattle.pg_graph.specs.Graph.{edge_count, spans_in, first_end_of, second_end_of, joins_in}
-use Rattle.pg_graph.specs.Joiner.{AreEdges, Crosses}
-use Rattle.pg_graph.specs.Span.{IsTrees, IsCuts}
-use Rattle.pg_graph.proofs.GraphLemmas.{IsSpan-graph, spans_in-joins}
-use Rattle.pg_graph.proofs.Trees.{IsTrees-other, IsTrees-claimed}
+use Rattle.pg_switch.proofs.Common.{cases_Bool, cases_eq, both_ways, false_from_ne_true, FinSet, contains, remove, nat_cmp, plus, minus, either, outside, Side, X, Y, other, same_sets, contains-remove_minus, minus_parts, minus_from, Graph, edge_count, spans_in, first_end_of, second_end_of, joins_in, AreEdges, Crosses, IsTrees, IsCuts, IsSpan-graph, spans_in-joins, IsTrees-other, IsTrees-claimed, Field, Game, Position, field_points, terminals_joined, AreBelow, point_count, is_over, after, IsPosition, IsFreeEdge, AreFreeEdges, AreFreeWithE, AreTrees, AreCuts, TreesHold, TreesHoldOn, CutsHold, CutsHoldOn, with_set, without_set, lowest_free_edge, answered_edge, short_edge, cut_edge, free-stays}
 use Rattle.pg_graph.proofs.TreeAnswers.{IsTrees-crossed, IsTrees-uncrossed}
 use Rattle.pg_graph.proofs.Cuts.{IsCuts-other, IsCuts-claimed, IsCuts-dropped, IsCuts-answered, find_parting}
-use Rattle.pg_game.specs.declared.field.Field.{Field}
 use Rattle.pg_game.specs.declared.field.Field.TheVariants.{Graph as OnGraph}
-use Rattle.pg_game.specs.declared.game.Game.{Game}
-use Rattle.pg_game.specs.declared.position.Position.{Position}
-use Rattle.pg_game.specs.Field.{field_points, terminals_joined}
-use Rattle.pg_game.specs.Fit.{AreBelow}
-use Rattle.pg_game.specs.Game.{point_count, is_over, after, IsPosition}
-use Rattle.pg_game.specs.Trees.{IsFreeEdge, AreFreeEdges, AreFreeWithE, AreTrees, AreCuts, TreesHold, TreesHoldOn, CutsHold, CutsHoldOn, with_set, without_set, lowest_free_edge, answered_edge, short_edge, cut_edge}
-use Rattle.pg_game.proofs.Moves.{side≢other, free-stays}
+use Rattle.pg_game.proofs.Moves.{side≢other}
 use Rattle.pg_game.proofs.Strategy.{free_point}
 use Rattle.pg_switch.specs.Replies.{short_reply, cut_reply, HeldUntil}
 use Rattle.pg_switch.proofs.ClaimLaws.{y-next_x, x-plus, x-same, kept-same, kept-minus}

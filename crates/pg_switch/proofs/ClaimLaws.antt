@@ -1,22 +1,6 @@
 -- Games in which X wants its points to pass a test: positions, and answers that force a win.
 use Rattle.std.proofs.Common.{◌≡◌, ℕ, ◌<◌, Bool, true, false, not, ◌||◌, ◌⊎◌, cond, inl, inr, refl, sym, ap, ◌∙◌, subst}
-use Rattle.std.proofs.lemmas.Bool.{cases_Bool, both_ways, and_parts, and_from, false_from_ne_true, true_from_ne_false, not-true, not_from_false, or_left, or_right, eq-eqb, ne_eqb}
-use Rattle.std.specs.FinSet.{FinSet, contains, insert}
-use Rattle.std.specs.Ordering.{nat_cmp}
-use Rattle.pg_base.specs.Sets.{plus, minus, below, IsWithin}
-use Rattle.pg_base.specs.declared.goal.Goal.TheVariants.{Win}
-use Rattle.pg_base.specs.declared.score.Score.TheVariants.{XWins, YWins}
-use Rattle.pg_base.specs.declared.side.Side.{Side}
-use Rattle.pg_base.specs.declared.side.Side.TheVariants.{X, Y}
-use Rattle.pg_base.specs.Side.{other}
-use Rattle.pg_base.proofs.BelowLemmas.{below_parts, below_from, same_sets}
-use Rattle.pg_base.proofs.PointSetLaws.{contains-insert_plus, insert-cases, insert-old, insert-self}
-use Rattle.pg_base.proofs.SetLemmas.{minus_parts, minus_from}
-use Rattle.pg_game.specs.declared.position.Position.{Position}
-use Rattle.pg_game.specs.Position.{is_free, claims_in_turn}
-use Rattle.pg_game.specs.Rules.{moved, reaches, ForcesBy, IsEnding, KeepsBy}
-use Rattle.pg_game.proofs.RulesLaws.{is_free-moved, some_free, ForcesBy-from_keeps}
-use Rattle.pg_game.proofs.Sides.{side≢other, side_cases, other_other}
+use Rattle.pg_switch.proofs.Common.{cases_Bool, both_ways, and_parts, and_from, false_from_ne_true, true_from_ne_false, not-true, not_from_false, or_left, or_right, eq-eqb, ne_eqb, FinSet, contains, insert, nat_cmp, plus, minus, below, IsWithin, Win, XWins, YWins, Side, X, Y, other, below_parts, below_from, same_sets, contains-insert_plus, insert-cases, insert-old, insert-self, minus_parts, minus_from, Position, is_free, claims_in_turn, moved, reaches, ForcesBy, IsEnding, KeepsBy, is_free-moved, some_free, ForcesBy-from_keeps, side≢other, side_cases, other_other}
 use Rattle.pg_switch.specs.Claims.{kept, claim_rules, IsMonotone, IsPlace}
 
 -- ---- positions after a move

@@ -1,17 +1,7 @@
 -- The tests of trees and cuts say what the definitions say.
 use Rattle.std.proofs.Common.{◌≡◌, ℕ, Bool, true, false, inl, inr, sym, ap, ◌∙◌, subst, arith}
 use Rattle.std.specs.Prelude.{◌↔◌, IsTrue}
-use Rattle.std.proofs.lemmas.Bool.{both_ways}
-use Rattle.std.specs.FinSet.{FinSet, contains, insert, union, difference}
-use Rattle.std.specs.Ordering.{nat_cmp}
-use Rattle.pg_base.specs.Sets.{outside}
-use Rattle.pg_base.proofs.PointSetLaws.{contains-union_either, contains-difference_outside, insert-cases, insert-old, insert-self}
-use Rattle.pg_base.proofs.SetLemmas.{outside_parts}
-use Rattle.pg_graph.specs.declared.graph.Graph.{Graph}
-use Rattle.pg_graph.specs.Graph.{edge_count, JoinsEndsOf, IsBridge}
-use Rattle.pg_graph.specs.Joiner.{AreEdges}
-use Rattle.pg_game.specs.declared.position.Position.{Position}
-use Rattle.pg_game.specs.Trees.{with_set, without_set}
+use Rattle.pg_switch.proofs.Common.{both_ways, FinSet, contains, insert, union, difference, nat_cmp, outside, contains-union_either, contains-difference_outside, insert-cases, insert-old, insert-self, outside_parts, Graph, edge_count, JoinsEndsOf, IsBridge, AreEdges, Position, with_set, without_set}
 use Rattle.pg_switch.specs.Parts.{JoinsOther, BridgesOther}
 use Rattle.pg_switch.proofs.EdgeSets.{left_edges, left_edges-below, bridge-same, without-agree}
 

@@ -1,23 +1,6 @@
 -- Edges that are left at a position, and sets of edges that are trees or cuts.
 use Rattle.std.proofs.Common.{◌≡◌, ℕ, ◌<◌, ◌≤◌, suc, Bool, true, false, not, ◌&&◌, inl, inr, refl, sym, ap, ◌∙◌, subst, arith}
-use Rattle.std.proofs.lemmas.Bool.{both_ways, false_from_ne_true, not-true, not_from_false}
-use Rattle.std.specs.FinSet.{FinSet, contains}
-use Rattle.std.specs.Ordering.{nat_cmp}
-use Rattle.pg_base.specs.Sets.{minus, outside, IsWithin, IsBelow}
-use Rattle.pg_base.specs.declared.side.Side.{Side}
-use Rattle.pg_base.specs.declared.side.Side.TheVariants.{X, Y}
-use Rattle.pg_base.proofs.BelowLemmas.{below_parts, below_from}
-use Rattle.pg_base.proofs.SetLemmas.{either_cases}
-use Rattle.pg_graph.specs.declared.graph.Graph.{Graph}
-use Rattle.pg_graph.specs.Graph.{edge_count, first_end_of, second_end_of, spans_in, IsBridge}
-use Rattle.pg_graph.specs.Joiner.{AreEdges}
-use Rattle.pg_graph.specs.Span.{IsTrees, IsCuts}
-use Rattle.pg_graph.specs.Walks.{edge_spans}
-use Rattle.pg_graph.proofs.GraphLemmas.{joins_same, spans_in-sound, spans_in-complete, unspanned-from, unspanned-apart}
-use Rattle.pg_game.specs.declared.position.Position.{Position}
-use Rattle.pg_game.specs.Fit.{AreBelow}
-use Rattle.pg_game.specs.Trees.{AreFreeEdges, AreFreeWithE, with_set, without_set, AreTrees, AreCuts}
-use Rattle.pg_game.proofs.Moves.{free-of}
+use Rattle.pg_switch.proofs.Common.{both_ways, false_from_ne_true, not-true, not_from_false, FinSet, contains, nat_cmp, minus, outside, IsWithin, IsBelow, Side, X, Y, below_parts, below_from, either_cases, Graph, edge_count, first_end_of, second_end_of, spans_in, IsBridge, AreEdges, IsTrees, IsCuts, edge_spans, joins_same, spans_in-sound, spans_in-complete, unspanned-from, unspanned-apart, Position, AreBelow, AreFreeEdges, AreFreeWithE, with_set, without_set, AreTrees, AreCuts, free-of}
 use Rattle.pg_switch.specs.Claims.{kept}
 
 -- the edges that aren't Y's, with e

@@ -1,22 +1,8 @@
 -- The lowest edges that pass a test, as they are found and as they are said.
 use Rattle.std.proofs.Common.{◌≡◌, ℕ, ◌<◌, ◌≤◌, ◌+◌, zero, suc, Bool, true, false, not, ◌&&◌, ◌||◌, ◌⊎◌, Option, Some, None, inl, inr, refl, sym, ap, ◌∙◌, subst, arith}
 use Rattle.std.specs.Prelude.{IfSome, IfNone, unwrap_or}
-use Rattle.std.proofs.lemmas.Bool.{cases_Bool, cases_eq, both_ways, and_parts, and_from, false_from_ne_true, true_from_ne_false, not-true, not_from_false}
-use Rattle.std.specs.List.{find, range_with_len}
-use Rattle.std.specs.FinSet.{FinSet, contains, remove}
-use Rattle.std.specs.Ordering.{nat_cmp}
-use Rattle.pg_base.specs.Sets.{minus}
-use Rattle.pg_base.proofs.PointSetLaws.{remove-self, remove-other, remove-old}
-use Rattle.pg_base.proofs.SetLemmas.{minus_self, minus_same}
-use Rattle.pg_graph.specs.declared.graph.Graph.{Graph}
-use Rattle.pg_graph.specs.Graph.{edge_count, first_end_of, second_end_of, joins_in}
-use Rattle.pg_graph.specs.Joiner.{AreEdges, Crosses, crosses, Parts, parts, IsLowest}
+use Rattle.pg_switch.proofs.Common.{cases_Bool, cases_eq, both_ways, and_parts, and_from, false_from_ne_true, true_from_ne_false, not-true, not_from_false, find, range_with_len, FinSet, contains, remove, nat_cmp, minus, remove-self, remove-other, remove-old, minus_self, minus_same, Graph, edge_count, first_end_of, second_end_of, joins_in, AreEdges, Crosses, crosses, Parts, parts, IsLowest, joins, joins_same, joins_in-complete, Position, is_free, IsFreeEdge, differ, lowest_crossing, lowest_parting, lowest_free_edge}
 use Rattle.pg_graph.proofs.EdgeTests.{crosses-sound, crosses-complete, parts-sound, parts-complete}
-use Rattle.pg_graph.specs.Walks.{joins}
-use Rattle.pg_graph.proofs.GraphLemmas.{joins_same, joins_in-complete}
-use Rattle.pg_game.specs.declared.position.Position.{Position}
-use Rattle.pg_game.specs.Position.{is_free}
-use Rattle.pg_game.specs.Trees.{IsFreeEdge, differ, lowest_crossing, lowest_parting, lowest_free_edge}
 use Rattle.pg_game.proofs.Lowest.{first_from, none_from}
 use Rattle.pg_switch.proofs.EdgeSets.{minus-agree}
 

@@ -1,26 +1,7 @@
 -- Trees force Maker's win in a connectivity game.
 use Rattle.std.proofs.Common.{◌≡◌, ℕ, ◌+◌, ◌-◌, ◌<◌, ◌≤◌, Bool, true, false, not, ◌&&◌, ltb, cond, List, [], ◌∷◌, Some, None, inl, inr, sym, ap, ◌∙◌, subst, subst₂, arith}
 use Rattle.std.specs.Prelude.{Option}
-use Rattle.std.proofs.lemmas.Bool.{cases_Bool, cases_lt, both_ways, and_parts, and_from, not-true, not_from_false, cond-true, cond-false, lt-ltb, le-ltb, ltb-true}
-use Rattle.std.specs.FinSet.{FinSet, contains, insert}
-use Rattle.std.specs.Ordering.{nat_cmp}
-use Rattle.pg_base.specs.Sets.{plus, below, either, IsWithin, IsBelow}
-use Rattle.pg_base.specs.declared.goal.Goal.TheVariants.{Win}
-use Rattle.pg_base.specs.declared.side.Side.TheVariants.{X, Y}
-use Rattle.pg_base.specs.Side.{other}
-use Rattle.pg_base.proofs.BelowLemmas.{below_parts, below_from}
-use Rattle.pg_base.proofs.PointSetLaws.{contains-insert_plus}
-use Rattle.pg_base.proofs.SetLemmas.{minus_from, either_cases, plus_cases}
-use Rattle.pg_graph.specs.Span.{IsSpan, IsTrees}
-use Rattle.pg_graph.specs.Walks.{IsWalk, IsJoined, joins, edge_spans}
-use Rattle.pg_graph.proofs.Spans.{IsSpan-edges, edge_spans_sound, edge_spans_complete}
-use Rattle.pg_graph.proofs.WalkLemmas.{joined_on, joined_back, joined_more, joins_sound, joins_complete}
-use Rattle.pg_graph.proofs.GraphLemmas.{joins-below}
-use Rattle.pg_game.specs.declared.position.Position.{Position}
-use Rattle.pg_game.specs.Position.{is_free}
-use Rattle.pg_game.specs.Rules.{ForcesBy}
-use Rattle.pg_game.proofs.RulesLaws.{ForcesBy-over, ForcesBy-move}
-use Rattle.pg_game.proofs.Sides.{side≢other}
+use Rattle.pg_switch.proofs.Common.{cases_Bool, cases_lt, both_ways, and_parts, and_from, not-true, not_from_false, cond-true, cond-false, lt-ltb, le-ltb, ltb-true, FinSet, contains, insert, nat_cmp, plus, below, either, IsWithin, IsBelow, Win, X, Y, other, below_parts, below_from, contains-insert_plus, minus_from, either_cases, plus_cases, IsSpan, IsTrees, IsWalk, IsJoined, joins, edge_spans, IsSpan-edges, edge_spans_sound, edge_spans_complete, joined_on, joined_back, joined_more, joins_sound, joins_complete, joins-below, Position, is_free, ForcesBy, ForcesBy-over, ForcesBy-move, side≢other}
 use Rattle.pg_switch.specs.Claims.{kept, claim_rules, IsPlace}
 use Rattle.pg_switch.specs.Span.{joins_all, connectivity_rules, AreJoiningTrees}
 use Rattle.pg_switch.proofs.ClaimLaws.{next, turn-next, IsPlace-next, IsEnding-claims, free-next, x-plus, x-kept, free-kept, x_wins}

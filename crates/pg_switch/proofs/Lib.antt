@@ -1,3 +1,4 @@
+mod Common
 pub mod EdgeSets
 pub mod SwitchLaws
 pub mod Conditions

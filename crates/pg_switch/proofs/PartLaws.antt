@@ -1,18 +1,6 @@
 -- Parts force Breaker's win in a connectivity game.
 use Rattle.std.proofs.Common.{◌≡◌, ◌≢◌, ℕ, ◌+◌, ◌*◌, ◌<◌, ◌≤◌, zero, suc, Bool, true, false, ◌&&◌, refl, inl, inr, sym, ap, subst, arith}
-use Rattle.std.proofs.lemmas.Bool.{cases_Bool, both_ways, and_parts, and_from, false_from_ne_true, not-true}
-use Rattle.std.specs.FinSet.{contains}
-use Rattle.pg_base.specs.Sets.{plus, minus, below, count, IsWithin}
-use Rattle.pg_base.specs.declared.goal.Goal.TheVariants.{Win}
-use Rattle.pg_base.specs.declared.side.Side.{Side}
-use Rattle.pg_base.specs.declared.side.Side.TheVariants.{Y}
-use Rattle.pg_base.proofs.BelowLemmas.{below_parts, below_from}
-use Rattle.pg_base.proofs.SetLemmas.{find_below, minus_parts, minus_from, plus_cases, plus_old, plus_new, count_le, count_plus, count_minus, one_if-false}
-use Rattle.pg_graph.specs.Walks.{joins}
-use Rattle.pg_graph.proofs.GraphLemmas.{joins_more}
-use Rattle.pg_game.specs.declared.position.Position.{Position}
-use Rattle.pg_game.specs.Position.{is_free}
-use Rattle.pg_game.specs.Rules.{ForcesBy}
+use Rattle.pg_switch.proofs.Common.{cases_Bool, both_ways, and_parts, and_from, false_from_ne_true, not-true, contains, plus, minus, below, count, IsWithin, Win, Side, Y, below_parts, below_from, find_below, minus_parts, minus_from, plus_cases, plus_old, plus_new, count_le, count_plus, count_minus, one_if-false, joins, joins_more, Position, is_free, ForcesBy}
 use Rattle.pg_switch.specs.Claims.{IsMonotone, IsPlace}
 use Rattle.pg_switch.specs.Span.{joins_below, joins_pairs, joins_all, connectivity_rules, image, crosses, crossing, spare, AreParts}
 use Rattle.pg_switch.proofs.ClaimLaws.{CanAnswer, next, free-next, x-plus, x-same, y_wins, forces-ready}

@@ -1,17 +1,7 @@
 -- What the plans' answers keep.
 use Rattle.std.proofs.Common.{◌≡◌, ℕ, ◌<◌, true, false, Option, sym, ap, ◌∙◌, subst, subst₂, arith}
-use Rattle.std.specs.FinSet.{FinSet, contains, remove}
-use Rattle.std.specs.Ordering.{nat_cmp}
-use Rattle.pg_base.specs.declared.side.Side.TheVariants.{X, Y}
-use Rattle.pg_graph.specs.declared.graph.Graph.{Graph}
-use Rattle.pg_game.specs.declared.field.Field.{Field}
+use Rattle.pg_switch.proofs.Common.{FinSet, contains, remove, nat_cmp, X, Y, Graph, Field, Game, Position, field_points, point_count, is_over, after, IsPosition, is_free, Answered, claimed, IsFreeEdge, TreesHold, TreesHoldOn, CutsHold, CutsHoldOn, answered_edge, short_edge, cut_edge, trees_answer, cuts_answer}
 use Rattle.pg_game.specs.declared.field.Field.TheVariants.{Graph as OnGraph}
-use Rattle.pg_game.specs.declared.game.Game.{Game}
-use Rattle.pg_game.specs.declared.position.Position.{Position}
-use Rattle.pg_game.specs.Field.{field_points}
-use Rattle.pg_game.specs.Game.{point_count, is_over, after, IsPosition}
-use Rattle.pg_game.specs.Position.{is_free}
-use Rattle.pg_game.specs.Trees.{Answered, claimed, IsFreeEdge, TreesHold, TreesHoldOn, CutsHold, CutsHoldOn, answered_edge, short_edge, cut_edge, trees_answer, cuts_answer}
 use Rattle.pg_switch.specs.Replies.{HeldUntil, IsTreesAnswer, IsCutsAnswer}
 use Rattle.pg_switch.proofs.AnswerLaws.{TreesDue, CutsDue, IsShortEdge, short-kept, short-holds, trees-due, IsCutEdge, cut-kept, cut-holds, cuts-due, some_free, left-without_e}
 

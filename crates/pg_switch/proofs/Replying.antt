@@ -1,16 +1,7 @@
 -- The replies that the code finds are those of the definitions.
 use Rattle.std.proofs.Common.{◌≡◌, ℕ, Bool, true, Option, Some, None, refl, sym, ap, ap₂, ◌∙◌, subst}
 use Rattle.std.specs.Prelude.{IfSome, IfNone, unwrap_or}
-use Rattle.std.specs.FinSet.{FinSet, contains, remove, union}
-use Rattle.std.specs.Ordering.{nat_cmp}
-use Rattle.pg_base.specs.Sets.{outside}
-use Rattle.pg_base.proofs.PointSetLaws.{contains-union_either, remove-old}
-use Rattle.pg_graph.specs.declared.graph.Graph.{Graph}
-use Rattle.pg_graph.specs.Graph.{edge_count, first_end_of, second_end_of}
-use Rattle.pg_graph.specs.Joiner.{AreEdges, Crosses, Parts, IsLowest}
-use Rattle.pg_game.specs.declared.position.Position.{Position}
-use Rattle.pg_game.specs.Fit.{AreBelow}
-use Rattle.pg_game.specs.Trees.{lowest_crossing, lowest_parting, with_set, without_set}
+use Rattle.pg_switch.proofs.Common.{FinSet, contains, remove, union, nat_cmp, outside, contains-union_either, remove-old, Graph, edge_count, first_end_of, second_end_of, AreEdges, Crosses, Parts, IsLowest, Position, AreBelow, lowest_crossing, lowest_parting, with_set, without_set}
 use Rattle.pg_switch.proofs.EdgeSets.{left_edges, with_set-edges, without-agree}
 use Rattle.pg_switch.proofs.Finding.{crossing-found, parting-found}
 

@@ -1,32 +1,11 @@
 -- A switching game's rules are those of a test, so trees that hold force Short's win, and cuts that
 -- hold force Cut's, by the laws of spanning.
 use Rattle.std.proofs.Common.{◌≡◌, ℕ, ◌<◌, ◌≤◌, suc, Bool, not, ◌||◌, cond, refl, sym, ap, ◌∙◌, subst, arith}
+use Rattle.pg_switch.proofs.Common.{false_from_ne_true, FinSet, contains, nat_cmp, IsBelow, Win, XWins, YWins, Side, X, Y, Graph, edge_count, spans_in, first_end, second_end, IsSpan-graph, spans_e-sound, spans_e-complete, joins-below, joins_more, Field, Lines, Game, Position, field_points, field_joins, terminals_joined, greatest_bias, is_over, is_over_by, outcome, outcome_by, short_joins, can_join, has_filled, all_touched, is_full, IsPosition, claims_in_turn, Rules, ForcesBy, AreTrees, AreCuts, TreesHold, TreesHoldOn, CutsHold, CutsHoldOn, rules_of, Forces}
 use Rattle.std.proofs.Math.Path.{fun_ext, ap₂}
-use Rattle.std.proofs.lemmas.Bool.{false_from_ne_true}
-use Rattle.std.specs.FinSet.{FinSet, contains}
-use Rattle.std.specs.Ordering.{nat_cmp}
-use Rattle.pg_base.specs.Sets.{IsBelow}
-use Rattle.pg_base.specs.declared.goal.Goal.TheVariants.{Win}
 use Rattle.pg_base.specs.declared.kind.Kind.{Kind}
 use Rattle.pg_base.specs.declared.score.Score.{Score}
-use Rattle.pg_base.specs.declared.score.Score.TheVariants.{XWins, YWins}
-use Rattle.pg_base.specs.declared.side.Side.{Side}
-use Rattle.pg_base.specs.declared.side.Side.TheVariants.{X, Y}
-use Rattle.pg_graph.specs.declared.graph.Graph.{Graph}
-use Rattle.pg_graph.specs.Graph.{edge_count, spans_in}
-use Rattle.pg_graph.specs.Walks.{first_end, second_end}
-use Rattle.pg_graph.proofs.GraphLemmas.{IsSpan-graph, spans_e-sound, spans_e-complete, joins-below, joins_more}
-use Rattle.pg_game.specs.declared.field.Field.{Field}
-use Rattle.pg_game.specs.declared.field.Field.TheVariants.{Lines, Graph as OnGraph}
-use Rattle.pg_game.specs.declared.game.Game.{Game}
-use Rattle.pg_game.specs.declared.position.Position.{Position}
-use Rattle.pg_game.specs.Field.{field_points, field_joins, terminals_joined}
-use Rattle.pg_game.specs.Fit.{greatest_bias}
-use Rattle.pg_game.specs.Game.{is_over, is_over_by, outcome, outcome_by, short_joins, can_join, has_filled, all_touched, is_full, IsPosition}
-use Rattle.pg_game.specs.Position.{claims_in_turn}
-use Rattle.pg_game.specs.Rules.{Rules, ForcesBy}
-use Rattle.pg_game.specs.Trees.{AreTrees, AreCuts, TreesHold, TreesHoldOn, CutsHold, CutsHoldOn}
-use Rattle.pg_game.specs.Value.{rules_of, Forces}
+use Rattle.pg_game.specs.declared.field.Field.TheVariants.{Graph as OnGraph}
 use Rattle.pg_game.proofs.Outcomes.{switching-on_graph}
 use Rattle.pg_game.proofs.TerminalLemmas.{terminals-from_joined}
 use Rattle.pg_switch.specs.Claims.{kept, claim_rules, IsMonotone, IsPlace}

@@ -3,16 +3,7 @@
 -- is whether edges join the terminals, on vectors whether they sum to a target, in a connectivity
 -- game whether edges join every two vertices.
 use Rattle.std.specs.Prelude.{◌≡◌, ◌⊎◌, ◌<◌, ℕ, suc, Bool, true, false, not, ◌||◌, if◌then◌else◌}
-use Rattle.std.specs.FinSet.{FinSet, contains}
-use Rattle.std.specs.Ordering.{nat_cmp}
-use Rattle.pg_base.specs.Points.{ShareNone}
-use Rattle.pg_base.specs.Sets.{below, minus, either, outside, IsWithin}
-use Rattle.pg_base.specs.declared.score.Score.TheVariants.{XWins, YWins}
-use Rattle.pg_base.specs.declared.side.Side.{Side}
-use Rattle.pg_base.specs.declared.side.Side.TheVariants.{X, Y}
-use Rattle.pg_game.specs.declared.position.Position.{Position}
-use Rattle.pg_game.specs.Position.{is_free}
-use Rattle.pg_game.specs.Rules.{Rules}
+use Rattle.pg_switch.specs.Prelude.{FinSet, contains, nat_cmp, ShareNone, below, minus, either, outside, IsWithin, XWins, YWins, Side, X, Y, Position, is_free, Rules}
 
 -- ---- the points are the numbers below n
 

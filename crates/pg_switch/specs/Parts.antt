@@ -1,13 +1,6 @@
 -- The parts of the conditions on trees and on cuts.
 use Rattle.std.specs.Prelude.{◌≡◌, ℕ, true, false}
-use Rattle.std.specs.FinSet.{FinSet, contains}
-use Rattle.std.specs.Ordering.{nat_cmp}
-use Rattle.pg_base.specs.Points.{ShareNone}
-use Rattle.pg_base.specs.declared.side.Side.{Side}
-use Rattle.pg_graph.specs.declared.graph.Graph.{Graph}
-use Rattle.pg_graph.specs.Graph.{edge_count, JoinsEndsOf, IsBridge}
-use Rattle.pg_game.specs.declared.position.Position.{Position}
-use Rattle.pg_game.specs.Trees.{AreFreeWithE, AreFreeEdges, with_set, without_set}
+use Rattle.pg_switch.specs.Prelude.{FinSet, contains, nat_cmp, ShareNone, Side, Graph, edge_count, JoinsEndsOf, IsBridge, Position, AreFreeWithE, AreFreeEdges, with_set, without_set}
 
 -- disjoint sets of free edges, the first perhaps with e where the side is to move
 pub record AreFreePair (h : Graph) (p : Position) (side : Side)

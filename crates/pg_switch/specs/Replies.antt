@@ -1,17 +1,7 @@
 -- Replies to the loss of an edge, and when a plan may be asked.
 use Rattle.std.specs.Prelude.{◌≡◌, ℕ, ◌<◌, true, Option, Some, None, unwrap_or}
-use Rattle.std.specs.FinSet.{FinSet, remove}
-use Rattle.std.specs.Ordering.{nat_cmp}
-use Rattle.pg_base.specs.Side.{other}
-use Rattle.pg_graph.specs.declared.graph.Graph.{Graph}
-use Rattle.pg_graph.specs.Graph.{first_end_of, second_end_of}
-use Rattle.pg_game.specs.declared.field.Field.{Field}
-use Rattle.pg_game.specs.declared.field.Field.TheVariants.{Lines, Graph as OnGraph}
-use Rattle.pg_game.specs.declared.game.Game.{Game}
-use Rattle.pg_game.specs.declared.position.Position.{Position}
-use Rattle.pg_game.specs.Game.{point_count, after}
-use Rattle.pg_game.specs.Position.{is_free}
-use Rattle.pg_game.specs.Trees.{Answered, lowest_free_edge, lowest_crossing, lowest_parting, with_set, without_set, trees_answer, cuts_answer}
+use Rattle.pg_switch.specs.Prelude.{FinSet, remove, nat_cmp, other, Graph, first_end_of, second_end_of, Field, Lines, Game, Position, point_count, after, is_free, Answered, lowest_free_edge, lowest_crossing, lowest_parting, with_set, without_set, trees_answer, cuts_answer}
+use Rattle.pg_game.specs.declared.field.Field.TheVariants.{Graph as OnGraph}
 
 -- the lowest edge of the other set that crosses what is left of the one, else the lowest free edge
 abbrev pub short_reply : Graph → Position → FinSet nat_cmp → FinSet nat_cmp → ℕ → ℕ

@@ -1,16 +1,7 @@
 -- Connectivity games: Maker (X) wants his edges to join every two vertices, and Breaker (Y) that
 -- the edges which aren't his don't; and the conditions on trees and on parts.
 use Rattle.std.specs.Prelude.{◌≡◌, ◌<◌, ◌≤◌, ◌+◌, ◌*◌, ℕ, zero, suc, Bool, true, false, not, ◌&&◌, ◌||◌, ◌==◌, Option, Some, None, ⊤}
-use Rattle.std.specs.FinSet.{FinSet, contains, insert}
-use Rattle.std.specs.Ordering.{nat_cmp}
-use Rattle.pg_base.specs.Points.{ShareNone}
-use Rattle.pg_base.specs.Sets.{below, either, count}
-use Rattle.pg_base.specs.declared.side.Side.{Side}
-use Rattle.pg_base.specs.declared.side.Side.TheVariants.{X, Y}
-use Rattle.pg_graph.specs.Walks.{IsJoined, joins}
-use Rattle.pg_game.specs.declared.position.Position.{Position}
-use Rattle.pg_game.specs.Position.{is_free}
-use Rattle.pg_game.specs.Rules.{Rules}
+use Rattle.pg_switch.specs.Prelude.{FinSet, contains, insert, nat_cmp, ShareNone, below, either, count, Side, X, Y, IsJoined, joins, Position, is_free, Rules}
 use Rattle.pg_switch.specs.Claims.{claim_rules}
 
 -- ---- the vertices are the numbers below n; edge k below m has the ends a k and b k

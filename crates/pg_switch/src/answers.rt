@@ -1,10 +1,7 @@
 //! The edge that answers a reply.
 ghost use Rattle.std.specs.Prelude.{◌≡◌, ◌<◌, ◌≤◌};
-ghost use Rattle.std.specs.FinSet.{contains, remove};
+ghost use Rattle.pg_switch.specs.Prelude.{contains, remove, IsGraph, edge_count, IsMadeFor, AreEdges, short_edge, cut_edge, lowest_free_edge};
 ghost use Rattle.pg_base.specs.Points.{AreBelow};
-ghost use Rattle.pg_graph.specs.Graph.{IsGraph, edge_count};
-ghost use Rattle.pg_graph.specs.Joiner.{IsMadeFor, AreEdges};
-ghost use Rattle.pg_game.specs.Trees.{short_edge, cut_edge, lowest_free_edge};
 ghost use Rattle.pg_switch.specs.Replies.{short_reply, cut_reply};
 
 use crate::condition::edges_left;

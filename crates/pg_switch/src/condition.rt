@@ -1,14 +1,7 @@
 //! Whether trees and cuts hold.
 ghost use Rattle.std.specs.Prelude.{◌≡◌, ℕ, ◌↔◌, ◌⊎◌, not, suc, true, IsTrue};
-ghost use Rattle.std.specs.FinSet.{contains, insert};
+ghost use Rattle.pg_switch.specs.Prelude.{contains, insert, below, Switching, IsGraph, edge_count, IsMadeFor, AreEdges, point_count, IsPosition, IsMadeForGame, IsFreeEdge, AreTrees, AreCuts, TreesHold, CutsHold};
 ghost use Rattle.pg_base.specs.Points.{AreBelow};
-ghost use Rattle.pg_base.specs.Sets.{below};
-ghost use Rattle.pg_base.specs.declared.kind.Kind.TheVariants.{Switching};
-ghost use Rattle.pg_graph.specs.Graph.{IsGraph, edge_count};
-ghost use Rattle.pg_graph.specs.Joiner.{IsMadeFor, AreEdges};
-ghost use Rattle.pg_game.specs.Game.{point_count, IsPosition};
-ghost use Rattle.pg_game.specs.Judge.{IsMadeForGame};
-ghost use Rattle.pg_game.specs.Trees.{IsFreeEdge, AreTrees, AreCuts, TreesHold, CutsHold};
 ghost use Rattle.pg_switch.specs.Parts.{AreFreePair, JoinsOther, BridgesOther};
 
 use pg_base::{PointSet, Side};

@@ -1,17 +1,7 @@
 //! Laws of trees, cuts and parts. Each function is empty: what it promises is a law of the
 //! definitions alone.
-ghost use Rattle.std.specs.FinSet.{FinSet};
-ghost use Rattle.std.specs.Ordering.{nat_cmp};
-ghost use Rattle.pg_base.specs.declared.goal.Goal.TheVariants.{Win};
-ghost use Rattle.pg_base.specs.declared.side.Side.TheVariants.{X, Y};
-ghost use Rattle.pg_game.specs.declared.game.Game.{Game};
-ghost use Rattle.pg_game.specs.declared.position.Position.{Position};
-ghost use Rattle.pg_game.specs.Game.{IsPosition};
-ghost use Rattle.pg_game.specs.Trees.{TreesHold, CutsHold};
-ghost use Rattle.pg_game.specs.Value.{Forces};
 ghost use Rattle.std.specs.Prelude.{ℕ, ◌<◌, ◌↔◌, Bool, IsTrue, Option};
-ghost use Rattle.pg_graph.specs.Span.{IsSpan};
-ghost use Rattle.pg_game.specs.Rules.{ForcesBy};
+ghost use Rattle.pg_switch.specs.Prelude.{FinSet, nat_cmp, Win, X, Y, Game, Position, IsPosition, TreesHold, CutsHold, Forces, IsSpan, ForcesBy};
 ghost use Rattle.pg_switch.specs.Claims.{span_rules, IsPlace, AreSpanTrees, AreSpanCuts};
 ghost use Rattle.pg_switch.specs.Span.{connectivity_rules, joins_all, AreAllJoined, AreParts, AreJoiningTrees};
 

@@ -1,13 +1,6 @@
 //! Plans by trees and by cuts.
 ghost use Rattle.std.specs.Prelude.{◌≡◌, ◌<◌, false, true};
-ghost use Rattle.std.specs.FinSet.{contains, remove};
-ghost use Rattle.pg_base.specs.declared.kind.Kind.TheVariants.{Switching};
-ghost use Rattle.pg_base.specs.declared.side.Side.TheVariants.{X, Y};
-ghost use Rattle.pg_graph.specs.Graph.{IsGraph, edge_count};
-ghost use Rattle.pg_game.specs.Position.{is_free};
-ghost use Rattle.pg_game.specs.Game.{point_count, is_over, after, IsPosition};
-ghost use Rattle.pg_game.specs.Judge.{IsMadeForGame};
-ghost use Rattle.pg_game.specs.Trees.{short_edge, cut_edge, answered_edge, TreesHold, CutsHold};
+ghost use Rattle.pg_switch.specs.Prelude.{contains, remove, Switching, X, Y, IsGraph, edge_count, is_free, point_count, is_over, after, IsPosition, IsMadeForGame, short_edge, cut_edge, answered_edge, TreesHold, CutsHold};
 ghost use Rattle.pg_switch.specs.Replies.{HeldUntil, IsTreesAnswer, IsCutsAnswer};
 
 use crate::answers::{cut_edge, short_edge};

@@ -1,18 +1,8 @@
 -- Storing a file and then saying texts.
 use Rattle.std.proofs.Common.{◌≡◌, ◌≢◌, ℕ, Bool, true, false, List, [], ◌∷◌, map, Option, Some, None, Result, Ok, Err, refl, sym, subst, inl, inr, arith, if◌then◌else◌}
 use Rattle.std.specs.Prelude.{IfSome}
-use Rattle.std.specs.Str.{bytes_eq}
+use Rattle.pg_talk.proofs.Common.{bytes_eq, ConsoleTold, Grows, Says, Bytes, Holding, Making, FilesTold, Stores, MayStore, Stored, Entry, Said, Stop, Read, Write, Memory, message_text, Message, DONE}
 use Rattle.std.proofs.lemmas.Slice.Eq.{bytes_eq-Decides}
-use Rattle.pg_io.specs.Console.{ConsoleTold, Grows, Says}
-use Rattle.pg_io.specs.Files.{Bytes, Holding, Making, FilesTold, Stores, MayStore}
-use Rattle.pg_io.specs.Reading.{Stored}
-use Rattle.pg_io.specs.declared.entry.Entry.{Entry}
-use Rattle.pg_io.specs.declared.entry.Entry.TheVariants.{Said}
-use Rattle.pg_io.specs.declared.stop.Stop.{Stop}
-use Rattle.pg_io.specs.declared.stop.Stop.TheVariants.{Read, Write, Memory}
-use Rattle.pg_messages.specs.Texts.{message_text}
-use Rattle.pg_messages.specs.declared.message.Message.{Message}
-use Rattle.pg_messages.specs.declared.statuses.TheConstants.{DONE}
 use Rattle.pg_talk.specs.Done.{Done, End, Finished, Failed, Changes, Does, Follows, Keeps, nothing, stop_end}
 use Rattle.pg_talk.specs.Storing.{delivered, Delivers, IsCutShort, KeepOthers, SaysTexts, texts_of}
 use Rattle.pg_talk.specs.declared.halt.Halt.{Halt}

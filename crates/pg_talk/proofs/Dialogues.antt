@@ -1,24 +1,14 @@
 -- What follows from the rules of dialogues.
 use Rattle.std.proofs.Common.{◌≡◌, ◌≢◌, ◌⊎◌, ℕ, ◌+◌, ◌-◌, ◌<◌, ◌≤◌, nat_eq, nat_lt, if◌then◌else◌, Bool, true, false, List, [], ◌∷◌, length, Option, Some, None, Result, Ok, Err, refl, sym, ◌∙◌, ap, subst, inl, inr, arith}
-use Rattle.std.proofs.lemmas.Bool.Decides.{nat_tests}
+use Rattle.pg_talk.proofs.Common.{nat_tests, other, Side, Entry, Said, Heard, Skipped, Ended, Position, is_free, Rules, IsPlayBy, free_below, moved, played_by, ReplyFault, NoPoint, Taken, DONE, INPUT_ENDED, OUT_OF_REPLIES}
 use Rattle.std.specs.List.{count_by}
 use Rattle.std.proofs.lemmas.List.Sums.{sum_by-cons}
-use Rattle.pg_base.specs.Side.{other}
-use Rattle.pg_base.specs.declared.side.Side.{Side}
 use Rattle.pg_base.specs.declared.side.Side.TheVariants.{X, Y}
-use Rattle.pg_io.specs.declared.entry.Entry.{Entry}
-use Rattle.pg_io.specs.declared.entry.Entry.TheVariants.{Said, Heard, Skipped, Ended}
-use Rattle.pg_game.specs.declared.position.Position.{Position}
-use Rattle.pg_game.specs.Position.{is_free}
-use Rattle.pg_game.specs.Rules.{Rules, IsPlayBy, free_below, moved, played_by}
 use Rattle.pg_game.proofs.RulesLaws.{length-moved}
 use Rattle.pg_talk.specs.Contest.{Contest}
 use Rattle.pg_talk.specs.Dialogue.{Stage, At, Owes, Over, Steps, Leads, EndsWith, IsOwnMove, position_at, is_heard, after_refusal, after_reply}
 use Rattle.pg_talk.specs.Reply.{said_number, point_or_refusal, replied_point}
 use Rattle.pg_talk.specs.declared.dialogue.TheConstants.{MAX_REFUSALS}
-use Rattle.pg_messages.specs.declared.message.ReplyFault.{ReplyFault}
-use Rattle.pg_messages.specs.declared.message.ReplyFault.TheVariants.{NoPoint, Taken}
-use Rattle.pg_messages.specs.declared.statuses.TheConstants.{DONE, INPUT_ENDED, OUT_OF_REPLIES}
 
 -- no side is the other side
 apart : (side turn : Side) → turn ≡ side → turn ≢ other side

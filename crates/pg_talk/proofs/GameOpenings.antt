@@ -1,10 +1,6 @@
 -- What a name holds, from what was read of it: a game.
 use Rattle.std.proofs.Common.{◌≡◌, ◌+◌, take, Option, Some, Result, Err, refl}
-use Rattle.pg_io.specs.Files.{Bytes, Holding}
-use Rattle.pg_io.specs.Reading.{IsFile}
-use Rattle.pg_game.specs.declared.game.Game.{Game}
-use Rattle.pg_files.specs.GameFile.{game}
-use Rattle.pg_files.specs.Views.{entry}
+use Rattle.pg_talk.proofs.Common.{Bytes, Holding, IsFile, Game, game, entry}
 use Rattle.pg_files.specs.declared.fault.Fault.TheVariants.{Size}
 use Rattle.pg_files.specs.declared.limits.TheConstants.{MAX_GAME_BYTES}
 use Rattle.pg_talk.specs.Opening.{OpensGame, game_held}

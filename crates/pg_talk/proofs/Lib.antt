@@ -1,3 +1,4 @@
+mod Common
 pub mod Speaking
 pub mod Talking
 pub mod Dialogues

@@ -1,12 +1,7 @@
 -- One part of a run, and then another.
 use Rattle.std.proofs.Common.{◌≡◌, ℕ, List, [], ◌∷◌, ◌++◌, Option, Some, None, Result, Ok, Err, refl, ◌∙◌, ap, subst, inl, inr, if◌then◌else◌}
 use Rattle.std.specs.Prelude.{IfSome}
-use Rattle.std.specs.Str.{bytes_eq}
-use Rattle.pg_io.specs.Console.{ConsoleTold}
-use Rattle.pg_io.specs.Files.{Bytes, Holding, Making, FilesTold}
-use Rattle.pg_io.specs.declared.entry.Entry.{Entry}
-use Rattle.pg_io.specs.declared.stop.Stop.{Stop}
-use Rattle.pg_io.specs.declared.stop.Stop.TheVariants.{Read, Write, Memory}
+use Rattle.pg_talk.proofs.Common.{bytes_eq, ConsoleTold, Bytes, Holding, Making, FilesTold, Entry, Stop, Read, Write, Memory}
 use Rattle.pg_talk.specs.Done.{Done, End, Finished, Failed, Starved, Hears, Talked, Changes, Does, Follows, Keeps, Stops, behind, held_after, stop_end}
 use Rattle.pg_talk.specs.Storing.{Delivers, DeliversThen, KeepOthers, delivered}
 use Rattle.pg_talk.specs.declared.halt.Halt.{Halt}

@@ -1,10 +1,8 @@
 -- Players by a claim of a certificate, as they are seen.
 use Rattle.std.proofs.Common.{◌≡◌, ◌∙◌, ℕ, Option, Some, None, Result, Ok, Err, ap, IfOk}
+use Rattle.pg_talk.proofs.Common.{Game, Illegal, Position, Play}
 use Rattle.pg_cert.specs.declared.cert.Claim.{Claim}
-use Rattle.pg_game.specs.declared.game.Game.{Game}
-use Rattle.pg_game.specs.declared.position.Illegal.{Illegal}
-use Rattle.pg_game.specs.declared.position.Position.{Position}
-use Rattle.pg_player.specs.Player.{Play, MakesMove as Makes, TakesReply as Takes, Answers as Replies}
+use Rattle.pg_player.specs.Player.{MakesMove as Makes, TakesReply as Takes, Answers as Replies}
 use Rattle.pg_talk.specs.Contender.{Answers, MakesMove, TakesReply, at, contender_of, player_of}
 
 -- on the same game by the same claim only the position is another

@@ -1,18 +1,7 @@
 -- A play, put together.
 use Rattle.std.proofs.Common.{◌≡◌, ◌≢◌, ℕ, List, [], ◌∷◌, Option, Result, Ok, Err, refl, sym, ap, subst, inl, inr, IfOk}
 use Rattle.std.specs.Prelude.{IsTrue, IfErr}
-use Rattle.pg_base.specs.declared.goal.Goal.{Goal}
-use Rattle.pg_base.specs.declared.side.Side.{Side}
-use Rattle.pg_io.specs.Files.{Bytes}
-use Rattle.pg_io.specs.Console.{ConsoleTold, Grows}
-use Rattle.pg_io.specs.declared.entry.Entry.{Entry}
-use Rattle.pg_io.specs.declared.entry.Entry.TheVariants.{Said}
-use Rattle.pg_io.specs.declared.stop.Stop.{Stop}
-use Rattle.pg_io.specs.declared.stop.Stop.TheVariants.{Read, Write, Memory}
-use Rattle.pg_game.specs.Rules.{reaches}
-use Rattle.pg_game.specs.declared.position.Position.{Position}
-use Rattle.pg_messages.specs.Texts.{claim_text}
-use Rattle.pg_messages.specs.declared.statuses.TheConstants.{DONE}
+use Rattle.pg_talk.proofs.Common.{Goal, Side, Bytes, ConsoleTold, Grows, Entry, Said, Stop, Read, Write, Memory, reaches, Position, claim_text, DONE}
 use Rattle.pg_talk.specs.Contender.{Contender}
 use Rattle.pg_talk.specs.Dialogue.{At, Over}
 use Rattle.pg_talk.specs.Done.{Performs, stop_end}

@@ -1,11 +1,7 @@
 -- Runs that only read files and talk.
 use Rattle.std.proofs.Common.{◌≡◌, ℕ, List, [], ◌∷◌, map, Option, Some, None, Result, Ok, Err, refl, sym, ◌∙◌, subst, inl, inr}
 use Rattle.std.specs.Prelude.{IfSome}
-use Rattle.pg_io.specs.Console.{ConsoleTold, Grows}
-use Rattle.pg_io.specs.Files.{Bytes, Holding, FilesTold}
-use Rattle.pg_io.specs.declared.entry.Entry.{Entry}
-use Rattle.pg_io.specs.declared.entry.Entry.TheVariants.{Said}
-use Rattle.pg_messages.specs.declared.refusal.Refusal.{Refusal}
+use Rattle.pg_talk.proofs.Common.{ConsoleTold, Grows, Bytes, Holding, FilesTold, Entry, Said, Refusal}
 use Rattle.pg_talk.specs.Done.{Done, End, Finished, Failed, Starved, Talked, Changes, Follows, Performs, Keeps, nothing, talk, stop_end}
 use Rattle.pg_talk.specs.Hearing.{Hearing, InOrder}
 use Rattle.pg_talk.specs.Runs.{Runs}

@@ -1,12 +1,7 @@
 -- Logs that grow by texts.
 use Rattle.std.proofs.Common.{◌≡◌, ℕ, ◌+◌, ◌<◌, List, [], ◌∷◌, ◌++◌, length, get_or, take, drop, map, Option, Some, None, Result, Ok, Err, sym, ◌∙◌, ap, subst, append_assoc, rules}
-use Rattle.std.proofs.lemmas.List.{append-nil, map-append, map_more, take-append-drop}
+use Rattle.pg_talk.proofs.Common.{append-nil, map-append, map_more, take-append-drop, Bytes, Grows, Entry, Said, Stop}
 use Rattle.std.specs.Result.{IsErr}
-use Rattle.pg_io.specs.Files.{Bytes}
-use Rattle.pg_io.specs.Console.{Grows}
-use Rattle.pg_io.specs.declared.entry.Entry.{Entry}
-use Rattle.pg_io.specs.declared.entry.Entry.TheVariants.{Said}
-use Rattle.pg_io.specs.declared.stop.Stop.{Stop}
 use Rattle.pg_talk.specs.Saying.{Speaks, IsCut}
 
 pub Grows-nothing : (log : Option (List Entry)) → Grows log log []

@@ -1,11 +1,6 @@
 -- Parts of a dialogue, put together.
 use Rattle.std.proofs.Common.{◌≡◌, ◌≢◌, ℕ, List, [], ◌∷◌, ◌++◌, drop, Option, Some, None, Result, Ok, Err, refl, sym, subst, rules}
-use Rattle.pg_base.specs.declared.side.Side.{Side}
-use Rattle.pg_io.specs.Files.{Bytes}
-use Rattle.pg_io.specs.Console.{ConsoleTold, Grows, Consumes, reply}
-use Rattle.pg_io.specs.declared.entry.Entry.{Entry}
-use Rattle.pg_io.specs.declared.entry.Entry.TheVariants.{Said, Heard, Skipped, Ended}
-use Rattle.pg_io.specs.declared.stop.Stop.{Stop}
+use Rattle.pg_talk.proofs.Common.{Side, Bytes, ConsoleTold, Grows, Consumes, reply, Entry, Said, Heard, Skipped, Ended, Stop}
 use Rattle.pg_talk.specs.Contest.{Contest}
 use Rattle.pg_talk.specs.Dialogue.{Stage, Steps, Leads, IsOpen}
 use Rattle.pg_talk.specs.Hearing.{InOrder, Hearing}

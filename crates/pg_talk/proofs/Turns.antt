@@ -1,22 +1,9 @@
 -- Turns of a dialogue.
 use Rattle.std.proofs.Common.{◌≡◌, ◌≢◌, ℕ, ◌+◌, ◌<◌, ◌≤◌, nat_eq, nat_lt, if◌then◌else◌, Bool, true, false, [], ◌∷◌, Option, Some, None, Result, Ok, Err, refl, sym, ◌∙◌, ap, subst, inl, inr, arith}
-use Rattle.std.proofs.lemmas.Bool.Decides.{nat_tests}
-use Rattle.pg_base.specs.declared.kind.Kind.{Kind}
+use Rattle.pg_talk.proofs.Common.{nat_tests, Kind, ConsoleTold, Grows, Said, Stop, Memory, Illegal, Position, is_free, ending_by, judged_by, Rules, moved, move_text, result_text, ReplyFault, NoPoint, DONE, OUT_OF_REPLIES}
 use Rattle.pg_base.specs.declared.score.Score.{Score}
-use Rattle.pg_io.specs.Console.{ConsoleTold, Grows}
-use Rattle.pg_io.specs.declared.entry.Entry.TheVariants.{Said}
-use Rattle.pg_io.specs.declared.stop.Stop.{Stop}
-use Rattle.pg_io.specs.declared.stop.Stop.TheVariants.{Memory}
-use Rattle.pg_game.specs.declared.position.Illegal.{Illegal}
 use Rattle.pg_game.specs.declared.position.Illegal.TheVariants.{Range, Taken, Over as OverNow}
-use Rattle.pg_game.specs.declared.position.Position.{Position}
-use Rattle.pg_game.specs.Position.{is_free}
-use Rattle.pg_game.specs.Judging.{ending_by, judged_by}
-use Rattle.pg_game.specs.Rules.{Rules, moved}
-use Rattle.pg_messages.specs.Texts.{move_text, result_text}
-use Rattle.pg_messages.specs.declared.message.ReplyFault.{ReplyFault}
-use Rattle.pg_messages.specs.declared.message.ReplyFault.TheVariants.{NoPoint, Taken as IsTaken}
-use Rattle.pg_messages.specs.declared.statuses.TheConstants.{DONE, OUT_OF_REPLIES}
+use Rattle.pg_messages.specs.declared.message.ReplyFault.TheVariants.{Taken as IsTaken}
 use Rattle.pg_talk.specs.Contender.{Contender, MakesMove, TakesReply, at}
 use Rattle.pg_talk.specs.Contest.{Contest}
 use Rattle.pg_talk.specs.Dialogue.{Stage, At, Owes, Over, Steps, IsOpen, after_refusal, after_reply}

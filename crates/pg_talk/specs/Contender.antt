@@ -1,14 +1,6 @@
 -- What is seen of a player of one side, and what it does.
 use Rattle.std.specs.Prelude.{◌≡◌, ◌⊎◌, ◌<◌, ℕ, true, false, Option, Some, None, Ok}
-use Rattle.pg_base.specs.Side.{other}
-use Rattle.pg_base.specs.declared.goal.Goal.{Goal}
-use Rattle.pg_base.specs.declared.side.Side.{Side}
-use Rattle.pg_game.specs.declared.game.Game.{Game}
-use Rattle.pg_game.specs.declared.position.Position.{Position}
-use Rattle.pg_game.specs.Position.{is_free}
-use Rattle.pg_game.specs.Judging.{judged_by}
-use Rattle.pg_game.specs.Rules.{moved}
-use Rattle.pg_player.specs.Player.{Play}
+use Rattle.pg_talk.specs.Prelude.{other, Goal, Side, Game, Position, is_free, judged_by, moved, Play}
 use Rattle.pg_talk.specs.Contest.{Contest, contest_of}
 
 -- the contest, the side that is played, the goal that it reaches, and the position

@@ -1,7 +1,5 @@
 -- What two sides contend in: a game by its rules alone, and the words that say its outcome.
-use Rattle.pg_base.specs.declared.kind.Kind.{Kind}
-use Rattle.pg_game.specs.declared.game.Game.{Game}
-use Rattle.pg_game.specs.Rules.{Rules}
+use Rattle.pg_talk.specs.Prelude.{Kind, Game, Rules}
 use Rattle.pg_game.specs.Value.{rules_of}
 
 -- the rules, and the kind whose words say an outcome

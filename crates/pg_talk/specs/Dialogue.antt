@@ -1,21 +1,10 @@
 -- Dialogues: a contest of which one side is played over a console, read from the log alone. It is
 -- asked neither how the side finds its moves nor why.
 use Rattle.std.specs.Prelude.{◌≡◌, ◌⊎◌, ◌<◌, ℕ, ◌+◌, ◌==◌, Bool, true, false, List, [], ◌∷◌, Result, Ok, Err, if◌then◌else◌, ⊤}
-use Rattle.pg_base.specs.Side.{other}
-use Rattle.pg_base.specs.declared.side.Side.{Side}
-use Rattle.pg_io.specs.declared.entry.Entry.{Entry}
-use Rattle.pg_io.specs.declared.entry.Entry.TheVariants.{Said, Heard, Skipped, Ended}
-use Rattle.pg_io.specs.Files.{Bytes}
-use Rattle.pg_game.specs.declared.position.Position.{Position}
-use Rattle.pg_game.specs.Position.{is_free}
-use Rattle.pg_game.specs.Rules.{moved}
+use Rattle.pg_talk.specs.Prelude.{other, Side, Entry, Said, Heard, Skipped, Ended, Bytes, Position, is_free, moved, move_text, reply_text, result_text, ReplyFault, NoNumber, DONE, INPUT_ENDED, OUT_OF_REPLIES}
 use Rattle.pg_talk.specs.Contest.{Contest}
 use Rattle.pg_talk.specs.Reply.{replied_point}
 use Rattle.pg_talk.specs.declared.dialogue.TheConstants.{MAX_REFUSALS}
-use Rattle.pg_messages.specs.Texts.{move_text, reply_text, result_text}
-use Rattle.pg_messages.specs.declared.message.ReplyFault.{ReplyFault}
-use Rattle.pg_messages.specs.declared.message.ReplyFault.TheVariants.{NoNumber}
-use Rattle.pg_messages.specs.declared.statuses.TheConstants.{DONE, INPUT_ENDED, OUT_OF_REPLIES}
 
 -- where a dialogue stands: at a position, after so many refusals; there, before a refusal is said;
 -- or at its end, with the last position and a status

@@ -1,14 +1,6 @@
 -- What was done in a run: what was said and stored, and how it ended.
 use Rattle.std.specs.Prelude.{◌≡◌, ◌⊎◌, ℕ, ◌==◌, ◌||◌, List, [], ◌∷◌, ◌++◌, map, Option, Some, None, Result, Ok, Err, if◌then◌else◌, IfSome}
-use Rattle.std.specs.Str.{bytes_eq}
-use Rattle.pg_io.specs.Console.{ConsoleTold, Grows}
-use Rattle.pg_io.specs.Files.{Bytes, Holding, Making, FilesTold}
-use Rattle.pg_io.specs.declared.entry.Entry.{Entry}
-use Rattle.pg_io.specs.declared.entry.Entry.TheVariants.{Said}
-use Rattle.pg_io.specs.declared.stop.Stop.{Stop}
-use Rattle.pg_io.specs.declared.stop.Stop.TheVariants.{Read, Write, Memory}
-use Rattle.pg_messages.specs.declared.refusal.Refusal.{Refusal}
-use Rattle.pg_messages.specs.declared.statuses.TheConstants.{READ_FAILED, WRITE_FAILED, NO_MEMORY}
+use Rattle.pg_talk.specs.Prelude.{bytes_eq, ConsoleTold, Grows, Bytes, Holding, Making, FilesTold, Entry, Said, Stop, Read, Write, Memory, Refusal, READ_FAILED, WRITE_FAILED, NO_MEMORY}
 use Rattle.pg_talk.specs.Hearing.{Hearing}
 use Rattle.pg_talk.specs.declared.halt.Halt.{Halt}
 use Rattle.pg_talk.specs.declared.halt.Halt.TheVariants.{Refused, Stopped}

@@ -1,14 +1,9 @@
 -- What ends a command early: its status, and by which numbers of faults it shows.
 use Rattle.std.specs.Prelude.{◌≡◌, ◌≢◌, ◌⊎◌, ℕ, [], Result, Ok, Err, ⊤}
+use Rattle.pg_talk.specs.Prelude.{ConsoleTold, Grows, FilesTold, StopCauses, Stop, Read, Write, Memory, DONE, READ_FAILED, WRITE_FAILED, NO_MEMORY, INPUT_ENDED, OUT_OF_REPLIES}
 use Rattle.pg_io.specs.Causes.{Faults, Rose}
-use Rattle.pg_io.specs.Console.{ConsoleTold, Grows}
-use Rattle.pg_io.specs.Files.{FilesTold}
-use Rattle.pg_io.specs.Stop.{StopCauses}
-use Rattle.pg_io.specs.declared.stop.Stop.{Stop}
-use Rattle.pg_io.specs.declared.stop.Stop.TheVariants.{Read, Write, Memory}
 use Rattle.pg_messages.specs.Statuses.{refusal_status}
 use Rattle.pg_messages.specs.declared.refusal.Refusal.TheVariants.{NoMeaning, NoClaim, Game, Record}
-use Rattle.pg_messages.specs.declared.statuses.TheConstants.{DONE, READ_FAILED, WRITE_FAILED, NO_MEMORY, INPUT_ENDED, OUT_OF_REPLIES}
 use Rattle.pg_talk.specs.declared.halt.Halt.{Halt}
 use Rattle.pg_talk.specs.declared.halt.Halt.TheVariants.{Refused, Stopped}
 

@@ -1,10 +1,7 @@
 -- How a log agrees with the input of a console.
 use Rattle.std.specs.Prelude.{◌≡◌, List, [], ◌∷◌, drop, Option, Some, None, ⊤}
-use Rattle.pg_io.specs.Files.{Bytes}
+use Rattle.pg_talk.specs.Prelude.{Bytes, reply, Entry, Said, Heard, Skipped, Ended}
 use Rattle.pg_talk.specs.declared.dialogue.TheConstants.{MAX_REPLY}
-use Rattle.pg_io.specs.Console.{reply}
-use Rattle.pg_io.specs.declared.entry.Entry.{Entry}
-use Rattle.pg_io.specs.declared.entry.Entry.TheVariants.{Said, Heard, Skipped, Ended}
 
 -- what was heard, a reply's greatest length at most at a time, is the input in order, and this is
 -- left of it

@@ -1,3 +1,4 @@
+pub mod Prelude
 pub mod Contest
 pub mod Contender
 pub mod Halts

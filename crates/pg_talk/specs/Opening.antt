@@ -1,9 +1,8 @@
 -- What a name holds: a game that a command reads, or what stands against it.
 use Rattle.std.specs.Prelude.{◌≡◌, Option, Result}
-use Rattle.pg_io.specs.Files.{Bytes, Holding}
-use Rattle.pg_game.specs.declared.game.Game.{Game}
-use Rattle.pg_files.specs.GameFile.{Entry as GameEntry, game}
-use Rattle.pg_files.specs.Views.{entry, number_of as game_fault_number}
+use Rattle.pg_talk.specs.Prelude.{Bytes, Holding, Game, game, entry}
+use Rattle.pg_files.specs.GameFile.{Entry as GameEntry}
+use Rattle.pg_files.specs.Views.{number_of as game_fault_number}
 use Rattle.pg_talk.specs.Reading.{IsLackingOne, Opens, game_fault, held_as, or_halt}
 use Rattle.pg_talk.specs.declared.halt.Halt.{Halt}
 

@@ -1,11 +1,6 @@
 -- A play: a claim that is said, and a dialogue of its side.
 use Rattle.std.specs.Prelude.{◌≡◌, ℕ, List, ◌∷◌, IsTrue}
-use Rattle.pg_io.specs.declared.entry.Entry.{Entry}
-use Rattle.pg_io.specs.declared.entry.Entry.TheVariants.{Said}
-use Rattle.pg_game.specs.Rules.{reaches}
-use Rattle.pg_game.specs.declared.position.Position.{Position}
-use Rattle.pg_messages.specs.Texts.{claim_text}
-use Rattle.pg_messages.specs.declared.statuses.TheConstants.{DONE}
+use Rattle.pg_talk.specs.Prelude.{Entry, Said, reaches, Position, claim_text, DONE}
 use Rattle.pg_talk.specs.Contender.{Contender}
 use Rattle.pg_talk.specs.Dialogue.{IsDialogue, IsOpenDialogue}
 use Rattle.pg_talk.specs.Done.{End, Finished, Failed, Starved}

@@ -1,13 +1,8 @@
 -- What a line that was heard says.
 use Rattle.std.specs.Prelude.{ℕ, ◌==◌, ◌||◌, Bool, [], ◌∷◌, reverse, nat_lt, Option, Some, None, Result, Ok, Err, if◌then◌else◌}
+use Rattle.pg_talk.specs.Prelude.{Bytes, Position, is_free, Rules, ReplyFault, NoNumber, NoPoint, Taken}
 use Rattle.pg_base.specs.declared.signs.TheConstants.{SPACE}
-use Rattle.pg_io.specs.Files.{Bytes}
 use Rattle.pg_text.specs.Text.{number}
-use Rattle.pg_game.specs.declared.position.Position.{Position}
-use Rattle.pg_game.specs.Position.{is_free}
-use Rattle.pg_game.specs.Rules.{Rules}
-use Rattle.pg_messages.specs.declared.message.ReplyFault.{ReplyFault}
-use Rattle.pg_messages.specs.declared.message.ReplyFault.TheVariants.{NoNumber, NoPoint, Taken}
 
 -- a space, a tab, or a carriage return
 abbrev pub is_blank : ℕ → Bool

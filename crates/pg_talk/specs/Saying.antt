@@ -1,11 +1,6 @@
 -- Texts that are said one after the other.
 use Rattle.std.specs.Prelude.{◌≡◌, List, ◌++◌, map, Option, Result, Ok, Err}
-use Rattle.pg_io.specs.Console.{Grows}
-use Rattle.pg_io.specs.Files.{Bytes}
-use Rattle.pg_io.specs.declared.entry.Entry.{Entry}
-use Rattle.pg_io.specs.declared.entry.Entry.TheVariants.{Said}
-use Rattle.pg_io.specs.declared.stop.Stop.{Stop}
-use Rattle.pg_messages.specs.declared.statuses.TheConstants.{DONE}
+use Rattle.pg_talk.specs.Prelude.{Grows, Bytes, Entry, Said, Stop, DONE}
 use Rattle.pg_talk.specs.Done.{End, Finished, Failed, Starved, SaysFirst}
 
 -- all these texts were said; where the run is cut short, the first of them. It never ends so for

@@ -1,13 +1,6 @@
 -- What is stored and then said.
 use Rattle.std.specs.Prelude.{◌≡◌, ◌≢◌, ◌⊎◌, List, [], ◌∷◌, ◌++◌, map, Option, Some, None, Result, Ok, Err, false, ⊤}
-use Rattle.pg_io.specs.Console.{Grows}
-use Rattle.pg_io.specs.Files.{Bytes, Holding, Making, FilesTold, ReadsOnly}
-use Rattle.pg_io.specs.declared.entry.Entry.{Entry}
-use Rattle.pg_io.specs.declared.entry.Entry.TheVariants.{Said}
-use Rattle.pg_io.specs.declared.stop.Stop.{Stop}
-use Rattle.pg_messages.specs.Texts.{message_text}
-use Rattle.pg_messages.specs.declared.message.Message.{Message}
-use Rattle.pg_messages.specs.declared.statuses.TheConstants.{DONE}
+use Rattle.pg_talk.specs.Prelude.{Grows, Bytes, Holding, Making, FilesTold, ReadsOnly, Entry, Said, Stop, message_text, Message, DONE}
 use Rattle.pg_talk.specs.Done.{Done, End, Finished, Failed, Starved, Stops, behind}
 
 -- a file was stored, and then these texts were said

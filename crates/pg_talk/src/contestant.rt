@@ -1,7 +1,6 @@
 //! Players of one side of a contest.
 ghost use Rattle.std.specs.Prelude.{◌≡◌, ◌≤◌, true, Err, IfErr, IfOk, IfSome};
-ghost use Rattle.pg_game.specs.Judging.{ending_by, judged_by};
-ghost use Rattle.pg_game.specs.Rules.{reaches};
+ghost use Rattle.pg_talk.specs.Prelude.{ending_by, judged_by, reaches};
 ghost use Rattle.pg_base.specs.declared.limits.TheConstants.{MAX_MEMBERS};
 ghost use Rattle.pg_talk.specs.Contender.{Answers, Contender, Moves, Waits};
 

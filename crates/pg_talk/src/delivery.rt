@@ -1,8 +1,6 @@
 //! Storing a file, and then saying what was stored.
 ghost use Rattle.std.specs.Prelude.{◌≡◌, [], ◌∷◌, map, IfErr, IfOk};
-ghost use Rattle.pg_io.specs.Console.{Grows};
-ghost use Rattle.pg_io.specs.declared.entry.Entry.TheVariants.{Said};
-ghost use Rattle.pg_messages.specs.declared.statuses.TheConstants.{DONE};
+ghost use Rattle.pg_talk.specs.Prelude.{Grows, Said, DONE};
 ghost use Rattle.pg_talk.specs.Done.{Does};
 ghost use Rattle.pg_talk.specs.Halts.{BothCauses, IsWriteHalt, MuteAtMemory};
 ghost use Rattle.pg_talk.specs.Storing.{Delivers, StoresAt, texts_of};

@@ -1,10 +1,6 @@
 //! Playing a side to the end over a console.
 ghost use Rattle.std.specs.Prelude.{◌≡◌, ◌≢◌, ℕ, false, Err, Some, IfErr, IfOk, IsTrue};
-ghost use Rattle.pg_base.specs.declared.side.Side.{Side};
-ghost use Rattle.pg_io.specs.Stop.{Causes};
-ghost use Rattle.pg_game.specs.Rules.{reaches};
-ghost use Rattle.pg_game.specs.declared.position.Position.{Position};
-ghost use Rattle.pg_messages.specs.declared.statuses.TheConstants.{DONE};
+ghost use Rattle.pg_talk.specs.Prelude.{Side, Causes, reaches, Position, DONE};
 ghost use Rattle.pg_talk.specs.Contest.{Contest};
 ghost use Rattle.pg_talk.specs.Dialogue.{At, Owes, Over};
 ghost use Rattle.pg_talk.specs.Done.{Performs};

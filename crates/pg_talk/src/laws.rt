@@ -1,10 +1,7 @@
 //! What a dialogue tells of the play. Each function is empty: what it promises is a law of the
 //! rules of dialogues alone.
 ghost use Rattle.std.specs.Prelude.{◌≡◌, ◌+◌, ◌≤◌, ℕ, false, List, length, count_by};
-ghost use Rattle.pg_base.specs.declared.side.Side.{Side};
-ghost use Rattle.pg_io.specs.declared.entry.Entry.{Entry};
-ghost use Rattle.pg_game.specs.Rules.{IsPlayBy, free_below, played_by};
-ghost use Rattle.pg_game.specs.declared.position.Position.{Position};
+ghost use Rattle.pg_talk.specs.Prelude.{Side, Entry, IsPlayBy, free_below, played_by, Position};
 ghost use Rattle.pg_talk.specs.Contest.{Contest};
 ghost use Rattle.pg_talk.specs.Dialogue.{Stage, At, Steps, Leads, IsDialogue, EndsWith, IsOwnMove, position_at, is_heard};
 ghost use Rattle.pg_talk.specs.declared.dialogue.TheConstants.{MAX_REFUSALS};

@@ -1,8 +1,6 @@
 //! Saying messages and other texts.
 ghost use Rattle.std.specs.Prelude.{◌≡◌, IfErr};
-ghost use Rattle.pg_io.specs.Console.{Says};
-ghost use Rattle.pg_io.specs.Stop.{Causes};
-ghost use Rattle.pg_messages.specs.Texts.{message_text};
+ghost use Rattle.pg_talk.specs.Prelude.{Says, Causes, message_text};
 ghost use Rattle.pg_talk.specs.Storing.{SaysTexts, texts_of};
 
 use pg_io::{Console, Stop};

@@ -1,17 +1,11 @@
 -- A text that is cut at a sign.
 use Rattle.std.proofs.Common.{◌≡◌, ◌⊎◌, ℕ, suc, ◌+◌, ◌-◌, ◌<◌, ◌≤◌, Bool, true, false, List, [], ◌∷◌, ◌++◌, length, take, drop, get_or, get_or-take, slice_index, arith, refl, sym, ap, ◌∙◌, inl, inr, Option, Some, None}
 use Rattle.std.specs.Prelude.{◌==◌}
-use Rattle.std.specs.List.{position, position_or_len}
-use Rattle.std.proofs.lemmas.Bool.{cases_Bool, eqb-true}
-use Rattle.std.proofs.lemmas.Bool.Decides.{nat_tests}
-use Rattle.std.proofs.lemmas.List.{take_all, length-take-le, length-drop, take-append-drop}
+use Rattle.pg_text.proofs.Common.{position, position_or_len, cases_Bool, eqb-true, nat_tests, take_all, length-take-le, length-drop, take-append-drop, position_or_len_is, slice_split_at, slice_split_none, length-slice_split, SPACE}
 use Rattle.std.proofs.lemmas.List.Quantifiers.{position-Some}
-use Rattle.std.proofs.lemmas.List.Sums.{position_or_len_is}
-use Rattle.std.proofs.lemmas.List.Splits.{slice_split_at, slice_split_none, length-slice_split}
 use Rattle.std.proofs.lemmas.Grind.{get_or_default_zero}
 use Rattle.std.proofs.Math.Seq.{drop-cons}
 use Rattle.memchr.specs.Find.{IsFirstByte, is_byte}
-use Rattle.pg_base.specs.declared.signs.TheConstants.{SPACE}
 use Rattle.pg_text.specs.Text.{Bytes, Lacks, parts, pair_of, two_parts, Four, four_of, four_parts}
 
 abbrev is_sign : ℕ → ℕ → Bool

@@ -1,12 +1,7 @@
 -- The number that digits write.
 use Rattle.std.proofs.Common.{◌≡◌, ℕ, ◌+◌, ◌-◌, ◌*◌, ◌^◌, ◌<◌, ◌≤◌, lit≤, true, List, [], ◌∷◌, length, take, get_or, arith, ap, ◌∙◌}
-use Rattle.std.specs.Char.{is_ascii_digit, digit_value}
-use Rattle.std.specs.List.{list_all}
-use Rattle.std.specs.Str.Parse.{digits_value, AllDigits}
-use Rattle.std.proofs.lemmas.Bool.{and_parts}
-use Rattle.std.proofs.lemmas.Bool.Decides.{nat_tests}
+use Rattle.pg_text.proofs.Common.{is_ascii_digit, digit_value, list_all, digits_value, AllDigits, and_parts, nat_tests, digits_value-take-le, digit_at}
 use Rattle.std.proofs.lemmas.Int.Digits.{digits_value_more, digits_value-lt}
-use Rattle.std.proofs.lemmas.Str.Parse.{digits_value-take-le, digit_at}
 use Rattle.std.proofs.Math.Nat.{pow-le-pow_right}
 use Rattle.pg_text.specs.declared.numbers.TheConstants.{MAX_DIGITS}
 

@@ -1,13 +1,7 @@
 -- A text is its first line and then the lines behind its line feed.
 use Rattle.std.proofs.Common.{◌≡◌, ℕ, ◌+◌, ◌<◌, ◌≤◌, Bool, false, List, [], ◌∷◌, ◌++◌, length, take, drop, eqb, arith, refl, ap, ◌∙◌, inl, inr}
 use Rattle.std.specs.Prelude.{◌==◌, Some, None}
-use Rattle.std.specs.List.{slice_split, position, position_or_len, before_first, after_first, All}
-use Rattle.std.proofs.lemmas.Bool.{cases_lt}
-use Rattle.std.proofs.lemmas.Bool.Decides.{nat_tests}
-use Rattle.std.proofs.lemmas.List.{take_all, drop_all, length-append, length-drop}
-use Rattle.std.proofs.lemmas.List.Splits.{slice_split_at, slice_split_first, slice_split_none, length-slice_split}
-use Rattle.std.proofs.lemmas.List.Sums.{fails_before_first}
-use Rattle.pg_base.specs.declared.signs.TheConstants.{LINE_FEED}
+use Rattle.pg_text.proofs.Common.{slice_split, position, position_or_len, before_first, after_first, All, cases_lt, nat_tests, take_all, drop_all, length-append, length-drop, slice_split_at, slice_split_first, slice_split_none, length-slice_split, fails_before_first, LINE_FEED}
 use Rattle.pg_text.proofs.Cuts.{first_is}
 use Rattle.pg_text.specs.Text.{Bytes, Lacks, without_empty_end, lines}
 

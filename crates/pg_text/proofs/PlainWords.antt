@@ -2,11 +2,7 @@
 -- no other signs.
 use Rattle.std.proofs.Common.{◌≡◌, ℕ, ◌^◌, ◌<◌, ◌≤◌, false, List, [], ◌∷◌, arith, refl, ap, ◌∙◌}
 use Rattle.std.specs.Prelude.{◌==◌}
-use Rattle.std.specs.Fmt.{decimal}
-use Rattle.std.specs.List.{AllByRecursion}
-use Rattle.std.proofs.lemmas.Bool.Decides.{nat_tests}
-use Rattle.std.proofs.lemmas.List.{append-nil}
-use Rattle.std.proofs.lemmas.List.Elements.{All-from_recursion}
+use Rattle.pg_text.proofs.Common.{decimal, AllByRecursion, nat_tests, append-nil, All-from_recursion}
 use Rattle.pg_text.specs.Text.{Bytes, Lacks, parts, spaced, behind_spaces}
 use Rattle.pg_text.proofs.Cuts.{first_and_others, only_word}
 use Rattle.pg_text.proofs.Decimals.{IsDigit, all_append, all_of, decimal_digits}

@@ -1,8 +1,6 @@
 -- The least fault of a line, and a text that is read line by line.
 use Rattle.std.proofs.Common.{◌≡◌, ℕ, ◌+◌, ◌≤◌, Bool, true, false, cond, List, [], ◌∷◌, ◌++◌, length, Result, Ok, Err, Option, Some, None, refl, sym, ap, ◌∙◌, arith}
-use Rattle.std.specs.List.{slice_split}
-use Rattle.std.proofs.lemmas.List.Splits.{length-slice_split}
-use Rattle.std.proofs.lemmas.List.Sums.{count_by-le-length}
+use Rattle.pg_text.proofs.Common.{slice_split, length-slice_split, count_by-le-length}
 use Rattle.pg_text.specs.Text.{Bytes, without_empty_end, lines}
 use Rattle.pg_text.specs.Faults.{least, IsLeast, unless, go_on, reading, Fails, IsReadAs, at}
 use Rattle.pg_text.specs.declared.error.LineError.{LineError}

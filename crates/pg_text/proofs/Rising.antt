@@ -1,8 +1,7 @@
 -- Numbers of a list that ascend: each and the next are in order.
 use Rattle.std.proofs.Common.{◌≡◌, ℕ, ◌+◌, ◌<◌, Bool, true, false, ◌&&◌, List, [], ◌∷◌, zero, suc, length, map, get_or, add-one, arith, refl, sym}
 use Rattle.std.specs.Prelude.{nat_lt, nat_le}
-use Rattle.std.specs.List.{IsAllAdjacentAnswer}
-use Rattle.std.proofs.lemmas.Bool.Decides.{nat_tests}
+use Rattle.pg_text.proofs.Common.{IsAllAdjacentAnswer, nat_tests}
 use Rattle.pg_text.specs.Text.{ascend_from}
 
 -- the numbers of an element and the next one ascend

@@ -1,9 +1,7 @@
 -- Text of signs and words: parts with one sign between each two, lines, words behind single spaces,
 -- and numbers.
 use Rattle.std.specs.Prelude.{◌≡◌, ℕ, ◌+◌, Bool, true, false, ◌&&◌, ◌||◌, not, nat_lt, nat_le, ◌==◌, if◌then◌else◌, List, [], ◌∷◌, ◌++◌, length, slice_index, Option, Some, None, option_map, filter}
-use Rattle.std.specs.Char.{is_ascii_digit}
-use Rattle.std.specs.List.{slice_split, list_all, flat_map, All}
-use Rattle.std.specs.Str.Parse.{digits_value}
+use Rattle.pg_text.specs.Prelude.{is_ascii_digit, slice_split, list_all, flat_map, All, digits_value}
 pub use Rattle.pg_base.specs.Texts.{Bytes}
 use Rattle.pg_base.specs.declared.signs.TheConstants.{LINE_FEED, SPACE}
 use Rattle.pg_text.specs.declared.numbers.TheConstants.{MAX_DIGITS}

@@ -1,7 +1,6 @@
 //! The words of a line.
 ghost use Rattle.std.specs.Prelude.{◌≡◌, [], List, ℕ, Result, map, IfOk};
-ghost use Rattle.std.specs.Iterator.{YieldsFirstRef, item_count};
-ghost use Rattle.pg_base.specs.declared.signs.TheConstants.{SPACE};
+ghost use Rattle.pg_text.specs.Prelude.{YieldsFirstRef, item_count, SPACE};
 ghost use Rattle.pg_text.specs.Faults.{Gives, IsReader, each_of};
 ghost use Rattle.pg_text.specs.Text.{parts, words};
 

@@ -1,8 +1,6 @@
 //! Numbers in decimal digits.
 ghost use Rattle.std.specs.Prelude.{◌≡◌, ◌≤◌, length, IsTrue, map, IfOk, option_map};
-ghost use Rattle.std.specs.Char.{is_ascii_digit};
-ghost use Rattle.std.specs.List.{list_all};
-ghost use Rattle.std.specs.Str.Parse.{digits_value};
+ghost use Rattle.pg_text.specs.Prelude.{is_ascii_digit, list_all, digits_value};
 ghost use Rattle.pg_text.specs.Text.{number, numbers};
 
 use std::alloc::{AllocError, Global};

@@ -1,7 +1,6 @@
 //! Text that is cut at a sign.
 ghost use Rattle.std.specs.Prelude.{◌≡◌, ◌==◌, ◌++◌, ◌∷◌, IfSome, IfNone, option_map};
-ghost use Rattle.std.specs.List.{list_any};
-ghost use Rattle.pg_base.specs.declared.signs.TheConstants.{SPACE};
+ghost use Rattle.pg_text.specs.Prelude.{list_any, SPACE};
 ghost use Rattle.pg_text.specs.Text.{parts, two_parts, four_parts, words_of, Lacks};
 
 use memchr::memchr;

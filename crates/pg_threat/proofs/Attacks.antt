@@ -1,27 +1,7 @@
 -- Which attacks are worth trying, and what they leave.
 use Rattle.std.specs.Prelude.{◌↔◌, Option, Some, None, IfSome, IfNone}
-use Rattle.std.specs.Option.{is_some}
 use Rattle.std.proofs.Common.{◌≡◌, ◌≢◌, ℕ, ◌+◌, ◌*◌, ◌<◌, ◌≤◌, true, false, ◌||◌, ◌==◌, List, [], ◌∷◌, length, refl, sym, ap, ◌∙◌, subst, inl, inr, arith, eqb-true, eq-eqb, ne_eqb}
-use Rattle.std.proofs.lemmas.Bool.{cases_Bool, cases_eq, cases_order, and_parts, and_from, or_cases, or_left, false≢true}
-use Rattle.std.proofs.lemmas.List.{get_or_default}
-use Rattle.std.specs.List.{Contains, list_any}
-use Rattle.std.specs.FinSet.{FinSet, contains, insert, empty, contains-empty}
-use Rattle.std.specs.Ordering.{nat_cmp}
-use Rattle.pg_base.specs.WordLemmas.{in_insert}
-use Rattle.pg_base.specs.Points.{IsLeastFrom, ShareNone}
-use Rattle.pg_base.specs.Side.{other}
-use Rattle.pg_base.specs.declared.kind.Kind.TheVariants.{MakerMaker}
-use Rattle.pg_base.specs.declared.side.Side.{Side}
-use Rattle.pg_game.specs.declared.game.Game.{Game}
-use Rattle.pg_game.specs.declared.position.Position.{Position}
-use Rattle.pg_game.specs.Position.{is_free, points_of}
-use Rattle.pg_game.specs.Game.{lines_of, point_count, has_filled, is_touched, after}
-use Rattle.pg_game.specs.Potential.{is_on}
-use Rattle.pg_game.specs.Threat.{is_near, has_threat, depth_of, IsAttack, Forcing, Filling, LeadsToLine, IsAttacking}
-use Rattle.pg_game.proofs.Members.{member-from_any, true-at}
-use Rattle.pg_game.proofs.Moves.{other_other, free-of, points_of-mover, points_of-waiter, turn-alternates, free-was, IsPosition-after, ShareNone-after}
-use Rattle.pg_game.proofs.ThreatLaws.{Near, near-from, near-threat, near-filled, near-filling, near-stays, filled-waits, filled_but, untouched}
-use Rattle.pg_board.specs.Board.{line_at}
+use Rattle.pg_threat.proofs.Common.{is_some, cases_Bool, cases_eq, cases_order, and_parts, and_from, or_cases, or_left, false≢true, get_or_default, Contains, list_any, FinSet, contains, insert, empty, contains-empty, nat_cmp, in_insert, IsLeastFrom, ShareNone, other, MakerMaker, Side, Game, Position, is_free, points_of, lines_of, point_count, has_filled, is_touched, after, is_on, is_near, has_threat, depth_of, IsAttack, Forcing, Filling, LeadsToLine, IsAttacking, member-from_any, true-at, other_other, free-of, points_of-mover, points_of-waiter, turn-alternates, free-was, IsPosition-after, ShareNone-after, Near, near-from, near-threat, near-filled, near-filling, near-stays, filled-waits, filled_but, untouched, line_at}
 use Rattle.pg_threat.specs.Lacking.{lacks_at, is_lacking, IsLackedTwice}
 use Rattle.pg_threat.specs.Search.{IsAnswering, Replied, IsTried, NoneBelow}
 use Rattle.pg_threat.proofs.LineCounts.{one-lacked, one-near, two-lacked, line-lacked, lacking-free}

@@ -1,10 +1,6 @@
 -- A board after a play, and after the play was taken back.
 use Rattle.std.proofs.Common.{◌≡◌, ◌≤◌, ℕ, List, [], ◌∷◌, ◌++◌, length, refl, sym, ap, ◌∙◌, subst, arith}
-use Rattle.std.proofs.lemmas.List.{length_push}
-use Rattle.pg_game.specs.declared.game.Game.{Game}
-use Rattle.pg_game.specs.declared.position.Position.{Position}
-use Rattle.pg_game.specs.Game.{after}
-use Rattle.pg_board.specs.Board.{Stand, View}
+use Rattle.pg_threat.proofs.Common.{length_push, Game, Position, after, Stand, View}
 
 -- what holds of a game and a position holds of equal ones
 pub at_same : (P : Game → Position → Type 0) (g h : Game) (p q : Position)

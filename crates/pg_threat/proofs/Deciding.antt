@@ -1,11 +1,7 @@
 -- What the search says of the criterion by which a position is decided.
 use Rattle.std.specs.Prelude.{Option, Some, None}
-use Rattle.std.specs.Option.{is_some}
 use Rattle.std.proofs.Common.{◌≡◌, ◌≢◌, true, false, inl, inr, arith, ne_eqb}
-use Rattle.std.proofs.lemmas.Bool.{cases_Bool, and_from, and_left, and_right}
-use Rattle.pg_game.specs.declared.game.Game.{Game}
-use Rattle.pg_game.specs.declared.position.Position.{Position}
-use Rattle.pg_game.specs.Threat.{may_attack, has_threat_line}
+use Rattle.pg_threat.proofs.Common.{is_some, cases_Bool, and_from, and_left, and_right, Game, Position, may_attack, has_threat_line}
 use Rattle.pg_game.specs.Decided.{attack_wins, greatest_depth}
 use Rattle.pg_game.proofs.ThreatSearch.{line-within, within-line}
 use Rattle.pg_threat.specs.declared.line.ThreatLine.{ThreatLine}

@@ -1,23 +1,6 @@
 -- Where no line is left of which the side lacks two after an attack and its reply.
 use Rattle.std.proofs.Common.{◌≡◌, ℕ, ◌+◌, ◌≤◌, Bool, true, false, not, ◌&&◌, ◌==◌, List, [], ◌∷◌, length, refl, sym, ap, ◌∙◌, subst, inl, inr, arith, eqb-true, cond}
-use Rattle.std.proofs.lemmas.Bool.{cases_Bool, and_parts, and_from, or_parts, not_from_false, false≢true, eq-eqb}
-use Rattle.std.proofs.lemmas.List.Sums.{sum_by-cons}
-use Rattle.std.specs.List.{Contains, count_by}
-use Rattle.std.specs.FinSet.{FinSet, contains, insert}
-use Rattle.std.specs.Ordering.{nat_cmp}
-use Rattle.pg_base.specs.WordLemmas.{in_insert}
-use Rattle.pg_base.specs.Side.{other}
-use Rattle.pg_base.specs.declared.side.Side.{Side}
-use Rattle.pg_game.specs.declared.game.Game.{Game}
-use Rattle.pg_game.specs.declared.position.Position.{Position}
-use Rattle.pg_game.specs.Position.{is_free, points_of}
-use Rattle.pg_game.specs.Game.{lines_of, is_touched, after}
-use Rattle.pg_game.specs.Potential.{is_on}
-use Rattle.pg_game.specs.Threat.{IsAttack, IsAttacking}
-use Rattle.pg_game.proofs.Members.{member-from_any, list_any-one}
-use Rattle.pg_game.proofs.Moves.{other_other, free-of, points_of-mover, points_of-waiter, turn-alternates}
-use Rattle.pg_board.specs.Board.{is_live_with, live_with}
-use Rattle.pg_board.proofs.Answering.{clear-any}
+use Rattle.pg_threat.proofs.Common.{cases_Bool, and_parts, and_from, or_parts, not_from_false, false≢true, eq-eqb, sum_by-cons, Contains, count_by, FinSet, contains, insert, nat_cmp, in_insert, other, Side, Game, Position, is_free, points_of, lines_of, is_touched, after, is_on, IsAttack, IsAttacking, member-from_any, list_any-one, other_other, free-of, points_of-mover, points_of-waiter, turn-alternates, is_live_with, live_with, clear-any}
 use Rattle.pg_threat.specs.Lacking.{is_gained, lacks, lacks_at, is_lacking, is_partner}
 use Rattle.pg_threat.proofs.LineCounts.{count-insert, count-more, lacks-from, lacks-to, own-and_free, some-counted}
 

@@ -2,29 +2,7 @@
 -- them.
 use Rattle.std.specs.Prelude.{None}
 use Rattle.std.proofs.Common.{◌≡◌, ◌≢◌, ℕ, ◌+◌, ◌-◌, ◌<◌, ◌≤◌, Bool, true, false, ◌||◌, ◌==◌, List, [], ◌∷◌, length, get_or, refl, sym, ap, ◌∙◌, subst, inl, inr, arith, eqb-true, eq-eqb, ne_eqb}
-use Rattle.std.proofs.lemmas.Bool.{cases_Bool, cases_eq, and_parts, and_from, or_cases, or_left, or_right, or_parts, or_from, not_from_false, false≢true}
-use Rattle.std.proofs.lemmas.List.{get_or_default}
-use Rattle.std.proofs.lemmas.List.FromFn.{length-range_with_len, get_or-range_with_len}
-use Rattle.std.specs.List.{Contains, count_by, list_any, list_all, range_with_len}
-use Rattle.std.specs.FinSet.{FinSet, contains, insert}
-use Rattle.std.specs.Ordering.{nat_cmp}
-use Rattle.pg_base.specs.Points.{IsLeastFrom, ShareNone}
-use Rattle.pg_base.specs.WordLemmas.{in_insert, same_points}
-use Rattle.pg_base.specs.Side.{other}
-use Rattle.pg_base.specs.declared.kind.Kind.TheVariants.{MakerMaker}
-use Rattle.pg_base.specs.declared.side.Side.{Side}
-use Rattle.pg_base.specs.declared.side.Side.TheVariants.{X, Y}
-use Rattle.pg_game.specs.declared.game.Game.{Game}
-use Rattle.pg_game.specs.declared.position.Position.{Position}
-use Rattle.pg_game.specs.Position.{is_free, points_of}
-use Rattle.pg_game.specs.Game.{lines_of, has_filled, is_filled, is_touched, point_count, after}
-use Rattle.pg_game.specs.Potential.{is_on}
-use Rattle.pg_game.specs.Threat.{depth_of, has_threat, IsAttack, Forcing, Filling, LeadsToLine, IsAttacking}
-use Rattle.pg_game.proofs.Members.{Contains-filter, list_any-one, member-from_any}
-use Rattle.pg_game.proofs.Moves.{other_other, free-of, free-stays, free-was, apart, points_of-mover, points_of-waiter, turn-alternates, ShareNone-after}
-use Rattle.pg_game.proofs.ThreatLaws.{Near, filled_but, filled-with, untouched, near-from, near-range, near-to, near-filled, near-filling, near-threat, filled-waits, forced-after, attacking-after}
-use Rattle.pg_board.specs.Board.{line_at}
-use Rattle.pg_board.specs.Shape.{lines_holding}
+use Rattle.pg_threat.proofs.Common.{cases_Bool, cases_eq, and_parts, and_from, or_cases, or_left, or_right, or_parts, or_from, not_from_false, false≢true, get_or_default, length-range_with_len, get_or-range_with_len, Contains, count_by, list_any, list_all, range_with_len, FinSet, contains, insert, nat_cmp, IsLeastFrom, ShareNone, in_insert, same_points, other, MakerMaker, Side, X, Y, Game, Position, is_free, points_of, lines_of, has_filled, is_filled, is_touched, point_count, after, is_on, depth_of, has_threat, IsAttack, Forcing, Filling, LeadsToLine, IsAttacking, Contains-filter, list_any-one, member-from_any, other_other, free-of, free-stays, free-was, apart, points_of-mover, points_of-waiter, turn-alternates, ShareNone-after, Near, filled_but, filled-with, untouched, near-from, near-range, near-to, near-filled, near-filling, near-threat, filled-waits, forced-after, attacking-after, line_at, lines_holding}
 use Rattle.pg_threat.specs.Lacking.{is_lacking, own_count, IsIdle}
 use Rattle.pg_threat.specs.Search.{IsAnswering, IsFound, NoneBelow, Replied}
 use Rattle.pg_threat.proofs.Attacks.{off-line, threat-near}

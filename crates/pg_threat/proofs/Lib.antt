@@ -1,3 +1,4 @@
+mod Common
 mod Walks
 pub mod Boards
 mod LineCounts

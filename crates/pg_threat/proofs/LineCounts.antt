@@ -1,27 +1,8 @@
 -- How many points of a line a side lacks, by the points themselves.
 use Rattle.std.proofs.Common.{◌≡◌, ◌≢◌, ℕ, ◌+◌, ◌<◌, ◌≤◌, Bool, true, false, cond, not, ◌&&◌, ◌||◌, ◌==◌, List, [], ◌∷◌, length, refl, sym, ap, ap₂, ◌∙◌, subst, inl, inr, arith, eqb-true, eq-eqb, ne_eqb}
-use Rattle.std.proofs.lemmas.Bool.{cases_Bool, cases_eq, and_left, and_parts, and_from, or_parts, not-true, not_from_false}
-use Rattle.std.proofs.lemmas.List.Sums.{sum_by-cons, count_by-le-length, get_or-le-sum_by}
-use Rattle.std.specs.List.{Contains, count_by, list_all, list_any}
-use Rattle.std.specs.FinSet.{FinSet, contains, insert}
-use Rattle.std.specs.Ordering.{nat_cmp}
-use Rattle.pg_base.specs.Points.{ShareNone}
-use Rattle.pg_base.specs.WordLemmas.{in_insert}
-use Rattle.pg_base.specs.Side.{other}
-use Rattle.pg_base.specs.declared.side.Side.{Side}
-use Rattle.pg_base.specs.declared.side.Side.TheVariants.{X, Y}
-use Rattle.pg_game.specs.declared.game.Game.{Game}
-use Rattle.pg_game.specs.declared.position.Position.{Position}
-use Rattle.pg_game.specs.Position.{is_free, points_of}
-use Rattle.pg_game.specs.Game.{lines_of, is_touched, point_count}
-use Rattle.pg_game.specs.Potential.{is_on}
-use Rattle.pg_game.proofs.Members.{member-from_any, list_any-one, list_any-none}
+use Rattle.pg_threat.proofs.Common.{cases_Bool, cases_eq, and_left, and_parts, and_from, or_parts, not-true, not_from_false, sum_by-cons, count_by-le-length, get_or-le-sum_by, Contains, count_by, list_all, list_any, FinSet, contains, insert, nat_cmp, ShareNone, in_insert, other, Side, X, Y, Game, Position, is_free, points_of, lines_of, is_touched, point_count, is_on, member-from_any, list_any-one, list_any-none, free-of, Near, filled_but, filled-with, filled-without, untouched, near-range, is_live_with, live_with, clear-any}
 use Rattle.pg_base.proofs.LineLemmas.{count-ascending}
-use Rattle.pg_game.proofs.Moves.{free-of}
 use Rattle.pg_game.proofs.WeightBounds.{line-fit}
-use Rattle.pg_game.proofs.ThreatLaws.{Near, filled_but, filled-with, filled-without, untouched, near-range}
-use Rattle.pg_board.specs.Board.{is_live_with, live_with}
-use Rattle.pg_board.proofs.Answering.{clear-any}
 use Rattle.pg_threat.specs.Lacking.{lacks, lacks_at, is_lacking}
 
 -- ---- counts of members

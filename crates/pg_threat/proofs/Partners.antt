@@ -1,27 +1,6 @@
 -- The replies to an attack, read off the lines through it.
 use Rattle.std.proofs.Common.{◌≡◌, ◌≢◌, ℕ, suc, ◌+◌, ◌<◌, ◌≤◌, Bool, true, false, not, ◌&&◌, ◌||◌, ◌==◌, List, [], ◌∷◌, length, get_or, take, refl, sym, ap, ap₂, ◌∙◌, subst, inl, inr, arith, ne_eqb}
-use Rattle.std.proofs.lemmas.Bool.{cases_Bool, and_parts, and_from, not-true, not_from_false, false≢true, eq-eqb}
-use Rattle.std.proofs.lemmas.List.{take_all}
-use Rattle.std.proofs.lemmas.List.Elements.{Contains-get_or}
-use Rattle.std.proofs.lemmas.List.Folds.{list_any_more}
-use Rattle.std.specs.List.{Contains, list_any, range_with_len}
-use Rattle.std.specs.FinSet.{FinSet, contains, insert, remove}
-use Rattle.std.specs.Ordering.{nat_cmp}
-use Rattle.pg_base.specs.WordLemmas.{in_insert, in_remove}
-use Rattle.pg_base.specs.Points.{ShareNone}
-use Rattle.pg_base.specs.declared.side.Side.{Side}
-use Rattle.pg_game.specs.declared.game.Game.{Game}
-use Rattle.pg_game.specs.declared.position.Position.{Position}
-use Rattle.pg_game.specs.Position.{points_of}
-use Rattle.pg_game.specs.Game.{lines_of, after}
-use Rattle.pg_game.specs.Potential.{is_on}
-use Rattle.pg_game.specs.Threat.{IsAttack}
-use Rattle.pg_game.proofs.Lowest.{any_both}
-use Rattle.pg_game.proofs.Members.{false-at, member-from_any, list_any-one}
-use Rattle.pg_game.proofs.Moves.{free-of, free-stays, free-was, points_of-mover, ShareNone-after}
-use Rattle.pg_game.proofs.ThreatLaws.{Near, filled_but, filled-without}
-use Rattle.pg_board.specs.Board.{line_at}
-use Rattle.pg_board.specs.Shape.{lines_holding}
+use Rattle.pg_threat.proofs.Common.{cases_Bool, and_parts, and_from, not-true, not_from_false, false≢true, eq-eqb, take_all, Contains-get_or, list_any_more, Contains, list_any, range_with_len, FinSet, contains, insert, remove, nat_cmp, in_insert, in_remove, ShareNone, Side, Game, Position, points_of, lines_of, after, is_on, IsAttack, any_both, false-at, member-from_any, list_any-one, free-of, free-stays, free-was, points_of-mover, ShareNone-after, Near, filled_but, filled-without, line_at, lines_holding}
 use Rattle.pg_board.proofs.Ranges.{filtered-below}
 use Rattle.pg_threat.specs.Lacking.{is_gained, is_open_on, lacks, lacks_at, is_lacking, is_partner}
 use Rattle.pg_threat.proofs.LineCounts.{count-more, counted-all, lacks-from, one-lacked, one-near}

@@ -1,21 +1,7 @@
 -- A walk along the lines that the other side hasn't touched.
 use Rattle.std.proofs.Common.{◌≡◌, ℕ, zero, suc, ◌+◌, ◌-◌, ◌<◌, ◌≤◌, Bool, true, false, ◌&&◌, ◌||◌, ◌==◌, List, [], length, get_or, take, Some, None, refl, sym, ap, ap₂, ◌∙◌, subst, inl, inr, arith, eqb-true, eq-eqb, ne_eqb, take_all}
 use Rattle.std.specs.Prelude.{Option}
-use Rattle.std.proofs.lemmas.Bool.{cases_eq, cases_lt, and_parts, and_from, and_left, and_right, or_left, or_right, or_cases, false≢true}
-use Rattle.std.proofs.lemmas.List.Folds.{list_any_more, list_any_at}
-use Rattle.std.proofs.lemmas.List.{get_or-take, length-take}
-use Rattle.std.specs.List.{list_any}
-use Rattle.std.specs.FinSet.{FinSet, contains, insert, empty, contains-empty}
-use Rattle.std.specs.Ordering.{nat_cmp}
-use Rattle.pg_base.specs.WordLemmas.{in_insert}
-use Rattle.pg_base.specs.Side.{other}
-use Rattle.pg_base.specs.declared.side.Side.{Side}
-use Rattle.pg_game.specs.declared.game.Game.{Game}
-use Rattle.pg_game.specs.declared.position.Position.{Position}
-use Rattle.pg_game.specs.Position.{is_free}
-use Rattle.pg_game.specs.Game.{lines_of}
-use Rattle.pg_game.specs.Potential.{is_on}
-use Rattle.pg_board.specs.Board.{line_at}
+use Rattle.pg_threat.proofs.Common.{cases_eq, cases_lt, and_parts, and_from, and_left, and_right, or_left, or_right, or_cases, false≢true, list_any_more, list_any_at, get_or-take, length-take, list_any, FinSet, contains, insert, empty, contains-empty, nat_cmp, in_insert, other, Side, Game, Position, is_free, lines_of, is_on, line_at}
 use Rattle.pg_threat.specs.Lacking.{own_count, is_live, NoneLive, IsNextLive, is_open_on, lacks, lacks_at, is_lacking, come_to, left_to, IsScan, IsLackedTwice, IsScanTwice}
 
 -- ---- the free points of a line

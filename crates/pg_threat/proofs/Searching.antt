@@ -1,18 +1,7 @@
 -- The search, attack by attack and depth by depth.
 use Rattle.std.specs.Prelude.{◌↔◌, ◌==◌, if◌then◌else◌, Option, Some, None, IfSome, IfNone}
 use Rattle.std.proofs.Common.{◌≡◌, ◌≢◌, ℕ, ◌+◌, ◌-◌, ◌*◌, ◌<◌, ◌≤◌, true, false, List, [], ◌∷◌, length, refl, sym, ap, ◌∙◌, subst, inl, inr, arith, eqb-true}
-use Rattle.std.proofs.lemmas.Bool.{cases_Bool, cases_eq, cases_lt, false≢true}
-use Rattle.std.specs.FinSet.{FinSet, contains, empty, contains-empty}
-use Rattle.std.specs.Ordering.{nat_cmp}
-use Rattle.pg_base.specs.Points.{IsLeastFrom, ShareNone}
-use Rattle.pg_base.specs.declared.side.Side.{Side}
-use Rattle.pg_game.specs.declared.game.Game.{Game}
-use Rattle.pg_game.specs.declared.position.Position.{Position}
-use Rattle.pg_game.specs.Position.{is_free}
-use Rattle.pg_game.specs.Game.{lines_of, point_count, after, is_over, IsPosition}
-use Rattle.pg_game.specs.Threat.{depth_of, may_attack, ComesFirst, IsAttack, LeadsToLine, IsAttacking, IsThreatLine, AreDeeper}
-use Rattle.pg_game.proofs.Limits.{point_count-le}
-use Rattle.pg_game.proofs.ThreatLaws.{Near, near-from, near-to, near-range, near-stays, near-filling, IsForced, attacking-after, unfilled-going}
+use Rattle.pg_threat.proofs.Common.{cases_Bool, cases_eq, cases_lt, false≢true, FinSet, contains, empty, contains-empty, nat_cmp, IsLeastFrom, ShareNone, Side, Game, Position, is_free, lines_of, point_count, after, is_over, IsPosition, depth_of, may_attack, ComesFirst, IsAttack, LeadsToLine, IsAttacking, IsThreatLine, AreDeeper, point_count-le, Near, near-from, near-to, near-range, near-stays, near-filling, IsForced, attacking-after, unfilled-going}
 use Rattle.pg_threat.specs.declared.line.ThreatLine.{ThreatLine}
 use Rattle.pg_threat.specs.Lacking.{is_lacking, is_partner, IsLackedTwice, come_to, left_to}
 use Rattle.pg_threat.specs.Search.{Begins, points_of_line, IsFirstOf, NoneBelow, IsFound, IsAnswering, Replied, IsTried, IsSearching}

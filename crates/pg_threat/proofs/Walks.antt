@@ -1,16 +1,7 @@
 -- The lines without a point of a side, one after the other.
 use Rattle.std.specs.Prelude.{Option, Some, None}
 use Rattle.std.proofs.Common.{◌≡◌, ℕ, zero, suc, ◌+◌, ◌<◌, ◌≤◌, Bool, true, false, ◌&&◌, List, [], ◌∷◌, length, ltb, refl, sym, ap, ◌∙◌, subst, inl, inr, arith}
-use Rattle.std.proofs.lemmas.Bool.{cases_Bool, cases_eq, and_parts, false≢true, lt-ltb, ltb-true}
-use Rattle.std.proofs.lemmas.List.FromFn.{length-range_with_len, get_or-range_with_len}
-use Rattle.std.specs.List.{Contains, find, range_with_len, slice_get}
-use Rattle.pg_base.specs.declared.side.Side.{Side}
-use Rattle.pg_game.specs.declared.game.Game.{Game}
-use Rattle.pg_game.specs.declared.position.Position.{Position}
-use Rattle.pg_game.specs.Game.{lines_of}
-use Rattle.pg_game.proofs.Lowest.{find_both}
-use Rattle.pg_game.proofs.Members.{Contains-filter}
-use Rattle.pg_board.specs.Board.{live_lines, line_at}
+use Rattle.pg_threat.proofs.Common.{cases_Bool, cases_eq, and_parts, false≢true, lt-ltb, ltb-true, length-range_with_len, get_or-range_with_len, Contains, find, range_with_len, slice_get, Side, Game, Position, lines_of, find_both, Contains-filter, live_lines, line_at}
 use Rattle.pg_threat.specs.Lacking.{is_live, IsNextLive}
 
 -- ---- the first number of a range that passes

@@ -1,17 +1,6 @@
 -- The free points of lines of which a side lacks few points.
 use Rattle.std.specs.Prelude.{◌≡◌, ℕ, ◌+◌, ◌-◌, ◌<◌, ◌≤◌, ◌==◌, Bool, true, false, not, ◌&&◌, List, length, take, Option, Some, None}
-use Rattle.std.specs.List.{Contains, list_any, count_by}
-use Rattle.std.specs.FinSet.{FinSet, contains}
-use Rattle.std.specs.Ordering.{nat_cmp}
-use Rattle.pg_base.specs.Side.{other}
-use Rattle.pg_base.specs.declared.kind.Kind.TheVariants.{MakerMaker}
-use Rattle.pg_base.specs.declared.side.Side.{Side}
-use Rattle.pg_game.specs.declared.game.Game.{Game}
-use Rattle.pg_game.specs.declared.position.Position.{Position}
-use Rattle.pg_game.specs.Position.{is_free, points_of}
-use Rattle.pg_game.specs.Game.{lines_of, is_touched}
-use Rattle.pg_game.specs.Potential.{is_on}
-use Rattle.pg_board.specs.Board.{line_at}
+use Rattle.pg_threat.specs.Prelude.{Contains, list_any, count_by, FinSet, contains, nat_cmp, other, MakerMaker, Side, Game, Position, is_free, points_of, lines_of, is_touched, is_on, line_at}
 
 -- whether the side has no point of the line
 abbrev pub is_live : Position → Side → List ℕ → Bool

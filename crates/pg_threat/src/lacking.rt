@@ -1,12 +1,6 @@
 //! The free points of lines of which a side lacks few points.
 ghost use Rattle.std.specs.Prelude.{◌≡◌, ◌<◌, ◌≤◌, ◌+◌, ◌||◌, ℕ, List, true, false, length};
-ghost use Rattle.std.specs.List.{Contains};
-ghost use Rattle.std.specs.FinSet.{contains, insert};
-ghost use Rattle.pg_base.specs.Side.{other};
-ghost use Rattle.pg_base.specs.declared.kind.Kind.TheVariants.{MakerMaker};
-ghost use Rattle.pg_game.specs.Game.{lines_of, point_count, IsPosition};
-ghost use Rattle.pg_game.specs.Potential.{is_on};
-ghost use Rattle.pg_board.specs.Board.{line_at};
+ghost use Rattle.pg_threat.specs.Prelude.{Contains, contains, insert, other, MakerMaker, lines_of, point_count, IsPosition, is_on, line_at};
 ghost use Rattle.pg_threat.specs.Lacking.{is_gained, is_open_on, is_lacking, is_partner, lacks, IsLackedTwice};
 ghost use Rattle.pg_threat.specs.Lacking.{own_count, IsIdle, IsOutOfReach};
 

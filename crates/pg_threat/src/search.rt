@@ -1,9 +1,6 @@
 //! The search for a threat line.
 ghost use Rattle.std.specs.Prelude.{◌≡◌, ◌≤◌, ◌<◌, ◌+◌, ◌*◌, ◌↔◌, ℕ, true, false, Some, IfSome, length, ◌==◌, ◌&&◌, if◌then◌else◌};
-ghost use Rattle.std.specs.FinSet.{contains};
-ghost use Rattle.pg_game.specs.Game.{after, is_over, lines_of, IsPosition};
-ghost use Rattle.pg_game.specs.Threat.{may_attack, IsAttack, LeadsToLine, IsAttacking};
-ghost use Rattle.pg_base.specs.Points.{IsLeastFrom};
+ghost use Rattle.pg_threat.specs.Prelude.{contains, after, is_over, lines_of, IsPosition, may_attack, IsAttack, LeadsToLine, IsAttacking, IsLeastFrom};
 ghost use Rattle.pg_threat.specs.Forced.{IsAnswer};
 ghost use Rattle.pg_threat.specs.Lacking.{is_lacking, is_partner, IsLackedTwice};
 ghost use Rattle.pg_threat.specs.Search.{Begins, IsAnswering, IsFound, IsTried, NoneBelow, Replied};

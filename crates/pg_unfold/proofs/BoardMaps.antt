@@ -1,10 +1,6 @@
 -- What maps of a board do to all numbers that a set can hold.
 use Rattle.std.proofs.Common.{◌*◌, ◌≤◌, Option, Some, None, refl, ap, ◌∙◌, inl, inr, arith}
-use Rattle.std.proofs.lemmas.Bool.{cases_lt}
-use Rattle.pg_base.specs.declared.grid.Grid.{Grid}
-use Rattle.pg_maps.specs.GridMaps.{IsMapOf, image_of, reverse_of}
-use Rattle.pg_maps.specs.Images.{AreInverse, image_on}
-use Rattle.pg_maps.specs.declared.grid_map.GridMap.{GridMap}
+use Rattle.pg_unfold.proofs.Common.{cases_lt, Grid, IsMapOf, image_of, reverse_of, AreInverse, image_on, GridMap}
 use Rattle.pg_maps.proofs.Turning.{AreInverse-map, image-beyond}
 use Rattle.pg_unfold.specs.Marks.{IsBoardMap}
 

@@ -1,26 +1,11 @@
 -- A sound claim, unfolded.
 use Rattle.std.proofs.Common.{◌≡◌, ℕ, zero, suc, ◌-◌, ◌<◌, ◌≤◌, Bool, true, List, [], ◌∷◌, map, length, get_or, refl, sym, ap, subst, inl, inr, arith}
-use Rattle.std.specs.List.{All as Each, AllZip, Contains}
-use Rattle.std.proofs.lemmas.Bool.{cases_lt}
-use Rattle.std.proofs.lemmas.List.Elements.{All-cons, All-nil, All-contains}
-use Rattle.std.proofs.lemmas.Option.{slice_get_within, slice_get-get_or}
-use Rattle.pg_cert.specs.Limits.{IsNode}
-use Rattle.pg_cert.specs.declared.cert.Claim.{Claim}
-use Rattle.pg_cert.specs.declared.node.Node.{Node}
-use Rattle.pg_game.specs.declared.game.Game.{Game}
+use Rattle.pg_unfold.proofs.Common.{AllZip, Contains, cases_lt, All-cons, All-nil, All-contains, slice_get_within, slice_get-get_or, IsNode, Claim, Node, Game, Contains-head, Contains-tail, IsImageNode, IsImageClaim, ImageClaim, ImageNode, Plain, Image, identity, Fits, board_of, Fits-identity, Fits-followed, cells, IsMarked}
+use Rattle.std.specs.List.{All as Each}
 use Rattle.pg_game.proofs.Limits.{point_count-le}
-use Rattle.pg_game.proofs.Members.{Contains-head, Contains-tail}
-use Rattle.pg_image.specs.Limits.{IsImageNode, IsImageClaim}
-use Rattle.pg_image.specs.declared.cert.ImageClaim.{ImageClaim}
-use Rattle.pg_image.specs.declared.node.ImageNode.{ImageNode}
-use Rattle.pg_image.specs.declared.node.ImageNode.TheVariants.{Plain, Image}
-use Rattle.pg_maps.specs.GridMaps.{identity}
-use Rattle.pg_maps.specs.Images.{Fits, board_of}
-use Rattle.pg_maps.proofs.Boards.{Fits-identity, Fits-followed, cells}
 use Rattle.pg_unfold.specs.Copies.{Copy, LeadsTo, IsMet, IsMetBy, AreCopies}
 use Rattle.pg_unfold.specs.Flaws.{IsSoundClaim, HasUsable, HasSize}
 use Rattle.pg_unfold.specs.Gathered.{IsTaken, IsTooMuch}
-use Rattle.pg_base.specs.Sets.{IsMarked}
 use Rattle.pg_unfold.specs.Marks.{key_of, copy_at, AreEarlier, AreMet, ArePlaces, IsBoardMap, AreBoardMaps, copies_of}
 use Rattle.pg_unfold.specs.Unfolded.{BecomesUnder, IsCopied}
 use Rattle.pg_unfold.specs.declared.flaw.Flaw.TheVariants as flaws

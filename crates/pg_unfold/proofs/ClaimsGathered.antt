@@ -1,21 +1,8 @@
 -- Claims that are unfolded one after the other.
 use Rattle.std.proofs.Common.{◌≡◌, ℕ, ◌+◌, ◌≤◌, true, List, [], ◌∷◌, ◌++◌, map, length, sum, Some, slice_get, take, suc, refl, sym, ap, ◌∙◌, subst, inl, inr, arith}
+use Rattle.pg_unfold.proofs.Common.{map_push, All-push, All-nil, sum_by_push, IsClaim, IsOfVersion, IsWithinLimits, has_body, node_count, Cert, Claim, Two, Body, Game, IsImageWithinLimits, ImageCert, ImageClaim, board_of, sum-through}
 use Rattle.std.specs.List.{All as Each}
-use Rattle.std.proofs.lemmas.List.{map_push}
-use Rattle.std.proofs.lemmas.List.Elements.{All-push, All-nil}
-use Rattle.std.proofs.lemmas.List.Sums.{sum_by_push}
-use Rattle.pg_cert.specs.Limits.{IsClaim, IsOfVersion, IsWithinLimits, has_body, node_count}
-use Rattle.pg_cert.specs.declared.cert.Cert.{Cert}
-use Rattle.pg_cert.specs.declared.cert.Claim.{Claim}
 use Rattle.pg_cert.specs.declared.cert.Version.{Version}
-use Rattle.pg_cert.specs.declared.cert.Version.TheVariants.{Two}
-use Rattle.pg_cert.specs.declared.node.Body.{Body}
-use Rattle.pg_game.specs.declared.game.Game.{Game}
-use Rattle.pg_image.specs.Limits.{IsImageWithinLimits}
-use Rattle.pg_image.specs.declared.cert.ImageCert.{ImageCert}
-use Rattle.pg_image.specs.declared.cert.ImageClaim.{ImageClaim}
-use Rattle.pg_maps.specs.Images.{board_of}
-use Rattle.pg_maps.proofs.Criteria.{sum-through}
 use Rattle.pg_unfold.specs.Flaws.{HasSize, HaveRoom, IsFirstTooLarge}
 use Rattle.pg_unfold.specs.Gathered.{IsGatheredNext, IsTooMuch, AreGathered}
 use Rattle.pg_unfold.specs.Unfolded.{IsCopied, IsUnfolded, AreUnfolded}

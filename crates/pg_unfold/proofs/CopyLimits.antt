@@ -1,28 +1,8 @@
 -- Images of nodes within the limits of the format are within them.
 use Rattle.std.proofs.Common.{◌≡◌, ℕ, ◌%◌, ◌<◌, true, false, List, [], ◌∷◌, map, Option, eqb, eqb-true, sym, ap, ◌∙◌, subst, inl, inr, arith}
-use Rattle.std.specs.FinSet.{FinSet, contains}
-use Rattle.std.specs.List.{All as Each, AllZip}
-use Rattle.std.specs.Ordering.{nat_cmp}
-use Rattle.std.proofs.lemmas.Bool.{cases_Bool}
-use Rattle.std.proofs.lemmas.List.{length-map}
-use Rattle.std.proofs.lemmas.List.Elements.{All-cons, All-head, All-tail, All-weaker, All-map, All-nil}
-use Rattle.std.proofs.lemmas.List.Sorted.{All-permutation}
-use Rattle.pg_base.specs.Points.{members}
-use Rattle.pg_base.specs.declared.grid.Grid.{Grid}
-use Rattle.pg_base.specs.declared.side.Side.{Side}
-use Rattle.pg_cert.specs.Limits.{ArePoints, IsReply, IsPair, IsBody, IsTurn, IsNode}
-use Rattle.pg_cert.specs.Node.{position_of}
-use Rattle.pg_cert.specs.declared.node.Body.{Body}
-use Rattle.pg_cert.specs.declared.node.Body.TheVariants.{Over, Move, All, Pairs, Potential, Trees, Cuts, Threat, Weaker}
-use Rattle.pg_cert.specs.declared.node.Node.{Node}
-use Rattle.pg_cert.specs.declared.reply.Reply.{Reply}
-use Rattle.pg_game.specs.declared.position.Position.{Position}
-use Rattle.pg_game.proofs.Members.{member-from_any}
-use Rattle.pg_maps.specs.GridMaps.{reverse_of}
-use Rattle.pg_maps.specs.Images.{AreInverse, image_on, image_pair, image_position, image_set}
-use Rattle.pg_maps.specs.declared.grid_map.GridMap.{GridMap}
-use Rattle.pg_maps.proofs.Criteria.{Contains-map-from}
-use Rattle.pg_maps.proofs.SetImages.{of_member, in_image}
+use Rattle.pg_unfold.proofs.Common.{FinSet, contains, AllZip, nat_cmp, cases_Bool, length-map, All-cons, All-head, All-tail, All-weaker, All-map, All-nil, All-permutation, members, Grid, Side, ArePoints, IsReply, IsPair, IsBody, IsTurn, IsNode, position_of, Body, Over, Move, Pairs, Potential, Trees, Cuts, Threat, Weaker, Node, Reply, Position, member-from_any, reverse_of, AreInverse, image_on, image_pair, image_position, image_set, GridMap, Contains-map-from, of_member, in_image}
+use Rattle.std.specs.List.{All as Each}
+use Rattle.pg_cert.specs.declared.node.Body.TheVariants.{All}
 use Rattle.pg_unfold.specs.Marks.{IsBoardMap}
 use Rattle.pg_unfold.specs.Unfolded.{IsReplyImage, IsBodyImage}
 use Rattle.pg_unfold.proofs.BoardMaps.{AreInverse-board}

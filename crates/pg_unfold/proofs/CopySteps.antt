@@ -1,20 +1,8 @@
 -- The copies of nodes, one after the other.
 use Rattle.std.proofs.Common.{◌≡◌, ℕ, suc, ◌+◌, ◌/◌, ◌%◌, Bool, false, List, [], ◌∷◌, ◌++◌, map, Option, Some, slice_get, refl, sym, ap, ◌∙◌, subst, add-one}
-use Rattle.std.specs.List.{AllZip, Contains}
-use Rattle.std.proofs.lemmas.List.{map_push}
-use Rattle.pg_base.specs.declared.grid.Grid.{Grid}
-use Rattle.pg_cert.specs.Node.{position_of}
-use Rattle.pg_cert.specs.declared.node.Body.{Body}
-use Rattle.pg_cert.specs.declared.node.Body.TheVariants.{Over, Move, All, Pairs, Potential, Trees, Cuts, Threat, Weaker}
-use Rattle.pg_cert.specs.declared.node.Node.{Node}
-use Rattle.pg_cert.specs.declared.reply.Reply.{Reply}
-use Rattle.pg_game.proofs.Members.{Contains-head, Contains-tail}
-use Rattle.pg_image.specs.declared.node.ImageNode.{ImageNode}
-use Rattle.pg_image.specs.declared.node.ImageNode.TheVariants.{Plain}
-use Rattle.pg_maps.specs.GridMaps.{numbered, number_of}
-use Rattle.pg_maps.specs.Images.{image_on, image_position}
+use Rattle.pg_unfold.proofs.Common.{AllZip, Contains, map_push, Grid, position_of, Body, Over, Move, Pairs, Potential, Trees, Cuts, Threat, Weaker, Node, Reply, Contains-head, Contains-tail, ImageNode, Plain, numbered, number_of, image_on, image_position, IsMarked}
+use Rattle.pg_cert.specs.declared.node.Body.TheVariants.{All}
 use Rattle.pg_unfold.specs.Copies.{Copy, NamesChild, IsPlaced}
-use Rattle.pg_base.specs.Sets.{IsMarked}
 use Rattle.pg_unfold.specs.Marks.{copy_at, key_of, AreMet, ArePlaces, IsPlaceOf, copies_below, copies_of, is_kept}
 use Rattle.pg_unfold.specs.Unfolded.{IsReplyImage, IsBodyImage, BecomesUnder, IsCopied}
 use Rattle.pg_unfold.proofs.Keys.{copy_at-key}

@@ -1,12 +1,7 @@
 -- A faultless certificate has no first fault, and any other has one at most.
 use Rattle.std.proofs.Common.{◌≡◌, ℕ, zero, suc, ◌<◌, List, [], ◌∷◌, length, take, Some, slice_get, refl, sym, ap, ◌∙◌, subst, inl, inr, arith}
-use Rattle.std.specs.List.{AllZip}
-use Rattle.std.proofs.lemmas.Bool.{cases_order}
+use Rattle.pg_unfold.proofs.Common.{AllZip, cases_order, Game, ImageCert, ImageClaim, ImageNode}
 use Rattle.pg_base.proofs.Stands.{in_take}
-use Rattle.pg_game.specs.declared.game.Game.{Game}
-use Rattle.pg_image.specs.declared.cert.ImageCert.{ImageCert}
-use Rattle.pg_image.specs.declared.cert.ImageClaim.{ImageClaim}
-use Rattle.pg_image.specs.declared.node.ImageNode.{ImageNode}
 use Rattle.pg_unfold.specs.Flaw.{flaw_number}
 use Rattle.pg_unfold.specs.Flaws.{AreSound, HasSize, IsFaultless, IsFirstFault, IsFirstFlaw, IsFirstIn, IsFirstTooLarge, IsLeastFlaw, IsSoundClaim}
 use Rattle.pg_unfold.specs.declared.flaw.Flaw.{Flaw}

@@ -1,18 +1,7 @@
 -- From one copy of a node to those to which it leads, by their places in the table.
 use Rattle.std.proofs.Common.{◌≡◌, ℕ, ◌+◌, ◌*◌, ◌/◌, ◌%◌, ◌<◌, Bool, true, List, length, map, set, Some, slice_get, sym, ap, ◌∙◌, subst, arith}
-use Rattle.std.specs.FinSet.{FinSet}
-use Rattle.std.specs.Ordering.{nat_cmp}
-use Rattle.std.proofs.lemmas.List.Elements.{All-contains, All-map}
-use Rattle.pg_base.specs.declared.side.Side.{Side}
-use Rattle.pg_cert.specs.Valid.{NamesEarlier}
-use Rattle.pg_cert.specs.declared.node.Body.{Body}
-use Rattle.pg_cert.specs.declared.node.Body.TheVariants.{Over, Move, All, Pairs, Potential, Trees, Cuts, Threat, Weaker}
-use Rattle.pg_cert.specs.declared.node.Node.{Node}
-use Rattle.pg_image.specs.declared.node.ImageNode.{ImageNode}
-use Rattle.pg_image.specs.declared.node.ImageNode.TheVariants.{Plain, Image}
-use Rattle.pg_maps.specs.GridMaps.{numbered, number_of, followed_by}
-use Rattle.pg_maps.specs.declared.grid_map.GridMap.{GridMap}
-use Rattle.pg_maps.proofs.Numbers.{number-numbered}
+use Rattle.pg_unfold.proofs.Common.{FinSet, nat_cmp, All-contains, All-map, Side, NamesEarlier, Body, Over, Move, Pairs, Potential, Trees, Cuts, Threat, Weaker, Node, ImageNode, Plain, Image, numbered, number_of, followed_by, GridMap, number-numbered}
+use Rattle.pg_cert.specs.declared.node.Body.TheVariants.{All}
 use Rattle.pg_unfold.specs.Copies.{Copy, NamesChild, LeadsTo}
 use Rattle.pg_unfold.specs.Flaws.{HasEarlier}
 use Rattle.pg_unfold.specs.Marks.{key_of, copy_at, AreAdded, IsChildOf, Hands, AreEarlier}

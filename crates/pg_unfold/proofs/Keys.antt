@@ -1,7 +1,6 @@
 -- The places of copies in a table of eight for each node.
 use Rattle.std.proofs.Common.{◌≡◌, ℕ, ◌+◌, ◌*◌, ◌/◌, ◌%◌, ◌<◌, ap, ◌∙◌, arith}
-use Rattle.pg_maps.specs.GridMaps.{numbered, number_of}
-use Rattle.pg_maps.proofs.Numbers.{number-numbered, numbered-number, number-few}
+use Rattle.pg_unfold.proofs.Common.{numbered, number_of, number-numbered, numbered-number, number-few}
 use Rattle.pg_unfold.specs.Copies.{Copy}
 use Rattle.pg_unfold.specs.Marks.{key_of, copy_at}
 

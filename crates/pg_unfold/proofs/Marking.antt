@@ -1,8 +1,6 @@
 -- Marks that are added to a table.
 use Rattle.std.proofs.Common.{◌≡◌, ◌⊎◌, ℕ, zero, suc, ◌+◌, ◌*◌, ◌/◌, ◌%◌, ◌<◌, Bool, true, List, [], ◌∷◌, ◌++◌, length, set, refl, sym, ap, subst, inl, inr, arith}
-use Rattle.std.specs.List.{Contains}
-use Rattle.std.proofs.lemmas.List.Elements.{Contains-append_left, Contains-push, Contains-push_cases}
-use Rattle.pg_base.specs.Sets.{IsMarked}
+use Rattle.pg_unfold.proofs.Common.{Contains, Contains-append_left, Contains-push, Contains-push_cases, IsMarked}
 use Rattle.pg_unfold.specs.Marks.{AreAdded}
 use Rattle.pg_unfold.proofs.Keys.{key-node, key-map}
 

@@ -1,12 +1,7 @@
 -- One pass from the root down marks exactly the copies that are met.
 use Rattle.std.proofs.Common.{◌≡◌, ℕ, zero, suc, ◌+◌, ◌*◌, ◌-◌, ◌%◌, ◌<◌, Bool, true, false, List, length, set, replicate, sym, ap, ◌∙◌, subst, inl, inr, arith}
-use Rattle.std.proofs.lemmas.Bool.{cases_lt}
-use Rattle.std.proofs.lemmas.List.{length-set, length-replicate}
-use Rattle.std.proofs.lemmas.Option.{slice_get_within}
-use Rattle.pg_image.specs.declared.node.ImageNode.{ImageNode}
-use Rattle.pg_maps.specs.GridMaps.{numbered, number_of}
+use Rattle.pg_unfold.proofs.Common.{cases_lt, length-set, length-replicate, slice_get_within, ImageNode, numbered, number_of, IsMarked}
 use Rattle.pg_unfold.specs.Copies.{Copy, LeadsTo, IsAt, IsMetBy}
-use Rattle.pg_base.specs.Sets.{IsMarked}
 use Rattle.pg_unfold.specs.Marks.{key_of, copy_at, AreAdded, Hands, AreEarlier, AreMet, HasPassed}
 use Rattle.pg_unfold.proofs.Keys.{copy_at-key}
 use Rattle.pg_unfold.proofs.Marking.{marked_set, from_set}

@@ -1,21 +1,7 @@
 -- A certificate has one unfolding at most.
 use Rattle.std.proofs.Common.{◌≡◌, ℕ, zero, suc, ◌<◌, List, [], ◌∷◌, map, Some, slice_get, refl, sym, ap, ap₂, ◌∙◌, subst, inl, inr, arith}
-use Rattle.std.specs.List.{AllPairs, AllZip, Contains}
-use Rattle.std.proofs.lemmas.Bool.{cases_order}
-use Rattle.std.proofs.lemmas.List.Sorted.{Contains-permutation, IsPermutation-sym}
-use Rattle.std.proofs.lemmas.Option.{slice_get_within, get_or_from_slice_get}
-use Rattle.pg_cert.specs.Node.{position_of}
-use Rattle.pg_cert.specs.declared.cert.Claim.{Claim}
-use Rattle.pg_cert.specs.declared.node.Body.{Body}
-use Rattle.pg_cert.specs.declared.node.Body.TheVariants.{Over, Move, All, Pairs, Potential, Trees, Cuts, Threat, Weaker}
-use Rattle.pg_cert.specs.declared.node.Node.{Node}
-use Rattle.pg_cert.specs.declared.reply.Reply.{Reply}
-use Rattle.pg_game.specs.declared.game.Game.{Game}
-use Rattle.pg_image.specs.declared.cert.ImageCert.{ImageCert}
-use Rattle.pg_image.specs.declared.cert.ImageClaim.{ImageClaim}
-use Rattle.pg_image.specs.declared.node.ImageNode.{ImageNode}
-use Rattle.pg_image.specs.declared.node.ImageNode.TheVariants.{Plain, Image}
-use Rattle.pg_maps.specs.Images.{board_of, image_on, image_position}
+use Rattle.pg_unfold.proofs.Common.{AllPairs, AllZip, Contains, cases_order, Contains-permutation, IsPermutation-sym, slice_get_within, get_or_from_slice_get, position_of, Claim, Body, Over, Move, Pairs, Potential, Trees, Cuts, Threat, Weaker, Node, Reply, Game, ImageCert, ImageClaim, ImageNode, Plain, Image, board_of, image_on, image_position}
+use Rattle.pg_cert.specs.declared.node.Body.TheVariants.{All}
 use Rattle.pg_unfold.specs.Copies.{Copy, ComesBefore, IsAt, IsPlaced, IsPlain, SettlesBy, StandsFor}
 use Rattle.pg_unfold.specs.Unfolded.{AreReplyImages, AreUnfolded, BecomesUnder, IsBodyImage, IsCopied, IsReplyImage, IsUnfolded, IsUnfoldedCert}
 use Rattle.pg_unfold.specs.declared.unfolded.Unfolded.{Unfolded}

@@ -1,18 +1,7 @@
 -- The table of places grows by one copy.
 use Rattle.std.proofs.Common.{◌≡◌, ℕ, suc, ◌+◌, ◌*◌, ◌/◌, ◌%◌, ◌<◌, Bool, true, false, cond, List, [], ◌∷◌, ◌++◌, length, get_or, Some, slice_get, sym, ap, ◌∙◌, subst, inl, inr, arith, add-one}
-use Rattle.std.specs.FinSet.{FinSet}
-use Rattle.std.specs.Ordering.{nat_cmp}
-use Rattle.std.proofs.lemmas.Bool.{cases_Bool, both_ways}
-use Rattle.std.proofs.lemmas.List.{length-append}
-use Rattle.std.proofs.lemmas.Option.{slice_get-get_or, get_or_from_slice_get}
-use Rattle.pg_base.specs.declared.side.Side.{Side}
-use Rattle.pg_cert.specs.declared.node.Node.{Node}
-use Rattle.pg_image.specs.declared.node.ImageNode.{ImageNode}
-use Rattle.pg_image.specs.declared.node.ImageNode.TheVariants.{Plain, Image}
-use Rattle.pg_maps.specs.GridMaps.{numbered, number_of, followed_by}
-use Rattle.pg_maps.specs.declared.grid_map.GridMap.{GridMap}
+use Rattle.pg_unfold.proofs.Common.{FinSet, nat_cmp, cases_Bool, both_ways, length-append, slice_get-get_or, get_or_from_slice_get, Side, Node, ImageNode, Plain, Image, numbered, number_of, followed_by, GridMap, IsMarked}
 use Rattle.pg_unfold.specs.Copies.{IsPlaced}
-use Rattle.pg_base.specs.Sets.{IsMarked}
 use Rattle.pg_unfold.specs.Marks.{copy_at, AreMet, copies_below, copies_of, ArePlacedBelow}
 use Rattle.pg_unfold.proofs.Placing.{at_push, kept-at, kept-unmarked, kept-image, below-kept, below-left, placed-plain, placed-image, marked-next}
 

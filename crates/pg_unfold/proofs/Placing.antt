@@ -1,22 +1,8 @@
 -- The copies of plain nodes that are met, in order, and at which of them the others settle.
 use Rattle.std.proofs.Common.{◌≡◌, ◌⊎◌, ℕ, zero, suc, ◌+◌, ◌*◌, ◌/◌, ◌%◌, ◌<◌, ◌≤◌, Bool, true, false, cond, ◌&&◌, List, [], ◌∷◌, ◌++◌, length, get_or, Option, Some, None, slice_get, refl, sym, ap, ◌∙◌, subst, inl, inr, arith}
-use Rattle.std.specs.FinSet.{FinSet}
-use Rattle.std.specs.List.{AllPairs, Contains}
-use Rattle.std.specs.Ordering.{nat_cmp}
-use Rattle.std.proofs.lemmas.Bool.{cases_Bool, cases_lt, and_parts, false≢true}
-use Rattle.std.proofs.lemmas.List.Elements.{Contains-get_or, Contains-push_cases}
-use Rattle.std.proofs.lemmas.List.{append-nil, length-append}
+use Rattle.pg_unfold.proofs.Common.{FinSet, AllPairs, Contains, nat_cmp, cases_Bool, cases_lt, and_parts, false≢true, Contains-get_or, Contains-push_cases, append-nil, length-append, slice_get_within, get_or_from_slice_get, Side, Node, ImageNode, Plain, Image, numbered, number_of, followed_by, GridMap, number-numbered, IsMarked}
 use Rattle.std.proofs.lemmas.List.Quantifiers.{all_pairs_push}
-use Rattle.std.proofs.lemmas.Option.{slice_get_within, get_or_from_slice_get}
-use Rattle.pg_base.specs.declared.side.Side.{Side}
-use Rattle.pg_cert.specs.declared.node.Node.{Node}
-use Rattle.pg_image.specs.declared.node.ImageNode.{ImageNode}
-use Rattle.pg_image.specs.declared.node.ImageNode.TheVariants.{Plain, Image}
-use Rattle.pg_maps.specs.GridMaps.{numbered, number_of, followed_by}
-use Rattle.pg_maps.specs.declared.grid_map.GridMap.{GridMap}
-use Rattle.pg_maps.proofs.Numbers.{number-numbered}
 use Rattle.pg_unfold.specs.Copies.{Copy, IsPlain, IsAt, IsMet, ComesBefore, AreCopies, IsPlaced}
-use Rattle.pg_base.specs.Sets.{IsMarked}
 use Rattle.pg_unfold.specs.Marks.{key_of, copy_at, AreMet, is_plain, is_true, is_kept, copies_below, copies_of}
 use Rattle.pg_unfold.proofs.Keys.{copy_at-key}
 

@@ -1,9 +1,6 @@
 -- Claims whose nodes are counted one after the other.
 use Rattle.std.proofs.Common.{◌≡◌, ℕ, ◌+◌, ◌≤◌, List, [], ◌∷◌, ◌++◌, Some, slice_get, take, inl, inr, arith}
-use Rattle.std.proofs.lemmas.Bool.{cases_lt}
-use Rattle.std.proofs.lemmas.List.Elements.{All-push, All-nil}
-use Rattle.std.proofs.lemmas.List.Sums.{sum_by_push}
-use Rattle.pg_image.specs.declared.cert.ImageClaim.{ImageClaim}
+use Rattle.pg_unfold.proofs.Common.{cases_lt, All-push, All-nil, sum_by_push, ImageClaim}
 use Rattle.pg_unfold.specs.Flaws.{HasSize, HaveRoom}
 use Rattle.pg_unfold.specs.Gathered.{AreCounted}
 use Rattle.pg_unfold.proofs.CopySteps.{push-zip}

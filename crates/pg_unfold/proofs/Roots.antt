@@ -1,24 +1,7 @@
 -- The nodes of an unfolded claim that come from copies, and its last one.
 use Rattle.std.proofs.Common.{◌≡◌, ℕ, zero, suc, ◌+◌, ◌-◌, ◌<◌, true, List, [], ◌∷◌, length, get_or, Some, slice_get, refl, sym, ap, ◌∙◌, subst, inl, inr, arith}
-use Rattle.std.specs.FinSet.{FinSet, contains}
-use Rattle.std.specs.List.{AllZip, Contains}
-use Rattle.std.specs.Ordering.{nat_cmp}
 use Rattle.std.specs.Prelude.{option_map}
-use Rattle.std.proofs.lemmas.Bool.{cases_lt}
-use Rattle.std.proofs.lemmas.List.Elements.{All-contains, Contains-get_or}
-use Rattle.std.proofs.lemmas.Option.{slice_get-get_or, slice_get-map, slice_get_within, get_or_from_slice_get}
-use Rattle.pg_cert.specs.Limits.{ArePoints}
-use Rattle.pg_cert.specs.Node.{position_of}
-use Rattle.pg_cert.specs.declared.cert.Claim.{Claim}
-use Rattle.pg_cert.specs.declared.node.Node.{Node}
-use Rattle.pg_game.specs.declared.game.Game.{Game}
-use Rattle.pg_image.specs.Limits.{IsImageNode, IsImageClaim}
-use Rattle.pg_image.specs.declared.cert.ImageClaim.{ImageClaim}
-use Rattle.pg_image.specs.declared.node.ImageNode.TheVariants.{Plain}
-use Rattle.pg_maps.specs.GridMaps.{number_of, identity}
-use Rattle.pg_maps.specs.Images.{board_of, image_on, image_position, image_set}
-use Rattle.pg_maps.proofs.Boards.{image_on-identity}
-use Rattle.pg_maps.proofs.SetImages.{image_set-from}
+use Rattle.pg_unfold.proofs.Common.{FinSet, contains, AllZip, Contains, nat_cmp, cases_lt, All-contains, Contains-get_or, slice_get-get_or, slice_get-map, slice_get_within, get_or_from_slice_get, ArePoints, position_of, Claim, Node, Game, IsImageNode, IsImageClaim, ImageClaim, Plain, number_of, identity, board_of, image_on, image_position, image_set, image_on-identity, image_set-from}
 use Rattle.pg_unfold.specs.Copies.{Copy, IsMet, IsMetBy, ComesBefore}
 use Rattle.pg_unfold.specs.Flaws.{IsSoundClaim}
 use Rattle.pg_unfold.specs.Unfolded.{IsCopied, IsUnfolded, HasImage, HasRootAt}

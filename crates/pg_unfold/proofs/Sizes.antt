@@ -1,13 +1,6 @@
 -- A claim has one size unfolded, so a claim that is too large has no room.
 use Rattle.std.proofs.Common.{◌≡◌, ◌⊎◌, ℕ, zero, suc, ◌+◌, ◌<◌, ◌≤◌, List, [], ◌∷◌, length, sum, get_or, take, Some, slice_get, refl, sym, ap, ap₂, ◌∙◌, subst, inl, inr, arith}
-use Rattle.std.specs.List.{All, AllPairs, AllZip, Contains}
-use Rattle.std.proofs.lemmas.List.Sums.{sum_by_more_le}
-use Rattle.std.proofs.lemmas.Option.{slice_get_within, get_or_from_slice_get}
-use Rattle.pg_cert.specs.declared.limits.TheConstants.{MAX_CLAIM_NODES, MAX_NODES}
-use Rattle.pg_game.specs.declared.game.Game.{Game}
-use Rattle.pg_image.specs.declared.cert.ImageCert.{ImageCert}
-use Rattle.pg_image.specs.declared.cert.ImageClaim.{ImageClaim}
-use Rattle.pg_image.specs.declared.node.ImageNode.{ImageNode}
+use Rattle.pg_unfold.proofs.Common.{All, AllPairs, AllZip, Contains, sum_by_more_le, slice_get_within, get_or_from_slice_get, MAX_CLAIM_NODES, MAX_NODES, Game, ImageCert, ImageClaim, ImageNode}
 use Rattle.pg_unfold.specs.Copies.{Copy, AreCopies, ComesBefore}
 use Rattle.pg_unfold.specs.Flaws.{HasSize, HaveRoom, IsFaultless, IsFirstFault, IsFirstTooLarge, IsSoundClaim}
 

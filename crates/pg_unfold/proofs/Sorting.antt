@@ -1,16 +1,8 @@
 -- The images of replies, sorted by their points, ascend.
 use Rattle.std.proofs.Common.{◌≡◌, ℕ, zero, suc, ◌+◌, ◌<◌, ◌≤◌, true, nat_le, List, [], ◌∷◌, map, length, get_or, leb-true, le-leb, refl, sym, ap, ◌∙◌, subst, arith}
-use Rattle.std.specs.List.{All, AllPairs, AllZip}
-use Rattle.std.specs.List.Sorted.{IsPermutation, IsSorted, IsSortedByKey}
-use Rattle.std.specs.Ordering.{nat_cmp, is_lt}
-use Rattle.std.proofs.lemmas.Bool.{and_parts, and_from}
-use Rattle.std.proofs.lemmas.List.Elements.{All-cons, All-head, All-weaker, All-map, All-nil}
+use Rattle.pg_unfold.proofs.Common.{All, AllPairs, AllZip, IsPermutation, IsSorted, IsSortedByKey, nat_cmp, is_lt, and_parts, and_from, All-cons, All-head, All-weaker, All-map, All-nil, IsPermutation-map, Reply, IsReply, AreInverse, image_line}
 use Rattle.std.proofs.lemmas.List.Kept.{AllPairs-cons}
-use Rattle.std.proofs.lemmas.List.Sorted.{IsPermutation-map}
-use Rattle.pg_cert.specs.declared.reply.Reply.{Reply}
-use Rattle.pg_cert.specs.Limits.{IsReply}
 use Rattle.pg_text.specs.Text.{ascend_from}
-use Rattle.pg_maps.specs.Images.{AreInverse, image_line}
 use Rattle.pg_maps.specs.Rows.{IsRow}
 use Rattle.pg_maps.proofs.ImageLines.{image_line-rising}
 use Rattle.pg_maps.proofs.SortedImages.{sorted_image}

@@ -1,21 +1,6 @@
 -- One node after the other is tried.
 use Rattle.std.proofs.Common.{◌≡◌, ◌↔◌, ℕ, ◌+◌, ◌≤◌, List, length, Option, Some, None, slice_get, sym, ap, ◌∙◌, subst, inl, inr, arith}
-use Rattle.std.specs.FinSet.{FinSet}
-use Rattle.std.specs.List.{Contains}
-use Rattle.std.specs.Ordering.{nat_cmp}
-use Rattle.std.proofs.lemmas.Bool.{cases_lt}
-use Rattle.std.proofs.lemmas.Option.{slice_get_within, none-some}
-use Rattle.pg_base.specs.declared.grid.Grid.{Grid}
-use Rattle.pg_base.specs.declared.side.Side.{Side}
-use Rattle.pg_game.specs.declared.game.Game.{Game}
-use Rattle.pg_game.specs.declared.position.Position.{Position}
-use Rattle.pg_image.specs.Node.{image_node_position}
-use Rattle.pg_image.specs.declared.cert.ImageClaim.{ImageClaim}
-use Rattle.pg_image.specs.declared.node.ImageNode.{ImageNode}
-use Rattle.pg_image.specs.declared.node.ImageNode.TheVariants.{Image}
-use Rattle.pg_maps.specs.GridMaps.{image_of}
-use Rattle.pg_maps.specs.Images.{Fits, board_of, image_on, image_position}
-use Rattle.pg_maps.specs.declared.grid_map.GridMap.{GridMap}
+use Rattle.pg_unfold.proofs.Common.{FinSet, Contains, nat_cmp, cases_lt, slice_get_within, none-some, Grid, Side, Game, Position, image_node_position, ImageClaim, ImageNode, Image, image_of, Fits, board_of, image_on, image_position, GridMap}
 use Rattle.pg_unfold.specs.Flaws.{AreUsable, HasMarks, IsSound, AreSoundBefore, IsSoundClaim}
 
 -- the maps that fit a game with a board are those that are usable

@@ -1,13 +1,8 @@
 -- A node under a map is a copy of it: which copies are met from a claim's root, and at which copy
 -- of a plain node one settles.
 use Rattle.std.specs.Prelude.{◌≡◌, ℕ, zero, suc, ◌+◌, ◌<◌, ◌⊎◌, List, length, map, slice_get, Some}
-use Rattle.std.specs.List.{AllPairs, Contains}
-use Rattle.pg_cert.specs.declared.node.Body.{Body}
-use Rattle.pg_cert.specs.declared.node.Body.TheVariants.{Move, All, Weaker}
-use Rattle.pg_image.specs.declared.node.ImageNode.{ImageNode}
-use Rattle.pg_image.specs.declared.node.ImageNode.TheVariants.{Plain, Image}
-use Rattle.pg_maps.specs.declared.grid_map.GridMap.{GridMap}
-use Rattle.pg_maps.specs.GridMaps.{number_of, identity, followed_by}
+use Rattle.pg_unfold.specs.Prelude.{AllPairs, Contains, Body, Move, Weaker, ImageNode, Plain, Image, GridMap, number_of, identity, followed_by}
+use Rattle.pg_cert.specs.declared.node.Body.TheVariants.{All}
 
 -- the node of that number under the map
 pub record Copy : Type 0 where

@@ -1,22 +1,8 @@
 -- When a node of a certificate with turned and reflected nodes is faulty, and when a claim of it is
 -- too large unfolded.
 use Rattle.std.specs.Prelude.{◌≡◌, ℕ, ◌+◌, ◌<◌, ◌≤◌, ◌↔◌, ◌⊎◌, List, length, slice_get, Some, sum, take}
-use Rattle.std.specs.List.{All, AllZip, Contains}
-use Rattle.pg_base.specs.Points.{AreBelow}
-use Rattle.pg_base.specs.declared.grid.Grid.{Grid}
-use Rattle.pg_cert.specs.Node.{position_of}
-use Rattle.pg_cert.specs.Valid.{NamesEarlier}
-use Rattle.pg_cert.specs.declared.limits.TheConstants.{MAX_CLAIM_NODES, MAX_NODES}
+use Rattle.pg_unfold.specs.Prelude.{All, AllZip, Contains, AreBelow, Grid, position_of, NamesEarlier, MAX_CLAIM_NODES, MAX_NODES, Game, Position, ImageCert, ImageClaim, ImageNode, Plain, Image, image_node_position, Fits, board_of, image_on, image_position, GridMap}
 use Rattle.pg_game.specs.Game.{point_count}
-use Rattle.pg_game.specs.declared.game.Game.{Game}
-use Rattle.pg_game.specs.declared.position.Position.{Position}
-use Rattle.pg_image.specs.declared.cert.ImageCert.{ImageCert}
-use Rattle.pg_image.specs.declared.cert.ImageClaim.{ImageClaim}
-use Rattle.pg_image.specs.declared.node.ImageNode.{ImageNode}
-use Rattle.pg_image.specs.declared.node.ImageNode.TheVariants.{Plain, Image}
-use Rattle.pg_image.specs.Node.{image_node_position}
-use Rattle.pg_maps.specs.Images.{Fits, board_of, image_on, image_position}
-use Rattle.pg_maps.specs.declared.grid_map.GridMap.{GridMap}
 use Rattle.pg_unfold.specs.Copies.{Copy, AreCopies}
 use Rattle.pg_unfold.specs.Flaw.{flaw_number}
 use Rattle.pg_unfold.specs.declared.unfolded.ImageFault.{ImageFault}

@@ -1,11 +1,6 @@
 -- What is gathered while claims are unfolded one after the other.
 use Rattle.std.specs.Prelude.{◌≡◌, ℕ, ◌+◌, ◌<◌, ◌≤◌, ◌⊎◌, List, [], ◌∷◌, ◌++◌, length, map, sum, Option, Some, None, Result, Ok, Err}
-use Rattle.std.specs.List.{All, AllZip}
-use Rattle.pg_cert.specs.Limits.{IsClaim}
-use Rattle.pg_cert.specs.declared.cert.Claim.{Claim}
-use Rattle.pg_cert.specs.declared.limits.TheConstants.{MAX_CLAIM_NODES, MAX_NODES}
-use Rattle.pg_game.specs.declared.game.Game.{Game}
-use Rattle.pg_image.specs.declared.cert.ImageClaim.{ImageClaim}
+use Rattle.pg_unfold.specs.Prelude.{All, AllZip, IsClaim, Claim, MAX_CLAIM_NODES, MAX_NODES, Game, ImageClaim}
 use Rattle.pg_unfold.specs.Flaws.{HasSize, IsFirstTooLarge}
 use Rattle.pg_unfold.specs.Unfolded.{IsUnfolded, AreUnfolded}
 use Rattle.pg_unfold.specs.declared.unfolded.ImageFault.{ImageFault}

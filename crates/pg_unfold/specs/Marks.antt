@@ -1,17 +1,8 @@
 -- The table of marks in which an unfolding notes what is met: eight places for each node, one for
 -- each map.
 use Rattle.std.specs.Prelude.{◌≡◌, ℕ, zero, suc, ◌+◌, ◌*◌, ◌-◌, ◌/◌, ◌%◌, ◌≤◌, ◌⊎◌, Bool, true, false, ◌&&◌, List, [], ◌∷◌, ◌++◌, length, slice_get, Option, Some, None, if◌then◌else◌}
-use Rattle.std.specs.List.{All}
-use Rattle.pg_base.specs.Sets.{IsMarked}
-use Rattle.pg_base.specs.declared.grid.Grid.{Grid}
+use Rattle.pg_unfold.specs.Prelude.{All, IsMarked, Grid, Body, ImageClaim, ImageNode, Plain, Image, numbered, number_of, IsMapOn, GridMap}
 use Rattle.pg_base.specs.declared.limits.TheConstants.{MAX_MEMBERS}
-use Rattle.pg_cert.specs.declared.node.Body.{Body}
-use Rattle.pg_image.specs.declared.cert.ImageClaim.{ImageClaim}
-use Rattle.pg_image.specs.declared.node.ImageNode.{ImageNode}
-use Rattle.pg_image.specs.declared.node.ImageNode.TheVariants.{Plain, Image}
-use Rattle.pg_maps.specs.GridMaps.{numbered, number_of}
-use Rattle.pg_maps.specs.Images.{IsMapOn}
-use Rattle.pg_maps.specs.declared.grid_map.GridMap.{GridMap}
 use Rattle.pg_unfold.specs.Copies.{Copy, NamesChild, LeadsTo, IsAt, IsMet, IsPlaced}
 use Rattle.pg_unfold.specs.Flaws.{HasEarlier}
 

@@ -1,23 +1,8 @@
 -- What a claim with turned and reflected nodes stands for: a claim of plain nodes, one for each
 -- copy of a plain node that is met.
 use Rattle.std.specs.Prelude.{◌≡◌, ℕ, ◌+◌, ◌<◌, List, [], ◌∷◌, length, map, Option, Some, slice_get}
-use Rattle.std.specs.List.{AllPairs, AllZip}
-use Rattle.std.specs.List.Sorted.{IsPermutation}
-use Rattle.pg_base.specs.declared.grid.Grid.{Grid}
-use Rattle.pg_cert.specs.Node.{position_of}
-use Rattle.pg_cert.specs.declared.cert.Claim.{Claim}
-use Rattle.pg_cert.specs.declared.cert.Version.TheVariants.{Two}
-use Rattle.pg_cert.specs.declared.node.Body.{Body}
-use Rattle.pg_cert.specs.declared.node.Body.TheVariants.{Over, Move, All, Pairs, Potential, Trees, Cuts, Threat, Weaker}
-use Rattle.pg_cert.specs.declared.node.Node.{Node}
-use Rattle.pg_cert.specs.declared.reply.Reply.{Reply}
-use Rattle.pg_game.specs.declared.game.Game.{Game}
-use Rattle.pg_game.specs.declared.position.Position.{Position}
-use Rattle.pg_image.specs.declared.cert.ImageCert.{ImageCert}
-use Rattle.pg_image.specs.declared.cert.ImageClaim.{ImageClaim}
-use Rattle.pg_image.specs.declared.node.ImageNode.{ImageNode}
-use Rattle.pg_image.specs.declared.node.ImageNode.TheVariants.{Plain}
-use Rattle.pg_maps.specs.Images.{board_of, image_on, image_pair, image_position, image_set}
+use Rattle.pg_unfold.specs.Prelude.{AllPairs, AllZip, IsPermutation, Grid, position_of, Claim, Two, Body, Over, Move, Pairs, Potential, Trees, Cuts, Threat, Weaker, Node, Reply, Game, Position, ImageCert, ImageClaim, ImageNode, Plain, board_of, image_on, image_pair, image_position, image_set}
+use Rattle.pg_cert.specs.declared.node.Body.TheVariants.{All}
 use Rattle.pg_unfold.specs.Copies.{Copy, AreCopies, IsPlaced}
 use Rattle.pg_unfold.specs.declared.unfolded.Unfolded.{Unfolded}
 

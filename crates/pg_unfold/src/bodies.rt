@@ -1,11 +1,6 @@
 //! Images of nodes, with the places to which the numbers of their children lead.
 ghost use Rattle.std.specs.Prelude.{◌≡◌, ◌<◌, ◌≤◌, ◌*◌, ◌+◌, IfOk, length};
-ghost use Rattle.std.specs.List.{All};
-ghost use Rattle.pg_cert.specs.Limits.{IsBody, IsNode};
-ghost use Rattle.pg_cert.specs.Node.{position_of};
-ghost use Rattle.pg_cert.specs.Valid.{NamesEarlier};
-ghost use Rattle.pg_maps.specs.GridMaps.{number_of};
-ghost use Rattle.pg_maps.specs.Images.{image_on, image_position};
+ghost use Rattle.pg_unfold.specs.Prelude.{All, IsBody, IsNode, position_of, NamesEarlier, number_of, image_on, image_position};
 ghost use Rattle.pg_unfold.specs.Marks.{IsBoardMap, IsPlaceOf};
 ghost use Rattle.pg_unfold.specs.Unfolded.{AreReplyImages, IsBodyImage};
 

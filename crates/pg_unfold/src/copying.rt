@@ -1,10 +1,6 @@
 //! The nodes of an unfolded claim.
 ghost use Rattle.std.specs.Prelude.{◌≡◌, ◌<◌, ◌≤◌, ◌*◌, ◌/◌, IfOk, IfSome, IfNone, length, map, false, slice_get, Some};
-ghost use Rattle.std.specs.List.{All, AllZip};
-ghost use Rattle.pg_cert.specs.declared.limits.TheConstants.{MAX_CLAIM_NODES};
-ghost use Rattle.pg_image.specs.Limits.{IsImageNode};
-ghost use Rattle.pg_image.specs.declared.node.ImageNode.TheVariants.{Plain};
-ghost use Rattle.pg_base.specs.Sets.{IsMarked};
+ghost use Rattle.pg_unfold.specs.Prelude.{All, AllZip, MAX_CLAIM_NODES, IsImageNode, Plain, IsMarked};
 ghost use Rattle.pg_unfold.specs.Marks.{AreBoardMaps, AreEarlier, AreMet, ArePlaces, copies_of, is_kept};
 ghost use Rattle.pg_unfold.specs.Unfolded.{IsCopied};
 

@@ -1,14 +1,7 @@
 //! Laws of unfolded claims. Each function is empty: what it promises is a law of the definitions
 //! alone.
 ghost use Rattle.std.specs.Prelude.{◌≡◌, ◌-◌, ℕ, List, length, slice_get, Some};
-ghost use Rattle.pg_cert.specs.Node.{position_of};
-ghost use Rattle.pg_cert.specs.declared.cert.Claim.{Claim};
-ghost use Rattle.pg_cert.specs.declared.node.Node.{Node};
-ghost use Rattle.pg_game.specs.declared.game.Game.{Game};
-ghost use Rattle.pg_image.specs.Limits.{IsImageClaim};
-ghost use Rattle.pg_image.specs.declared.cert.ImageCert.{ImageCert};
-ghost use Rattle.pg_image.specs.declared.cert.ImageClaim.{ImageClaim};
-ghost use Rattle.pg_image.specs.declared.node.ImageNode.TheVariants.{Plain};
+ghost use Rattle.pg_unfold.specs.Prelude.{position_of, Claim, Node, Game, IsImageClaim, ImageCert, ImageClaim, Plain};
 ghost use Rattle.pg_unfold.specs.Copies.{Copy, IsMet};
 ghost use Rattle.pg_unfold.specs.Flaws.{IsFaultless, IsFirstFault, IsSoundClaim};
 ghost use Rattle.pg_unfold.specs.Unfolded.{HasImage, HasRootAt, IsUnfolded, IsUnfoldedCert};

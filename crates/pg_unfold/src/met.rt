@@ -1,9 +1,6 @@
 //! Which copies of nodes are met from a claim's root.
 ghost use Rattle.std.specs.Prelude.{◌≡◌, ◌<◌, ◌≤◌, ◌*◌, ◌+◌, ◌/◌, ◌%◌, IfOk, length};
-ghost use Rattle.std.specs.List.{All};
-ghost use Rattle.pg_cert.specs.Valid.{NamesEarlier};
-ghost use Rattle.pg_cert.specs.declared.limits.TheConstants.{MAX_CLAIM_NODES};
-ghost use Rattle.pg_maps.specs.GridMaps.{numbered};
+ghost use Rattle.pg_unfold.specs.Prelude.{All, NamesEarlier, MAX_CLAIM_NODES, numbered};
 ghost use Rattle.pg_unfold.specs.Marks.{AreAdded, AreEarlier, AreMet, Hands, HasPassed, IsChildOf};
 
 use pg_base::Memory;

@@ -1,7 +1,6 @@
 //! Whether claims have few enough nodes unfolded.
 ghost use Rattle.std.specs.Prelude.{◌≡◌, ◌≤◌, ◌*◌, ◌↔◌, IfOk, IsTrue, length};
-ghost use Rattle.pg_cert.specs.declared.limits.TheConstants.{MAX_CLAIM_NODES};
-ghost use Rattle.pg_image.specs.Limits.{IsImageClaim, IsImageWithinLimits};
+ghost use Rattle.pg_unfold.specs.Prelude.{MAX_CLAIM_NODES, IsImageClaim, IsImageWithinLimits};
 ghost use Rattle.pg_unfold.specs.Flaws.{HasSize, HaveRoom};
 ghost use Rattle.pg_unfold.specs.Marks.{AreAllEarlier, AreEarlier, copies_of};
 

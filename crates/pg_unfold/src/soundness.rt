@@ -1,9 +1,6 @@
 //! The first node that is faulty.
 ghost use Rattle.std.specs.Prelude.{◌<◌, ◌≤◌, ◌↔◌, IsTrue, IfOk, IfSome, IfNone, MatchResult, length};
-ghost use Rattle.std.specs.List.{All};
-ghost use Rattle.pg_cert.specs.Valid.{NamesEarlier};
-ghost use Rattle.pg_image.specs.Limits.{IsImageClaim};
-ghost use Rattle.pg_cert.specs.declared.limits.TheConstants.{MAX_CLAIM_NODES, MAX_CLAIMS};
+ghost use Rattle.pg_unfold.specs.Prelude.{All, NamesEarlier, IsImageClaim, MAX_CLAIM_NODES, MAX_CLAIMS};
 ghost use Rattle.pg_unfold.specs.Flaws.{HasEarlier, AreUsable, HasUsable, HasPoints, HasMarks, IsSound, IsLeastFlaw, IsSoundClaim, IsFirstIn, AreSound, TellsFlaw};
 
 use crate::board_map::board_of;

@@ -1,9 +1,6 @@
 //! Unfolding a certificate.
 ghost use Rattle.std.specs.Prelude.{◌≡◌, ◌+◌, ◌≤◌, ℕ, IfOk, length};
-ghost use Rattle.std.specs.List.{All};
-ghost use Rattle.pg_cert.specs.Limits.{IsWithinLimits};
-ghost use Rattle.pg_cert.specs.declared.limits.TheConstants.{MAX_CLAIMS};
-ghost use Rattle.pg_image.specs.Limits.{IsImageClaim, IsImageWithinLimits};
+ghost use Rattle.pg_unfold.specs.Prelude.{All, IsWithinLimits, MAX_CLAIMS, IsImageClaim, IsImageWithinLimits};
 ghost use Rattle.pg_unfold.specs.Flaws.{AreSound, IsFaultless, IsFirstFault, IsSoundClaim};
 ghost use Rattle.pg_unfold.specs.Gathered.{TakesNext, TellsUnfolded, UnfoldsWithin};
 ghost use Rattle.pg_unfold.specs.Unfolded.{IsUnfoldedCert};

@@ -1,19 +1,8 @@
 -- Sets that a judge makes, and what they decide.
 use Rattle.std.proofs.Common.{◌≡◌, ℕ, suc, Bool, true, false, not, ◌&&◌, Option, Some, None, refl, sym, ap, ◌∙◌}
 use Rattle.std.specs.Prelude.{nat_lt, unwrap_or, length}
-use Rattle.std.proofs.lemmas.Bool.{and_parts, and_from, lt-ltb, ltb-true}
-use Rattle.std.specs.FinSet.{FinSet, contains, remove, union, difference}
-use Rattle.std.specs.Ordering.{nat_cmp}
-use Rattle.pg_base.specs.Sets.{either, outside}
+use Rattle.pg_vec_player.proofs.Common.{and_parts, and_from, lt-ltb, ltb-true, FinSet, contains, remove, union, difference, nat_cmp, either, outside, same_sets, below_parts, below_from, contains-union_either, contains-difference_outside, Position, ending_by, kept, left_without, VecGame, with_target, vector_rules, vector_spans}
 use Rattle.pg_base.specs.declared.score.Score.TheVariants.{YWins}
-use Rattle.pg_base.proofs.BelowLemmas.{same_sets, below_parts, below_from}
-use Rattle.pg_base.proofs.PointSetLaws.{contains-union_either, contains-difference_outside}
-use Rattle.pg_game.specs.declared.position.Position.{Position}
-use Rattle.pg_game.specs.Judging.{ending_by}
-use Rattle.pg_switch.specs.Claims.{kept, left_without}
-use Rattle.pg_gf2.specs.declared.game.VecGame.{VecGame}
-use Rattle.pg_gf2.specs.Classes.{with_target, vector_rules}
-use Rattle.pg_gf2.specs.Vectors.{vector_spans}
 
 pub kept-is : (p : Position) (all left : FinSet nat_cmp) (limit : ℕ)
     → ((v : ℕ) → contains all v ≡ nat_lt v limit)

@@ -1,40 +1,19 @@
 -- The own move keeps the plan, and so the side goes on to its win.
 use Rattle.std.proofs.Common.{◌≡◌, ◌≢◌, ℕ, ◌<◌, ◌≤◌, suc, Bool, true, false, not, List, [], ◌∷◌, ◌++◌, Option, Some, None, Result, Ok, Err, inl, inr, refl, sym, ap, ◌∙◌, subst, subst₂, arith}
-use Rattle.std.proofs.lemmas.Bool.{cases_Bool, both_ways, and_parts, false_from_ne_true, not-true, not_from_false, ltb-true}
 use Rattle.std.specs.Prelude.{IfSome, is_some, nat_lt, if◌then◌else◌, length}
-use Rattle.std.specs.FinSet.{FinSet, contains, remove}
-use Rattle.std.specs.Ordering.{nat_cmp}
+use Rattle.pg_vec_player.proofs.Common.{cases_Bool, both_ways, and_parts, false_from_ne_true, not-true, not_from_false, ltb-true, FinSet, contains, remove, nat_cmp, plus, minus, below, IsWithin, other, Win, Score, Side, X, Y, below_parts, below_from, minus_parts, minus_from, IsSpan, IsTrees, IsCuts, Position, is_free, ending_by, judged_by, Rules, moved, reaches, IsEnding, IsPlayBy, played_by, ForcesBy, kept, IsMonotone, IsPlace, AreFreeOrE, VecGame, VecPlan, VecMove, vec_move, answer_vector, lost_vector, plan_without, with_target, vector_rules, vector_spans}
 use Rattle.pg_base.specs.Points.{AreBelow}
-use Rattle.pg_base.specs.Sets.{plus, minus, below, IsWithin}
-use Rattle.pg_base.specs.Side.{other}
-use Rattle.pg_base.specs.declared.goal.Goal.TheVariants.{Win}
-use Rattle.pg_base.specs.declared.score.Score.{Score}
-use Rattle.pg_base.specs.declared.side.Side.{Side}
-use Rattle.pg_base.specs.declared.side.Side.TheVariants.{X, Y}
-use Rattle.pg_base.proofs.BelowLemmas.{below_parts, below_from}
-use Rattle.pg_base.proofs.SetLemmas.{minus_parts, minus_from}
-use Rattle.pg_graph.specs.Span.{IsSpan, IsTrees, IsCuts}
 use Rattle.pg_graph.proofs.Swap.{spans_mono}
 use Rattle.pg_game.specs.declared.position.Illegal.{Illegal}
 use Rattle.pg_game.specs.declared.position.Illegal.TheVariants.{Range, Taken, Over}
-use Rattle.pg_game.specs.declared.position.Position.{Position}
-use Rattle.pg_game.specs.Position.{is_free}
-use Rattle.pg_game.specs.Judging.{ending_by, judged_by}
-use Rattle.pg_game.specs.Rules.{Rules, moved, reaches, IsEnding, IsPlayBy, played_by, ForcesBy}
 use Rattle.pg_game.proofs.RulesLaws.{some_free, value_by-over, ForcesBy-all-from}
 use Rattle.pg_game.proofs.Sides.{side≢other, other_other}
-use Rattle.pg_switch.specs.Claims.{kept, IsMonotone, IsPlace, AreFreeOrE}
 use Rattle.pg_switch.proofs.ClaimLaws.{turn-next, free-next, x-plus, x-same, kept-same, kept-minus, IsPlace-next, IsEnding-claims}
 use Rattle.pg_switch.proofs.SpanLaws.{ForcesBy-trees, ForcesBy-cuts}
-use Rattle.pg_gf2.specs.declared.game.VecGame.{VecGame}
 use Rattle.pg_vec_player.specs.declared.judge.VecJudge.{VecJudge}
-use Rattle.pg_gf2.specs.declared.plan.VecPlan.{VecPlan}
-use Rattle.pg_gf2.specs.Answers.{VecMove, vec_move, answer_vector, lost_vector, plan_without}
-use Rattle.pg_gf2.specs.Classes.{with_target, vector_rules}
 use Rattle.pg_gf2.specs.GroundLaws.{IsSpan-vectors}
 use Rattle.pg_vec_player.specs.Judge.{IsVecJudgeOf}
 use Rattle.pg_vec_player.specs.Player.{vec_start, VecPlanHolds, IsVecReached, IsOnVecPlan, IsVecPlaying, VecPlay, VecWaits, HeldUntil, IsVecDue}
-use Rattle.pg_gf2.specs.Vectors.{vector_spans}
 use Rattle.pg_vec_player.proofs.VecSteps.{AreLeft, SetsDue, SetsStand, IsAnswer, remove-both, answer-kept}
 
 -- ---- legal moves

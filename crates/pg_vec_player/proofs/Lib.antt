@@ -1,3 +1,4 @@
+mod Common
 pub mod VecSteps
 pub mod Keeping
 pub mod Opening

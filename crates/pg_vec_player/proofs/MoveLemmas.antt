@@ -1,18 +1,7 @@
 -- The moves that the code makes are those of the definitions.
 use Rattle.std.proofs.Common.{◌≡◌, ℕ, ◌≤◌, Bool, not, ◌&&◌, List, Option, inl, inr, sym, ap, ◌∙◌, subst}
-use Rattle.std.proofs.lemmas.Bool.{cases_Bool}
-use Rattle.std.specs.FinSet.{FinSet, contains, remove}
+use Rattle.pg_vec_player.proofs.Common.{cases_Bool, FinSet, contains, remove, nat_cmp, minus, either, Side, X, Y, Position, left_without, VecPlan, VecMove, vec_move, lowest_unspanned, lowest_needed, reply_vector, answer_vector, lost_vector, plan_without, vector_spans, free-bound, found-bound}
 use Rattle.std.specs.List.{find, range_with_len}
-use Rattle.std.specs.Ordering.{nat_cmp}
-use Rattle.pg_base.specs.Sets.{minus, either}
-use Rattle.pg_base.specs.declared.side.Side.{Side}
-use Rattle.pg_base.specs.declared.side.Side.TheVariants.{X, Y}
-use Rattle.pg_game.specs.declared.position.Position.{Position}
-use Rattle.pg_switch.specs.Claims.{left_without}
-use Rattle.pg_gf2.specs.declared.plan.VecPlan.{VecPlan}
-use Rattle.pg_gf2.specs.Answers.{VecMove, vec_move, lowest_unspanned, lowest_needed, reply_vector, answer_vector, lost_vector, plan_without}
-use Rattle.pg_gf2.specs.Vectors.{vector_spans}
-use Rattle.pg_gf2.proofs.Lowest.{free-bound, found-bound}
 
 -- ---- what is found
 

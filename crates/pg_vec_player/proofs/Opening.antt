@@ -1,26 +1,13 @@
 -- What a player has when it is opened.
 use Rattle.std.proofs.Common.{◌≡◌, ◌∙◌, ℕ, ◌<◌, suc, Bool, true, List, [], ◌∷◌, Some, find, length, slice_get, inl, inr, refl, sym, ap, subst, arith}
+use Rattle.pg_vec_player.proofs.Common.{and_parts, false≢true, cases_Bool, cases_lt, Coded-set, coded_ℕ, coded_bool, FinSet, nat_cmp, is_same_side, Side, X, Y}
 use Rattle.std.proofs.Math.Logic.{∥∥₁_elim, ∥∥₁_map}
 use Rattle.std.proofs.Math.Bridge.{le_prop}
-use Rattle.std.proofs.lemmas.Bool.{and_parts, false≢true, cases_Bool, cases_lt}
-use Rattle.std.specs.Coded.{Coded-set, coded_ℕ, coded_bool}
-use Rattle.std.specs.FinSet.{FinSet}
-use Rattle.std.specs.Ordering.{nat_cmp}
-use Rattle.pg_base.specs.Side.{is_same_side}
-use Rattle.pg_base.specs.declared.side.Side.{Side}
-use Rattle.pg_base.specs.declared.side.Side.TheVariants.{X, Y}
 use Rattle.pg_base.specs.contracts.side.Side as side_row
-use Rattle.pg_game.specs.declared.position.Position.{Position}
-use Rattle.pg_switch.specs.Claims.{IsPlace, AreFreeOrE, AreSpanTrees, AreSpanCuts}
-use Rattle.pg_cert.specs.declared.cert.Cert.{Cert}
-use Rattle.pg_cert.specs.declared.cert.Claim.{Claim}
-use Rattle.pg_cert.specs.declared.node.Body.{Body}
-use Rattle.pg_cert.specs.declared.node.Body.TheVariants.{Over, Move, All as Every, Pairs, Potential, Trees, Cuts, Threat, Weaker}
-use Rattle.pg_cert.specs.declared.node.Node.{Node}
+use Rattle.pg_vec_player.proofs.Common.{Position, IsPlace, AreFreeOrE, AreSpanTrees, AreSpanCuts, Cert, Claim, Body, Over, Move, Pairs, Potential, Trees, Cuts, Threat, Weaker, Node}
+use Rattle.pg_cert.specs.declared.node.Body.TheVariants.{All as Every}
 use Rattle.pg_gf2.specs.declared.flaw.VecFlaw.TheVariants as flaws
-use Rattle.pg_gf2.specs.declared.game.VecGame.{VecGame}
-use Rattle.pg_gf2.specs.declared.plan.VecPlan.{VecPlan}
-use Rattle.pg_gf2.specs.Check.{names_sets, IsOfSide, HasTrees, HasCuts, IsVecClaimValid, IsVecValid}
+use Rattle.pg_vec_player.proofs.Common.{VecGame, VecPlan, names_sets, IsOfSide, HasTrees, HasCuts, IsVecClaimValid, IsVecValid}
 use Rattle.pg_vec_player.specs.Player.{is_vec_claim_of, chosen_vec_claim, plan_of_body, plan_of_node, plan_of_claim, vec_start, VecPlanHolds, IsOnVecPlan}
 use Rattle.pg_vec_player.proofs.Keeping.{forced-by}
 

@@ -1,24 +1,9 @@
 -- The answers by trees and by cuts are free vectors, and the sets stand after them.
 use Rattle.std.proofs.Common.{◌≡◌, ◌≢◌, ℕ, ◌<◌, suc, Bool, true, false, not, ◌&&◌, Option, inl, inr, refl, sym, ap, ◌∙◌, subst, subst₂, arith}
-use Rattle.std.proofs.lemmas.Bool.{cases_Bool, both_ways, false_from_ne_true, true_from_ne_false, and_parts, and_from, not-true, not_from_false}
-use Rattle.std.specs.FinSet.{FinSet, contains, remove}
-use Rattle.std.specs.Ordering.{nat_cmp}
 use Rattle.std.specs.Prelude.{unwrap_or}
-use Rattle.pg_base.specs.Sets.{plus, minus, either, outside, IsBelow}
-use Rattle.pg_base.specs.declared.side.Side.{Side}
-use Rattle.pg_base.specs.declared.side.Side.TheVariants.{X, Y}
-use Rattle.pg_base.proofs.BelowLemmas.{same_sets, below_parts}
-use Rattle.pg_base.proofs.PointSetLaws.{contains-remove_minus}
-use Rattle.pg_base.proofs.SetLemmas.{minus_parts, minus_from}
-use Rattle.pg_graph.specs.Span.{IsSpan, IsTrees, IsCuts}
+use Rattle.pg_vec_player.proofs.Common.{cases_Bool, both_ways, false_from_ne_true, true_from_ne_false, and_parts, and_from, not-true, not_from_false, FinSet, contains, remove, nat_cmp, plus, minus, either, outside, IsBelow, Side, X, Y, same_sets, below_parts, contains-remove_minus, minus_parts, minus_from, IsSpan, IsTrees, IsCuts, Position, is_free, kept, VecPlan, lowest_free, reply_vector, answer_vector, find_below-cases, free-free}
 use Rattle.pg_graph.proofs.Trees.{IsTrees-other, IsTrees-dropped, IsTrees-claimed, IsTrees-answered, spans_none}
 use Rattle.pg_graph.proofs.Cuts.{IsCuts-other, IsCuts-claimed, IsCuts-dropped, IsCuts-answered, find_parting}
-use Rattle.pg_game.specs.declared.position.Position.{Position}
-use Rattle.pg_game.specs.Position.{is_free}
-use Rattle.pg_switch.specs.Claims.{kept}
-use Rattle.pg_gf2.specs.declared.plan.VecPlan.{VecPlan}
-use Rattle.pg_gf2.specs.Answers.{lowest_free, reply_vector, answer_vector}
-use Rattle.pg_gf2.proofs.Lowest.{find_below-cases, free-free}
 
 -- a number that isn't a member takes nothing away
 minus_absent : (a : ℕ → Bool) (x : ℕ) → a x ≡ false → minus a x ≡ a

@@ -1,29 +1,8 @@
 -- What is seen of a player of a game on vectors, and what it does.
 use Rattle.std.specs.Prelude.{◌≡◌, ◌⊎◌, ℕ, ◌<◌, Bool, true, false, ◌&&◌, List, length, Option, Some, None, Ok, find, slice_get}
-use Rattle.std.specs.FinSet.{empty}
-use Rattle.pg_base.specs.Side.{other, is_same_side}
-use Rattle.pg_base.specs.declared.goal.Goal.TheVariants.{Win}
-use Rattle.pg_base.specs.declared.score.Score.{Score}
-use Rattle.pg_base.specs.declared.side.Side.{Side}
-use Rattle.pg_base.specs.declared.side.Side.TheVariants.{X, Y}
-use Rattle.pg_game.specs.declared.position.Position.{Position}
-use Rattle.pg_game.specs.Position.{is_free}
-use Rattle.pg_game.specs.Judging.{ending_by, judged_by}
-use Rattle.pg_game.specs.Rules.{moved, IsPlayBy, played_by, ForcesBy}
-use Rattle.pg_switch.specs.Claims.{IsPlace, AreSpanTrees, AreSpanCuts}
-use Rattle.pg_cert.specs.declared.cert.Cert.{Cert}
-use Rattle.pg_cert.specs.declared.cert.Claim.{Claim}
-use Rattle.pg_cert.specs.declared.node.Body.{Body}
-use Rattle.pg_cert.specs.declared.node.Body.TheVariants.{Trees, Cuts}
-use Rattle.pg_cert.specs.declared.node.Node.{Node}
-use Rattle.pg_gf2.specs.declared.game.VecGame.{VecGame}
+use Rattle.pg_vec_player.specs.Prelude.{empty, other, is_same_side, Win, Score, Side, X, Y, Position, is_free, ending_by, judged_by, moved, IsPlayBy, played_by, ForcesBy, IsPlace, AreSpanTrees, AreSpanCuts, Cert, Claim, Body, Trees, Cuts, Node, VecGame, VecPlan, vec_move, with_e_named, with_target, vector_rules, at_turn, vector_spans}
 use Rattle.pg_vec_player.specs.declared.judge.VecJudge.{VecJudge}
-use Rattle.pg_gf2.specs.declared.plan.VecPlan.{VecPlan}
-use Rattle.pg_gf2.specs.Answers.{vec_move}
-use Rattle.pg_gf2.specs.Check.{with_e_named}
-use Rattle.pg_gf2.specs.Classes.{with_target, vector_rules, at_turn}
 use Rattle.pg_vec_player.specs.Judge.{IsVecJudgeOf}
-use Rattle.pg_gf2.specs.Vectors.{vector_spans}
 
 -- the game, the side that is played, the position, and the plan: X's trees or Y's cuts
 pub record VecPlay : Type 0 where

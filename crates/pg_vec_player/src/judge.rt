@@ -1,14 +1,8 @@
 //! Whether a game on vectors is over and who has won, and what is claimed where a vector is lost.
 ghost use Rattle.std.specs.Prelude.{◌≡◌, ◌<◌, ◌≤◌, ◌+◌, length, IfOk};
-ghost use Rattle.std.specs.FinSet.{contains, remove};
-ghost use Rattle.pg_base.specs.Sets.{either};
-ghost use Rattle.pg_game.specs.Judging.{ending_by, judged_by};
-ghost use Rattle.pg_switch.specs.Claims.{kept, left_without};
+ghost use Rattle.pg_vec_player.specs.Prelude.{contains, remove, either, ending_by, judged_by, kept, left_without, lowest_free, reply_vector, answer_vector, with_target, vector_rules, vector_spans};
 ghost use Rattle.pg_gf2.specs.declared.game.TheConstants.{MAX_VECTORS};
-ghost use Rattle.pg_gf2.specs.Answers.{lowest_free, reply_vector, answer_vector};
-ghost use Rattle.pg_gf2.specs.Classes.{with_target, vector_rules};
 ghost use Rattle.pg_vec_player.specs.Judge.{IsVecJudgeOf};
-ghost use Rattle.pg_gf2.specs.Vectors.{vector_spans};
 
 use pg_base::{Memory, PointSet, Score, Side};
 use pg_game::{Illegal, Position};

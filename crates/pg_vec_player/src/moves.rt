@@ -1,10 +1,7 @@
 //! A player's own moves on vectors.
 ghost use Rattle.std.specs.Prelude.{◌≡◌, ◌<◌, ◌≤◌, Option, length};
-ghost use Rattle.std.specs.FinSet.{remove};
-ghost use Rattle.pg_gf2.specs.Answers.{lost_vector, vec_move};
-ghost use Rattle.pg_gf2.specs.Classes.{with_target};
+ghost use Rattle.pg_vec_player.specs.Prelude.{remove, lost_vector, vec_move, with_target, vector_spans};
 ghost use Rattle.pg_vec_player.specs.Judge.{IsVecJudgeOf};
-ghost use Rattle.pg_gf2.specs.Vectors.{vector_spans};
 
 use crate::judge::VecJudge;
 use pg_base::{MAX_MEMBERS, PointSet, Side};

@@ -1,9 +1,6 @@
 //! A player of one side of a game on vectors by a checked claim.
 ghost use Rattle.std.specs.Prelude.{◌≡◌, ℕ, List, Some, None, Err, true, false, IfOk, IfErr, IfSome, IsTrue, ◌↔◌, option_map};
-ghost use Rattle.pg_base.specs.declared.goal.Goal.TheVariants.{Win};
-ghost use Rattle.pg_game.specs.Judging.{ending_by, judged_by};
-ghost use Rattle.pg_game.specs.Rules.{reaches, ForcesBy, IsPlayBy, played_by};
-ghost use Rattle.pg_gf2.specs.Classes.{vector_rules};
+ghost use Rattle.pg_vec_player.specs.Prelude.{Win, ending_by, judged_by, reaches, ForcesBy, IsPlayBy, played_by, vector_rules};
 ghost use Rattle.pg_vec_player.specs.Player.{is_vec_claim_of, chosen_vec_claim, plan_of_claim, plan_of_body, vec_start, VecWaits, MakesVecMove, MovesOnVectors, AnswersOnVectors, VecPlanHolds, IsVecDue};
 
 use crate::judge::{BIAS, VecJudge, play};

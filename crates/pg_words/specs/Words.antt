@@ -1,9 +1,8 @@
 -- What the words of a command line mean.
 use Rattle.std.specs.Prelude.{◌*◌, min, nat_le, ℕ, Bool, false, List, [], ◌∷◌, codes, Option, Some, None, option_map, option_and_then, if◌then◌else◌}
-use Rattle.std.specs.Str.{bytes_eq}
+use Rattle.pg_words.specs.Prelude.{bytes_eq, Bytes}
 use Rattle.pg_base.specs.Side.{side_of}
 use Rattle.pg_base.specs.declared.side.Side.{Side}
-use Rattle.pg_text.specs.Text.{Bytes}
 use Rattle.pg_words.specs.Given.{Given, given}
 use Rattle.pg_words.specs.Line.{line_of}
 use Rattle.pg_words.specs.Numbers.{number_in, seed_of}

@@ -6,8 +6,8 @@ use crate::texts::{Named, lines_of, value};
 use std::alloc::{AllocError, Global};
 
 /// Noughts and crosses, with Breaker in the centre.
-const SQUARE: &str =
-    "posgame 1;kind maker-breaker;points 9;line 0 1 2;line 3 4 5;line 6 7 8;line 0 3 6;line 1 4 7;line 2 5 8;line 0 4 8;line 2 4 6;y 4;turn x;";
+const SQUARE: &str = "posgame 1;kind maker-breaker;points 9;line 0 1 2;line 3 4 5;line 6 7 8;\
+line 0 3 6;line 1 4 7;line 2 5 8;line 0 4 8;line 2 4 6;y 4;turn x;";
 
 /// A triangle, on which Maker wants to join all vertices.
 const TRIANGLE: &str = "posgame-span 1;vertices 3;edge 0 1;edge 1 2;edge 0 2;turn x;";

@@ -1,9 +1,5 @@
 use Rattle.std.proofs.Common.{◌≡◌, ◌<◌, ℕ, true, sym, subst}
-use Rattle.pg_base.specs.declared.score.Score.TheVariants.{XWins}
-use Rattle.pg_game.specs.Position.{is_free}
-use Rattle.pg_game.specs.Game.{point_count, after, outcome}
-use Rattle.pg_game.specs.Avoider.{AvoiderHolds}
-use Rattle.pg_game.proofs.WeightBounds.{IsBaseOf-two}
+use Rattle.pg_avoider.proofs.Common.{XWins, is_free, point_count, after, outcome, AvoiderHolds, IsBaseOf-two}
 use Rattle.pg_avoider.proofs.AvoiderLaws.{answer-is, answer-free, answer-wins, answer-keeps}
 use Rattle.pg_avoider.proofs.answers.answer.Goals as goal
 

@@ -1,6 +1,5 @@
 use Rattle.std.proofs.Common.{◌≡◌, ◌^◌, ◌-◌, get_or, sym, ◌∙◌, arith}
-use Rattle.pg_game.specs.Position.{is_free}
-use Rattle.pg_game.proofs.WeightBounds.{few_points-lines}
+use Rattle.pg_avoider.proofs.Common.{is_free, few_points-lines}
 use Rattle.pg_avoider.proofs.Least.{running-none, running-next, running-all}
 use Rattle.pg_avoider.proofs.answers.least_free.Goals.{then-weight-least, else-weight-least}
 use Rattle.pg_avoider.proofs.answers.least_free.Goals as goal

@@ -1,7 +1,5 @@
 use Rattle.std.proofs.Common.{◌≡◌, ◌+◌, ◌-◌, ◌==◌, length, get_or, set, arith, sym, ap, ◌∙◌}
-use Rattle.pg_base.specs.Side.{other}
-use Rattle.pg_undo.specs.Trail.{with_set}
-use Rattle.pg_undo.proofs.Extending.{extends-set, extends-both}
+use Rattle.pg_board.proofs.Common.{other, with_set, extends-set, extends-both}
 use Rattle.pg_board.specs.Shape.{line_in, count_cell}
 use Rattle.pg_board.specs.Counts.{count_in, free_by}
 use Rattle.pg_board.proofs.CellPlaces.{count_cell-within}

@@ -1,6 +1,5 @@
 use Rattle.std.proofs.Common.{List, ℕ, map, length, [], ap, ◌∙◌}
-use Rattle.std.proofs.lemmas.List.{length-replicate}
-use Rattle.std.specs.List.{range_with_len}
+use Rattle.pg_board.proofs.Common.{length-replicate, range_with_len}
 use Rattle.pg_board.specs.Shape.{lines_holding}
 use Rattle.pg_board.proofs.Gathering.{gathered-none}
 use Rattle.pg_board.proofs.layout.point_rows.Goals as goal

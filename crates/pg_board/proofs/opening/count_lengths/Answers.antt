@@ -1,6 +1,5 @@
 use Rattle.std.proofs.Common.{◌≡◌, ℕ, ◌+◌, ◌<◌, ◌≤◌, List, [], length, get_or, set, arith, ap, ◌∙◌}
-use Rattle.std.proofs.lemmas.List.{length-set}
-use Rattle.pg_base.specs.declared.side.Side.TheVariants.{X, Y}
+use Rattle.pg_board.proofs.Common.{length-set, X, Y}
 use Rattle.pg_board.specs.Shape.{Shape, IsShape, line_in}
 use Rattle.pg_board.specs.Counts.{lines_in}
 use Rattle.pg_board.proofs.CellPlaces.{free_cell-within}

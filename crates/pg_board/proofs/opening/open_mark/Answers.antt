@@ -1,6 +1,5 @@
 use Rattle.std.proofs.Common.{◌≡◌, true, ap, ◌∙◌, sym, subst}
-use Rattle.pg_game.specs.Position.{is_free}
-use Rattle.pg_undo.specs.Trail.{Cells, with_set}
+use Rattle.pg_board.proofs.Common.{is_free, Cells, with_set}
 use Rattle.pg_board.specs.Shape.{turn_cell}
 use Rattle.pg_board.specs.Opening.{turn_code}
 use Rattle.pg_board.specs.Fits.{position_of}

@@ -1,6 +1,5 @@
 use Rattle.std.proofs.Common.{arith, ap, ◌∙◌, sym}
-use Rattle.pg_base.specs.declared.side.Side.TheVariants.{X, Y}
-use Rattle.pg_undo.specs.Trail.{Cells}
+use Rattle.pg_board.proofs.Common.{X, Y, Cells}
 use Rattle.pg_board.specs.Fits.{fewer, left_by}
 use Rattle.pg_board.proofs.Fitting.{some-cells, left_by-own, left_by-other, fewer-none}
 use Rattle.pg_board.proofs.plays.undo_play.Goals as goal

@@ -1,9 +1,5 @@
 use Rattle.std.proofs.Common.{◌+◌, ◌^◌, ◌<◌, ◌≤◌, ◌∙◌, ℕ, length, get_or, ap, arith}
-use Rattle.std.proofs.lemmas.List.{take_all}
-use Rattle.std.proofs.lemmas.List.Sums.{sum_by_more}
-use Rattle.std.specs.List.{sum_by}
-use Rattle.pg_game.specs.Position.{points_of}
-use Rattle.pg_game.specs.Potential.{line_weight}
+use Rattle.pg_board.proofs.Common.{take_all, sum_by_more, sum_by, points_of, line_weight}
 use Rattle.pg_board.specs.Shape.{line_in, lines_through}
 use Rattle.pg_board.specs.Fits.{position_of}
 use Rattle.pg_board.proofs.Through.{through-below}

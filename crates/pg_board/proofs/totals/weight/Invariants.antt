@@ -1,7 +1,5 @@
 use Rattle.std.proofs.Common.{◌≡◌, ℕ, take}
-use Rattle.std.specs.List.{sum_by}
-use Rattle.pg_game.specs.Position.{points_of}
-use Rattle.pg_game.specs.Potential.{line_weight}
+use Rattle.pg_board.proofs.Common.{sum_by, points_of, line_weight}
 use Rattle.pg_board.specs.Shape.{line_in, lines_through}
 use Rattle.pg_board.specs.Fits.{position_of}
 use Rattle.pg_board.proofs.totals.weight.Given as goal

@@ -1,7 +1,6 @@
 use Rattle.std.proofs.Common.{refl, sym}
 use Rattle.std.specs.Prelude.{string_bytes}
-use Rattle.std.proofs.lemmas.List.{append-nil}
-use Rattle.pg_base.specs.Points.{points_below}
+use Rattle.pg_cert.proofs.Common.{append-nil, points_below}
 use Rattle.pg_cert.proofs.Printed.{field_grows, begun_grows}
 use Rattle.pg_cert.proofs.printing.put_field.Goals as goal
 

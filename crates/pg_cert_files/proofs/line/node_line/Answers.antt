@@ -1,10 +1,6 @@
 use Rattle.std.proofs.Common.{◌≡◌, ◌∙◌, Bool, true, false, Result, Err, Option, None, sym, ap, subst}
 use Rattle.std.specs.Prelude.{if◌then◌else◌}
-use Rattle.pg_cert.specs.declared.cert.Version.{Version}
-use Rattle.pg_cert.specs.declared.node.Node.{Node}
-use Rattle.pg_cert.specs.declared.part.Part.{Part}
-use Rattle.pg_text.specs.Faults.{Gives}
-use Rattle.pg_text.specs.Text.{Bytes}
+use Rattle.pg_cert_files.proofs.Common.{Version, Node, Part, Gives, Bytes}
 use Rattle.pg_cert_files.specs.Form.{has_bar}
 use Rattle.pg_cert_files.specs.NodeLine.{node_line}
 use Rattle.pg_cert_files.specs.Outline.{outline_of, node_part}

@@ -1,6 +1,5 @@
 use Rattle.std.proofs.Common.{[]}
-use Rattle.std.proofs.lemmas.Result.{IfOk-weaker}
-use Rattle.pg_cert.specs.declared.cert.Cert.{Cert}
+use Rattle.pg_cert_files.proofs.Common.{IfOk-weaker, Cert}
 use Rattle.pg_cert_files.proofs.reading.read_cert.Goals as goal
 
 pub returns : goal.returns

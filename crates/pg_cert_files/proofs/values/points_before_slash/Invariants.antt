@@ -1,6 +1,5 @@
 use Rattle.std.proofs.Common.{◌≡◌, ◌<◌, length}
-use Rattle.std.specs.List.{All}
-use Rattle.pg_text.specs.Faults.{each_of, following}
+use Rattle.pg_cert_files.proofs.Common.{All, each_of, following}
 use Rattle.pg_cert_files.specs.NodeLine.{point_of, before_slash, after_slash}
 use Rattle.pg_cert_files.proofs.values.points_before_slash.Given as goal
 

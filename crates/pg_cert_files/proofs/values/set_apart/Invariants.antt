@@ -1,7 +1,6 @@
 use Rattle.std.proofs.Common.{◌≡◌, ◌≤◌, length}
 use Rattle.std.specs.Prelude.{option_map}
-use Rattle.std.specs.FinSet.{empty}
-use Rattle.pg_text.specs.Text.{words_of}
+use Rattle.pg_cert_files.proofs.Common.{empty, words_of}
 use Rattle.pg_cert_files.specs.NodeLine.{field_words}
 use Rattle.pg_cert_files.specs.Outline.{gathered_from}
 use Rattle.pg_cert_files.proofs.values.set_apart.Given as goal

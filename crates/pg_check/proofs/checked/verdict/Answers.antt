@@ -1,7 +1,5 @@
 use Rattle.std.proofs.Common.{◌≡◌, [], List, subst}
-use Rattle.pg_game.specs.declared.game.Game.{Game}
-use Rattle.pg_cert.specs.Parts.{all_parts}
-use Rattle.pg_cert.specs.declared.cert.Claim.{Claim}
+use Rattle.pg_check.proofs.Common.{Game, all_parts, Claim}
 use Rattle.pg_check.specs.Checking.{StandsFor, IsVerdict}
 use Rattle.pg_check.proofs.checked.verdict.Goals as goal
 

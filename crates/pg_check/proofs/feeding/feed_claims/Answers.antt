@@ -1,6 +1,5 @@
 use Rattle.std.proofs.Common.{◌∙◌, ◌++◌, List, take_all, refl, subst}
-use Rattle.pg_cert.specs.Parts.{all_parts}
-use Rattle.pg_cert.specs.declared.cert.Claim.{Claim}
+use Rattle.pg_check.proofs.Common.{all_parts, Claim}
 use Rattle.pg_check.specs.Checking.{StandsFor}
 use Rattle.pg_check.proofs.TakenParts.{taken-none, claim-next, claim-taken}
 use Rattle.pg_check.proofs.feeding.feed_claims.Goals as goal

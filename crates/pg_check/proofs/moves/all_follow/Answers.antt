@@ -1,7 +1,5 @@
 use Rattle.std.proofs.Common.{map, get_or}
-use Rattle.std.proofs.lemmas.List.{get_or_default}
-use Rattle.pg_cert.specs.Valid.{FollowsMove}
-use Rattle.pg_cert.specs.declared.reply.Reply.{Reply}
+use Rattle.pg_check.proofs.Common.{get_or_default, FollowsMove, Reply}
 use Rattle.pg_check.specs.Marks.{kept}
 use Rattle.pg_check.specs.Present.{bare}
 use Rattle.pg_check.proofs.ReplyLemmas.{each-more}

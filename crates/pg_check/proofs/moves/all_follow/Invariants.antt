@@ -1,6 +1,5 @@
 use Rattle.std.proofs.Common.{◌<◌, ℕ, map, get_or}
-use Rattle.pg_cert.specs.Valid.{FollowsMove}
-use Rattle.pg_cert.specs.declared.reply.Reply.{Reply}
+use Rattle.pg_check.proofs.Common.{FollowsMove, Reply}
 use Rattle.pg_check.specs.Marks.{kept}
 use Rattle.pg_check.specs.Present.{bare}
 use Rattle.pg_check.proofs.moves.all_follow.Given as goal

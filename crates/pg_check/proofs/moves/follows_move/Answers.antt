@@ -1,12 +1,7 @@
 use Rattle.std.proofs.Common.{◌≡◌, ◌∙◌, ◌*◌, ◌<◌, ℕ, true, map, sym, subst}
-use Rattle.pg_game.specs.declared.position.Position.{Position}
-use Rattle.pg_game.specs.Position.{is_free}
-use Rattle.pg_game.specs.Game.{point_count}
-use Rattle.pg_cert.specs.Valid.{IsNodeOf}
+use Rattle.pg_check.proofs.Common.{Position, is_free, point_count, IsNodeOf, AreBelow, IsPosition-after}
 use Rattle.pg_check.specs.Marks.{kept}
 use Rattle.pg_check.specs.Present.{bare}
-use Rattle.pg_base.specs.Points.{AreBelow}
-use Rattle.pg_game.proofs.Moves.{IsPosition-after}
 use Rattle.pg_check.proofs.FlatMarks.{fits-row}
 use Rattle.pg_check.proofs.moves.follows_move.Goals as goal
 

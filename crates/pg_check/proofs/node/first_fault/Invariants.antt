@@ -1,6 +1,5 @@
 use Rattle.std.proofs.Common.{◌≡◌, ◌<◌, ◌+◌}
-use Rattle.pg_cert.specs.declared.node_fault.NodeFault.{NodeFault}
-use Rattle.pg_cert.specs.NodeFault.{fault_number}
+use Rattle.pg_check.proofs.Common.{NodeFault, fault_number}
 use Rattle.pg_check.specs.Present.{PassesSoFar}
 use Rattle.pg_check.proofs.node.first_fault.Given as goal
 

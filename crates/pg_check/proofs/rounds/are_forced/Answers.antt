@@ -1,8 +1,5 @@
 use Rattle.std.proofs.Common.{◌≡◌, ◌∙◌, ℕ, true, refl, sym, ap, subst, inl, inr, arith}
-use Rattle.std.proofs.lemmas.Bool.{cases_eq}
-use Rattle.pg_game.specs.declared.position.Position.{Position}
-use Rattle.pg_game.specs.Game.{after, has_filled}
-use Rattle.pg_game.specs.Threat.{threatens}
+use Rattle.pg_check.proofs.Common.{cases_eq, Position, after, has_filled, threatens}
 use Rattle.pg_check.specs.Rounds.{attack_at, reply_at, before_round, attacked}
 use Rattle.pg_check.proofs.RoundSteps.{round-more}
 use Rattle.pg_check.proofs.rounds.are_forced.Goals as goal

@@ -1,6 +1,5 @@
 use Rattle.std.proofs.Common.{◌≡◌, ◌≤◌, ◌-◌, ◌==◌, ◌||◌, ◌∙◌, ℕ, true, nat_le, get_or, sym, subst, arith}
-use Rattle.std.proofs.lemmas.Bool.{false≢true}
-use Rattle.std.specs.List.{list_all}
+use Rattle.pg_check.proofs.Common.{false≢true, list_all}
 use Rattle.pg_check.specs.Rounds.{taken_at}
 use Rattle.pg_check.proofs.RoundLaws.{sole-lacked}
 use Rattle.pg_check.proofs.rounds.lacks_late.Goals as goal

@@ -1,8 +1,5 @@
 use Rattle.std.proofs.Common.{◌≡◌, ◌+◌, ◌-◌, ◌*◌, ◌/◌, ◌%◌, ◌∙◌, ℕ, false, length, get_or, sym, ap, subst, subst₂, arith}
-use Rattle.std.proofs.lemmas.Bool.{false≢true}
-use Rattle.pg_game.specs.declared.position.Position.{Position}
-use Rattle.pg_game.specs.Game.{has_filled}
-use Rattle.pg_game.specs.Threat.{Filling}
+use Rattle.pg_check.proofs.Common.{false≢true, Position, has_filled, Filling}
 use Rattle.pg_check.specs.Rounds.{attack_at, before_round, IsClear}
 use Rattle.pg_check.proofs.RoundLaws.{leads-odd, lead-all, lead-none, lead-long, lead-filling, lead-safe, lead-forced, safe-clear, all-lead, mine-unfilled, zeros}
 use Rattle.pg_check.proofs.rounds.rounds_lead.Goals as goal

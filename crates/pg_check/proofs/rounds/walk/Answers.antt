@@ -1,9 +1,5 @@
 use Rattle.std.proofs.Common.{◌≡◌, ◌<◌, ◌+◌, ◌∙◌, length, set, refl, sym, ap, subst, arith}
-use Rattle.std.proofs.lemmas.Bool.{false≢true}
-use Rattle.std.proofs.lemmas.List.{length-set}
-use Rattle.pg_game.specs.declared.position.Position.{Position}
-use Rattle.pg_game.specs.Game.{after}
-use Rattle.pg_game.specs.Threat.{IsAttack}
+use Rattle.pg_check.proofs.Common.{false≢true, length-set, Position, after, IsAttack}
 use Rattle.pg_check.specs.Rounds.{attack_at, reply_at, before_round, attacked, IsRound}
 use Rattle.pg_check.proofs.RoundSteps.{round-more, rounds-more, times-none, times-more}
 use Rattle.pg_check.proofs.rounds.walk.Goals as goal

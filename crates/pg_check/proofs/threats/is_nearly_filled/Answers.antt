@@ -1,7 +1,5 @@
 use Rattle.std.proofs.Common.{◌≡◌, ◌∙◌, ℕ, true, false, subst}
-use Rattle.std.specs.FinSet.{FinSet, contains}
-use Rattle.std.specs.Ordering.{nat_cmp}
-use Rattle.pg_game.specs.Potential.{is_on}
+use Rattle.pg_check.proofs.Common.{FinSet, contains, nat_cmp, is_on}
 use Rattle.pg_check.specs.Lacked.{filled_but}
 use Rattle.pg_check.proofs.ThreatTests.{nearly-one, nearly-none}
 use Rattle.pg_check.proofs.threats.is_nearly_filled.Goals as goal

@@ -1,9 +1,5 @@
 use Rattle.std.proofs.Common.{◌∙◌, sym, ap}
-use Rattle.std.proofs.lemmas.Bool.{false≢true}
-use Rattle.std.specs.List.{list_any}
-use Rattle.std.specs.FinSet.{FinSet, insert}
-use Rattle.std.specs.Ordering.{nat_cmp}
-use Rattle.pg_game.specs.Game.{is_filled, lines_of}
+use Rattle.pg_check.proofs.Common.{false≢true, list_any, FinSet, insert, nat_cmp, is_filled, lines_of}
 use Rattle.pg_check.proofs.ThreatTests.{threatens-off, threatens-is}
 use Rattle.pg_check.proofs.threats.threatens.Goals as goal
 

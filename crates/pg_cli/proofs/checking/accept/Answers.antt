@@ -1,6 +1,5 @@
 use Rattle.std.proofs.Common.{◌∙◌, subst}
-use Rattle.std.proofs.lemmas.Result.{err_from_is_err_and}
-use Rattle.pg_evidence.specs.Verdicts.{IsFound}
+use Rattle.pg_cli.proofs.Common.{err_from_is_err_and, IsFound}
 use Rattle.pg_cli.proofs.Accepting.{judged_all, judged_cut, judged_rejects, judged_unmade}
 use Rattle.pg_cli.proofs.checking.accept.Goals as goal
 

@@ -1,9 +1,5 @@
 use Rattle.std.proofs.Common.{map, get_or, arith, rules}
-use Rattle.std.proofs.lemmas.List.{get_or_default}
-use Rattle.pg_base.specs.declared.goal.Goal.TheVariants.{Win}
-use Rattle.pg_base.specs.declared.side.Side.TheVariants.{X}
-use Rattle.pg_judge.specs.declared.claim_head.ClaimHead.{ClaimHead}
-use Rattle.pg_talk.proofs.Speaking.{Speaks-from_err, cut_here, grows_more}
+use Rattle.pg_cli.proofs.Common.{get_or_default, Win, X, ClaimHead, Speaks-from_err, cut_here, grows_more}
 use Rattle.pg_cli.specs.Checking.{head_acceptance}
 use Rattle.pg_cli.proofs.checking.accept_all.Goals as goal
 

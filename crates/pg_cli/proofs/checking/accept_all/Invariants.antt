@@ -1,6 +1,5 @@
 use Rattle.std.proofs.Common.{◌≡◌, map, take}
-use Rattle.pg_io.specs.Console.{Grows}
-use Rattle.pg_io.specs.declared.entry.Entry.TheVariants.{Said}
+use Rattle.pg_cli.proofs.Common.{Grows, Said}
 use Rattle.pg_cli.specs.Checking.{head_acceptance}
 use Rattle.pg_cli.proofs.checking.accept_all.Given as goal
 

@@ -1,10 +1,7 @@
 use Rattle.std.proofs.Common.{ℕ, Option, subst}
 use Rattle.std.specs.Prelude.{IfSome}
+use Rattle.pg_cli.proofs.Common.{IfOk-weaker, IsFoldedWell, IsImageWithinLimits, ImageCert}
 use Rattle.std.specs.Global.{Vec}
-use Rattle.std.proofs.lemmas.Result.{IfOk-weaker}
-use Rattle.pg_fold.specs.Symmetry.{IsFoldedWell}
-use Rattle.pg_image.specs.Limits.{IsImageWithinLimits}
-use Rattle.pg_image.specs.declared.cert.ImageCert.{ImageCert}
 use Rattle.pg_cli.proofs.FoldedFiles.{folded_file}
 use Rattle.pg_cli.proofs.filing.print_solution.Goals as goal
 

@@ -1,12 +1,6 @@
 use Rattle.std.proofs.Common.{[], ◌∷◌, refl, ◌∙◌, subst}
-use Rattle.std.proofs.lemmas.Result.{err_from_is_err_and}
-use Rattle.pg_io.specs.Files.{Bytes}
-use Rattle.pg_io.specs.declared.stop.Stop.TheVariants.{Memory}
-use Rattle.pg_messages.specs.Texts.{message_text}
-use Rattle.pg_talk.specs.Done.{Does}
+use Rattle.pg_cli.proofs.Common.{err_from_is_err_and, Bytes, Memory, message_text, Does, Delivers, stopped_first}
 use Rattle.pg_cli.specs.Generating.{game_file, size_texts}
-use Rattle.pg_talk.specs.Storing.{Delivers}
-use Rattle.pg_talk.proofs.Delivering.{stopped_first}
 use Rattle.pg_cli.proofs.generating.deliver_game.Goals as goal
 
 pub returns-in_err-text-clause-delivered : goal.returns-in_err-text-clause-delivered

@@ -1,17 +1,12 @@
 use Rattle.std.proofs.Common.{false, Option, Some, None, Ok, Err, sym, subst}
+use Rattle.pg_cli.proofs.Common.{err_from_is_err_and, Bytes, Game, text, Command, Gen, delivers_then}
 use Rattle.std.specs.Borrow.{Bor}
-use Rattle.std.proofs.lemmas.Result.{err_from_is_err_and}
-use Rattle.pg_io.specs.Files.{Bytes}
-use Rattle.pg_game.specs.declared.game.Game.{Game}
-use Rattle.pg_words.specs.Ordered.{text}
-use Rattle.pg_words.specs.Words.{Command, Gen}
 use Rattle.pg_cli.specs.Commands.{LeavesWork, Quiets, built}
 use Rattle.pg_cli.specs.Generating.{IsMadeOf, game_file, size_texts}
 use Rattle.pg_cli.specs.Run.{Carries}
 use Rattle.pg_cli.specs.Solving.{SolvesGame, result_and_counts}
 use Rattle.pg_cli.specs.declared.solving.TheConstants.{DEFAULT_POSITIONS}
 use Rattle.pg_cli.proofs.Making.{carries_made, of_built, quiet_then, stores_halted, work_left}
-use Rattle.pg_talk.proofs.Parts.{delivers_then}
 use Rattle.pg_cli.proofs.Runs.{carries_memory}
 use Rattle.pg_cli.proofs.generating.generate.Goals as goal
 

@@ -1,8 +1,5 @@
 use Rattle.std.proofs.Common.{◌≤◌, ◌+◌, List, length, take, sym, ap, subst, arith}
-use Rattle.std.proofs.lemmas.List.Sums.{sum_by-take-le}
-use Rattle.pg_cert.specs.Limits.{node_count}
-use Rattle.pg_cert.specs.declared.cert.Claim.{Claim}
-use Rattle.pg_cert.specs.declared.limits.TheConstants.{MAX_NODES}
+use Rattle.pg_cli.proofs.Common.{sum_by-take-le, node_count, Claim, MAX_NODES}
 use Rattle.pg_cli.proofs.Making.{counted_more}
 use Rattle.pg_cli.proofs.generating.node_count.Goals as goal
 

@@ -1,14 +1,7 @@
 use Rattle.std.proofs.Common.{ℕ, false, [], ◌∷◌, length, Option, refl, ◌∙◌, ap, subst}
-use Rattle.std.proofs.lemmas.Result.{err_from_is_err_and}
-use Rattle.pg_io.specs.Files.{Bytes}
-use Rattle.pg_io.specs.declared.stop.Stop.TheVariants.{Memory}
-use Rattle.pg_cert.specs.Print.{printed_certificate}
-use Rattle.pg_cert.specs.declared.cert.Cert.{Cert}
-use Rattle.pg_messages.specs.Texts.{expanded_text, message_text, unknown_text}
-use Rattle.pg_messages.specs.declared.message.Message.{Message}
+use Rattle.pg_cli.proofs.Common.{err_from_is_err_and, Bytes, Memory, printed_certificate, Cert, expanded_text, message_text, unknown_text, Message, stopped_first}
 use Rattle.pg_cli.specs.Solving.{IsFound, SolvesGame, result_and_counts, solution_text}
 use Rattle.pg_cli.specs.declared.solving.TheConstants.{DEFAULT_POSITIONS}
-use Rattle.pg_talk.proofs.Delivering.{stopped_first}
 use Rattle.pg_cli.proofs.Solves.{delivers_solution, stays_open}
 use Rattle.pg_cli.proofs.generating.solve_made.Goals as goal
 

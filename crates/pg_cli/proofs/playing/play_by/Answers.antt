@@ -1,7 +1,6 @@
 use Rattle.std.proofs.Common.{Err, ap}
-use Rattle.std.proofs.lemmas.Result.{err_from_is_err_and}
+use Rattle.pg_cli.proofs.Common.{err_from_is_err_and, StandsFor}
 use Rattle.pg_check.specs.declared.checked.CheckFault.{CheckFault}
-use Rattle.pg_evidence.specs.Standing.{StandsFor}
 use Rattle.pg_evidence.proofs.Tracing.{stands_for, stood_fault}
 use Rattle.pg_cli.proofs.Plays.{play_rejected, play_unmade, unmade_halts}
 use Rattle.pg_cli.proofs.playing.play_by.Goals as goal

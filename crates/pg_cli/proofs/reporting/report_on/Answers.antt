@@ -1,6 +1,5 @@
 use Rattle.std.proofs.Common.{subst, sym}
-use Rattle.std.proofs.lemmas.Result.{err_from_is_err_and}
-use Rattle.pg_io.specs.Files.{Bytes}
+use Rattle.pg_cli.proofs.Common.{err_from_is_err_and, Bytes}
 use Rattle.pg_cli.specs.Reporting.{Accounts}
 use Rattle.pg_cli.proofs.Reports.{reported, unreported}
 use Rattle.pg_cli.proofs.reporting.report_on.Goals as goal

@@ -1,18 +1,9 @@
 use Rattle.std.proofs.Common.{◌≡◌, ℕ, map, string_bytes, Option, Some, option_and_then, option_map, ap, sym, ◌∙◌, subst}
-use Rattle.std.proofs.lemmas.Result.{err_from_is_err_and}
-use Rattle.pg_io.specs.Files.{Bytes, Holding}
-use Rattle.pg_io.specs.declared.stop.Stop.TheVariants.{Memory}
-use Rattle.pg_words.specs.Ordered.{ordered}
-use Rattle.pg_words.specs.Words.{Command, OfFamily, Review, meaning_of}
+use Rattle.pg_cli.proofs.Common.{err_from_is_err_and, Bytes, Holding, Memory, ordered, Command, OfFamily, Review, meaning_of, ActsInFamily, RefusesFamily, IsOfNames, IsReached, LeavesSearch, Runs, Stopped}
 use Rattle.pg_words.specs.declared.command.Command.{Command as Order}
-use Rattle.pg_families.specs.Family.{ActsInFamily, RefusesFamily}
-use Rattle.pg_sessions.specs.Along.{IsOfNames, IsReached}
-use Rattle.pg_solve.specs.Left.{LeavesSearch}
 use Rattle.pg_cli.specs.Commands.{SpeaksInTime, asked, built}
 use Rattle.pg_cli.specs.Run.{Carries}
 use Rattle.pg_cli.specs.Solving.{positions_for}
-use Rattle.pg_talk.specs.Runs.{Runs}
-use Rattle.pg_talk.specs.declared.halt.Halt.TheVariants.{Stopped}
 use Rattle.pg_cli.proofs.Runs.{carries_memory, gives_memory, leaves_all, leaves_work, quiet_halt, speaks_in_time}
 use Rattle.pg_cli.proofs.running.carry_out.Goals as goal
 

@@ -1,11 +1,5 @@
 use Rattle.std.proofs.Common.{refl, ◌∙◌, subst}
-use Rattle.std.proofs.lemmas.Result.{err_from_is_err_and}
-use Rattle.pg_io.specs.Files.{Bytes}
-use Rattle.pg_io.specs.declared.stop.Stop.TheVariants.{Memory}
-use Rattle.pg_cert.specs.Print.{printed_certificate}
-use Rattle.pg_talk.specs.Done.{Does}
-use Rattle.pg_talk.specs.Storing.{Delivers, texts_of}
-use Rattle.pg_talk.proofs.Delivering.{stopped_first}
+use Rattle.pg_cli.proofs.Common.{err_from_is_err_and, Bytes, Memory, printed_certificate, Does, Delivers, texts_of, stopped_first}
 use Rattle.pg_cli.proofs.solving.deliver_solution.Goals as goal
 
 pub returns-in_err-text-clause-delivered : goal.returns-in_err-text-clause-delivered

@@ -1,13 +1,6 @@
 use Rattle.std.proofs.Common.{[], ◌∷◌, Option, refl, sym, ap, subst}
-use Rattle.std.proofs.lemmas.Result.{err_from_is_err_and}
-use Rattle.pg_io.specs.Files.{Bytes}
-use Rattle.pg_io.specs.declared.stop.Stop.TheVariants.{Memory}
-use Rattle.pg_cert.specs.declared.cert.Cert.{Cert}
-use Rattle.pg_messages.specs.Texts.{message_text, unknown_text}
-use Rattle.pg_messages.specs.declared.message.Message.{Message}
+use Rattle.pg_cli.proofs.Common.{err_from_is_err_and, Bytes, Memory, Cert, message_text, unknown_text, Message, budget, stopped_first}
 use Rattle.pg_cli.specs.Solving.{IsFileOf, IsFound, SolvesGame, result_alone}
-use Rattle.pg_solve.specs.Left.{budget}
-use Rattle.pg_talk.proofs.Delivering.{stopped_first}
 use Rattle.pg_cli.proofs.Differing.{solution_differs}
 use Rattle.pg_cli.proofs.Solves.{delivers_solution, stays_open}
 use Rattle.pg_cli.proofs.solving.solve_game.Goals as goal

@@ -1,7 +1,5 @@
 use Rattle.std.proofs.Common.{Some, Ok, Err, subst}
-use Rattle.pg_io.specs.Files.{Bytes}
-use Rattle.pg_text.specs.declared.error.FileError.{FileError}
-use Rattle.pg_talk.specs.Reading.{game_fault}
+use Rattle.pg_drawing.proofs.Common.{Bytes, FileError, game_fault}
 use Rattle.pg_drawing.specs.Boards.{IsBoardRead, board_held}
 use Rattle.pg_drawing.proofs.Openings.{opens_board}
 use Rattle.pg_drawing.proofs.opening.open_board.Goals as goal

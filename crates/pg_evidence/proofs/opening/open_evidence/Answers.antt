@@ -1,7 +1,6 @@
 use Rattle.std.proofs.Common.{subst, Ok, Err}
-use Rattle.pg_cert_files.specs.Views.{IsReadAs}
+use Rattle.pg_evidence.proofs.Common.{IsReadAs, certificate_fault}
 use Rattle.pg_text.specs.declared.error.FileError.{FileError}
-use Rattle.pg_talk.specs.Reading.{certificate_fault}
 use Rattle.pg_evidence.specs.Evidence.{evidence}
 use Rattle.pg_evidence.proofs.Judged.{arrived_evidence, held_bad, held_ok}
 use Rattle.pg_evidence.proofs.opening.open_evidence.Goals as goal

@@ -1,6 +1,5 @@
 use Rattle.std.proofs.Common.{◌≡◌, ◌≢◌, ◌<◌, ◌≤◌, ◌+◌, ℕ, Bool, true, false, arith, sym, subst, slice_index}
-use Rattle.std.specs.FinSet.{contains}
-use Rattle.pg_base.specs.Sets.{plus}
+use Rattle.pg_exchange.proofs.Common.{contains, plus}
 use Rattle.pg_exchange.specs.Chain.{reads_up}
 use Rattle.pg_exchange.specs.Path.{first_label, second_label, IsStep, IsClimbed, any}
 use Rattle.pg_exchange.proofs.Tests.{emptied, with_point}

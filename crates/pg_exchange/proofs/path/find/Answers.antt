@@ -1,11 +1,5 @@
 use Rattle.std.proofs.Common.{◌≡◌, ◌<◌, ◌≤◌, ℕ, Bool, true, false, arith, sym, subst, inl, inr, refl, suc}
-use Rattle.std.specs.FinSet.{contains}
-use Rattle.pg_base.specs.Sets.{plus, count}
-use Rattle.pg_base.proofs.SetLemmas.{plus_cases, plus_new}
-use Rattle.std.proofs.lemmas.Bool.{both_ways, true_from_ne_false, cases_Bool}
-use Rattle.pg_graph.specs.Graph.{edge_count, first_end_of, second_end_of}
-use Rattle.pg_graph.proofs.GraphLemmas.{ends_in_range}
-use Rattle.pg_graph.proofs.Rank.{count_less}
+use Rattle.pg_exchange.proofs.Common.{contains, plus, count, plus_cases, plus_new, both_ways, true_from_ne_false, cases_Bool, edge_count, first_end_of, second_end_of, ends_in_range, count_less}
 use Rattle.pg_exchange.specs.Chain.{reads_up}
 use Rattle.pg_exchange.specs.Path.{first_label, second_label}
 use Rattle.pg_exchange.proofs.Tests.{emptied, with_point}

@@ -1,6 +1,5 @@
 use Rattle.std.proofs.Common.{◌≡◌, ◌-◌, ℕ, Bool, true, false, length}
-use Rattle.std.specs.FinSet.{contains}
-use Rattle.pg_base.specs.Sets.{IsBelow, IsWithin, count}
+use Rattle.pg_exchange.proofs.Common.{contains, IsBelow, IsWithin, count}
 use Rattle.pg_exchange.specs.Chain.{reads_up}
 use Rattle.pg_exchange.specs.Path.{first_label, second_label, IsReachedBoth, IsSpread}
 use Rattle.pg_exchange.proofs.path.find.Given as goal

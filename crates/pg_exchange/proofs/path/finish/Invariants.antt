@@ -1,6 +1,5 @@
 use Rattle.std.proofs.Common.{◌≡◌, ℕ, Bool, length}
-use Rattle.std.specs.FinSet.{contains}
-use Rattle.pg_base.specs.Sets.{IsWithin, IsBelow}
+use Rattle.pg_exchange.proofs.Common.{contains, IsWithin, IsBelow}
 use Rattle.pg_exchange.specs.Chain.{reads_up}
 use Rattle.pg_exchange.specs.Path.{first_label, second_label, IsSpread}
 use Rattle.pg_exchange.proofs.path.finish.Given as goal

@@ -1,6 +1,5 @@
 use Rattle.std.proofs.Common.{◌≡◌, ◌<◌, nat_lt, ℕ, Bool, true, slice_index, ap, sym, ◌∙◌, refl, inl, inr}
-use Rattle.std.proofs.lemmas.Bool.{ltb-true}
-use Rattle.std.specs.FinSet.{contains}
+use Rattle.pg_exchange.proofs.Common.{ltb-true, contains}
 use Rattle.pg_exchange.specs.Chain.{reads_up}
 use Rattle.pg_exchange.specs.Path.{first_label, second_label}
 use Rattle.pg_exchange.proofs.path.fits.Goals as goal

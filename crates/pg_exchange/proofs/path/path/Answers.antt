@@ -1,8 +1,5 @@
 use Rattle.std.proofs.Common.{◌≡◌, ◌<◌, ◌≤◌, ◌+◌, ℕ, Bool, arith, slice_index, ap, ◌∙◌, sym, subst, suc}
-use Rattle.std.specs.FinSet.{contains}
-use Rattle.pg_base.specs.Sets.{count}
-use Rattle.pg_base.proofs.SetLemmas.{count_plus}
-use Rattle.pg_graph.specs.Graph.{edge_count}
+use Rattle.pg_exchange.proofs.Common.{contains, count, count_plus, edge_count}
 use Rattle.pg_exchange.specs.Chain.{reads_up}
 use Rattle.pg_exchange.specs.Path.{first_label, second_label, IsTraced}
 use Rattle.pg_exchange.proofs.Tests.{emptied, with_point}

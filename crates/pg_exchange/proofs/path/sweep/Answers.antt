@@ -1,10 +1,5 @@
 use Rattle.std.proofs.Common.{◌≡◌, ◌<◌, ◌≤◌, ◌+◌, ◌⊎◌, ℕ, Bool, true, false, arith, length, slice_index, ap, ◌∙◌, sym, subst, inl, inr, refl, suc}
-use Rattle.std.proofs.lemmas.Bool.{cases_eq, cases_lt, cases_Bool, both_ways, false_from_ne_true}
-use Rattle.std.specs.FinSet.{FinSet, contains}
-use Rattle.std.specs.Ordering.{nat_cmp}
-use Rattle.pg_base.specs.Sets.{minus, IsWithin}
-use Rattle.pg_base.proofs.SetLemmas.{minus_parts, minus_from}
-use Rattle.pg_graph.specs.Graph.{edge_count, first_end_of, second_end_of}
+use Rattle.pg_exchange.proofs.Common.{cases_eq, cases_lt, cases_Bool, both_ways, false_from_ne_true, FinSet, contains, nat_cmp, minus, IsWithin, minus_parts, minus_from, edge_count, first_end_of, second_end_of}
 use Rattle.pg_exchange.specs.Chain.{reads_up}
 use Rattle.pg_exchange.specs.Path.{first_label, second_label, HasEnds, IsReachedBoth, IsSpread}
 use Rattle.pg_exchange.proofs.Tests.{without_point}

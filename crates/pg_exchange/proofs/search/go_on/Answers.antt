@@ -1,7 +1,5 @@
 use Rattle.std.proofs.Common.{◌≡◌, ◌<◌, ℕ, Bool, true, false, arith, ap, ◌∙◌, sym, refl, inl, inr}
-use Rattle.std.proofs.lemmas.Bool.{both_ways, false_from_ne_true}
-use Rattle.std.specs.FinSet.{contains}
-use Rattle.pg_base.specs.Sets.{either}
+use Rattle.pg_exchange.proofs.Common.{both_ways, false_from_ne_true, contains, either}
 use Rattle.pg_exchange.proofs.Tests.{emptied}
 use Rattle.pg_exchange.proofs.SearchSteps.{either-none, either-comm}
 use Rattle.pg_exchange.proofs.search.go_on.Goals as goal

@@ -1,8 +1,5 @@
 use Rattle.std.proofs.Common.{◌≡◌, ◌≤◌, ℕ, Bool, true, false, arith, ap, ◌∙◌, sym, subst, inl, inr}
-use Rattle.std.proofs.lemmas.Bool.{both_ways, false_from_ne_true}
-use Rattle.std.specs.FinSet.{contains}
-use Rattle.pg_base.specs.Sets.{either, minus}
-use Rattle.pg_base.proofs.SetLemmas.{either_cases, either_left, minus_parts}
+use Rattle.pg_exchange.proofs.Common.{both_ways, false_from_ne_true, contains, either, minus, either_cases, either_left, minus_parts}
 use Rattle.pg_exchange.proofs.Tests.{without_point, none_left}
 use Rattle.pg_exchange.proofs.SearchSteps.{either-minus}
 use Rattle.pg_exchange.proofs.search.take_next.Goals as goal

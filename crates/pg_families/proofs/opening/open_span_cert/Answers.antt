@@ -1,9 +1,6 @@
 use Rattle.std.proofs.Common.{◌∙◌, ap, sym, Ok, Err}
-use Rattle.pg_span.specs.declared.cert.SpanCert.{SpanCert}
-use Rattle.pg_family_files.specs.SpanCertFile.{span_cert}
+use Rattle.pg_families.proofs.Common.{SpanCert, span_cert, certificate_fault, read_ok}
 use Rattle.pg_family_files.specs.SpanCertViews.{number_of}
-use Rattle.pg_talk.specs.Reading.{certificate_fault}
-use Rattle.pg_talk.proofs.Openings.{read_ok}
 use Rattle.pg_families.proofs.Openings.{bad_opened, opens_span_cert}
 use Rattle.pg_families.proofs.opening.open_span_cert.Goals as goal
 

@@ -1,9 +1,5 @@
 use Rattle.std.proofs.Common.{◌∙◌, ap, sym, Ok, Err}
-use Rattle.pg_files.specs.Views.{number_of}
-use Rattle.pg_family_files.specs.FamilyFile.{vector_game}
-use Rattle.pg_family_files.specs.Views.{vector_entry}
-use Rattle.pg_talk.specs.Reading.{game_fault}
-use Rattle.pg_talk.proofs.Openings.{read_ok}
+use Rattle.pg_families.proofs.Common.{number_of, vector_game, vector_entry, game_fault, read_ok}
 use Rattle.pg_families.proofs.Openings.{bad_opened, opens_vectors}
 use Rattle.pg_families.proofs.opening.open_vectors.Goals as goal
 

@@ -1,13 +1,6 @@
 use Rattle.std.proofs.Common.{◌∙◌, List, Err, ap, map, subst}
-use Rattle.std.proofs.lemmas.Result.{err_from_is_err_and}
-use Rattle.pg_io.specs.Console.{Grows}
-use Rattle.pg_io.specs.declared.entry.Entry.TheVariants.{Said}
+use Rattle.pg_families.proofs.Common.{err_from_is_err_and, Grows, Said, IsSpanValid, SpanClaim, SpanFault, span_entry, IsCut}
 use Rattle.pg_span.specs.Flaw.{flaw_number}
-use Rattle.pg_span.specs.Valid.{IsSpanValid}
-use Rattle.pg_span.specs.declared.cert.SpanClaim.{SpanClaim}
-use Rattle.pg_span.specs.declared.check.SpanFault.{SpanFault}
-use Rattle.pg_family_files.specs.Views.{span_entry}
-use Rattle.pg_talk.specs.Saying.{IsCut}
 use Rattle.pg_families.specs.Connectivity.{RejectsSpan, span_acceptance, span_acceptances}
 use Rattle.pg_families.proofs.Judging.{accepted_all, accepted_cut}
 use Rattle.pg_families.proofs.Spans.{judged_rejects}

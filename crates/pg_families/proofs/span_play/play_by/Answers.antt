@@ -1,9 +1,7 @@
 use Rattle.std.proofs.Common.{◌∙◌, Err, ap}
+use Rattle.pg_families.proofs.Common.{IsSpanValid, SpanFault, span_entry}
 use Rattle.pg_span.specs.Flaw.{flaw_number}
-use Rattle.pg_span.specs.Valid.{IsSpanValid}
-use Rattle.pg_span.specs.declared.check.SpanFault.{SpanFault}
 use Rattle.pg_span.specs.declared.player.SpanOpen.{SpanOpen}
-use Rattle.pg_family_files.specs.Views.{span_entry}
 use Rattle.pg_families.specs.Connectivity.{HasSpanClaim, LacksSpanClaim, RejectsSpan, span_contender}
 use Rattle.pg_families.proofs.Commands.{play_halts}
 use Rattle.pg_families.proofs.Judging.{played_unclaimed}

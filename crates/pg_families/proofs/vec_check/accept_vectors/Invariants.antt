@@ -1,6 +1,5 @@
 use Rattle.std.proofs.Common.{◌≡◌, map, take}
-use Rattle.pg_io.specs.Console.{Grows}
-use Rattle.pg_io.specs.declared.entry.Entry.TheVariants.{Said}
+use Rattle.pg_families.proofs.Common.{Grows, Said}
 use Rattle.pg_families.specs.Vectors.{vec_acceptance}
 use Rattle.pg_families.proofs.vec_check.accept_vectors.Given as goal
 

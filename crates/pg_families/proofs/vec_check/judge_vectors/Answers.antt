@@ -1,13 +1,5 @@
 use Rattle.std.proofs.Common.{◌∙◌, List, Err, ap, map, subst}
-use Rattle.std.proofs.lemmas.Result.{err_from_is_err_and}
-use Rattle.pg_io.specs.Console.{Grows}
-use Rattle.pg_io.specs.declared.entry.Entry.TheVariants.{Said}
-use Rattle.pg_gf2.specs.Check.{flaw_number}
-use Rattle.pg_gf2.specs.Check.{IsVecValid}
-use Rattle.pg_cert.specs.declared.cert.Claim.{Claim}
-use Rattle.pg_gf2.specs.declared.flaw.VecFault.{VecFault}
-use Rattle.pg_family_files.specs.Views.{vector_entry}
-use Rattle.pg_talk.specs.Saying.{IsCut}
+use Rattle.pg_families.proofs.Common.{err_from_is_err_and, Grows, Said, flaw_number, IsVecValid, Claim, VecFault, vector_entry, IsCut}
 use Rattle.pg_families.specs.Vectors.{RejectsVectors, vec_acceptance, vec_acceptances}
 use Rattle.pg_families.proofs.Judging.{accepted_all, accepted_cut}
 use Rattle.pg_families.proofs.OnVectors.{judged_rejects}

@@ -1,8 +1,6 @@
 use Rattle.std.proofs.Common.{◌∙◌, Err, ap}
-use Rattle.pg_gf2.specs.Check.{IsVecValid, flaw_number}
-use Rattle.pg_gf2.specs.declared.flaw.VecFault.{VecFault}
+use Rattle.pg_families.proofs.Common.{IsVecValid, flaw_number, VecFault, vector_entry}
 use Rattle.pg_vec_player.specs.declared.player.VecOpen.{VecOpen}
-use Rattle.pg_family_files.specs.Views.{vector_entry}
 use Rattle.pg_families.specs.Vectors.{HasVecClaim, LacksVecClaim, RejectsVectors, vec_contender}
 use Rattle.pg_families.proofs.Commands.{play_halts}
 use Rattle.pg_families.proofs.Judging.{played_unclaimed}

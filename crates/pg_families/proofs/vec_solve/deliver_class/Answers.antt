@@ -1,11 +1,5 @@
 use Rattle.std.proofs.Common.{[], ◌∷◌, ◌∙◌, refl, ap, subst}
-use Rattle.std.proofs.lemmas.Result.{err_from_is_err_and}
-use Rattle.pg_io.specs.Files.{Bytes}
-use Rattle.pg_io.specs.declared.stop.Stop.TheVariants.{Memory}
-use Rattle.pg_messages.specs.Texts.{message_text}
-use Rattle.pg_talk.specs.Done.{Does}
-use Rattle.pg_talk.specs.Storing.{Delivers}
-use Rattle.pg_talk.proofs.Delivering.{stopped_first}
+use Rattle.pg_families.proofs.Common.{err_from_is_err_and, Bytes, Memory, message_text, Does, Delivers, stopped_first}
 use Rattle.pg_families.specs.Vectors.{SolvesVectorGame}
 use Rattle.pg_families.proofs.OnVectors.{delivers_class}
 use Rattle.pg_families.proofs.vec_solve.deliver_class.Goals as goal

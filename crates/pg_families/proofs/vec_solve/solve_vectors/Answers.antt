@@ -1,11 +1,5 @@
 use Rattle.std.proofs.Common.{◌≡◌, Err, Result, sym, subst, refl}
-use Rattle.std.proofs.lemmas.Result.{err_from_is_err_and}
-use Rattle.pg_talk.specs.declared.halt.Halt.{Halt}
-use Rattle.pg_talk.specs.declared.halt.Halt.TheVariants.{Refused}
-use Rattle.pg_talk.proofs.Openings.{not_opened, opened}
-use Rattle.pg_talk.proofs.Runs.{runs_halt}
-use Rattle.pg_family_files.specs.FamilyFile.{VectorEntry}
-use Rattle.pg_family_files.specs.Views.{vector_entry}
+use Rattle.pg_families.proofs.Common.{err_from_is_err_and, Halt, Refused, not_opened, opened, runs_halt, VectorEntry, vector_entry}
 use Rattle.pg_families.specs.Vectors.{SolvesVectors, SolvesVectorGame, vectors_held}
 use Rattle.pg_families.proofs.Commands.{runs_does}
 use Rattle.pg_families.proofs.vec_solve.solve_vectors.Goals as goal

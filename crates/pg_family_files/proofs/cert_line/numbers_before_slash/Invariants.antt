@@ -1,7 +1,5 @@
 use Rattle.std.proofs.Common.{◌≡◌, ◌≤◌, length}
-use Rattle.std.specs.List.{All}
-use Rattle.pg_text.specs.Faults.{each_of, following}
-use Rattle.pg_cert_files.specs.NodeLine.{before_slash, after_slash}
+use Rattle.pg_family_files.proofs.Common.{All, each_of, following, before_slash, after_slash}
 use Rattle.pg_family_files.specs.SpanCertLine.{number_in}
 use Rattle.pg_family_files.proofs.cert_line.numbers_before_slash.Given as goal
 

@@ -1,7 +1,6 @@
 use Rattle.std.proofs.Common.{◌≡◌, ◌++◌, take, map}
 use Rattle.std.specs.Prelude.{string_bytes}
-use Rattle.std.specs.Fmt.{decimal}
-use Rattle.pg_text.specs.Text.{behind_spaces}
+use Rattle.pg_family_files.proofs.Common.{decimal, behind_spaces}
 use Rattle.pg_family_files.proofs.cert_printing.put_numbers.Given as goal
 
 abbrev pub invariant-loop-n : goal.invariant-loop-n

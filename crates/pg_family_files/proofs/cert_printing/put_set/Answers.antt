@@ -1,7 +1,6 @@
 use Rattle.std.proofs.Common.{sym}
 use Rattle.std.specs.Prelude.{string_bytes}
-use Rattle.std.proofs.lemmas.List.{append-nil}
-use Rattle.pg_base.specs.Points.{points_below}
+use Rattle.pg_family_files.proofs.Common.{append-nil, points_below}
 use Rattle.pg_cert.proofs.Printed.{set_grows}
 use Rattle.pg_family_files.proofs.cert_printing.put_set.Goals as goal
 

@@ -1,8 +1,6 @@
 use Rattle.std.proofs.Common.{◌≡◌, ◌++◌, map}
 use Rattle.std.specs.Prelude.{string_bytes}
-use Rattle.std.specs.Fmt.{decimal}
-use Rattle.pg_base.specs.Points.{points_below}
-use Rattle.pg_text.specs.Text.{behind_spaces}
+use Rattle.pg_family_files.proofs.Common.{decimal, points_below, behind_spaces}
 use Rattle.pg_family_files.proofs.cert_printing.put_set.Given as goal
 
 abbrev pub invariant-loop-p : goal.invariant-loop-p

@@ -1,7 +1,5 @@
 use Rattle.std.proofs.Common.{◌≡◌, ◌+◌, ◌∷◌, List, length, Ok, arith, ◌∙◌, sym, ap}
-use Rattle.pg_text.specs.Text.{Bytes, lines}
-use Rattle.pg_text.specs.Faults.{reading}
-use Rattle.pg_text.proofs.Reading.{lines_few, reads_on, ends, is_over}
+use Rattle.pg_family_files.proofs.Common.{Bytes, lines, reading, lines_few, reads_on, ends, is_over}
 use Rattle.pg_family_files.specs.SpanCertFile.{nothing, after, end_fault, ended, span_cert}
 use Rattle.pg_family_files.specs.SpanCertViews.{view, number_of}
 use Rattle.pg_family_files.proofs.SpanCertReading.{fits_file, said_is, carried}

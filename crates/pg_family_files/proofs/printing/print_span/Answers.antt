@@ -1,6 +1,5 @@
 use Rattle.std.proofs.Common.{◌∷◌, [], map}
-use Rattle.pg_files.specs.Print.{edge_words, last_lines}
-use Rattle.pg_files.proofs.PrintLemmas.{each_text, joined}
+use Rattle.pg_family_files.proofs.Common.{edge_words, last_lines, each_text, joined}
 use Rattle.pg_family_files.specs.Print.{printed_span, header, numbered}
 use Rattle.pg_family_files.specs.declared.family.Family.TheVariants as families
 use Rattle.pg_family_files.specs.declared.family.Key.TheVariants as keys

@@ -1,6 +1,5 @@
 use Rattle.std.proofs.Common.{◌∷◌, [], map}
-use Rattle.pg_files.specs.Print.{last_lines}
-use Rattle.pg_files.proofs.PrintLemmas.{each_text}
+use Rattle.pg_family_files.proofs.Common.{last_lines, each_text}
 use Rattle.pg_family_files.specs.Print.{printed_vectors, header, numbered, worded, signs_of, vector_words}
 use Rattle.pg_family_files.specs.declared.family.Family.TheVariants as families
 use Rattle.pg_family_files.specs.declared.family.Key.TheVariants as keys

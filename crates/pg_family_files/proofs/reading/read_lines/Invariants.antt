@@ -1,6 +1,5 @@
 use Rattle.std.proofs.Common.{◌≡◌, ◌+◌, ◌≤◌, length}
-use Rattle.pg_text.specs.Text.{lines}
-use Rattle.pg_text.specs.Faults.{reading}
+use Rattle.pg_family_files.proofs.Common.{lines, reading}
 use Rattle.pg_family_files.specs.FamilyFile.{nothing, after}
 use Rattle.pg_family_files.specs.Views.{view}
 use Rattle.pg_family_files.proofs.reading.read_lines.Given as goal

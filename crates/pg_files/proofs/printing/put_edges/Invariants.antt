@@ -1,7 +1,6 @@
 use Rattle.std.proofs.Common.{◌≡◌, ◌++◌, take}
 use Rattle.std.specs.Prelude.{string_bytes}
-use Rattle.std.specs.List.{flat_map}
-use Rattle.pg_text.specs.Text.{spelled}
+use Rattle.pg_files.proofs.Common.{flat_map, spelled}
 use Rattle.pg_files.specs.Print.{edge_words}
 use Rattle.pg_files.proofs.printing.put_edges.Given as goal
 

@@ -1,7 +1,6 @@
 use Rattle.std.proofs.Common.{◌≡◌, ◌++◌, take}
 use Rattle.std.specs.Prelude.{string_bytes}
-use Rattle.std.specs.List.{flat_map}
-use Rattle.pg_text.specs.Text.{spelled}
+use Rattle.pg_files.proofs.Common.{flat_map, spelled}
 use Rattle.pg_files.specs.Print.{numbered}
 use Rattle.pg_files.specs.declared.key.Key.TheVariants as keys
 use Rattle.pg_files.proofs.printing.put_lines.Given as goal

@@ -1,7 +1,6 @@
 use Rattle.std.proofs.Common.{◌≡◌, ◌++◌, ◌∷◌, take}
 use Rattle.std.specs.Prelude.{string_bytes}
-use Rattle.std.specs.Fmt.{decimal}
-use Rattle.std.specs.List.{flat_map}
+use Rattle.pg_files.proofs.Common.{decimal, flat_map}
 use Rattle.pg_files.proofs.printing.put_numbers.Given as goal
 
 abbrev pub invariant-loop-n : goal.invariant-loop-n

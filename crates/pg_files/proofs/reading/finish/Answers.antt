@@ -1,6 +1,5 @@
 use Rattle.std.proofs.Common.{sym, subst}
-use Rattle.pg_game.specs.declared.field.Field.{Field}
-use Rattle.pg_game.specs.Fit.{IsFit}
+use Rattle.pg_files.proofs.Common.{Field, IsFit}
 use Rattle.pg_files.specs.GameFile.{nothing}
 use Rattle.pg_files.specs.Views.{view}
 use Rattle.pg_files.proofs.Sound.{fits_sound, sound_reading, sound_nothing}

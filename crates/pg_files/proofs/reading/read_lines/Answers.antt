@@ -1,7 +1,5 @@
 use Rattle.std.proofs.Common.{◌≡◌, ◌+◌, ◌∷◌, List, length, arith, ◌∙◌, sym, ap}
-use Rattle.pg_text.specs.Text.{Bytes}
-use Rattle.pg_text.specs.Faults.{reading}
-use Rattle.pg_text.proofs.Reading.{lines_few, reads_on, ends, is_over}
+use Rattle.pg_files.proofs.Common.{Bytes, reading, lines_few, reads_on, ends, is_over}
 use Rattle.pg_files.specs.GameFile.{after}
 use Rattle.pg_files.specs.Views.{view, number_of}
 use Rattle.pg_files.proofs.reading.read_lines.Goals as goal

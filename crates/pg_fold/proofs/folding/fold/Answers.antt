@@ -1,15 +1,11 @@
 use Rattle.std.proofs.Common.{List, sym, subst, subst₂}
+use Rattle.pg_fold.proofs.Common.{All, AllZip, IsClaim, Claim, ImageCert, ImageClaim}
 use Rattle.std.specs.Global.{Vec}
-use Rattle.std.specs.List.{All, AllZip}
-use Rattle.pg_cert.specs.Limits.{IsClaim}
-use Rattle.pg_cert.specs.declared.cert.Claim.{Claim}
 use Rattle.pg_fold.specs.Folded.{IsFoldedClaim}
 use Rattle.pg_fold.specs.Places.{AreFoldable}
 use Rattle.pg_fold.specs.Tables.{AreOrdered, AreTables}
 use Rattle.pg_fold.proofs.Limits.{folded-limits}
 use Rattle.pg_fold.proofs.Singles.{all-folded, foldable-of}
-use Rattle.pg_image.specs.declared.cert.ImageCert.{ImageCert}
-use Rattle.pg_image.specs.declared.cert.ImageClaim.{ImageClaim}
 use Rattle.pg_fold.proofs.folding.fold.Goals as goal
 use Rattle.pg_fold.proofs.folding.fold.Goals.{then-have_one_node+in_ok-folded, else-have_one_node+in_ok-tables+in_ok-folded-2}
 

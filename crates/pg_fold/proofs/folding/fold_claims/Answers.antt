@@ -1,14 +1,8 @@
 use Rattle.std.proofs.Common.{◌+◌, List, [], length, take, sym, refl, subst}
-use Rattle.std.proofs.lemmas.List.{take_all}
-use Rattle.std.proofs.lemmas.Option.{slice_get_read}
-use Rattle.std.specs.List.{AllZip}
-use Rattle.pg_cert.specs.Limits.{IsClaim}
-use Rattle.pg_cert.specs.declared.cert.Claim.{Claim}
+use Rattle.pg_fold.proofs.Common.{take_all, slice_get_read, AllZip, IsClaim, Claim, zip-more, ImageClaim}
 use Rattle.pg_fold.specs.Folded.{IsFoldedClaim}
 use Rattle.pg_fold.specs.Places.{IsFoldable}
 use Rattle.pg_fold.proofs.Listing.{all_at}
-use Rattle.pg_game.proofs.RowLines.{zip-more}
-use Rattle.pg_image.specs.declared.cert.ImageClaim.{ImageClaim}
 use Rattle.pg_fold.proofs.folding.fold_claims.Goals as goal
 
 pub loop-claim-init : goal.loop-claim-init

@@ -1,9 +1,8 @@
 use Rattle.std.proofs.Common.{take}
-use Rattle.std.specs.List.{AllZip}
+use Rattle.pg_fold.proofs.Common.{AllZip, Game}
 use Rattle.pg_fold.specs.Folded.{IsFoldedClaim}
 use Rattle.pg_fold.specs.Places.{AreFoldable}
 use Rattle.pg_fold.specs.Tables.{AreTables}
-use Rattle.pg_game.specs.declared.game.Game.{Game}
 use Rattle.pg_fold.proofs.folding.fold_claims.Given as goal
 
 abbrev pub invariant-loop-claim : goal.invariant-loop-claim

@@ -1,10 +1,7 @@
 use Rattle.std.proofs.Common.{refl, length}
-use Rattle.std.proofs.lemmas.Result.{on_ok_weaker}
-use Rattle.std.specs.HashMap.{get}
+use Rattle.pg_fold.proofs.Common.{on_ok_weaker, get, equal_positions, Image}
 use Rattle.pg_fold.proofs.Originals.{original-by}
 use Rattle.pg_fold.proofs.Steps.{on_ok_both, image-pushed, plain-pushed}
-use Rattle.pg_game.specs.PositionLemmas.{equal_positions}
-use Rattle.pg_image.specs.declared.node.ImageNode.TheVariants.{Image}
 use Rattle.pg_fold.proofs.folding.fold_node.Goals as goal
 
 pub returns-in-Some-clause-folded : goal.returns-in-Some-clause-folded

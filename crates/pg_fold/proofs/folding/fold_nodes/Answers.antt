@@ -1,12 +1,7 @@
 use Rattle.std.proofs.Common.{List, [], length, sym, ap, refl, subst, arith}
-use Rattle.std.proofs.lemmas.List.{take_all}
-use Rattle.std.proofs.lemmas.Option.{slice_get_read}
-use Rattle.std.specs.HashMap.{get}
-use Rattle.pg_cert.specs.declared.node.Node.{Node}
+use Rattle.pg_fold.proofs.Common.{take_all, slice_get_read, get, Node, equal_positions, ImageNode}
 use Rattle.pg_fold.specs.Places.{AreAllFolded, AreFolded}
 use Rattle.pg_fold.proofs.Steps.{folded-none, folded-step}
-use Rattle.pg_game.specs.PositionLemmas.{equal_positions}
-use Rattle.pg_image.specs.declared.node.ImageNode.{ImageNode}
 use Rattle.pg_fold.proofs.folding.fold_nodes.Goals as goal
 
 pub loop-node-init : goal.loop-node-init

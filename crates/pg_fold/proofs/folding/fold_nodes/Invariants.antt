@@ -1,10 +1,8 @@
 use Rattle.std.proofs.Common.{◌≡◌, length, take}
-use Rattle.std.specs.HashMap.{get}
+use Rattle.pg_fold.proofs.Common.{get, equal_positions, Game}
 use Rattle.pg_fold.specs.Codes.{IsKnown}
 use Rattle.pg_fold.specs.Places.{AreFolded, HaveDifferent}
 use Rattle.pg_fold.specs.Tables.{AreTables}
-use Rattle.pg_game.specs.PositionLemmas.{equal_positions}
-use Rattle.pg_game.specs.declared.game.Game.{Game}
 use Rattle.pg_fold.proofs.folding.fold_nodes.Given as goal
 
 abbrev pub invariant-loop-node : goal.invariant-loop-node

@@ -1,17 +1,11 @@
 use Rattle.std.proofs.Common.{◌≡◌, ◌∙◌, ◌<◌, List, length, sym, ap, refl, subst, arith}
-use Rattle.std.proofs.lemmas.List.{length-map, take_all}
-use Rattle.std.proofs.lemmas.Option.{slice_get_read}
-use Rattle.std.specs.HashMap.{get}
-use Rattle.std.specs.List.{All}
+use Rattle.pg_fold.proofs.Common.{length-map, take_all, slice_get_read, get, All, equal_positions, Position, GridMap}
 use Rattle.pg_fold.specs.Places.{IsEarliest}
 use Rattle.pg_fold.specs.Tables.{IsTable, maps_of}
 use Rattle.pg_fold.specs.declared.tables.MapTable.{MapTable}
 use Rattle.pg_fold.proofs.Listing.{all_at}
 use Rattle.pg_fold.proofs.MapTables.{image_before-is, map-at, small-members}
 use Rattle.pg_fold.proofs.Originals.{back_by, earliest-none, earliest-step}
-use Rattle.pg_game.specs.PositionLemmas.{equal_positions}
-use Rattle.pg_game.specs.declared.position.Position.{Position}
-use Rattle.pg_maps.specs.declared.grid_map.GridMap.{GridMap}
 use Rattle.pg_fold.proofs.original.original_of.Goals as goal
 
 pub loop-table-init : goal.loop-table-init

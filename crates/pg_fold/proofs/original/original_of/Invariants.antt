@@ -1,11 +1,8 @@
 use Rattle.std.proofs.Common.{take}
-use Rattle.std.specs.HashMap.{get}
-use Rattle.std.specs.List.{All}
-use Rattle.pg_base.specs.declared.grid.Grid.{Grid}
+use Rattle.pg_fold.proofs.Common.{get, All, Grid, equal_positions}
 use Rattle.pg_fold.specs.Places.{IsEarliest}
 use Rattle.pg_fold.specs.Tables.{IsTable, maps_of}
 use Rattle.pg_fold.proofs.Originals.{back_by}
-use Rattle.pg_game.specs.PositionLemmas.{equal_positions}
 use Rattle.pg_fold.proofs.original.original_of.Given as goal
 
 abbrev pub invariant-loop-table : goal.invariant-loop-table

@@ -1,8 +1,5 @@
 use Rattle.std.proofs.Common.{◌∷◌, ◌++◌, [], List, length, refl, sym, ap, ap₂, ◌∙◌, arith}
-use Rattle.std.proofs.lemmas.Option.{slice_get_read}
-use Rattle.pg_cert.specs.declared.node.Node.{Node}
-use Rattle.pg_image.specs.declared.node.ImageNode.{ImageNode}
-use Rattle.pg_image.specs.declared.node.ImageNode.TheVariants.{Plain}
+use Rattle.pg_fold.proofs.Common.{slice_get_read, Node, ImageNode, Plain}
 use Rattle.pg_fold.proofs.Singles.{one-alone}
 use Rattle.pg_fold.proofs.single.stay_claim.Goals as goal
 

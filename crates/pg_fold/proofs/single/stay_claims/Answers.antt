@@ -1,9 +1,6 @@
 use Rattle.std.proofs.Common.{◌+◌, List, take, sym, subst}
-use Rattle.std.specs.List.{AllZip}
-use Rattle.pg_cert.specs.declared.cert.Claim.{Claim}
+use Rattle.pg_fold.proofs.Common.{AllZip, Claim, zip-more, ImageClaim}
 use Rattle.pg_fold.specs.Places.{Stays}
-use Rattle.pg_game.proofs.RowLines.{zip-more}
-use Rattle.pg_image.specs.declared.cert.ImageClaim.{ImageClaim}
 use Rattle.pg_fold.proofs.single.stay_claims.Goals as goal
 
 pub loop-claim-preserved : goal.loop-claim-preserved

@@ -1,11 +1,6 @@
 use Rattle.std.proofs.Common.{◌≡◌, ◌<◌, ◌↔◌, ◌∙◌, List, Some, sym, subst, arith}
-use Rattle.std.proofs.lemmas.Result.{IfOk-weaker}
-use Rattle.std.specs.List.{AllPairs, Contains}
+use Rattle.pg_fold.proofs.Common.{IfOk-weaker, AllPairs, Contains, cells, number_of, Fits, board_of, GridMap}
 use Rattle.pg_game.proofs.Limits.{point_count-le}
-use Rattle.pg_maps.proofs.Boards.{cells}
-use Rattle.pg_maps.specs.GridMaps.{number_of}
-use Rattle.pg_maps.specs.Images.{Fits, board_of}
-use Rattle.pg_maps.specs.declared.grid_map.GridMap.{GridMap}
 use Rattle.pg_fold.proofs.MapTables.{fits-all, tables-fit, tables-ordered}
 use Rattle.pg_fold.proofs.tables.fitting_tables.Goals as goal
 

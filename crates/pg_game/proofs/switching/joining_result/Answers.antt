@@ -1,6 +1,5 @@
 use Rattle.std.proofs.Common.{◌≡◌, ◌∙◌, sym, ap, not, ◌&&◌, true, false, arith}
-use Rattle.std.proofs.lemmas.Bool.{lt-ltb}
-use Rattle.std.specs.FinSet.{contains}
+use Rattle.pg_game.proofs.Common.{lt-ltb, contains}
 use Rattle.pg_game.specs.Field.{terminals_joined}
 use Rattle.pg_game.proofs.TerminalLemmas.{terminals-same}
 use Rattle.pg_game.proofs.switching.joining_result.Goals as goal

@@ -1,8 +1,5 @@
 use Rattle.std.proofs.Common.{◌≡◌, ◌<◌, ◌≤◌, ◌-◌, ◌^◌, ◌∙◌, ℕ, List, length, get_or, take, take_all, ap, sym, subst, arith}
-use Rattle.std.specs.List.{count_by, list_any}
-use Rattle.std.specs.FinSet.{contains}
-use Rattle.std.proofs.lemmas.List.Elements.{Contains-get_or}
-use Rattle.std.proofs.Math.Nat.{pow-le-pow_right}
+use Rattle.pg_game.proofs.Common.{count_by, list_any, contains, Contains-get_or, pow-le-pow_right}
 use Rattle.pg_game.specs.Position.{is_free}
 use Rattle.pg_game.proofs.LineSums.{line_weight-touched, line_weight-clear}
 use Rattle.pg_game.proofs.Members.{list_any-one}

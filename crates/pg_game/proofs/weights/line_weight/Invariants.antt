@@ -1,6 +1,5 @@
 use Rattle.std.proofs.Common.{◌≡◌, false, take}
-use Rattle.std.specs.List.{count_by, list_any}
-use Rattle.std.specs.FinSet.{contains}
+use Rattle.pg_game.proofs.Common.{count_by, list_any, contains}
 use Rattle.pg_game.specs.Position.{is_free}
 use Rattle.pg_game.proofs.weights.line_weight.Given as goal
 

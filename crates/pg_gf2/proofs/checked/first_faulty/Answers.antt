@@ -1,7 +1,5 @@
 use Rattle.std.proofs.Common.{◌≡◌, Option, Some, length, List, slice_get, unwrap_or, arith, inl, inr, ap, sym, ◌∙◌, refl, subst}
-use Rattle.std.proofs.lemmas.Bool.{cases_eq}
-use Rattle.std.proofs.lemmas.Option.{slice_get_read}
-use Rattle.pg_cert.specs.declared.cert.Claim.{Claim}
+use Rattle.pg_gf2.proofs.Common.{cases_eq, slice_get_read, Claim}
 use Rattle.pg_gf2.specs.declared.flaw.VecFlaw.{VecFlaw}
 use Rattle.pg_gf2.specs.Check.{IsVecClaimValid, IsClaimVerdict}
 use Rattle.pg_gf2.proofs.checked.first_faulty.Goals as goal

@@ -1,10 +1,7 @@
 use Rattle.std.proofs.Common.{◌≡◌, ℕ, List, length, ap, ◌∙◌}
-use Rattle.std.specs.FinSet.{contains}
-use Rattle.pg_exchange.specs.Matroid.{Matroid}
+use Rattle.pg_gf2.proofs.Common.{contains, Matroid, free_with_e, elements-e}
 use Rattle.pg_gf2.specs.declared.ground.VecGround.{VecGround}
 use Rattle.pg_gf2.specs.Vectors.{vector_matroid}
-use Rattle.pg_lehman.specs.SpanSets.{free_with_e}
-use Rattle.pg_lehman.proofs.SpanClasses.{elements-e}
 use Rattle.pg_gf2.specs.Classes.{with_target}
 use Rattle.pg_gf2.proofs.ClassLemmas.{VectorSetsHold-decided, vector_class-sets}
 use Rattle.pg_gf2.proofs.classify.vec_classify.Goals as goal

@@ -1,11 +1,5 @@
 use Rattle.std.proofs.Common.{◌≡◌, ℕ, ◌↔◌, Bool, true, length, refl, IsTrue}
-use Rattle.std.proofs.lemmas.Bool.{both_ways}
-use Rattle.std.proofs.lemmas.Result.{IfOk-weaker}
-use Rattle.std.specs.FinSet.{contains}
-use Rattle.pg_base.specs.declared.side.Side.TheVariants.{Y}
-use Rattle.pg_base.specs.Sets.{plus}
-use Rattle.pg_switch.specs.Claims.{IsSpanBridge}
-use Rattle.pg_exchange.proofs.Tests.{of_outside}
+use Rattle.pg_gf2.proofs.Common.{both_ways, IfOk-weaker, contains, Y, plus, IsSpanBridge, of_outside}
 use Rattle.pg_gf2.specs.Vectors.{vector_spans}
 use Rattle.pg_gf2.specs.Classes.{with_target, at_turn, CutsAt}
 use Rattle.pg_gf2.proofs.ConditionLemmas.{cuts_from, cuts_first, cuts_second, parted, parted_left, parted_below, first_left, first_below}

@@ -1,9 +1,5 @@
 use Rattle.std.proofs.Common.{◌≡◌, ℕ, ◌↔◌, Bool, true, length, refl, IsTrue}
-use Rattle.std.proofs.lemmas.Bool.{both_ways}
-use Rattle.std.proofs.lemmas.Result.{IfOk-weaker}
-use Rattle.std.specs.FinSet.{contains}
-use Rattle.pg_base.specs.declared.side.Side.TheVariants.{X}
-use Rattle.pg_exchange.proofs.Tests.{of_either}
+use Rattle.pg_gf2.proofs.Common.{both_ways, IfOk-weaker, contains, X, of_either}
 use Rattle.pg_gf2.specs.Vectors.{vector_spans}
 use Rattle.pg_gf2.specs.Classes.{with_target, at_turn, TreesAt}
 use Rattle.pg_gf2.proofs.ConditionLemmas.{trees_from, trees_first, trees_second, second_below, first_below}

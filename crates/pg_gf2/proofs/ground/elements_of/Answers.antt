@@ -1,10 +1,5 @@
 use Rattle.std.proofs.Common.{◌≡◌, ℕ, Bool, not, arith, ap, ◌∙◌, sym, refl, length}
-use Rattle.std.specs.FinSet.{FinSet, contains}
-use Rattle.std.specs.Ordering.{nat_cmp}
-use Rattle.pg_base.specs.Sets.{plus, below, either}
-use Rattle.pg_base.proofs.BelowLemmas.{below_none, below_in, below_out}
-use Rattle.pg_exchange.proofs.Tests.{emptied, with_point, of_either}
-use Rattle.pg_lehman.specs.SpanSets.{free_with_e}
+use Rattle.pg_gf2.proofs.Common.{FinSet, contains, nat_cmp, plus, below, either, below_none, below_in, below_out, emptied, with_point, of_either, free_with_e}
 use Rattle.pg_gf2.proofs.ground.elements_of.Goals as goal
 use Rattle.pg_gf2.proofs.ground.elements_of.Goals.{then-not-has, else-not-has}
 

@@ -1,7 +1,5 @@
 use Rattle.std.proofs.Common.{◌≡◌, Option, Some, length, List, slice_get, arith, ap, sym, ◌∙◌, refl, subst}
-use Rattle.std.proofs.lemmas.Option.{slice_get_read}
-use Rattle.std.proofs.lemmas.Result.{IfOk-weaker}
-use Rattle.pg_cert.specs.declared.node.Node.{Node}
+use Rattle.pg_gf2.proofs.Common.{slice_get_read, IfOk-weaker, Node}
 use Rattle.pg_gf2.specs.declared.flaw.VecFlaw.{VecFlaw}
 use Rattle.pg_gf2.specs.Check.{IsNodeVerdict}
 use Rattle.pg_gf2.proofs.ClaimLemmas.{claim_verdict}

@@ -1,8 +1,5 @@
 use Rattle.std.proofs.Common.{◌≡◌, ◌↔◌, Bool, IsTrue, ◌∙◌, ap, sym, subst, subst₂}
-use Rattle.std.proofs.lemmas.Result.{IfOk-weaker}
-use Rattle.std.specs.FinSet.{FinSet}
-use Rattle.std.specs.Ordering.{nat_cmp}
-use Rattle.pg_cert.specs.declared.node.Body.{Body}
+use Rattle.pg_gf2.proofs.Common.{IfOk-weaker, FinSet, nat_cmp, Body}
 use Rattle.pg_gf2.specs.Classes.{TreesAt}
 use Rattle.pg_gf2.specs.Check.{with_e_named, AreVectorSets, HasTrees}
 use Rattle.pg_gf2.proofs.node.has_trees.Goals as goal

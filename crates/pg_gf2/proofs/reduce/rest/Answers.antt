@@ -1,6 +1,5 @@
 use Rattle.std.proofs.Common.{◌≡◌, ◌+◌, drop, List, sym, ap, ◌∙◌, arith}
-use Rattle.std.proofs.lemmas.List.{drop_all}
-use Rattle.std.proofs.lemmas.Nat.Bits.{shr_and_one}
+use Rattle.pg_gf2.proofs.Common.{drop_all, shr_and_one}
 use Rattle.pg_gf2.specs.declared.row.Row.{Row}
 use Rattle.pg_gf2.specs.Rows.{reduced, step}
 use Rattle.pg_gf2.proofs.RowLemmas.{step_on, step_off, reduced_from}

@@ -1,12 +1,5 @@
 use Rattle.std.proofs.Common.{◌≡◌, ◌<◌, ◌≤◌, ◌+◌, ℕ, Bool, true, false, length, List, sym, ap, ◌∙◌, subst, subst₂, arith, inl, inr}
-use Rattle.std.specs.FinSet.{FinSet, contains, contains-empty, empty}
-use Rattle.std.specs.Ordering.{nat_cmp}
-use Rattle.std.specs.Vec.{vec_len, vec_capacity}
-use Rattle.std.proofs.lemmas.Bool.{both_ways, cases_eq, false_from_ne_true}
-use Rattle.pg_base.specs.Sets.{below, plus, IsWithin}
-use Rattle.pg_base.proofs.SetLemmas.{plus_cases, plus_old, plus_new}
-use Rattle.pg_base.proofs.BelowLemmas.{below_parts, below_from, below_in, below_out}
-use Rattle.pg_exchange.proofs.Tests.{emptied, with_point}
+use Rattle.pg_gf2.proofs.Common.{FinSet, contains, contains-empty, empty, nat_cmp, vec_len, vec_capacity, both_ways, cases_eq, false_from_ne_true, below, plus, IsWithin, plus_cases, plus_old, plus_new, below_parts, below_from, below_in, below_out, emptied, with_point}
 use Rattle.pg_gf2.specs.declared.row.Row.{Row}
 use Rattle.pg_gf2.specs.Vectors.{vector_at}
 use Rattle.pg_gf2.specs.Rows.{IsEliminated, reduced}

@@ -1,7 +1,5 @@
 use Rattle.std.proofs.Common.{◌≤◌, length, false}
-use Rattle.std.specs.FinSet.{contains}
-use Rattle.std.specs.Vec.{vec_len, vec_capacity}
-use Rattle.pg_base.specs.Sets.{below, IsWithin}
+use Rattle.pg_gf2.proofs.Common.{contains, vec_len, vec_capacity, below, IsWithin}
 use Rattle.pg_gf2.specs.Vectors.{vector_at}
 use Rattle.pg_gf2.specs.Rows.{IsEliminated}
 use Rattle.pg_gf2.proofs.room.fill.Given as goal

@@ -1,7 +1,5 @@
 use Rattle.std.proofs.Common.{◌≡◌, ◌&&◌, not, ℕ, Bool, false, arith, sym, ap, ◌∙◌}
-use Rattle.std.proofs.lemmas.Bool.{both_ways, and_parts, and_from, false_from_ne_true, not-true, not_from_false}
-use Rattle.std.specs.FinSet.{contains}
-use Rattle.pg_base.specs.Sets.{minus}
+use Rattle.pg_gf2.proofs.Common.{both_ways, and_parts, and_from, false_from_ne_true, not-true, not_from_false, contains, minus}
 use Rattle.pg_gf2.specs.Vectors.{vector_spans}
 use Rattle.pg_gf2.proofs.Lowest.{first_below, none_below}
 use Rattle.pg_gf2.proofs.room.lowest_parting.Goals as goal

@@ -1,6 +1,5 @@
 use Rattle.std.proofs.Common.{◌≡◌, ◌&&◌, not, ℕ, true, false, List, length, arith, inl, inr, sym, ap, ◌∙◌, subst}
-use Rattle.std.proofs.lemmas.Bool.{both_ways, cases_eq, and_parts, and_from, false_from_ne_true, not-true, not_from_false}
-use Rattle.std.specs.FinSet.{contains}
+use Rattle.pg_gf2.proofs.Common.{both_ways, cases_eq, and_parts, and_from, false_from_ne_true, not-true, not_from_false, contains}
 use Rattle.pg_gf2.specs.declared.row.Row.{Row}
 use Rattle.pg_gf2.specs.Vectors.{vector_at, vector_spans}
 use Rattle.pg_gf2.specs.Rows.{reduced}

@@ -1,6 +1,5 @@
 use Rattle.std.proofs.Common.{◌<◌, refl, arith}
-use Rattle.std.specs.Int.{w128}
-use Rattle.std.proofs.lemmas.Nat.Bits.{bit_at-trailing_zeros}
+use Rattle.pg_gf2.proofs.Common.{w128, bit_at-trailing_zeros}
 use Rattle.pg_gf2.proofs.room.put_row.Goals as goal
 
 pub returns-clause-row : goal.returns-clause-row

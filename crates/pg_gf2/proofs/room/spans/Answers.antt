@@ -1,6 +1,5 @@
 use Rattle.std.proofs.Common.{false, List, length, inl, inr, sym, ap, ◌∙◌, ◌≡◌}
-use Rattle.std.proofs.lemmas.Bool.{cases_eq, eq-eqb, ne_eqb}
-use Rattle.std.specs.FinSet.{contains}
+use Rattle.pg_gf2.proofs.Common.{cases_eq, eq-eqb, ne_eqb, contains}
 use Rattle.pg_gf2.specs.declared.row.Row.{Row}
 use Rattle.pg_gf2.specs.Vectors.{vector_at}
 use Rattle.pg_gf2.specs.Rows.{reduced}

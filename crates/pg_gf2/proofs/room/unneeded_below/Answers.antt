@@ -1,8 +1,5 @@
 use Rattle.std.proofs.Common.{◌≡◌, ℕ, Bool, true, sym, ◌∙◌, subst, arith}
-use Rattle.std.specs.FinSet.{contains}
-use Rattle.pg_base.specs.Sets.{minus}
-use Rattle.pg_graph.proofs.Swap.{spans_mono}
-use Rattle.pg_exchange.proofs.Tests.{of_outside}
+use Rattle.pg_gf2.proofs.Common.{contains, minus, spans_mono, of_outside}
 use Rattle.pg_gf2.specs.GroundLaws.{IsSpan-vectors}
 use Rattle.pg_gf2.specs.Vectors.{vector_spans}
 use Rattle.pg_gf2.proofs.room.unneeded_below.Goals as goal

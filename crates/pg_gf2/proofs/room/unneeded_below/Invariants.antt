@@ -1,7 +1,5 @@
 use Rattle.std.proofs.Common.{◌≡◌, ◌<◌, ◌≤◌, ◌-◌, ℕ, length, true}
-use Rattle.std.specs.FinSet.{contains}
-use Rattle.std.specs.Vec.{vec_capacity}
-use Rattle.pg_base.specs.Sets.{minus}
+use Rattle.pg_gf2.proofs.Common.{contains, vec_capacity, minus}
 use Rattle.pg_gf2.specs.Vectors.{vector_spans}
 use Rattle.pg_gf2.proofs.room.unneeded_below.Given as goal
 

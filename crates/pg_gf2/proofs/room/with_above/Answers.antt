@@ -1,8 +1,6 @@
 use Rattle.std.proofs.Common.{◌≡◌, ◌&&◌, not, ℕ, Bool, true, false, inl, inr, sym, ap, ◌∙◌, subst}
 use Rattle.std.specs.Prelude.{nat_lt}
-use Rattle.std.proofs.lemmas.Bool.{and_parts, both_ways, not-true, or_cases, lt-ltb}
-use Rattle.std.specs.FinSet.{contains}
-use Rattle.pg_base.proofs.SetLemmas.{minus_from, outside_parts}
+use Rattle.pg_gf2.proofs.Common.{and_parts, both_ways, not-true, or_cases, lt-ltb, contains, minus_from, outside_parts}
 use Rattle.pg_gf2.proofs.room.with_above.Goals as goal
 
 pub returns : goal.returns

@@ -1,7 +1,5 @@
 use Rattle.std.proofs.Common.{ap, ◌∙◌}
-use Rattle.std.specs.FinSet.{FinSet, contains}
-use Rattle.std.specs.Ordering.{nat_cmp}
-use Rattle.pg_base.proofs.PointSetLaws.{contains-remove_minus}
+use Rattle.pg_gf2.proofs.Common.{FinSet, contains, nat_cmp, contains-remove_minus}
 use Rattle.pg_gf2.proofs.room.without.Goals as goal
 
 pub returns : goal.returns

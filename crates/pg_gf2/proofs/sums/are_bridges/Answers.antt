@@ -1,9 +1,5 @@
 use Rattle.std.proofs.Common.{◌≡◌, ℕ, Bool, length, subst}
-use Rattle.std.proofs.lemmas.Bool.{both_ways}
-use Rattle.std.specs.FinSet.{contains}
-use Rattle.pg_base.specs.Sets.{below, either, outside}
-use Rattle.pg_exchange.specs.Forest.{IsGrown}
-use Rattle.pg_exchange.proofs.Tests.{emptied, of_outside}
+use Rattle.pg_gf2.proofs.Common.{both_ways, contains, below, either, outside, IsGrown, emptied, of_outside}
 use Rattle.pg_gf2.specs.Vectors.{vector_at, vector_spans, spans_over}
 use Rattle.pg_gf2.specs.Rows.{IsEliminated}
 use Rattle.pg_gf2.specs.GroundLaws.{IsSpan-vectors}

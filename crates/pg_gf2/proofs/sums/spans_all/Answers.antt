@@ -1,6 +1,5 @@
 use Rattle.std.proofs.Common.{◌≡◌, ℕ, true, false, List, length, arith, inl, inr, refl, sym, ap, ◌∙◌, subst}
-use Rattle.std.proofs.lemmas.Bool.{both_ways, cases_eq}
-use Rattle.std.specs.FinSet.{contains}
+use Rattle.pg_gf2.proofs.Common.{both_ways, cases_eq, contains}
 use Rattle.pg_gf2.specs.declared.row.Row.{Row}
 use Rattle.pg_gf2.specs.Vectors.{vector_at, vector_spans}
 use Rattle.pg_gf2.specs.Rows.{AreRows, IsTold, reduced}

@@ -1,8 +1,5 @@
 use Rattle.std.proofs.Common.{◌≡◌, ◌+◌, arith, subst, sym}
-use Rattle.std.proofs.lemmas.Bool.{false_from_ne_true}
-use Rattle.std.specs.FinSet.{contains}
-use Rattle.pg_base.specs.Sets.{below}
-use Rattle.pg_base.proofs.BelowLemmas.{below_parts, below_from, below_in, below_out, same_sets}
+use Rattle.pg_graph.proofs.Common.{false_from_ne_true, contains, below, below_parts, below_from, below_in, below_out, same_sets}
 use Rattle.pg_graph.specs.Graph.{edge_count, first_end_of, second_end_of}
 use Rattle.pg_graph.specs.Labels.{IsLabelling}
 use Rattle.pg_graph.proofs.StepLemmas.{IsLabelling-begin, IsLabelling-joined}

@@ -1,5 +1,4 @@
-use Rattle.std.specs.FinSet.{contains}
-use Rattle.pg_base.specs.Sets.{below}
+use Rattle.pg_graph.proofs.Common.{contains, below}
 use Rattle.pg_graph.specs.Graph.{first_end_of, second_end_of}
 use Rattle.pg_graph.specs.Labels.{IsLabelling}
 use Rattle.pg_graph.proofs.components.label.Given as goal

@@ -1,6 +1,5 @@
 use Rattle.std.proofs.Common.{◌≡◌, ℕ, List, length, arith, sym, ◌∙◌, subst}
-use Rattle.std.specs.FinSet.{contains}
-use Rattle.std.proofs.lemmas.List.{take_at}
+use Rattle.pg_graph.proofs.Common.{contains, take_at}
 use Rattle.pg_graph.specs.Graph.{first_end_of, second_end_of}
 use Rattle.pg_graph.specs.Labels.{IsLabelling, AreLabels}
 use Rattle.pg_graph.proofs.ReadLemmas.{AreLabels-read}

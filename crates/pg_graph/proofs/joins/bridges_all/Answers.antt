@@ -1,10 +1,6 @@
 use Rattle.std.proofs.Common.{◌≡◌, ℕ, ◌+◌, Bool, true, false, List, arith, sym, ap, ◌∙◌, subst, inl, inr}
-use Rattle.std.proofs.lemmas.Bool.{cases_eq, cases_Bool, both_ways, false_from_ne_true}
-use Rattle.std.specs.FinSet.{FinSet, contains}
+use Rattle.pg_graph.proofs.Common.{cases_eq, cases_Bool, both_ways, false_from_ne_true, FinSet, contains, plus, both, outside, contains-difference_outside, both_parts, both_from, outside_parts, outside_from}
 use Rattle.std.specs.Ordering.{nat_cmp}
-use Rattle.pg_base.specs.Sets.{plus, both, outside}
-use Rattle.pg_base.proofs.PointSetLaws.{contains-difference_outside}
-use Rattle.pg_base.proofs.SetLemmas.{both_parts, both_from, outside_parts, outside_from}
 use Rattle.pg_graph.specs.Graph.{JoinsEndsOf, IsBridge, edge_count, first_end_of, second_end_of}
 use Rattle.pg_graph.specs.Labels.{IsLabelling}
 use Rattle.pg_graph.proofs.Bridges.{united, united-begin, united-in, united-out, united-all, united-older, bridge-stays, bridge-comes, no_bridge, outside-bridge, bridge-outside}

@@ -1,8 +1,5 @@
 use Rattle.std.proofs.Common.{◌≡◌, ◌↔◌, sym, ◌∙◌, ap, subst, IsTrue, suc}
-use Rattle.std.specs.FinSet.{contains}
-use Rattle.pg_base.specs.Sets.{minus, IsBelow}
-use Rattle.pg_base.proofs.PointSetLaws.{contains-remove_minus}
-use Rattle.pg_base.proofs.SetLemmas.{minus_parts}
+use Rattle.pg_graph.proofs.Common.{contains, minus, IsBelow, contains-remove_minus, minus_parts}
 use Rattle.pg_graph.specs.Graph.{IsJoinedIn, edge_count}
 use Rattle.pg_graph.proofs.joins.joined_without.Goals as goal
 

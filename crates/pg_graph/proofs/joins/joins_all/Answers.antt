@@ -1,6 +1,5 @@
 use Rattle.std.proofs.Common.{◌≡◌, ℕ, true, false, arith, sym, subst, inl, inr}
-use Rattle.std.proofs.lemmas.Bool.{cases_eq, both_ways}
-use Rattle.std.specs.FinSet.{contains}
+use Rattle.pg_graph.proofs.Common.{cases_eq, both_ways, contains}
 use Rattle.pg_graph.specs.Graph.{JoinsEndsOf, first_end_of, second_end_of}
 use Rattle.pg_graph.specs.Labels.{IsLabelling}
 use Rattle.pg_graph.proofs.StepLemmas.{IsLabelling-same, ends_label}

@@ -1,7 +1,6 @@
 use Rattle.std.proofs.Common.{subst}
+use Rattle.pg_image.proofs.Common.{Gives, Node}
 use Rattle.std.proofs.lemmas.Result.{err_from_is_err_and}
-use Rattle.pg_text.specs.Faults.{Gives}
-use Rattle.pg_cert.specs.declared.node.Node.{Node}
 use Rattle.pg_image.specs.ImageLine.{image_by}
 use Rattle.pg_image.specs.Views.{line_view}
 use Rattle.pg_image.proofs.ImageRead.{fails_so, says_so}

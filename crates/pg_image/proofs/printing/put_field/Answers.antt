@@ -1,14 +1,6 @@
 use Rattle.std.proofs.Common.{◌≡◌, ◌+◌, ◌++◌, Bool, List, ℕ, map, ap, refl, sym, ◌∙◌, arith}
 use Rattle.std.specs.Prelude.{string_bytes, nat_lt}
-use Rattle.std.specs.Fmt.{decimal}
-use Rattle.std.proofs.lemmas.List.{append-nil}
-use Rattle.std.specs.FinSet.{contains}
-use Rattle.std.proofs.lemmas.Bool.{or_right}
-use Rattle.std.proofs.lemmas.Bool.Decides.{nat_tests}
-use Rattle.pg_base.specs.Points.{points_below, one_where}
-use Rattle.pg_text.specs.Text.{spaced}
-use Rattle.pg_cert.specs.Print.{separated}
-use Rattle.pg_cert.proofs.Printed.{is_begun, field_grows, begun_grows}
+use Rattle.pg_image.proofs.Common.{decimal, append-nil, contains, or_right, nat_tests, points_below, one_where, spaced, separated, is_begun, field_grows, begun_grows}
 use Rattle.pg_image.proofs.Walk.{points_next, points_end}
 use Rattle.pg_image.proofs.printing.put_field.Goals as goal
 

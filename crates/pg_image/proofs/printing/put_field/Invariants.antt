@@ -1,9 +1,6 @@
 use Rattle.std.proofs.Common.{◌≡◌, ◌≤◌, ◌-◌, ◌++◌, map}
 use Rattle.std.specs.Prelude.{string_bytes, nat_lt}
-use Rattle.std.specs.Fmt.{decimal}
-use Rattle.pg_base.specs.Points.{points_below}
-use Rattle.pg_text.specs.Text.{spaced}
-use Rattle.pg_cert.proofs.Printed.{is_begun}
+use Rattle.pg_image.proofs.Common.{decimal, points_below, spaced, is_begun}
 use Rattle.pg_image.proofs.printing.put_field.Given as goal
 
 abbrev pub invariant-loop-v : goal.invariant-loop-v

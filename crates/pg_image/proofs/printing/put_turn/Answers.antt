@@ -1,6 +1,5 @@
 use Rattle.std.proofs.Common.{rules, append_assoc}
-use Rattle.std.proofs.lemmas.Bool.{le-ltb, lt-ltb}
-use Rattle.pg_cert.specs.Print.{turn_word}
+use Rattle.pg_image.proofs.Common.{le-ltb, lt-ltb, turn_word}
 use Rattle.pg_image.proofs.printing.put_turn.Goals as goal
 
 pub returns-in_ok-write : goal.returns-in_ok-write

@@ -1,6 +1,5 @@
 use Rattle.std.proofs.Common.{◌≡◌, ◌+◌, length}
-use Rattle.pg_text.specs.Text.{lines}
-use Rattle.pg_text.specs.Faults.{reading}
+use Rattle.pg_image.proofs.Common.{lines, reading}
 use Rattle.pg_image.specs.ImageFile.{nothing, after}
 use Rattle.pg_image.specs.Views.{view}
 use Rattle.pg_image.proofs.reading.read_image.Given as goal

@@ -1,6 +1,5 @@
 use Rattle.std.proofs.Common.{◌≢◌, ◌∙◌, Some, None, sym, subst}
-use Rattle.pg_base.specs.declared.side.Side.{Side}
-use Rattle.pg_game.specs.declared.game.Game.{Game}
+use Rattle.pg_leaf.proofs.Common.{Side, Game}
 use Rattle.pg_threat.specs.Forced.{IsAnswer}
 use Rattle.pg_threat.proofs.Deciding.{attack_wins-found, attack_wins-not, attack_wins-biased}
 use Rattle.pg_leaf.proofs.FirstCriterion.{attack-line}

@@ -1,12 +1,5 @@
 use Rattle.std.proofs.Common.{◌≡◌, ◌∙◌, ℕ, ◌<◌, ◌/◌, false, length, ap, arith}
-use Rattle.std.proofs.lemmas.Bool.{false_from_ne_true, ltb-true}
-use Rattle.pg_base.specs.declared.side.Side.{Side}
-use Rattle.pg_game.specs.declared.game.Game.{Game}
-use Rattle.pg_game.specs.declared.position.Position.{Position}
-use Rattle.pg_game.specs.Game.{free_points}
-use Rattle.pg_game.specs.Pairs.{breaker_of}
-use Rattle.pg_game.specs.Decided.{pairs_exist}
-use Rattle.pg_board.specs.Board.{live_lines, live_with}
+use Rattle.pg_leaf.proofs.Common.{false_from_ne_true, ltb-true, Side, Game, Position, free_points, breaker_of, pairs_exist, live_lines, live_with}
 use Rattle.pg_leaf.proofs.ShortCounts.{few-lines, none-short}
 use Rattle.pg_leaf.proofs.criteria.is_short.Goals as goal
 

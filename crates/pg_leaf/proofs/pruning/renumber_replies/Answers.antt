@@ -1,6 +1,5 @@
 use Rattle.std.proofs.Common.{get_or}
-use Rattle.std.proofs.lemmas.Option.{slice_get-get_or}
-use Rattle.pg_cert.specs.declared.reply.Reply.{Reply}
+use Rattle.pg_leaf.proofs.Common.{slice_get-get_or, Reply}
 use Rattle.pg_leaf.proofs.KeptNodes.{reply-renumbered}
 use Rattle.pg_leaf.proofs.pruning.renumber_replies.Goals as goal
 

@@ -1,12 +1,5 @@
 use Rattle.std.proofs.Common.{◌≡◌, ℕ, Bool, ap, subst, sym, ◌∙◌}
-use Rattle.std.proofs.lemmas.Bool.{both_ways, false_from_ne_true}
-use Rattle.std.specs.FinSet.{contains}
-use Rattle.pg_base.specs.Sets.{outside}
-use Rattle.pg_base.proofs.SetLemmas.{both_parts}
-use Rattle.pg_graph.specs.Span.{IsBase, IsReached}
-use Rattle.pg_exchange.specs.Matroid.{Matroid}
-use Rattle.pg_exchange.specs.Chain.{IsSettled}
-use Rattle.pg_exchange.proofs.Tests.{of_outside}
+use Rattle.pg_lehman.proofs.Common.{both_ways, false_from_ne_true, contains, outside, both_parts, IsBase, IsReached, Matroid, IsSettled, of_outside}
 use Rattle.pg_lehman.proofs.bases.cut.Goals as goal
 
 pub returns-clause-taken : goal.returns-clause-taken

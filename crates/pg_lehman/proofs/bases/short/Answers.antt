@@ -1,9 +1,5 @@
 use Rattle.std.proofs.Common.{ℕ, Bool, ap, subst, sym, ◌∙◌}
-use Rattle.std.specs.FinSet.{contains}
-use Rattle.pg_base.specs.Sets.{both}
-use Rattle.pg_graph.specs.Span.{IsBase, IsReached}
-use Rattle.pg_exchange.specs.Matroid.{Matroid}
-use Rattle.pg_exchange.specs.Chain.{IsSettled}
+use Rattle.pg_lehman.proofs.Common.{contains, both, IsBase, IsReached, Matroid, IsSettled}
 use Rattle.pg_lehman.proofs.bases.short.Goals as goal
 
 pub returns-clause-taken : goal.returns-clause-taken

@@ -1,7 +1,5 @@
 use Rattle.std.proofs.Common.{arith, ℕ, Bool, true, ap, ◌∙◌}
-use Rattle.std.specs.FinSet.{contains}
-use Rattle.pg_exchange.specs.Matroid.{Matroid}
-use Rattle.pg_exchange.specs.Forest.{elements_of}
+use Rattle.pg_lehman.proofs.Common.{contains, Matroid, elements_of}
 use Rattle.pg_game.proofs.Outcomes.{IsGraph-board}
 use Rattle.pg_lehman.proofs.ClassLemmas.{elements-e, SetsHold-decided, class-sets}
 use Rattle.pg_lehman.proofs.game.classify.Goals as goal

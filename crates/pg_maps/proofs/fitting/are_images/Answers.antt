@@ -1,9 +1,5 @@
 use Rattle.std.proofs.Common.{◌≡◌, ◌≤◌, ℕ, List, [], map, length, sym, ap, ◌∙◌, subst, arith, IsPermutation}
-use Rattle.std.proofs.lemmas.Bool.{false≢true}
-use Rattle.std.proofs.lemmas.List.{get_or_read, take_all}
-use Rattle.std.proofs.lemmas.List.Elements.{Contains-get_or}
-use Rattle.std.proofs.lemmas.List.Sorted.{Contains-permutation}
-use Rattle.std.specs.List.{Contains}
+use Rattle.pg_maps.proofs.Common.{false≢true, get_or_read, take_all, Contains-get_or, Contains-permutation, Contains}
 use Rattle.pg_maps.specs.Images.{image_line}
 use Rattle.pg_maps.specs.Rows.{IsRow, points_of_rows}
 use Rattle.pg_maps.proofs.Criteria.{Contains-map}

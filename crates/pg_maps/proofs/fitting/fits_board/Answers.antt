@@ -1,9 +1,6 @@
 use Rattle.std.proofs.Common.{◌≡◌, ℕ, Bool, IsTrue, List, map, length, sym, ap, ◌∙◌, subst, subst₂, IsPermutation, ◌↔◌}
-use Rattle.std.proofs.lemmas.List.FromFn.{length-map-range_with_len}
-use Rattle.std.proofs.lemmas.List.Sorted.{IsPermutation-sym, IsPermutation-trans}
+use Rattle.pg_maps.proofs.Common.{length-map-range_with_len, IsPermutation-sym, IsPermutation-trans, All, range_with_len, point_count, lines_of}
 use Rattle.std.proofs.lemmas.Result.{IfOk-weaker}
-use Rattle.std.specs.List.{All, range_with_len}
-use Rattle.pg_game.specs.Game.{point_count, lines_of}
 use Rattle.pg_maps.specs.GridMaps.{image_of, reverse_of}
 use Rattle.pg_maps.specs.Images.{AreInverse, Fits, image_line}
 use Rattle.pg_maps.specs.Rows.{IsRow, IsTableOf, points_of_rows}

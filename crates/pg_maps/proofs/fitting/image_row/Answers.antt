@@ -1,6 +1,5 @@
 use Rattle.std.proofs.Common.{◌≡◌, ◌≤◌, ℕ, List, map, length, get_or, ap, ◌∙◌, subst, arith}
-use Rattle.std.proofs.lemmas.List.{take_all}
-use Rattle.std.specs.List.Sorted.{IsPermutation}
+use Rattle.pg_maps.proofs.Common.{take_all, IsPermutation}
 use Rattle.pg_maps.proofs.SortedImages.{sorted_by_table}
 use Rattle.pg_maps.proofs.fitting.image_row.Goals as goal
 

@@ -1,7 +1,6 @@
 use Rattle.std.proofs.Common.{List, ℕ, sym, ap, ◌∙◌, subst}
+use Rattle.pg_match.proofs.Common.{is_graph, points_of}
 use Rattle.pg_game.specs.Field.{field_lines}
-use Rattle.pg_game.specs.Fit.{is_graph}
-use Rattle.pg_game.specs.Position.{points_of}
 use Rattle.pg_match.specs.Private.{IsMatching, IsShort}
 use Rattle.pg_match.specs.Meant.{AreMeant}
 use Rattle.pg_match.specs.Cache.{asked}

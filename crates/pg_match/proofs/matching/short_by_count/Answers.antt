@@ -1,8 +1,5 @@
 use Rattle.std.proofs.Common.{◌≡◌, ℕ, ◌<◌, List, [], length, ◌/◌, ap, arith, get_or}
-use Rattle.std.proofs.lemmas.List.Elements.{Contains-get_or}
-use Rattle.std.proofs.lemmas.List.{get_or_read}
-use Rattle.std.specs.List.{filter}
-use Rattle.std.specs.FinSet.{contains}
+use Rattle.pg_match.proofs.Common.{Contains-get_or, get_or_read, filter, contains}
 use Rattle.pg_match.specs.Private.{line_at}
 use Rattle.pg_match.proofs.ByCount.{short-from_many, short-from_one}
 use Rattle.pg_match.proofs.matching.short_by_count.Goals as goal

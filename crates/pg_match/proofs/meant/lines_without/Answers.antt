@@ -1,8 +1,5 @@
 use Rattle.std.proofs.Common.{Vec, Global, ℕ, [], not, sym, ap, ◌∙◌}
-use Rattle.std.proofs.lemmas.List.{get_or_read}
-use Rattle.std.specs.List.{list_any}
-use Rattle.std.specs.FinSet.{contains}
-use Rattle.pg_game.specs.Game.{is_touched}
+use Rattle.pg_match.proofs.Common.{get_or_read, list_any, contains, is_touched}
 use Rattle.pg_match.proofs.Asking.{numbers-with, numbers-without}
 use Rattle.pg_match.proofs.meant.lines_without.Goals as goal
 use Rattle.pg_match.proofs.meant.lines_without.Goals.{then-not-meets+in_ok-push, else-not-meets}

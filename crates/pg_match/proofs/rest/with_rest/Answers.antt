@@ -1,8 +1,5 @@
 use Rattle.std.proofs.Common.{◌&&◌, not, None, List, Vec, Global, sym, ap, ◌∙◌, subst, arith}
-use Rattle.std.specs.FinSet.{contains}
-use Rattle.pg_base.specs.declared.pair.Pair.{Pair}
-use Rattle.pg_game.specs.Position.{is_free}
-use Rattle.pg_game.specs.Pairs.{is_paired}
+use Rattle.pg_match.proofs.Common.{contains, Pair, is_free, is_paired}
 use Rattle.pg_match.specs.Meant.{PairsOn}
 use Rattle.pg_match.proofs.Asking.{passing_none, pairs_on-none, pairs_on-passing_to, pairs_on-skipped_to, rest-from_pairs_on}
 use Rattle.pg_match.proofs.rest.with_rest.Goals as goal

@@ -1,8 +1,5 @@
 use Rattle.std.proofs.Common.{◌≡◌, ◌<◌, ℕ, true, Option, subst, sym}
-use Rattle.pg_game.specs.Game.{after}
-use Rattle.pg_game.specs.Pairs.{pairs_answer}
-use Rattle.pg_game.specs.Position.{is_free}
-use Rattle.pg_game.specs.Game.{point_count}
+use Rattle.pg_pairing.proofs.Common.{after, pairs_answer, is_free, point_count}
 use Rattle.pg_pairing.specs.Rest.{RestHolds}
 use Rattle.pg_pairing.proofs.PairLoops.{pairs-few}
 use Rattle.pg_pairing.proofs.AnswerLaws.{answer-free, keeps_replied, keeps_unreplied, keeps_in_turn}

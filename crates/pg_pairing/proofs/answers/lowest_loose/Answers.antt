@@ -1,7 +1,5 @@
 use Rattle.std.proofs.Common.{not, ap, ◌∙◌}
-use Rattle.std.specs.FinSet.{contains}
-use Rattle.pg_game.specs.Game.{free_points}
-use Rattle.pg_game.specs.Pairs.{is_loose}
+use Rattle.pg_pairing.proofs.Common.{contains, free_points, is_loose}
 use Rattle.pg_pairing.proofs.Filters.{find_agree}
 use Rattle.pg_pairing.proofs.answers.lowest_loose.Goals as goal
 

@@ -1,8 +1,5 @@
 use Rattle.std.proofs.Common.{not, sym, ◌∙◌, arith}
-use Rattle.std.specs.FinSet.{contains}
-use Rattle.pg_game.specs.Position.{is_free}
-use Rattle.pg_game.specs.Game.{free_points, point_count}
-use Rattle.pg_game.proofs.Lowest.{first_below, none_below}
+use Rattle.pg_pairing.proofs.Common.{contains, is_free, free_points, point_count, first_below, none_below}
 use Rattle.pg_pairing.proofs.answers.lowest_outside.Goals as goal
 
 pub returns-then-is_outside : goal.returns-then-is_outside

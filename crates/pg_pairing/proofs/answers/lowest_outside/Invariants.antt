@@ -1,6 +1,5 @@
 use Rattle.std.proofs.Common.{◌≡◌, ◌<◌, ◌&&◌, ℕ, not, false}
-use Rattle.std.specs.FinSet.{contains}
-use Rattle.pg_game.specs.Position.{is_free}
+use Rattle.pg_pairing.proofs.Common.{contains, is_free}
 use Rattle.pg_pairing.proofs.answers.lowest_outside.Given as goal
 
 abbrev pub invariant-loop-v : goal.invariant-loop-v

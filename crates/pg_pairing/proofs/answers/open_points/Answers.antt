@@ -1,6 +1,5 @@
 use Rattle.std.proofs.Common.{ap, ◌∙◌}
-use Rattle.std.specs.FinSet.{contains, contains-empty}
-use Rattle.std.specs.Ordering.{nat_cmp}
+use Rattle.pg_pairing.proofs.Common.{contains, contains-empty, nat_cmp}
 use Rattle.pg_pairing.proofs.answers.open_points.Goals as goal
 
 pub loop-s-init : goal.loop-s-init

@@ -1,7 +1,5 @@
 use Rattle.std.proofs.Common.{◌≡◌, ◌&&◌, not, sym, ◌∙◌, arith}
-use Rattle.std.specs.FinSet.{contains}
-use Rattle.pg_game.specs.Position.{is_free}
-use Rattle.pg_game.proofs.FreeCounts.{passed-none, passed-more, passed-same, passed-both}
+use Rattle.pg_pairing.proofs.Common.{contains, is_free, passed-none, passed-more, passed-same, passed-both}
 use Rattle.pg_pairing.proofs.condition.count_outside.Goals.{then-is_outside, else-is_outside}
 use Rattle.pg_pairing.proofs.condition.count_outside.Goals as goal
 

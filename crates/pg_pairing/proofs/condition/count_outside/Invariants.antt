@@ -1,7 +1,5 @@
 use Rattle.std.proofs.Common.{◌≡◌, ◌≤◌, ◌&&◌, not}
-use Rattle.std.specs.FinSet.{contains}
-use Rattle.pg_game.specs.Position.{is_free}
-use Rattle.pg_game.proofs.FreeCounts.{passed}
+use Rattle.pg_pairing.proofs.Common.{contains, is_free, passed}
 use Rattle.pg_pairing.proofs.condition.count_outside.Given as goal
 
 abbrev pub invariant-loop-v : goal.invariant-loop-v

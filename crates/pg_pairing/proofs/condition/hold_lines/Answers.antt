@@ -1,9 +1,5 @@
 use Rattle.std.proofs.Common.{◌≡◌, ◌<◌, ◌∙◌, ℕ, List, length, get_or, sym, ap, subst}
-use Rattle.std.specs.FinSet.{FinSet}
-use Rattle.std.specs.Ordering.{nat_cmp}
-use Rattle.pg_game.specs.Position.{points_of}
-use Rattle.pg_game.specs.Game.{lines_of}
-use Rattle.pg_game.specs.Pairs.{IsSafe, breaker_of}
+use Rattle.pg_pairing.proofs.Common.{FinSet, nat_cmp, points_of, lines_of, IsSafe, breaker_of}
 use Rattle.pg_pairing.proofs.PartnerSteps.{pairs-below, safe-more}
 use Rattle.pg_pairing.proofs.condition.hold_lines.Goals as goal
 

@@ -1,7 +1,5 @@
 use Rattle.std.proofs.Common.{◌≡◌, ◌<◌, ℕ, List, get_or}
-use Rattle.pg_game.specs.Position.{points_of}
-use Rattle.pg_game.specs.Game.{lines_of}
-use Rattle.pg_game.specs.Pairs.{IsSafe, breaker_of}
+use Rattle.pg_pairing.proofs.Common.{points_of, lines_of, IsSafe, breaker_of}
 use Rattle.pg_pairing.proofs.condition.hold_lines.Given as goal
 
 abbrev pub invariant-loop-line : goal.invariant-loop-line

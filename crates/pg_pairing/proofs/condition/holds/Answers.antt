@@ -1,8 +1,5 @@
 use Rattle.std.proofs.Common.{sym, subst, refl}
-use Rattle.pg_base.specs.declared.goal.Goal.TheVariants.{Win}
-use Rattle.pg_base.specs.declared.side.Side.{Side}
-use Rattle.pg_game.specs.Pairs.{PairsHold}
-use Rattle.pg_game.specs.Value.{Forces}
+use Rattle.pg_pairing.proofs.Common.{Win, Side, PairsHold, Forces}
 use Rattle.pg_pairing.proofs.PairLoops.{PairsHold-from}
 use Rattle.pg_pairing.proofs.PairLaws.{Forces-pairs_breaker, Forces-pairs_draw, Forces-pairs_avoider}
 use Rattle.pg_pairing.proofs.condition.holds.Goals as goal

@@ -1,7 +1,5 @@
 use Rattle.std.proofs.Common.{◌∙◌, sym, ap, refl}
-use Rattle.std.proofs.lemmas.Bool.{false≢true}
-use Rattle.std.specs.FinSet.{contains, contains-empty}
-use Rattle.std.specs.Ordering.{nat_cmp}
+use Rattle.pg_pairing.proofs.Common.{false≢true, contains, contains-empty, nat_cmp}
 use Rattle.pg_pairing.proofs.PairLoops.{AreOpenPairs-none, AreOpenPairs-more, CanTake-at, taken-more}
 use Rattle.pg_pairing.proofs.condition.paired_points.Goals as goal
 

@@ -1,7 +1,5 @@
 use Rattle.std.proofs.Common.{◌≡◌, ℕ, take}
-use Rattle.std.specs.List.{list_any}
-use Rattle.std.specs.FinSet.{contains}
-use Rattle.pg_game.specs.Pairs.{AreOpenPairs, has_point}
+use Rattle.pg_pairing.proofs.Common.{list_any, contains, AreOpenPairs, has_point}
 use Rattle.pg_pairing.proofs.condition.paired_points.Given as goal
 
 abbrev pub invariant-loop-s : goal.invariant-loop-s

@@ -1,7 +1,5 @@
 use Rattle.std.proofs.Common.{◌≡◌, ◌+◌, ◌<◌, ◌≤◌, ◌∙◌, ℕ, List, true, false, length, get_or, refl, sym, ap, subst}
-use Rattle.std.proofs.lemmas.Bool.{false≢true}
-use Rattle.std.specs.FinSet.{contains, contains-empty, insert}
-use Rattle.std.specs.Ordering.{nat_cmp}
+use Rattle.pg_pairing.proofs.Common.{false≢true, contains, contains-empty, insert, nat_cmp}
 use Rattle.pg_pairing.proofs.PartnerSteps.{passed-none, passed-more, touched-at, holds-at, unsafe-end}
 use Rattle.pg_pairing.proofs.partners.is_safe.Goals as goal
 

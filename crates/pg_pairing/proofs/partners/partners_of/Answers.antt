@@ -1,6 +1,5 @@
 use Rattle.std.proofs.Common.{refl}
-use Rattle.std.proofs.lemmas.List.{get_or-replicate}
-use Rattle.pg_base.specs.declared.limits.TheConstants.{MAX_MEMBERS}
+use Rattle.pg_pairing.proofs.Common.{get_or-replicate, MAX_MEMBERS}
 use Rattle.pg_pairing.proofs.PartnerSteps.{paired-none, paired-more, partners-end}
 use Rattle.pg_pairing.proofs.partners.partners_of.Goals as goal
 

@@ -1,10 +1,5 @@
 use Rattle.std.proofs.Common.{rules, ◌≡◌, ◌-◌, ◌+◌, ◌<◌, length, true, false, sym, ap, ◌∙◌, subst, arith}
-use Rattle.pg_game.specs.declared.position.Position.{Position}
-use Rattle.pg_game.specs.Fit.{AreBelow}
-use Rattle.pg_game.specs.Position.{is_free}
-use Rattle.pg_game.specs.Game.{point_count, free_points, after}
-use Rattle.pg_game.specs.Value.{better, value}
-use Rattle.pg_game.proofs.FreePoints.{length-free_points-after}
+use Rattle.pg_plain.proofs.Common.{Position, AreBelow, is_free, point_count, free_points, after, better, value, length-free_points-after}
 use Rattle.pg_plain.proofs.BestPlay.{best_from, best-free, best-all, x_range-after, over-none, over-some}
 use Rattle.pg_plain.proofs.MovesFrom.{from-none, from-taken}
 use Rattle.pg_plain.proofs.best_play.+value.Goals as goal

@@ -1,8 +1,5 @@
 use Rattle.std.proofs.Common.{◌≡◌, sym, ◌∙◌, arith}
-use Rattle.pg_game.specs.Position.{is_free}
-use Rattle.pg_game.specs.Potential.{weight}
-use Rattle.pg_game.proofs.Greatest.{running-none, running-next, running-all}
-use Rattle.pg_game.proofs.WeightBounds.{few_points-lines}
+use Rattle.pg_plain.proofs.Common.{is_free, weight, running-none, running-next, running-all, few_points-lines}
 use Rattle.pg_plain.proofs.leaves.greatest_weight.Goals.{then-weight-greatest, else-weight-greatest}
 use Rattle.pg_plain.proofs.leaves.greatest_weight.Goals as goal
 

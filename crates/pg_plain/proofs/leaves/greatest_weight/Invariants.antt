@@ -1,7 +1,5 @@
 use Rattle.std.proofs.Common.{◌≡◌}
-use Rattle.pg_game.specs.Position.{is_free}
-use Rattle.pg_game.specs.Potential.{weight}
-use Rattle.pg_game.proofs.Greatest.{running}
+use Rattle.pg_plain.proofs.Common.{is_free, weight, running}
 use Rattle.pg_plain.proofs.leaves.greatest_weight.Given as goal
 
 abbrev pub invariant-loop-v : goal.invariant-loop-v

@@ -1,7 +1,6 @@
 use Rattle.std.proofs.Common.{ℕ, List, sym, ap, ◌∙◌}
-use Rattle.std.specs.List.{list_any}
-use Rattle.std.specs.FinSet.{contains}
 use Rattle.std.proofs.Common.{filter, take, drop, length, ◌-◌}
+use Rattle.pg_plain.proofs.Common.{list_any, contains}
 use Rattle.pg_plain.specs.PairSearch.{is_pair, is_lesser}
 use Rattle.pg_plain.proofs.PairSearches.{passes-one, passes-none_all, pairs-none, pairs-first}
 use Rattle.pg_plain.proofs.private_pairs.+line_after_line.Goals as goal

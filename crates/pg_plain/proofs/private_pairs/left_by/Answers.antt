@@ -1,6 +1,5 @@
 use Rattle.std.proofs.Common.{ℕ, Bool, ap, ◌∙◌}
-use Rattle.std.specs.FinSet.{contains}
-use Rattle.pg_base.specs.Sets.{minus}
+use Rattle.pg_plain.proofs.Common.{contains, minus}
 use Rattle.pg_base.proofs.PointSetLaws.{contains-remove_minus}
 use Rattle.pg_plain.proofs.private_pairs.left_by.Goals as goal
 

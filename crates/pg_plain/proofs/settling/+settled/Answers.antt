@@ -1,11 +1,5 @@
 use Rattle.std.proofs.Common.{rules, ◌≡◌, ◌-◌, ◌+◌, ◌<◌, Option, Bool, length, true, false, sym, ap, ◌∙◌, subst, arith}
-use Rattle.pg_game.specs.declared.position.Position.{Position}
-use Rattle.pg_game.specs.Fit.{AreBelow}
-use Rattle.pg_game.specs.Position.{is_free}
-use Rattle.pg_game.specs.Game.{point_count, free_points, after}
-use Rattle.pg_game.specs.Settled.{settled}
-use Rattle.pg_game.proofs.FreePoints.{length-free_points-after}
-use Rattle.pg_game.proofs.SettledLaws.{settle-unlisted}
+use Rattle.pg_plain.proofs.Common.{Position, AreBelow, is_free, point_count, free_points, after, settled, length-free_points-after, settle-unlisted}
 use Rattle.pg_plain.specs.Known.{with_move}
 use Rattle.pg_plain.proofs.BestPlay.{x_range-after}
 use Rattle.pg_plain.proofs.SettleSteps.{known_from, known-free, known-all, known-decided, known-undecided}

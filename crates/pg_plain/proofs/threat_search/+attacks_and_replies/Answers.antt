@@ -1,7 +1,5 @@
 use Rattle.std.proofs.Common.{◌≤◌, ◌-◌, refl, sym, ap, ◌∙◌, subst, arith}
-use Rattle.std.proofs.lemmas.Bool.{false≢true}
-use Rattle.pg_game.specs.declared.position.Position.{Position}
-use Rattle.pg_game.specs.Game.{after}
+use Rattle.pg_plain.proofs.Common.{false≢true, Position, after}
 use Rattle.pg_plain.specs.Attacks.{LeadsWithin, IsReply, ReplyLeads}
 use Rattle.pg_plain.proofs.ThreatSearches.{within-filling, within-reply, within-none, reply-range, none-more}
 use Rattle.pg_plain.proofs.threat_search.+attacks_and_replies.Goals as goal

@@ -1,7 +1,5 @@
 use Rattle.std.proofs.Common.{◌≡◌, ◌∙◌, subst, sym, ap, ap₂}
-use Rattle.pg_game.specs.Game.{after}
-use Rattle.pg_cert.specs.declared.node.Body.{Body}
-use Rattle.pg_cert.specs.declared.node.Body.TheVariants.{Pairs, Trees, Cuts}
+use Rattle.pg_player.proofs.Common.{after, Body, Pairs, Trees, Cuts}
 use Rattle.pg_player.specs.InPlay.{InPlay, KeepsUp}
 use Rattle.pg_player.specs.Stand.{standing_of}
 use Rattle.pg_player.specs.declared.moves.Made.{Made}

@@ -1,6 +1,5 @@
 use Rattle.std.proofs.Common.{ℕ, List, drop, get_or, slice_get, ap, sym, subst}
-use Rattle.pg_cert.specs.OwnMove.{Standing}
-use Rattle.pg_cert.specs.declared.node.Body.TheVariants.{Threat}
+use Rattle.pg_player.proofs.Common.{Standing, Threat}
 use Rattle.pg_player.specs.InPlay.{KeepsUp}
 use Rattle.pg_player.specs.Stand.{body_at, threat_of, standing_of}
 use Rattle.pg_player.specs.declared.moves.Made.{Made}

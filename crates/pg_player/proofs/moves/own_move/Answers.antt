@@ -1,6 +1,5 @@
 use Rattle.std.proofs.Common.{[], sym, subst}
-use Rattle.pg_game.specs.Game.{after}
-use Rattle.pg_cert.specs.declared.node.Body.TheVariants.{Threat}
+use Rattle.pg_player.proofs.Common.{after, Threat}
 use Rattle.pg_player.specs.declared.moves.Made.{Made}
 use Rattle.pg_player.specs.declared.standing.Rest.{Rest}
 use Rattle.pg_player.specs.InPlay.{InPlay, KeepsUp}

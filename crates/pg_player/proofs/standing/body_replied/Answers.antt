@@ -1,9 +1,5 @@
 use Rattle.std.proofs.Common.{◌≡◌, ◌∙◌, ◌==◌, ℕ, Some, List, find, subst, sym}
-use Rattle.pg_cert.specs.declared.node.Body.{Body}
-use Rattle.pg_cert.specs.declared.node.Body.TheVariants.{All}
-use Rattle.pg_cert.specs.declared.node.Node.{Node}
-use Rattle.pg_cert.specs.declared.reply.Reply.{Reply}
-use Rattle.pg_cert.specs.OwnMove.{replied_by}
+use Rattle.pg_player.proofs.Common.{Body, All, Node, Reply, replied_by}
 use Rattle.pg_player.specs.Stand.{LeadsOn, Settles, standing_of}
 use Rattle.pg_player.proofs.Replying.{replied_by-child}
 use Rattle.pg_player.proofs.standing.body_replied.Goals as goal

@@ -1,6 +1,5 @@
 use Rattle.std.proofs.Common.{◌<◌, sym, subst}
-use Rattle.pg_game.specs.declared.game.Game.{Game}
-use Rattle.pg_game.specs.Game.{point_count}
+use Rattle.pg_pns.proofs.Common.{Game, point_count}
 use Rattle.pg_pns.proofs.Descending.{goes-down, way-down, way-end}
 use Rattle.pg_pns.proofs.descent.go_down.Goals as goal
 

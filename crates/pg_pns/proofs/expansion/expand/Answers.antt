@@ -1,19 +1,9 @@
 use Rattle.std.proofs.Common.{◌≡◌, ◌∙◌, ◌<◌, ◌++◌, ◌∷◌, [], ℕ, List, slice_set, get_or, length, refl, sym, ap, subst, arith}
-use Rattle.std.proofs.lemmas.Option.{slice_get_within, slice_get_read}
-use Rattle.std.proofs.lemmas.List.{with_items_is}
-use Rattle.std.proofs.Math.ListN.{length-set}
-use Rattle.std.specs.Vec.{with_items}
-use Rattle.pg_game.specs.declared.position.Position.{Position}
-use Rattle.pg_game.specs.declared.game.Game.{Game}
-use Rattle.pg_base.specs.declared.score.Score.{Score}
-use Rattle.pg_game.specs.Game.{point_count}
-use Rattle.pg_board.specs.Board.{View}
-use Rattle.pg_leaf.specs.At.{IsAt}
+use Rattle.pg_pns.proofs.Common.{slice_get_within, slice_get_read, with_items_is, length-set, with_items, Position, Game, Score, point_count, View, IsAt, one_at}
 use Rattle.pg_pns.specs.declared.table.Table.{Table}
 use Rattle.pg_pns.specs.Search.{CanGrow, IsGrowing, IsSearch}
 use Rattle.pg_pns.proofs.Moving.{growing-start, growing-taken}
 use Rattle.pg_pns.proofs.Expanding.{grown-search}
-use Rattle.pg_base.proofs.Stands.{one_at}
 use Rattle.pg_pns.proofs.expansion.expand.Goals as goal
 
 read-same : (g : Game) (t : Score) (list ps : List Position) (s : Table) (k : ℕ) (p r : Position)

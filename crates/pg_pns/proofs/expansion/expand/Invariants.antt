@@ -1,7 +1,5 @@
 use Rattle.std.proofs.Common.{◌≡◌, List}
-use Rattle.pg_game.specs.declared.position.Position.{Position}
-use Rattle.pg_game.specs.Game.{lines_of}
-use Rattle.pg_match.specs.Cache.{Fits}
+use Rattle.pg_pns.proofs.Common.{Position, lines_of, Fits}
 use Rattle.pg_pns.specs.Search.{CanGrow, IsGrowing}
 use Rattle.pg_pns.proofs.expansion.expand.Given as goal
 

@@ -1,8 +1,5 @@
 use Rattle.std.proofs.Common.{◌≡◌, ◌+◌, ◌*◌, ◌≤◌, ℕ, Option, Some, None, length, arith}
-use Rattle.std.specs.Option.{IfNone}
-use Rattle.pg_base.proofs.Stands.{some≢none}
-use Rattle.std.proofs.Math.Nat.{mul-le-mul_right}
-use Rattle.std.specs.Map.{keys_of}
+use Rattle.pg_pns.proofs.Common.{IfNone, some≢none, mul-le-mul_right, keys_of}
 use Rattle.pg_pns.specs.declared.limits.TheConstants.{MAX_EXPANDED_MOVES}
 use Rattle.pg_pns.proofs.Searching.{open-table}
 use Rattle.pg_pns.proofs.expansion.explore_on.Goals as goal

@@ -1,6 +1,4 @@
-use Rattle.pg_game.specs.Game.{lines_of}
-use Rattle.pg_match.specs.Cache.{Fits}
-use Rattle.std.specs.Map.{keys_of}
+use Rattle.pg_pns.proofs.Common.{lines_of, Fits, keys_of}
 use Rattle.pg_pns.specs.Descent.{IsAtStart}
 use Rattle.pg_pns.specs.Search.{GoesOn}
 use Rattle.pg_pns.proofs.expansion.find_answer.Given as goal

@@ -1,8 +1,5 @@
 use Rattle.std.proofs.Common.{◌≡◌, ◌∙◌, ◌<◌, ◌+◌, ◌++◌, ◌∷◌, [], ℕ, List, Some, slice_get, slice_set, get_or, length, refl, sym, ap, subst, arith, rules}
-use Rattle.std.proofs.lemmas.Option.{slice_get_within, slice_get-get_or}
-use Rattle.std.proofs.lemmas.List.{with_items_is}
-use Rattle.std.specs.Vec.{with_items}
-use Rattle.pg_game.specs.Game.{after}
+use Rattle.pg_pns.proofs.Common.{slice_get_within, slice_get-get_or, with_items_is, with_items, after}
 use Rattle.pg_pns.specs.Search.{IsGrowing}
 use Rattle.pg_pns.proofs.Moving.{growing-move}
 use Rattle.pg_pns.proofs.expansion.meet_move.Goals as goal

@@ -1,19 +1,10 @@
 use Rattle.std.proofs.Common.{◌≡◌, ◌<◌, ◌∙◌, ◌++◌, ◌∷◌, [], ℕ, List, get_or, length, refl, sym, ap, subst, arith}
-use Rattle.std.proofs.lemmas.Option.{slice_get_read, slice_get_within}
-use Rattle.std.specs.Map.{keys_of}
-use Rattle.std.specs.List.{Contains}
-use Rattle.pg_game.specs.declared.position.Position.{Position}
-use Rattle.pg_game.specs.declared.game.Game.{Game}
-use Rattle.pg_base.specs.declared.score.Score.{Score}
+use Rattle.pg_pns.proofs.Common.{slice_get_read, slice_get_within, keys_of, Contains, Position, Game, Score, IsTable, View, start, one_at, contains_at, at_old, at_new}
 use Rattle.pg_pns.specs.declared.table.Table.{Table}
-use Rattle.pg_game.specs.Settled.{IsTable}
 use Rattle.pg_pns.specs.Search.{IsSearch, IsNext, CanGrow}
 use Rattle.pg_pns.proofs.Searching.{next-in, can-grow, few-from}
-use Rattle.pg_board.specs.Board.{View}
-use Rattle.pg_game.specs.Game.{start}
 use Rattle.pg_pns.specs.Descent.{first_stand}
 use Rattle.pg_pns.proofs.Descending.{back-at-start}
-use Rattle.pg_base.proofs.Stands.{one_at, contains_at, at_old, at_new}
 use Rattle.pg_pns.proofs.expansion.step.Goals as goal
 
 -- the place that was chosen, with the position read there

@@ -1,8 +1,6 @@
 use Rattle.std.proofs.Common.{◌∙◌, IfOk, sym, ap, subst}
-use Rattle.pg_game.specs.declared.position.Position.{Position}
-use Rattle.pg_game.specs.Game.{IsPosition}
+use Rattle.pg_pns.proofs.Common.{Position, IsPosition, View}
 use Rattle.pg_game.proofs.Moves.{IsPosition-after}
-use Rattle.pg_board.specs.Board.{View}
 use Rattle.pg_threat.proofs.Boards.{one-earlier, taken-back}
 use Rattle.pg_pns.specs.Tree.{IsMetAt}
 use Rattle.pg_pns.proofs.table.meet_after.Goals as goal

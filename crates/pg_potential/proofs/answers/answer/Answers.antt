@@ -1,10 +1,5 @@
 use Rattle.std.proofs.Common.{◌≡◌, ◌<◌, ℕ, true, sym, ap, subst, ◌∙◌}
-use Rattle.pg_base.specs.declared.side.Side.{Side}
-use Rattle.pg_base.specs.declared.side.Side.TheVariants.{Y}
-use Rattle.pg_game.specs.Position.{is_free}
-use Rattle.pg_game.specs.Game.{point_count, after}
-use Rattle.pg_game.specs.Potential.{PotentialHolds, potential_answer}
-use Rattle.pg_game.proofs.Greatest.{member-free, member-within}
+use Rattle.pg_potential.proofs.Common.{Side, Y, is_free, point_count, after, PotentialHolds, potential_answer, member-free, member-within}
 use Rattle.pg_potential.proofs.GreatestWeight.{answer-is, answer-good}
 use Rattle.pg_potential.proofs.PotentialLaws.{kept-answer_breaker, kept-answer_draw}
 use Rattle.pg_potential.proofs.answers.answer.Goals as goal

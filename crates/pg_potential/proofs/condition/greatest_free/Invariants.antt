@@ -1,6 +1,5 @@
 use Rattle.std.proofs.Common.{◌≡◌, get_or}
-use Rattle.pg_game.specs.Position.{is_free}
-use Rattle.pg_game.proofs.Greatest.{running}
+use Rattle.pg_potential.proofs.Common.{is_free, running}
 use Rattle.pg_potential.proofs.condition.greatest_free.Given as goal
 
 abbrev pub invariant-loop-v : goal.invariant-loop-v

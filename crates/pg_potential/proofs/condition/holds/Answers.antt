@@ -1,8 +1,5 @@
 use Rattle.std.proofs.Common.{sym, subst}
-use Rattle.pg_base.specs.declared.goal.Goal.TheVariants.{Win}
-use Rattle.pg_base.specs.declared.side.Side.{Side}
-use Rattle.pg_game.specs.Potential.{PotentialHolds}
-use Rattle.pg_game.specs.Value.{Forces}
+use Rattle.pg_potential.proofs.Common.{Win, Side, PotentialHolds, Forces}
 use Rattle.pg_potential.proofs.PotentialLaws.{Forces-potential_breaker, Forces-potential_draw}
 use Rattle.pg_potential.proofs.condition.holds.Goals as goal
 

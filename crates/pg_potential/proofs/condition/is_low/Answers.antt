@@ -1,8 +1,6 @@
 use Rattle.std.proofs.Common.{◌≡◌, ◌∙◌, ◌<◌, ◌≤◌, ◌+◌, ◌*◌, ◌^◌, ℕ, subst, subst₂, refl, arith}
-use Rattle.std.proofs.Math.Nat.{mul-le-mul_left}
-use Rattle.std.proofs.lemmas.Bool.{false≢true}
+use Rattle.pg_potential.proofs.Common.{mul-le-mul_left, false≢true, total, limit, greatest_weight}
 use Rattle.std.proofs.lemmas.Nat.{mul-le}
-use Rattle.pg_game.specs.Potential.{total, limit, greatest_weight}
 use Rattle.pg_potential.proofs.GreatestWeight.{greatest_weight-le}
 use Rattle.pg_potential.proofs.condition.is_low.Goals as goal
 

@@ -1,6 +1,5 @@
 use Rattle.std.proofs.Common.{◌<◌, ap, ◌∙◌, arith}
-use Rattle.pg_game.specs.Potential.{weight}
-use Rattle.pg_game.proofs.WeightBounds.{few_points-lines}
+use Rattle.pg_potential.proofs.Common.{weight, few_points-lines}
 use Rattle.pg_potential.proofs.condition.weight.Goals as goal
 
 pub bounds-weights_for-from : goal.bounds-weights_for-from

@@ -1,7 +1,5 @@
 use Rattle.std.proofs.Common.{◌≡◌, ◌∙◌, ◌+◌, ◌∷◌, List, length, arith, ap, sym}
-use Rattle.pg_text.specs.Faults.{reading}
-use Rattle.pg_text.specs.Text.{Bytes}
-use Rattle.pg_text.proofs.Reading.{reads_on, ends, is_over}
+use Rattle.pg_record.proofs.Common.{reading, Bytes, reads_on, ends, is_over}
 use Rattle.pg_record.specs.Session.{Recorded}
 use Rattle.pg_record.specs.RecordFile.{after}
 use Rattle.pg_record.specs.Views.{number_of}

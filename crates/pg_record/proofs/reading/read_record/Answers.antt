@@ -1,6 +1,5 @@
 use Rattle.std.proofs.Common.{◌≡◌, ◌∷◌, length, arith, ap}
-use Rattle.pg_text.specs.Text.{lines}
-use Rattle.pg_text.proofs.Reading.{lines_few}
+use Rattle.pg_record.proofs.Common.{lines, lines_few}
 use Rattle.pg_record.proofs.reading.read_record.Goals as goal
 
 pub read_events-requires : goal.read_events-requires

@@ -1,8 +1,5 @@
 use Rattle.std.proofs.Common.{◌≡◌, ◌∙◌, ◌+◌, ◌<◌, ◌++◌, [], ◌∷◌, take, sym, ap, arith, slice_index_or}
-use Rattle.std.proofs.lemmas.List.{take_more}
-use Rattle.pg_game.specs.declared.position.Position.{Position}
-use Rattle.pg_game.specs.Game.{after, point_count, start}
-use Rattle.pg_game.proofs.Limits.{point_count-le}
+use Rattle.pg_record.proofs.Common.{take_more, Position, after, point_count, start, point_count-le}
 use Rattle.pg_record.specs.Replay.{position_after}
 use Rattle.pg_record.proofs.Standing.{legal-point, played-more}
 use Rattle.pg_record.proofs.table.replayed.Goals as goal

@@ -1,7 +1,5 @@
 use Rattle.std.proofs.Common.{ap}
-use Rattle.pg_cert.specs.Node.{position_of}
-use Rattle.pg_cert.specs.declared.cert.Claim.{Claim}
-use Rattle.pg_cert.specs.declared.node.Body.{Body}
+use Rattle.pg_scene.proofs.Common.{position_of, Claim, Body}
 use Rattle.pg_scene.specs.Items.{body_items}
 use Rattle.pg_scene.proofs.ReadBack.{edges-node}
 use Rattle.pg_scene.proofs.laws.edges_are_drawn_once.Goals as goal

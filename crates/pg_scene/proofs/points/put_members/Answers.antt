@@ -1,7 +1,5 @@
 use Rattle.std.proofs.Common.{◌∙◌, ap, refl, sym, append-nil}
-use Rattle.std.specs.FinSet.{contains}
-use Rattle.std.specs.Global.{Vec}
-use Rattle.pg_base.specs.Points.{points_below}
+use Rattle.pg_scene.proofs.Common.{contains, Vec, points_below}
 use Rattle.pg_scene.proofs.Growing.{failed, passed}
 use Rattle.pg_scene.specs.declared.item.Item.{Item}
 use Rattle.pg_scene.specs.declared.item.Item.TheVariants.{Member}

@@ -1,7 +1,5 @@
 use Rattle.std.proofs.Common.{◌≡◌, ◌≤◌, false, take}
-use Rattle.std.specs.List.{count_by, list_any}
-use Rattle.std.specs.FinSet.{contains}
-use Rattle.pg_game.specs.Position.{is_free}
+use Rattle.pg_scene.proofs.Common.{count_by, list_any, contains, is_free}
 use Rattle.pg_scene.proofs.weights.free_on.Given as goal
 
 abbrev pub invariant-loop-v : goal.invariant-loop-v

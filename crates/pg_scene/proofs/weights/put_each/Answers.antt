@@ -1,9 +1,5 @@
 use Rattle.std.proofs.Common.{◌∙◌, ◌≡◌, ◌/◌, ◌++◌, ap, ap₂, arith, get_or, map, sym, refl}
-use Rattle.std.specs.Fmt.{decimal}
-use Rattle.std.specs.Global.{Vec}
-use Rattle.std.specs.List.{filter, range_with_len}
-use Rattle.pg_game.specs.Game.{free_points, point_count}
-use Rattle.pg_game.specs.Position.{is_free}
+use Rattle.pg_scene.proofs.Common.{decimal, Vec, filter, range_with_len, free_points, point_count, is_free}
 use Rattle.pg_scene.proofs.Growing.{failed, passed}
 use Rattle.pg_scene.proofs.Lightest.{base_some}
 use Rattle.pg_scene.proofs.Scaled.{units_by-weight}

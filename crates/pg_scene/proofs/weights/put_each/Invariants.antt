@@ -1,7 +1,5 @@
 use Rattle.std.proofs.Common.{◌≡◌, ◌++◌, filter, map}
-use Rattle.std.specs.Fmt.{decimal}
-use Rattle.std.specs.List.{range_with_len}
-use Rattle.pg_game.specs.Position.{is_free}
+use Rattle.pg_scene.proofs.Common.{decimal, range_with_len, is_free}
 use Rattle.pg_scene.specs.Items.{units}
 use Rattle.pg_scene.specs.declared.item.Item.TheVariants.{Weight}
 use Rattle.pg_scene.proofs.weights.put_each.Given as goal

@@ -1,6 +1,5 @@
 use Rattle.std.proofs.Common.{ap, arith}
-use Rattle.pg_game.specs.Field.{field_points}
-use Rattle.pg_game.specs.Fit.{AreLinesOf, IsFit}
+use Rattle.pg_scene.proofs.Common.{field_points, AreLinesOf, IsFit}
 use Rattle.pg_scene.proofs.weights.put_weights.Goals as goal
 
 pub put_each-requires : goal.put_each-requires

@@ -1,8 +1,7 @@
-use Rattle.std.proofs.lemmas.Result.{err_from_is_err_and}
+use Rattle.pg_sessions.proofs.Common.{err_from_is_err_and, IsLackingOne}
 use Rattle.pg_sessions.proofs.Opened.{causes_more, halts_game, lacks_record, left-of-names, runs_record}
 use Rattle.pg_sessions.specs.Along.{IsAlong, IsReached}
 use Rattle.pg_sessions.specs.Review.{IsReviewLacking, moves_held}
-use Rattle.pg_talk.specs.Reading.{IsLackingOne}
 use Rattle.pg_sessions.proofs.command.review.Goals as goal
 
 pub returns-in_err-game-clause-ran : goal.returns-in_err-game-clause-ran

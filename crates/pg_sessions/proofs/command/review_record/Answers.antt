@@ -1,10 +1,8 @@
 use Rattle.std.proofs.Common.{Global, List, Vec, ℕ, subst}
-use Rattle.std.proofs.lemmas.Result.{err_from_is_err_and}
-use Rattle.pg_talk.specs.Done.{Performs}
+use Rattle.pg_sessions.proofs.Common.{err_from_is_err_and, Performs, LeavesSearch}
 use Rattle.pg_sessions.proofs.Opened.{halts_moves, left-of-moves, runs_moves}
 use Rattle.pg_sessions.specs.Along.{IsAlong, IsReached}
 use Rattle.pg_sessions.specs.Review.{ReviewsMoves}
-use Rattle.pg_solve.specs.Left.{LeavesSearch}
 use Rattle.pg_sessions.proofs.command.review_record.Goals as goal
 
 pub returns-in_err-moves-clause-ran : goal.returns-in_err-moves-clause-ran

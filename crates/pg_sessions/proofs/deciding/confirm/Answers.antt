@@ -1,8 +1,6 @@
 use Rattle.std.proofs.Common.{◌∙◌, ℕ, Err, ap}
-use Rattle.pg_cert.specs.Valid.{IsFirstFault, IsValid}
-use Rattle.pg_cert.specs.declared.cert.Cert.{Cert}
+use Rattle.pg_sessions.proofs.Common.{IsFirstFault, IsValid, Cert, Game}
 use Rattle.pg_check.specs.declared.checked.CheckFault.{CheckFault}
-use Rattle.pg_game.specs.declared.game.Game.{Game}
 use Rattle.pg_sessions.proofs.deciding.confirm.Goals as goal
 
 -- a valid certificate has no first fault

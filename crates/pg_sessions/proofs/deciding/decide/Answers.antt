@@ -1,8 +1,6 @@
 use Rattle.std.proofs.Common.{Option, subst, sym, ◌∙◌}
 use Rattle.std.specs.Prelude.{IfSome}
-use Rattle.pg_cert.specs.Valid.{IsValid}
-use Rattle.pg_cert.specs.declared.cert.Cert.{Cert}
-use Rattle.pg_solve.specs.Left.{budget}
+use Rattle.pg_sessions.proofs.Common.{IsValid, Cert, budget}
 use Rattle.pg_sessions.proofs.Values.{certificate-known, known-from}
 use Rattle.pg_sessions.proofs.deciding.decide.Goals as goal
 

@@ -1,10 +1,8 @@
 use Rattle.std.proofs.Common.{◌≡◌, ◌≤◌, ◌∙◌, ap, arith, refl}
-use Rattle.pg_game.specs.Game.{point_count}
-use Rattle.pg_game.proofs.Limits.{point_count-le}
+use Rattle.pg_sessions.proofs.Common.{point_count, point_count-le, NoNumber, NoPoint}
 use Rattle.pg_sessions.specs.SessionLog.{Closes, Refuses, Steps, after_request}
 use Rattle.pg_sessions.specs.declared.request.Request.{Request}
 use Rattle.pg_sessions.specs.declared.request.Request.TheVariants.{Back, Move}
-use Rattle.pg_messages.specs.declared.message.ReplyFault.TheVariants.{NoNumber, NoPoint}
 use Rattle.pg_sessions.proofs.Courses.{course_nothing}
 use Rattle.pg_sessions.proofs.Sessions.{beyond_stage, goes_from}
 use Rattle.pg_sessions.proofs.dialogue.answer.Goals as goal

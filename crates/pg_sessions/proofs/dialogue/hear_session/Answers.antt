@@ -1,8 +1,5 @@
 use Rattle.std.proofs.Common.{◌<◌, ◌∙◌, ◌+◌, ap, arith, length, subst, sym}
-use Rattle.std.proofs.lemmas.Result.{err_from_is_err_and}
-use Rattle.pg_record.specs.Session.{Recorded}
-use Rattle.pg_record.specs.declared.event.TheConstants.{MAX_EVENTS}
-use Rattle.pg_messages.specs.declared.statuses.TheConstants.{OUT_OF_REPLIES}
+use Rattle.pg_sessions.proofs.Common.{err_from_is_err_and, Recorded, MAX_EVENTS, OUT_OF_REPLIES}
 use Rattle.pg_sessions.specs.SessionLog.{Closes, Over, after_event}
 use Rattle.pg_sessions.specs.Turns.{turned}
 use Rattle.pg_sessions.proofs.Sessions.{event_goes_on, refusal_ends, refusal_goes_on, turn_breaks, turn_leads}

@@ -1,6 +1,5 @@
 use Rattle.std.proofs.Common.{◌≡◌, ◌<◌, ◌+◌, ◌-◌, [], length}
-use Rattle.pg_record.specs.declared.event.TheConstants.{MAX_EVENTS}
-use Rattle.pg_talk.specs.declared.dialogue.TheConstants.{MAX_REFUSALS}
+use Rattle.pg_sessions.proofs.Common.{MAX_EVENTS, MAX_REFUSALS}
 use Rattle.pg_sessions.specs.Course.{Course}
 use Rattle.pg_sessions.specs.SessionLog.{Listens, Steps, after_event}
 use Rattle.pg_sessions.proofs.dialogue.hear_session.Given as goal

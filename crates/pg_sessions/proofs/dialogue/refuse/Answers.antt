@@ -1,6 +1,5 @@
 use Rattle.std.proofs.Common.{refl}
-use Rattle.std.proofs.lemmas.Result.{err_from_is_err_and}
-use Rattle.pg_messages.specs.Texts.{reply_text}
+use Rattle.pg_sessions.proofs.Common.{err_from_is_err_and, reply_text}
 use Rattle.pg_sessions.specs.SessionLog.{IsOpen, Refuses, Steps, after_refusal}
 use Rattle.pg_sessions.proofs.Courses.{breaks_here, course_said}
 use Rattle.pg_sessions.proofs.dialogue.refuse.Goals as goal

@@ -1,8 +1,7 @@
 use Rattle.std.proofs.Common.{◌∙◌, List, ap, refl, sym}
-use Rattle.pg_record.specs.declared.event.Event.{Event}
+use Rattle.pg_sessions.proofs.Common.{Event, NothingToTakeBack}
 use Rattle.pg_sessions.specs.SessionLog.{Refuses, Stands, after_request}
 use Rattle.pg_sessions.specs.declared.request.Request.TheVariants.{Back}
-use Rattle.pg_messages.specs.declared.message.ReplyFault.TheVariants.{NothingToTakeBack}
 use Rattle.pg_sessions.proofs.Sessions.{back_stage, goes_from, unbacked_stage}
 use Rattle.pg_sessions.proofs.dialogue.take_back.Goals as goal
 

@@ -1,9 +1,8 @@
 use Rattle.std.proofs.Common.{ap, refl, sym, take}
-use Rattle.pg_io.specs.declared.entry.Entry.TheVariants.{Heard, Skipped, Ended}
+use Rattle.pg_sessions.proofs.Common.{Heard, Skipped, Ended, NoNumber}
 use Rattle.pg_sessions.specs.Request.{request_of}
 use Rattle.pg_sessions.specs.SessionLog.{Closes, IsOpen, Listens, Refuses, Steps, after_request}
 use Rattle.pg_sessions.specs.declared.request.Request.{Request}
-use Rattle.pg_messages.specs.declared.message.ReplyFault.TheVariants.{NoNumber}
 use Rattle.pg_sessions.proofs.Courses.{breaks_here, course_heard, goes_then}
 use Rattle.pg_sessions.proofs.Sessions.{goes_from}
 use Rattle.pg_sessions.proofs.dialogue.take_turn.Goals as goal

@@ -1,6 +1,5 @@
 use Rattle.std.proofs.Common.{ap, refl}
-use Rattle.std.proofs.lemmas.Result.{err_from_is_err_and}
-use Rattle.pg_messages.specs.Texts.{standing_text}
+use Rattle.pg_sessions.proofs.Common.{err_from_is_err_and, standing_text}
 use Rattle.pg_sessions.specs.SessionLog.{IsOpen, Stands, Steps, after_event}
 use Rattle.pg_sessions.proofs.Courses.{breaks_here, course_said}
 use Rattle.pg_sessions.proofs.dialogue.tell_standing.Goals as goal

@@ -1,7 +1,5 @@
 use Rattle.std.proofs.Common.{◌≡◌, ◌∙◌, List, Some, slice_get, length, refl, sym, ap, subst, arith}
-use Rattle.std.proofs.lemmas.Bool.{false≢true}
-use Rattle.std.proofs.lemmas.Option.{slice_get_within}
-use Rattle.pg_cert.specs.declared.node.Node.{Node}
+use Rattle.pg_sessions.proofs.Common.{false≢true, slice_get_within, Node}
 use Rattle.pg_sessions.proofs.Nodes.{none-more, read-at}
 use Rattle.pg_sessions.proofs.known.has_node.Goals as goal
 

@@ -1,8 +1,5 @@
 use Rattle.std.proofs.Common.{◌≡◌, false, nat_lt, ℕ, Global, Vec, subst}
-use Rattle.std.proofs.lemmas.Bool.{le-ltb}
-use Rattle.pg_io.specs.Files.{Bytes}
-use Rattle.pg_record.specs.RecordFile.{record_of}
-use Rattle.pg_talk.specs.Reading.{IsReadAs}
+use Rattle.pg_sessions.proofs.Common.{le-ltb, Bytes, record_of, IsReadAs}
 use Rattle.pg_sessions.proofs.Opened.{opens_moves}
 use Rattle.pg_sessions.specs.Review.{moves_told}
 use Rattle.pg_sessions.proofs.opening.open_moves.Goals as goal

@@ -1,9 +1,6 @@
 use Rattle.std.proofs.Common.{◌∙◌, List, ℕ, Err, length, ap, ap₂, sym, subst, arith}
-use Rattle.pg_game.specs.Game.{start}
-use Rattle.pg_game.specs.Play.{IsLegalPlay}
-use Rattle.pg_record.proofs.Standing.{few-standing, legal-standing}
+use Rattle.pg_sessions.proofs.Common.{start, IsLegalPlay, few-standing, legal-standing, record_of}
 use Rattle.pg_record.proofs.Allowed.{read-allowed}
-use Rattle.pg_record.specs.RecordFile.{record_of}
 use Rattle.pg_sessions.proofs.Opened.{moves_bad}
 use Rattle.pg_sessions.specs.Review.{record_fault}
 use Rattle.pg_sessions.proofs.opening.read_moves.Goals as goal

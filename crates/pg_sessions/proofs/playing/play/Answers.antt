@@ -1,9 +1,5 @@
 use Rattle.std.proofs.Common.{◌∙◌, arith, inl, refl, subst, sym}
-use Rattle.std.proofs.lemmas.Bool.{false≢true}
-use Rattle.pg_game.proofs.Limits.{point_count-le}
-use Rattle.pg_game.proofs.Moves.{IsPosition-after, IsPosition-start}
-use Rattle.pg_game.specs.Game.{start, IsPosition}
-use Rattle.pg_game.specs.declared.position.Position.{Position}
+use Rattle.pg_sessions.proofs.Common.{false≢true, point_count-le, IsPosition-after, IsPosition-start, start, IsPosition, Position}
 use Rattle.pg_sessions.specs.Known.{HaveNodes}
 use Rattle.pg_sessions.proofs.Standing.{known-kept, leaves-one, next-at}
 use Rattle.pg_sessions.proofs.playing.play.Goals as goal

@@ -1,11 +1,5 @@
 use Rattle.std.proofs.Common.{[], Err, ap, refl, subst}
-use Rattle.std.proofs.lemmas.Result.{err_from_is_err_and}
-use Rattle.pg_game.specs.declared.game.Game.{Game}
-use Rattle.pg_io.specs.declared.stop.Stop.{Stop}
-use Rattle.pg_io.specs.declared.stop.Stop.TheVariants.{Memory}
-use Rattle.pg_record.specs.Session.{Recorded}
-use Rattle.pg_talk.proofs.Delivering.{stopped_first}
-use Rattle.pg_messages.specs.declared.statuses.TheConstants.{OUT_OF_REPLIES}
+use Rattle.pg_sessions.proofs.Common.{err_from_is_err_and, Game, Stop, Memory, Recorded, stopped_first, OUT_OF_REPLIES}
 use Rattle.pg_sessions.specs.Course.{BreaksOff, Course}
 use Rattle.pg_sessions.specs.Recording.{RecordsGame}
 use Rattle.pg_sessions.specs.SessionLog.{Closes, IsOpen, Listens, Over, Steps}

@@ -1,11 +1,5 @@
 use Rattle.std.proofs.Common.{◌∙◌, ℕ, [], ◌∷◌, refl, subst}
-use Rattle.std.proofs.lemmas.Result.{err_from_is_err_and}
-use Rattle.pg_io.specs.Files.{Bytes}
-use Rattle.pg_io.specs.declared.stop.Stop.TheVariants.{Memory}
-use Rattle.pg_messages.specs.Texts.{recorded_text}
-use Rattle.pg_talk.specs.Done.{Does}
-use Rattle.pg_talk.specs.Storing.{Delivers}
-use Rattle.pg_talk.proofs.Delivering.{stopped_first}
+use Rattle.pg_sessions.proofs.Common.{err_from_is_err_and, Bytes, Memory, recorded_text, Does, Delivers, stopped_first}
 use Rattle.pg_sessions.specs.Recording.{record_file}
 use Rattle.pg_sessions.specs.SessionLog.{standing_count}
 use Rattle.pg_sessions.proofs.recording.store_record.Goals as goal

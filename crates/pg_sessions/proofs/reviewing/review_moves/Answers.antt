@@ -1,16 +1,11 @@
 use Rattle.std.proofs.Common.{◌≡◌, ◌∙◌, ℕ, suc, ◌+◌, ◌<◌, ◌≤◌, true, false, [], ◌∷◌, length, map, take, Option, None, Ok, IfSome, slice_index_or, refl, sym, ap, subst, arith}
-use Rattle.std.proofs.lemmas.Result.{err_from_is_err_and}
-use Rattle.pg_game.specs.Game.{after, start}
-use Rattle.pg_io.specs.Console.{Grows}
-use Rattle.pg_io.specs.declared.entry.Entry.TheVariants.{Said}
-use Rattle.pg_io.specs.declared.stop.Stop.TheVariants.{Memory}
+use Rattle.pg_sessions.proofs.Common.{err_from_is_err_and, after, start, Grows, Said, Memory, reviewed_text, unknown_at_text}
 use Rattle.pg_sessions.proofs.SaidSoFar.{at-start, cut-short, goes-on, may-play, none-yet, one-behind, position-there, reviewed, said-more, stands-more, stays-open, still, there}
 use Rattle.pg_sessions.proofs.Searched.{among-first, among-next, decided-more, in-time, in-time-so-far, known-here, known-next, left-along, untold-next}
 use Rattle.pg_sessions.proofs.Standing.{known-value, leaves-one}
 use Rattle.pg_sessions.specs.Known.{IsKnown, IsSolvedBy}
 use Rattle.pg_sessions.specs.Review.{IsGameAt, loss_texts}
 use Rattle.pg_sessions.specs.declared.known.Known.{Known}
-use Rattle.pg_messages.specs.Texts.{reviewed_text, unknown_at_text}
 use Rattle.pg_sessions.proofs.reviewing.review_moves.Goals as goal
 
 -- ---- the first position

@@ -1,8 +1,5 @@
 use Rattle.std.proofs.Common.{◌≡◌, ◌<◌, ℕ, map, take}
-use Rattle.pg_game.specs.Game.{start}
-use Rattle.pg_io.specs.Console.{Grows}
-use Rattle.pg_io.specs.declared.entry.Entry.TheVariants.{Said}
-use Rattle.pg_record.specs.Replay.{position_after}
+use Rattle.pg_sessions.proofs.Common.{start, Grows, Said, position_after}
 use Rattle.pg_sessions.proofs.Searched.{IsAmong}
 use Rattle.pg_sessions.specs.Known.{IsKnown}
 use Rattle.pg_sessions.specs.Review.{IsDecided, IsGameAt, IsKnownBy, loss_texts}

@@ -1,5 +1,4 @@
-use Rattle.std.proofs.lemmas.Result.{IfOk-weaker}
-use Rattle.pg_cert.specs.declared.cert.Cert.{Cert}
+use Rattle.pg_solve.proofs.Common.{IfOk-weaker, Cert}
 use Rattle.pg_solve.proofs.EdgeNodes.{class-claims-told}
 use Rattle.pg_solve.proofs.classes.certificate_of.Goals as goal
 

@@ -1,7 +1,6 @@
 use Rattle.std.proofs.Common.{subst}
-use Rattle.pg_pns.specs.Found.{IsAnswer}
+use Rattle.pg_solve.proofs.Common.{IsAnswer, Draw}
 use Rattle.pg_pns.specs.declared.work.Found.{Found}
-use Rattle.pg_base.specs.declared.score.Score.TheVariants.{Draw}
 use Rattle.pg_solve.proofs.Finding.{left-second, open-second}
 use Rattle.pg_solve.proofs.questions.ask_second.Goals as goal
 

@@ -1,11 +1,6 @@
 use Rattle.std.proofs.Common.{◌<◌, ℕ, Option, sym, ap, ◌∙◌, ◌&&◌, arith}
-use Rattle.std.proofs.lemmas.Bool.{and_from}
 use Rattle.std.specs.Prelude.{unwrap_or, slice_index}
-use Rattle.pg_graph.specs.Graph.{edge_count, first_end_of, second_end_of}
-use Rattle.pg_game.specs.Position.{is_free}
-use Rattle.pg_game.specs.Trees.{lowest_free_edge}
-use Rattle.pg_switch.specs.Span.{crosses}
-use Rattle.pg_switch.proofs.Finding.{first_below, none_below}
+use Rattle.pg_span.proofs.Common.{and_from, edge_count, first_end_of, second_end_of, is_free, lowest_free_edge, crosses, first_below, none_below}
 use Rattle.pg_span.proofs.answers.parts_edge.Goals as goal
 
 pub returns-then-crosses : goal.returns-then-crosses

@@ -1,8 +1,6 @@
 use Rattle.std.proofs.Common.{◌≡◌, ℕ, ◌<◌, false, ◌&&◌}
 use Rattle.std.specs.Prelude.{slice_index}
-use Rattle.pg_graph.specs.Graph.{first_end_of, second_end_of}
-use Rattle.pg_game.specs.Position.{is_free}
-use Rattle.pg_switch.specs.Span.{crosses}
+use Rattle.pg_span.proofs.Common.{first_end_of, second_end_of, is_free, crosses}
 use Rattle.pg_span.proofs.answers.parts_edge.Given as goal
 
 abbrev pub invariant-loop-v : goal.invariant-loop-v

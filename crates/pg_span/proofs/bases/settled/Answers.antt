@@ -1,8 +1,5 @@
 use Rattle.std.proofs.Common.{ℕ, Bool, subst, subst₂, sym}
-use Rattle.std.specs.FinSet.{contains}
-use Rattle.pg_graph.specs.Span.{IsBase}
-use Rattle.pg_exchange.specs.Matroid.{Matroid}
-use Rattle.pg_exchange.specs.Chain.{AreBases, IsSettled}
+use Rattle.pg_span.proofs.Common.{contains, IsBase, Matroid, AreBases, IsSettled}
 use Rattle.pg_span.proofs.bases.settled.Goals as goal
 
 pub returns-clause-settled : goal.returns-clause-settled

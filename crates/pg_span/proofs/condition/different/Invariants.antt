@@ -1,6 +1,5 @@
 use Rattle.std.proofs.Common.{◌≡◌, ◌≤◌, slice_index}
-use Rattle.pg_base.specs.Sets.{count}
-use Rattle.pg_switch.specs.Span.{image}
+use Rattle.pg_span.proofs.Common.{count, image}
 use Rattle.pg_span.specs.declared.cert.TheConstants.{PART_NUMBERS}
 use Rattle.pg_span.proofs.condition.different.Given as goal
 

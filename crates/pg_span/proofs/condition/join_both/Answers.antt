@@ -1,7 +1,5 @@
 use Rattle.std.proofs.Common.{◌∙◌, ap, sym}
-use Rattle.std.proofs.lemmas.Bool.{both_ways}
-use Rattle.std.specs.FinSet.{contains}
-use Rattle.pg_base.proofs.PointSetLaws.{contains-union_either}
+use Rattle.pg_span.proofs.Common.{both_ways, contains, contains-union_either}
 use Rattle.pg_span.specs.Judge.{connects}
 use Rattle.pg_span.proofs.condition.join_both.Goals as goal
 

@@ -1,6 +1,5 @@
 use Rattle.std.proofs.Common.{◌∙◌}
-use Rattle.std.specs.FinSet.{contains}
-use Rattle.pg_game.specs.Position.{is_free}
+use Rattle.pg_span.proofs.Common.{contains, is_free}
 use Rattle.pg_span.specs.Game.{marks_at}
 use Rattle.pg_span.proofs.Counting.{crossed-same, parts-told}
 use Rattle.pg_span.proofs.condition.parts_hold.Goals as goal

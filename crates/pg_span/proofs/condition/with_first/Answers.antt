@@ -1,9 +1,6 @@
 use Rattle.std.proofs.Common.{◌≡◌, ◌<◌, ℕ, true, Option, inl, inr, sym, subst}
 use Rattle.std.specs.Prelude.{IfSome}
-use Rattle.std.specs.FinSet.{FinSet, contains}
-use Rattle.std.specs.Ordering.{nat_cmp}
-use Rattle.pg_base.proofs.PointSetLaws.{insert-cases}
-use Rattle.pg_graph.specs.Graph.{edge_count}
+use Rattle.pg_span.proofs.Common.{FinSet, contains, nat_cmp, insert-cases, edge_count}
 use Rattle.pg_span.proofs.condition.with_first.Goals as goal
 
 pub returns-in-Some-clause-range : goal.returns-in-Some-clause-range

@@ -1,6 +1,5 @@
 use Rattle.std.proofs.Common.{sym, arith}
-use Rattle.std.proofs.lemmas.Bool.{both_ways}
-use Rattle.std.specs.FinSet.{contains}
+use Rattle.pg_span.proofs.Common.{both_ways, contains}
 use Rattle.pg_span.proofs.Connects.{connects-apart, connects-each}
 use Rattle.pg_span.proofs.judge.joins_each.Goals as goal
 

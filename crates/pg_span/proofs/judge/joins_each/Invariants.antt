@@ -1,6 +1,5 @@
 use Rattle.std.proofs.Common.{◌≡◌, ℕ, ◌<◌}
-use Rattle.std.specs.FinSet.{contains}
-use Rattle.pg_graph.specs.Graph.{IsJoinedIn}
+use Rattle.pg_span.proofs.Common.{contains, IsJoinedIn}
 use Rattle.pg_span.proofs.judge.joins_each.Given as goal
 
 abbrev pub invariant-loop-v : goal.invariant-loop-v

@@ -1,12 +1,6 @@
 use Rattle.std.proofs.Common.{◌≡◌, ◌<◌, ℕ, Bool, true, false, List, length, inl, inr, sym, ap, ◌∙◌, subst, arith}
 use Rattle.std.specs.Prelude.{slice_index}
-use Rattle.std.specs.FinSet.{contains}
-use Rattle.std.specs.List.{All}
-use Rattle.std.proofs.lemmas.Bool.{both_ways, cases_eq}
-use Rattle.pg_base.specs.Sets.{either, both, outside}
-use Rattle.pg_base.specs.declared.side.Side.TheVariants.{X, Y}
-use Rattle.pg_base.proofs.SetLemmas.{either_cases, both_parts, minus_parts, minus_from}
-use Rattle.pg_graph.specs.Labels.{AreLabels}
+use Rattle.pg_span.proofs.Common.{contains, All, both_ways, cases_eq, either, both, outside, X, Y, either_cases, both_parts, minus_parts, minus_from, AreLabels}
 use Rattle.pg_exchange.proofs.Tests.{of_either, of_outside, without_point}
 use Rattle.pg_span.specs.Game.{marks_at}
 use Rattle.pg_span.specs.Valid.{ArePartsOfGame}

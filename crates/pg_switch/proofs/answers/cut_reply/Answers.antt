@@ -1,6 +1,5 @@
 use Rattle.std.proofs.Common.{ℕ, ap, ◌∙◌}
-use Rattle.std.specs.FinSet.{remove}
-use Rattle.pg_game.specs.Trees.{lowest_free_edge}
+use Rattle.pg_switch.proofs.Common.{remove, lowest_free_edge}
 use Rattle.pg_switch.proofs.Conditions.{left-without, left_set-edges}
 use Rattle.pg_switch.proofs.Replying.{remove_edges, cut-found, reply-some, reply-none}
 use Rattle.pg_switch.proofs.answers.cut_reply.Goals as goal

@@ -1,6 +1,5 @@
 use Rattle.std.proofs.Common.{ℕ, Option, unwrap_or, ap, ◌∙◌}
-use Rattle.std.specs.List.{find, range_with_len}
-use Rattle.pg_game.specs.Position.{is_free}
+use Rattle.pg_switch.proofs.Common.{find, range_with_len, is_free}
 use Rattle.pg_switch.proofs.answers.lowest_free.Goals as goal
 
 pub returns : goal.returns

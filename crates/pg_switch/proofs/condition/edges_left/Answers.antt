@@ -1,9 +1,5 @@
 use Rattle.std.proofs.Common.{ℕ, Bool, not, ◌∙◌, sym, ap, refl}
-use Rattle.std.specs.FinSet.{FinSet, contains, contains-empty, empty}
-use Rattle.std.specs.Ordering.{nat_cmp}
-use Rattle.pg_base.specs.Sets.{plus}
-use Rattle.pg_base.proofs.BelowLemmas.{below_none, below_in, below_out}
-use Rattle.pg_base.proofs.PointSetLaws.{contains-insert_plus}
+use Rattle.pg_switch.proofs.Common.{FinSet, contains, contains-empty, empty, nat_cmp, plus, below_none, below_in, below_out, contains-insert_plus}
 use Rattle.pg_switch.proofs.condition.edges_left.Goals.{then-not-has, else-not-has}
 use Rattle.pg_switch.proofs.condition.edges_left.Goals as goal
 

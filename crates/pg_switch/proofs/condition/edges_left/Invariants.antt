@@ -1,6 +1,5 @@
 use Rattle.std.proofs.Common.{◌≡◌, not}
-use Rattle.std.specs.FinSet.{contains}
-use Rattle.pg_base.specs.Sets.{below}
+use Rattle.pg_switch.proofs.Common.{contains, below}
 use Rattle.pg_switch.proofs.condition.edges_left.Given as goal
 
 abbrev pub invariant-loop-k : goal.invariant-loop-k

@@ -1,10 +1,8 @@
 use Rattle.std.proofs.Common.{take, refl}
-use Rattle.pg_io.specs.declared.entry.Entry.TheVariants.{Heard, Skipped, Ended}
+use Rattle.pg_talk.proofs.Common.{Heard, Skipped, Ended, INPUT_ENDED, NoNumber}
 use Rattle.pg_talk.specs.Dialogue.{At, Owes, Over}
 use Rattle.pg_talk.specs.Reply.{said_number}
 use Rattle.pg_talk.specs.Talk.{answered}
-use Rattle.pg_messages.specs.declared.statuses.TheConstants.{INPUT_ENDED}
-use Rattle.pg_messages.specs.declared.message.ReplyFault.TheVariants.{NoNumber}
 use Rattle.pg_talk.proofs.Talking.{Talk-heard, Talks-then, Breaks-here}
 use Rattle.pg_talk.proofs.dialogue.hear_reply.Goals as goal
 

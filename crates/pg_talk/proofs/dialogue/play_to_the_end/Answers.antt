@@ -1,9 +1,8 @@
 use Rattle.std.proofs.Common.{◌∙◌, ◌+◌, ap, sym, arith}
-use Rattle.std.proofs.lemmas.Result.{err_from_is_err_and}
+use Rattle.pg_talk.proofs.Common.{err_from_is_err_and, INPUT_ENDED, OUT_OF_REPLIES}
 use Rattle.pg_talk.specs.Contender.{Contender, at}
 use Rattle.pg_talk.specs.Dialogue.{At, Over}
 use Rattle.pg_talk.specs.Talk.{turned}
-use Rattle.pg_messages.specs.declared.statuses.TheConstants.{INPUT_ENDED, OUT_OF_REPLIES}
 use Rattle.pg_talk.proofs.Talking.{Breaks-here, Breaks-then}
 use Rattle.pg_talk.proofs.Turns.{result_ends, turn_leads, turn_breaks, goes_on, ends_refused}
 use Rattle.pg_talk.proofs.dialogue.play_to_the_end.Goals as goal

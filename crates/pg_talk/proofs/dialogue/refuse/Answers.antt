@@ -1,6 +1,5 @@
 use Rattle.std.proofs.Common.{refl}
-use Rattle.std.proofs.lemmas.Result.{err_from_is_err_and}
-use Rattle.pg_messages.specs.Texts.{reply_text}
+use Rattle.pg_talk.proofs.Common.{err_from_is_err_and, reply_text}
 use Rattle.pg_talk.specs.Dialogue.{Owes, after_refusal}
 use Rattle.pg_talk.proofs.Talking.{Talk-said, Breaks-here}
 use Rattle.pg_talk.proofs.dialogue.refuse.Goals as goal

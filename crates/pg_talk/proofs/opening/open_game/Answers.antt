@@ -1,8 +1,5 @@
 use Rattle.std.proofs.Common.{◌∙◌, ap, sym, subst, Ok, Err}
-use Rattle.pg_io.specs.Files.{Bytes}
-use Rattle.pg_files.specs.GameFile.{game}
-use Rattle.pg_files.specs.Views.{IsReadAs, entry, number_of}
-use Rattle.pg_text.specs.declared.error.FileError.{FileError}
+use Rattle.pg_talk.proofs.Common.{Bytes, game, IsReadAs, entry, number_of, FileError}
 use Rattle.pg_talk.proofs.GameOpenings.{opens_game}
 use Rattle.pg_talk.proofs.Openings.{read_ok, read_bad}
 use Rattle.pg_talk.specs.Reading.{game_fault}

@@ -1,6 +1,5 @@
 use Rattle.std.proofs.Common.{Option, sym, subst}
-use Rattle.std.proofs.lemmas.Result.{err_from_is_err_and}
-use Rattle.pg_messages.specs.declared.message.Message.{Message}
+use Rattle.pg_talk.proofs.Common.{err_from_is_err_and, Message}
 use Rattle.pg_talk.specs.Storing.{SaysTexts, texts_of}
 use Rattle.pg_talk.proofs.Delivering.{says_more, says_none}
 use Rattle.pg_talk.proofs.saying.say_both.Goals as goal

@@ -1,8 +1,5 @@
 use Rattle.std.proofs.Common.{◌≤◌, ◌<◌, ◌∙◌, ◌||◌, Bool, ℕ, List, length, get_or, ap, ap₂, sym, arith}
-use Rattle.std.proofs.lemmas.List.Folds.{list_any_more}
-use Rattle.pg_game.specs.Game.{lines_of}
-use Rattle.pg_board.specs.Board.{line_at}
-use Rattle.pg_board.specs.Shape.{lines_holding}
+use Rattle.pg_threat.proofs.Common.{list_any_more, lines_of, line_at, lines_holding}
 use Rattle.pg_threat.specs.Lacking.{is_gained}
 use Rattle.pg_threat.proofs.Partners.{through-low, gained-none}
 use Rattle.pg_threat.proofs.lacking.gains.Goals as goal

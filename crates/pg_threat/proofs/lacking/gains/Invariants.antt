@@ -1,8 +1,5 @@
 use Rattle.std.proofs.Common.{◌≡◌, false, take}
-use Rattle.std.specs.List.{list_any}
-use Rattle.pg_game.specs.Game.{lines_of}
-use Rattle.pg_board.specs.Board.{line_at}
-use Rattle.pg_board.specs.Shape.{lines_holding}
+use Rattle.pg_threat.proofs.Common.{list_any, lines_of, line_at, lines_holding}
 use Rattle.pg_threat.specs.Lacking.{is_gained}
 use Rattle.pg_threat.proofs.lacking.gains.Given as goal
 

@@ -1,8 +1,5 @@
 use Rattle.std.proofs.Common.{◌<◌, ◌≤◌, ◌==◌, ◌||◌, ◌∙◌, sym, ap, ap₂, arith, length, eq-eqb, ne_eqb, Bool}
-use Rattle.std.proofs.lemmas.List.{take_all}
-use Rattle.std.proofs.lemmas.List.Folds.{list_any_at, list_any_more}
-use Rattle.pg_game.specs.Potential.{is_on}
-use Rattle.pg_board.specs.Board.{line_at}
+use Rattle.pg_threat.proofs.Common.{take_all, list_any_at, list_any_more, is_on, line_at}
 use Rattle.pg_threat.proofs.lacking.holds.Goals as goal
 
 pub returns-then-line_point-u : goal.returns-then-line_point-u

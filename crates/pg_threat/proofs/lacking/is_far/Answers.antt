@@ -1,6 +1,5 @@
 use Rattle.std.proofs.Common.{◌≡◌, ◌∙◌, sym, subst, eqb-true}
-use Rattle.pg_base.specs.declared.side.Side.{Side}
-use Rattle.pg_board.specs.Board.{live_with}
+use Rattle.pg_threat.proofs.Common.{Side, live_with}
 use Rattle.pg_threat.proofs.LineCounts.{none-lacking}
 use Rattle.pg_threat.proofs.lacking.is_far.Goals as goal
 

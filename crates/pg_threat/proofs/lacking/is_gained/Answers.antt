@@ -1,7 +1,5 @@
 use Rattle.std.proofs.Common.{◌∙◌, ◌&&◌, not, sym, ap}
-use Rattle.std.proofs.lemmas.Bool.{and_left}
-use Rattle.pg_game.specs.Potential.{is_on}
-use Rattle.pg_board.specs.Board.{line_at}
+use Rattle.pg_threat.proofs.Common.{and_left, is_on, line_at}
 use Rattle.pg_threat.proofs.lacking.is_gained.Goals as goal
 
 pub returns-then-not-lacks : goal.returns-then-not-lacks

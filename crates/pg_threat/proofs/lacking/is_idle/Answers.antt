@@ -1,9 +1,5 @@
 use Rattle.std.proofs.Common.{◌≡◌, ◌<◌, ◌≤◌, ◌+◌, ◌∙◌, ℕ, List, length, get_or, ap, sym, subst, inl, inr, arith}
-use Rattle.std.proofs.lemmas.Bool.{cases_eq}
-use Rattle.pg_base.specs.Side.{other}
-use Rattle.pg_game.specs.Game.{lines_of}
-use Rattle.pg_board.specs.Board.{line_at}
-use Rattle.pg_board.specs.Shape.{lines_holding}
+use Rattle.pg_threat.proofs.Common.{cases_eq, other, lines_of, line_at, lines_holding}
 use Rattle.pg_threat.specs.Lacking.{own_count, IsOutOfReach}
 use Rattle.pg_threat.proofs.Idle.{through-each}
 use Rattle.pg_threat.proofs.Partners.{through-low}

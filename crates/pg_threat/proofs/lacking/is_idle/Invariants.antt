@@ -1,9 +1,5 @@
 use Rattle.std.proofs.Common.{◌≡◌, ◌<◌, ◌≤◌, ◌+◌, ℕ, length, get_or}
-use Rattle.pg_base.specs.Side.{other}
-use Rattle.pg_base.specs.declared.kind.Kind.TheVariants.{MakerMaker}
-use Rattle.pg_game.specs.Game.{lines_of}
-use Rattle.pg_board.specs.Board.{line_at}
-use Rattle.pg_board.specs.Shape.{lines_holding}
+use Rattle.pg_threat.proofs.Common.{other, MakerMaker, lines_of, line_at, lines_holding}
 use Rattle.pg_threat.specs.Lacking.{own_count, IsOutOfReach}
 use Rattle.pg_threat.proofs.lacking.is_idle.Given as goal
 

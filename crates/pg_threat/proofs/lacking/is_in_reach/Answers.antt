@@ -1,11 +1,5 @@
 use Rattle.std.proofs.Common.{◌∙◌, sym, ap, eqb-true}
-use Rattle.std.proofs.lemmas.Bool.{not_from_false, false≢true}
-use Rattle.std.specs.FinSet.{contains}
-use Rattle.pg_base.specs.declared.side.Side.{Side}
-use Rattle.pg_base.specs.Side.{other}
-use Rattle.pg_game.specs.Position.{points_of}
-use Rattle.pg_board.specs.Board.{line_at, count_of}
-use Rattle.pg_board.proofs.Answering.{clear-any}
+use Rattle.pg_threat.proofs.Common.{not_from_false, false≢true, contains, Side, other, points_of, line_at, count_of, clear-any}
 use Rattle.pg_threat.proofs.lacking.is_in_reach.Goals as goal
 
 pub returns-then-count-ne0 : goal.returns-then-count-ne0

@@ -1,10 +1,5 @@
 use Rattle.std.proofs.Common.{arith, sym, ◌∙◌, ◌≡◌, ◌+◌, subst, ap}
-use Rattle.std.specs.FinSet.{FinSet, contains, contains-empty}
-use Rattle.std.specs.Ordering.{nat_cmp}
-use Rattle.std.specs.List.{Contains}
-use Rattle.pg_base.specs.Side.{other}
-use Rattle.pg_base.specs.declared.side.Side.{Side}
-use Rattle.pg_board.specs.Board.{live_lines, live_with}
+use Rattle.pg_threat.proofs.Common.{FinSet, contains, contains-empty, nat_cmp, Contains, other, Side, live_lines, live_with}
 use Rattle.pg_threat.specs.Lacking.{IsNextLive}
 use Rattle.pg_threat.proofs.LineCounts.{none-lacking}
 use Rattle.pg_threat.proofs.Scans.{scan-over, scan-falls, twice-none, twice-first, twice-lacked, twice-other}

@@ -1,6 +1,5 @@
 use Rattle.std.proofs.Common.{◌+◌, ◌==◌, ◌∙◌, ℕ, sym, ap, ap₂}
-use Rattle.pg_base.specs.declared.side.Side.{Side}
-use Rattle.pg_board.specs.Board.{line_at, count_of}
+use Rattle.pg_threat.proofs.Common.{Side, line_at, count_of}
 use Rattle.pg_threat.proofs.LineCounts.{lacks-off, lacks-on}
 use Rattle.pg_threat.proofs.lacking.lacks.Goals as goal
 

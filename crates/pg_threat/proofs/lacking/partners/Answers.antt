@@ -1,8 +1,5 @@
 use Rattle.std.proofs.Common.{◌≤◌, ◌<◌, ◌∙◌, ℕ, List, length, get_or, ap, sym, arith}
-use Rattle.std.specs.FinSet.{FinSet, contains, contains-empty}
-use Rattle.std.specs.Ordering.{nat_cmp}
-use Rattle.pg_game.specs.Game.{lines_of}
-use Rattle.pg_board.specs.Shape.{lines_holding}
+use Rattle.pg_threat.proofs.Common.{FinSet, contains, contains-empty, nat_cmp, lines_of, lines_holding}
 use Rattle.pg_threat.proofs.Partners.{through-low, walk-lacked, walk-other, walk-over}
 use Rattle.pg_threat.proofs.lacking.partners.Goals as goal
 use Rattle.pg_threat.proofs.lacking.partners.Goals.{then-lacks, else-lacks}

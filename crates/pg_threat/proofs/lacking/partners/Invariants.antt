@@ -1,9 +1,5 @@
 use Rattle.std.proofs.Common.{◌≡◌, ℕ, take}
-use Rattle.std.specs.FinSet.{contains}
-use Rattle.std.specs.List.{list_any}
-use Rattle.pg_game.specs.Game.{lines_of}
-use Rattle.pg_board.specs.Board.{line_at}
-use Rattle.pg_board.specs.Shape.{lines_holding}
+use Rattle.pg_threat.proofs.Common.{contains, list_any, lines_of, line_at, lines_holding}
 use Rattle.pg_threat.specs.Lacking.{lacks_at}
 use Rattle.pg_threat.proofs.lacking.partners.Given as goal
 

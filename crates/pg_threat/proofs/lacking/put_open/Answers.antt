@@ -1,10 +1,5 @@
 use Rattle.std.proofs.Common.{arith, [], ◌≡◌, true, sym, ◌∙◌, ◌<◌, ◌==◌, length, eq-eqb}
-use Rattle.std.proofs.lemmas.List.Elements.{Contains-get_or}
-use Rattle.std.proofs.lemmas.List.Folds.{list_any_at}
-use Rattle.pg_game.specs.Game.{lines_of}
-use Rattle.pg_game.specs.Potential.{is_on}
-use Rattle.pg_game.proofs.ThreatLaws.{near-range}
-use Rattle.pg_board.specs.Board.{line_at}
+use Rattle.pg_threat.proofs.Common.{Contains-get_or, list_any_at, lines_of, is_on, near-range, line_at}
 use Rattle.pg_threat.proofs.Scans.{put-step, skip-step, again-put, again-skip}
 use Rattle.pg_threat.proofs.lacking.put_open.Goals as goal
 use Rattle.pg_threat.proofs.lacking.put_open.Goals.{then-is_free, else-is_free}

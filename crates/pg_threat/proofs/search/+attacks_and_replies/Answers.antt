@@ -1,14 +1,7 @@
 use Rattle.std.proofs.Common.{◌≡◌, ◌<◌, ◌≤◌, ◌+◌, ◌-◌, ◌∷◌, ℕ, true, false, Some, None, refl, sym, ap, ◌∙◌, subst, arith}
 use Rattle.std.specs.Prelude.{◌↔◌, length}
-use Rattle.std.specs.FinSet.{contains}
+use Rattle.pg_threat.proofs.Common.{contains, point_count, lines_of, after, is_free, IsAttack, LeadsToLine, IsAttacking, Game, Position, point_count-le, View}
 use Rattle.pg_threat.specs.Lacking.{is_lacking, IsIdle, IsLackedTwice}
-use Rattle.pg_game.specs.Game.{point_count, lines_of, after}
-use Rattle.pg_game.specs.Position.{is_free}
-use Rattle.pg_game.specs.Threat.{IsAttack, LeadsToLine, IsAttacking}
-use Rattle.pg_game.specs.declared.game.Game.{Game}
-use Rattle.pg_game.specs.declared.position.Position.{Position}
-use Rattle.pg_game.proofs.Limits.{point_count-le}
-use Rattle.pg_board.specs.Board.{View}
 use Rattle.pg_threat.specs.Search.{Begins, IsTried, IsFound, NoneBelow, Replied, IsAnswering, IsSearching}
 use Rattle.pg_threat.proofs.Searching.{far-lacked, replies-are, tried-depth, begins-depth, search-next, attack-free, attack-answering, attack-least, reply-attacking, reply-least, attack-fails, attack-found, attack-falls, search-over, reply-none, reply-one, reply-two, reply-free, reply-found, reply-fails, reply-barren}
 use Rattle.pg_threat.proofs.Idle.{reply-idle}

@@ -1,7 +1,5 @@
 use Rattle.std.proofs.Common.{◌≡◌, ◌∙◌, sym, subst}
-use Rattle.std.proofs.lemmas.Bool.{not-true}
-use Rattle.pg_base.specs.declared.side.Side.{Side}
-use Rattle.pg_board.specs.Board.{live_with}
+use Rattle.pg_threat.proofs.Common.{not-true, Side, live_with}
 use Rattle.pg_threat.proofs.Gains.{none-lacked}
 use Rattle.pg_threat.proofs.search.leaves_none.Goals as goal
 

@@ -1,10 +1,8 @@
 use Rattle.std.proofs.Common.{◌≡◌, ◌∙◌, true, not, sym, ap, rules, arith}
-use Rattle.std.proofs.lemmas.Bool.{not-false, false≢true}
+use Rattle.pg_threat.proofs.Common.{not-false, false≢true, MakerMaker, Side}
 use denote.Enum.Bare.{sameb, same_true}
 use Rattle.pg_base.specs.contracts.kind.Kind.{the_type}
 use Rattle.pg_base.specs.declared.kind.Kind.{Kind}
-use Rattle.pg_base.specs.declared.kind.Kind.TheVariants.{MakerMaker}
-use Rattle.pg_base.specs.declared.side.Side.{Side}
 use Rattle.pg_threat.specs.Lacking.{is_lacking}
 use Rattle.pg_threat.proofs.Attacks.{tried-all, tried-sole}
 use Rattle.pg_threat.proofs.search.tried.Goals as goal

@@ -1,8 +1,5 @@
-use Rattle.pg_maps.specs.Images.{image_on}
 use Rattle.std.proofs.Common.{refl, sym, subst, ◌≡◌, Option}
-use Rattle.pg_base.specs.declared.grid.Grid.{Grid}
-use Rattle.pg_maps.proofs.SetImages.{image_set-from}
-use Rattle.pg_maps.specs.Images.{image_set}
+use Rattle.pg_unfold.proofs.Common.{image_on, Grid, image_set-from, image_set}
 use Rattle.pg_unfold.proofs.board_map.image_set.Goals as goal
 
 pub returns-in-None : goal.returns-in-None

@@ -1,11 +1,5 @@
 use Rattle.std.proofs.Common.{◌≡◌, ◌<◌, ◌+◌, List, length, take, get_or, sym, subst, arith, rules}
-use Rattle.std.specs.List.{AllZip}
-use Rattle.std.proofs.lemmas.List.{take_all, get_or_default}
-use Rattle.std.proofs.lemmas.List.Elements.{all_zip_more}
-use Rattle.std.proofs.lemmas.List.Sorted.{answers_always}
-use Rattle.pg_cert.specs.declared.reply.Reply.{Reply}
-use Rattle.pg_maps.specs.GridMaps.{number_of, reverse_of}
-use Rattle.pg_maps.specs.Images.{image_on}
+use Rattle.pg_unfold.proofs.Common.{AllZip, take_all, get_or_default, all_zip_more, answers_always, Reply, number_of, reverse_of, image_on}
 use Rattle.pg_unfold.specs.Marks.{IsPlaceOf}
 use Rattle.pg_unfold.specs.Unfolded.{IsReplyImage}
 use Rattle.pg_unfold.proofs.BoardMaps.{AreInverse-board}

@@ -1,7 +1,5 @@
 use Rattle.std.proofs.Common.{take}
-use Rattle.std.specs.List.{AllZip}
-use Rattle.pg_maps.specs.GridMaps.{number_of}
-use Rattle.pg_maps.specs.Images.{image_on}
+use Rattle.pg_unfold.proofs.Common.{AllZip, number_of, image_on}
 use Rattle.pg_unfold.specs.Marks.{IsPlaceOf}
 use Rattle.pg_unfold.specs.Unfolded.{IsReplyImage}
 use Rattle.pg_unfold.proofs.bodies.image_replies.Given as goal

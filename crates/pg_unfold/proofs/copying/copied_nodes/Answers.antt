@@ -1,14 +1,5 @@
 use Rattle.std.proofs.Common.{◌≡◌, ◌+◌, ◌/◌, List, sym, ap, ◌∙◌, subst}
-use Rattle.std.specs.Global.{Vec}
-use Rattle.std.specs.List.{AllZip}
-use Rattle.std.proofs.lemmas.List.Elements.{All-contains}
-use Rattle.pg_cert.specs.Node.{position_of}
-use Rattle.pg_cert.specs.declared.node.Node.{Node}
-use Rattle.pg_image.specs.Limits.{IsImageNode}
-use Rattle.pg_image.specs.declared.node.ImageNode.TheVariants.{Plain}
-use Rattle.pg_maps.specs.GridMaps.{number_of}
-use Rattle.pg_maps.specs.Images.{image_on, image_position}
-use Rattle.pg_maps.specs.declared.grid_map.GridMap.{GridMap}
+use Rattle.pg_unfold.proofs.Common.{Vec, AllZip, All-contains, position_of, Node, IsImageNode, Plain, number_of, image_on, image_position, GridMap}
 use Rattle.pg_unfold.specs.Marks.{IsPlaceOf, copy_at, copies_below, copies_of}
 use Rattle.pg_unfold.specs.Unfolded.{IsBodyImage, IsCopied}
 use Rattle.pg_unfold.proofs.Placing.{Contains-at}

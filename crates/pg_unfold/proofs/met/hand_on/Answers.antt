@@ -1,7 +1,5 @@
 use Rattle.std.proofs.Common.{◌≡◌, ◌+◌, ◌*◌, ◌/◌, ◌%◌, ◌<◌, length, set, true, Some, refl, ap, ◌∙◌, arith}
-use Rattle.std.proofs.lemmas.Option.{slice_get_read}
-use Rattle.pg_image.specs.declared.node.ImageNode.TheVariants.{Plain, Image}
-use Rattle.pg_maps.specs.GridMaps.{numbered, number_of, followed_by}
+use Rattle.pg_unfold.proofs.Common.{slice_get_read, Plain, Image, numbered, number_of, followed_by}
 use Rattle.pg_unfold.proofs.Handing.{hands-plain, hands-image}
 use Rattle.pg_unfold.proofs.met.hand_on.Goals as goal
 

@@ -1,9 +1,6 @@
 use Rattle.std.proofs.Common.{◌≡◌, ◌+◌, ◌*◌, ◌<◌, ◌≤◌, ℕ, List, [], ◌∷◌, ◌++◌, Bool, map, take, length, set, get_or, true, sym, ap, ◌∙◌, subst, arith}
-use Rattle.std.proofs.lemmas.List.{take_more, map_push, length-set}
-use Rattle.std.proofs.lemmas.List.Elements.{All-get_or}
-use Rattle.pg_cert.specs.declared.reply.Reply.{Reply}
+use Rattle.pg_unfold.proofs.Common.{take_more, map_push, length-set, All-get_or, Reply, Contains}
 use Rattle.pg_unfold.specs.Marks.{AreAdded}
-use Rattle.std.specs.List.{Contains}
 use Rattle.std.proofs.Common.{◌/◌, ◌%◌}
 use Rattle.pg_unfold.proofs.Marking.{added-more}
 use Rattle.pg_unfold.proofs.met.mark_replies.Goals as goal

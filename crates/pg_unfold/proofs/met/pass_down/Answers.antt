@@ -1,8 +1,6 @@
 use Rattle.std.proofs.Common.{◌≡◌, ◌-◌, ◌<◌, ℕ, length, ap, sym, ◌∙◌, true, false, Some, arith, subst}
-use Rattle.std.proofs.lemmas.Bool.{both_ways}
-use Rattle.std.proofs.lemmas.Option.{slice_get-get_or, get_or_from_slice_get}
+use Rattle.pg_unfold.proofs.Common.{both_ways, slice_get-get_or, get_or_from_slice_get, IsMarked}
 use Rattle.pg_unfold.proofs.MetCopies.{passed-hand, passed-skip, AreMet-passed}
-use Rattle.pg_base.specs.Sets.{IsMarked}
 use Rattle.pg_unfold.specs.Marks.{HasPassed}
 use Rattle.pg_unfold.proofs.met.pass_down.Goals as goal
 

@@ -1,9 +1,6 @@
+use Rattle.pg_unfold.proofs.Common.{Vec, slice_get_read, Image, numbered, number_of, followed_by}
 use mir.Val.{bool_byte}
 use Rattle.std.proofs.Common.{◌≡◌, ℕ, ◌+◌, ◌*◌, ◌/◌, ◌%◌, ◌<◌, List, length, cond, get_or, true, false, Bool, Some, slice_get, refl, sym, ap, ◌∙◌, subst, arith, rules}
-use Rattle.std.specs.Global.{Vec}
-use Rattle.std.proofs.lemmas.Option.{slice_get_read}
-use Rattle.pg_image.specs.declared.node.ImageNode.TheVariants.{Image}
-use Rattle.pg_maps.specs.GridMaps.{numbered, number_of, followed_by}
 use Rattle.pg_unfold.specs.Marks.{ArePlacedBelow}
 use Rattle.pg_unfold.proofs.Placing.{below-length}
 use Rattle.pg_unfold.proofs.PlaceSteps.{placed-more_plain, placed-more_image}

@@ -1,8 +1,5 @@
 use Rattle.std.proofs.Common.{◌≡◌, ◌+◌, ◌-◌, ◌++◌, ◌∷◌, [], List, length, take, refl, sym, ap, ◌∙◌, subst, arith, rules}
-use Rattle.std.proofs.lemmas.Bool.{both_ways, false≢true}
-use Rattle.std.proofs.lemmas.List.{take_all, take_more}
-use Rattle.std.proofs.lemmas.Option.{slice_get_read}
-use Rattle.pg_image.specs.declared.cert.ImageClaim.{ImageClaim}
+use Rattle.pg_unfold.proofs.Common.{both_ways, false≢true, take_all, take_more, slice_get_read, ImageClaim}
 use Rattle.pg_unfold.specs.Flaws.{HaveRoom}
 use Rattle.pg_unfold.specs.Gathered.{AreCounted}
 use Rattle.pg_unfold.proofs.Rooms.{counted-none, counted-more, counted-room, counted-full}

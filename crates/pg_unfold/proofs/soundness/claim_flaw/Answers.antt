@@ -1,6 +1,5 @@
 use Rattle.std.proofs.Common.{◌≡◌, List, length, Some, slice_get, refl, ap, subst, arith}
-use Rattle.std.proofs.lemmas.Option.{slice_get_read}
-use Rattle.pg_image.specs.declared.node.ImageNode.{ImageNode}
+use Rattle.pg_unfold.proofs.Common.{slice_get_read, ImageNode}
 use Rattle.pg_unfold.specs.Flaws.{IsLeastFlaw, IsSound}
 use Rattle.pg_unfold.proofs.SoundNodes.{sound-more, sound-all}
 use Rattle.pg_unfold.proofs.soundness.claim_flaw.Goals as goal

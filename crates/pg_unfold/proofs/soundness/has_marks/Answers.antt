@@ -1,8 +1,6 @@
 use Rattle.std.proofs.Common.{◌≡◌, length, Some, refl, sym, ap, ◌∙◌, arith}
-use Rattle.std.proofs.lemmas.Option.{slice_get_read}
+use Rattle.pg_unfold.proofs.Common.{slice_get_read, image_of, board_of, image_position}
 use Rattle.pg_game.specs.PositionLemmas.{equal_positions-decides}
-use Rattle.pg_maps.specs.GridMaps.{image_of}
-use Rattle.pg_maps.specs.Images.{board_of, image_position}
 use Rattle.pg_unfold.specs.Flaws.{HasEarlier}
 use Rattle.std.proofs.Common.{subst, ◌<◌}
 use Rattle.pg_unfold.proofs.SoundNodes.{marks-image}

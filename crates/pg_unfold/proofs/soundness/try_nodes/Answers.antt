@@ -1,8 +1,5 @@
 use Rattle.std.proofs.Common.{List, length, refl, sym, subst, arith}
-use Rattle.std.proofs.lemmas.List.{take_all}
-use Rattle.std.proofs.lemmas.List.Elements.{All-more}
-use Rattle.std.proofs.lemmas.Option.{slice_get_read}
-use Rattle.pg_maps.specs.declared.grid_map.GridMap.{GridMap}
+use Rattle.pg_unfold.proofs.Common.{take_all, All-more, slice_get_read, GridMap}
 use Rattle.pg_unfold.specs.Flaws.{AreUsable, IsSoundClaim, AreSound}
 use Rattle.pg_unfold.proofs.soundness.try_nodes.Goals as goal
 

@@ -1,12 +1,7 @@
 use Rattle.std.proofs.Common.{◌≡◌, ◌↔◌, Option, Some, None, true, sym, ◌∙◌}
+use Rattle.pg_unfold.proofs.Common.{Vec, Contains, false≢true, Grid, Fits, GridMap}
 use Rattle.std.specs.Option.{is_some}
-use Rattle.std.specs.Global.{Vec}
-use Rattle.std.specs.List.{Contains}
-use Rattle.std.proofs.lemmas.Bool.{false≢true}
 use Rattle.std.proofs.lemmas.Result.{IfOk-weaker}
-use Rattle.pg_base.specs.declared.grid.Grid.{Grid}
-use Rattle.pg_maps.specs.Images.{Fits}
-use Rattle.pg_maps.specs.declared.grid_map.GridMap.{GridMap}
 use Rattle.pg_unfold.proofs.SoundNodes.{usable-fitting}
 use Rattle.pg_unfold.proofs.soundness.usable_maps.Goals as goal
 

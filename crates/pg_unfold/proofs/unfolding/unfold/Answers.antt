@@ -1,8 +1,5 @@
 use Rattle.std.proofs.Common.{List, refl, sym, subst}
-use Rattle.pg_cert.specs.declared.cert.Cert.{Cert}
-use Rattle.pg_cert.specs.declared.cert.Claim.{Claim}
-use Rattle.pg_cert.specs.declared.cert.Version.TheVariants.{Two}
-use Rattle.pg_image.specs.declared.cert.ImageClaim.{ImageClaim}
+use Rattle.pg_unfold.proofs.Common.{Cert, Claim, Two, ImageClaim}
 use Rattle.pg_unfold.specs.Flaws.{AreSound}
 use Rattle.pg_unfold.specs.Gathered.{AreGathered}
 use Rattle.pg_unfold.specs.Unfolded.{AreUnfolded}

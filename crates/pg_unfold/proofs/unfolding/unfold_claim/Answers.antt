@@ -1,10 +1,5 @@
 use Rattle.std.proofs.Common.{◌≤◌, ℕ, List, Bool, length, Option, refl, sym, ap, ◌∙◌, subst, arith, rules}
-use Rattle.std.specs.List.{All, AllZip}
-use Rattle.std.proofs.lemmas.Bool.{both_ways}
-use Rattle.pg_base.specs.declared.grid.Grid.{Grid}
-use Rattle.pg_cert.specs.declared.cert.Claim.{Claim}
-use Rattle.pg_image.specs.Limits.{IsImageNode}
-use Rattle.pg_image.specs.declared.node.ImageNode.{ImageNode}
+use Rattle.pg_unfold.proofs.Common.{All, AllZip, both_ways, Grid, Claim, IsImageNode, ImageNode}
 use Rattle.pg_unfold.specs.Gathered.{IsTaken}
 use Rattle.pg_unfold.specs.Marks.{AreEarlier, AreMet, ArePlaces, AreBoardMaps, copies_of}
 use Rattle.pg_unfold.specs.Unfolded.{IsCopied}

@@ -1,7 +1,5 @@
 use Rattle.std.proofs.Common.{◌≡◌, ◌+◌, ◌++◌, ◌∷◌, [], List, length, take, refl, sym, ap, ◌∙◌, subst}
-use Rattle.std.proofs.lemmas.List.{take_all, take_more}
-use Rattle.std.proofs.lemmas.Option.{slice_get_read}
-use Rattle.pg_image.specs.declared.cert.ImageClaim.{ImageClaim}
+use Rattle.pg_unfold.proofs.Common.{take_all, take_more, slice_get_read, ImageClaim}
 use Rattle.pg_unfold.specs.Gathered.{AreGathered, IsFull, IsGatheredNext, TakesNext}
 use Rattle.pg_unfold.specs.declared.unfolding.Gathered.{Gathered}
 use Rattle.pg_unfold.proofs.ClaimsGathered.{gathered-none, gathered-more, too_large}

@@ -1,6 +1,5 @@
 use Rattle.std.proofs.Common.{◌≤◌, ℕ, length, subst, sym, arith}
-use Rattle.pg_gf2.specs.Classes.{with_target}
-use Rattle.pg_gf2.specs.Vectors.{vector_spans}
+use Rattle.pg_vec_player.proofs.Common.{with_target, vector_spans}
 use Rattle.pg_vec_player.proofs.MoveLemmas.{answer-bound, vec-own}
 use Rattle.pg_vec_player.proofs.moves.own_move.Goals as goal
 

@@ -1,7 +1,5 @@
 use Rattle.std.proofs.Common.{◌≡◌, sym, ltb, rules, List, ℕ, subst}
-use Rattle.std.specs.List.{IsAllAdjacentAnswer}
-use Rattle.std.proofs.lemmas.Bool.{MatchBool-at_true, MatchBool-at_false}
-use Rattle.std.proofs.lemmas.List.Sorted.{answers_always}
+use Rattle.pg_base.proofs.Common.{IsAllAdjacentAnswer, MatchBool-at_true, MatchBool-at_false, answers_always}
 use Rattle.pg_base.proofs.LineLemmas.{StandsTwice-from_neighbours, IsStrictlyIncreasing-from_adjacent, not_twice}
 use Rattle.pg_base.proofs.line.Line.new.Goals as goal
 

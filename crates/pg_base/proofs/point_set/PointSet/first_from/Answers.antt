@@ -1,9 +1,7 @@
 use Rattle.std.proofs.Common.{◌∙◌, sym, ap, arith, inl, inr, subst}
-use Rattle.std.specs.FinSet.{FinSet, contains}
-use Rattle.std.specs.Ordering.{nat_cmp}
+use Rattle.pg_base.proofs.Common.{FinSet, contains, nat_cmp, cases_lt}
 use Rattle.pg_base.specs.Points.{AreBelow}
 use Rattle.pg_base.proofs.RowLemmas.{AreBelow-words}
-use Rattle.std.proofs.lemmas.Bool.{cases_lt}
 use Rattle.pg_base.specs.WordLemmas.{members-beyond}
 use Rattle.pg_base.proofs.point_set.PointSet.first_from.Goals as goal
 use Rattle.pg_base.specs.declared.limits.TheConstants.{MAX_MEMBERS}

@@ -1,7 +1,5 @@
 use Rattle.std.proofs.Common.{◌≡◌, ◌*◌, ◌+◌, ◌/◌, ◌^◌, false, subst, get_or, w64}
-use Rattle.std.specs.Int.{trailing_zeros}
-use Rattle.std.specs.FinSet.{FinSet, contains}
-use Rattle.std.specs.Ordering.{nat_cmp}
+use Rattle.pg_base.proofs.Common.{trailing_zeros, FinSet, contains, nat_cmp}
 use Rattle.pg_base.specs.Points.{IsLeastFrom}
 use Rattle.pg_base.proofs.RowLemmas.{none-in_row, least-in_row, AreBelow-words}
 use Rattle.pg_base.proofs.point_set.PointSet.first_in_row.Goals as goal

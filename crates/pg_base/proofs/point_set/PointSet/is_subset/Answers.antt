@@ -1,7 +1,5 @@
 use Rattle.std.proofs.Common.{sym, subst, arith, refl}
-use Rattle.std.proofs.lemmas.Bool.{false≢true}
-use Rattle.std.specs.FinSet.{FinSet}
-use Rattle.std.specs.Ordering.{nat_cmp}
+use Rattle.pg_base.proofs.Common.{false≢true, FinSet, nat_cmp}
 use Rattle.pg_base.specs.Words.{members_below}
 use Rattle.pg_base.specs.Points.{AreWithin}
 use Rattle.pg_base.proofs.RowLemmas.{AreWithin-from_rows, row-from_AreWithin}

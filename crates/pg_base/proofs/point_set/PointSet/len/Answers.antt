@@ -1,6 +1,5 @@
 use Rattle.std.proofs.Common.{◌≡◌, ◌*◌, ◌∙◌, ap, sym, arith, get_or}
-use Rattle.std.specs.FinSet.{len}
-use Rattle.std.proofs.lemmas.Nat.{ones-le}
+use Rattle.pg_base.proofs.Common.{len, ones-le}
 use Rattle.pg_base.specs.Words.{members_below}
 use Rattle.pg_base.specs.WordLemmas.{len-members_start, len-members_row}
 use Rattle.pg_base.proofs.point_set.PointSet.len.Goals as goal

@@ -1,10 +1,5 @@
 use Rattle.std.proofs.Common.{◌<◌, ◌^◌, ℕ, ◌||◌, ◌∙◌, sym, ap, subst, arith, refl, inl, inr, get_or, length, bit_or, lit<, length-set, get_or-set_same, get_or-set_other}
-use Rattle.std.proofs.lemmas.Nat.{or_lt}
-use Rattle.std.proofs.lemmas.List.{get_or_past}
-use Rattle.std.proofs.lemmas.Bool.{cases_eq, cases_lt}
-use Rattle.std.specs.FinSet.{FinSet, contains, contains-union}
-use Rattle.std.specs.Cmp.{nat_cmp_total}
-use Rattle.std.specs.Ordering.{nat_cmp}
+use Rattle.pg_base.proofs.Common.{or_lt, get_or_past, cases_eq, cases_lt, FinSet, contains, contains-union, nat_cmp_total, nat_cmp}
 use Rattle.pg_base.specs.Words.{members_below}
 use Rattle.pg_base.specs.WordLemmas.{same_points}
 use Rattle.pg_base.proofs.RowLemmas.{contains-or_rows}

@@ -1,11 +1,5 @@
 use Rattle.std.proofs.Common.{◌<◌, ◌^◌, ℕ, not, ◌&&◌, ◌∙◌, sym, ap, subst, arith, refl, inl, inr, get_or, length, w64, lit<, length-set, get_or-set_same, get_or-set_other}
-use Rattle.std.specs.Int.{bit_not}
-use Rattle.std.proofs.lemmas.Nat.{and_le_l}
-use Rattle.std.proofs.lemmas.List.{get_or_past}
-use Rattle.std.proofs.lemmas.Bool.{cases_eq, cases_lt}
-use Rattle.std.specs.FinSet.{FinSet, contains, contains-difference}
-use Rattle.std.specs.Cmp.{nat_cmp_total}
-use Rattle.std.specs.Ordering.{nat_cmp}
+use Rattle.pg_base.proofs.Common.{bit_not, and_le_l, get_or_past, cases_eq, cases_lt, FinSet, contains, contains-difference, nat_cmp_total, nat_cmp}
 use Rattle.pg_base.specs.Words.{members_below}
 use Rattle.pg_base.specs.WordLemmas.{same_points}
 use Rattle.pg_base.proofs.RowLemmas.{contains-cleared_rows, cleared}

@@ -1,7 +1,6 @@
 use Rattle.std.proofs.Common.{◌≡◌, ◌<◌, ap, ◌∙◌, sym, subst}
 use Rattle.std.specs.Prelude.{slice_get, IfSome}
-use Rattle.pg_game.specs.Game.{free_points}
-use Rattle.pg_undo.specs.Ring.{present}
+use Rattle.pg_board.proofs.Common.{free_points, present}
 use Rattle.pg_board.specs.Shape.{shape_of}
 use Rattle.pg_board.specs.Fits.{position_of}
 use Rattle.pg_board.proofs.Fitting.{fit-first}

@@ -1,6 +1,5 @@
 use Rattle.std.proofs.Common.{◌≡◌, ◌<◌, ◌^◌, ap, ◌∙◌, length, arith}
-use Rattle.pg_game.specs.Game.{free_points}
-use Rattle.pg_undo.specs.Ring.{present}
+use Rattle.pg_board.proofs.Common.{free_points, present}
 use Rattle.pg_board.specs.Shape.{shape_of}
 use Rattle.pg_board.specs.Fits.{position_of, free_points_in}
 use Rattle.pg_board.proofs.Fitting.{fit-first}

@@ -1,8 +1,5 @@
 use Rattle.std.proofs.Common.{◌≡◌, ◌∙◌, ap}
-use Rattle.std.specs.List.{list_any}
-use Rattle.pg_base.specs.declared.side.Side.TheVariants.{X, Y}
-use Rattle.pg_game.specs.Position.{points_of}
-use Rattle.pg_game.specs.Game.{free_points, is_filled, has_filled, all_touched, is_full}
+use Rattle.pg_board.proofs.Common.{list_any, X, Y, points_of, free_points, is_filled, has_filled, all_touched, is_full}
 use Rattle.pg_board.specs.Board.{live_lines}
 use Rattle.pg_board.specs.Shape.{shape_of}
 use Rattle.pg_board.specs.Fits.{position_of}

@@ -1,11 +1,7 @@
 use Rattle.std.proofs.Common.{true, ltb, length, Some, arith, ap, ◌∙◌, sym, subst, inl, inr}
-use Rattle.std.proofs.lemmas.Bool.{cases_eq, ltb-false, false≢true}
 use Rattle.std.specs.Prelude.{slice_get, nat_lt}
-use Rattle.std.specs.List.{find}
-use Rattle.pg_base.specs.Side.{other}
-use Rattle.pg_undo.proofs.Finding.{first_of_all}
+use Rattle.pg_board.proofs.Common.{cases_eq, ltb-false, false≢true, find, other, first_of_all, lines_of}
 use Rattle.pg_board.specs.Board.{live_lines}
-use Rattle.pg_game.specs.Game.{lines_of}
 use Rattle.pg_board.specs.Near.{WalksNear, place_of}
 use Rattle.pg_board.proofs.Walks.{walked, beyond, live-below}
 use Rattle.pg_board.proofs.board.Board.near.Goals as goal

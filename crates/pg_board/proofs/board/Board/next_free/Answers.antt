@@ -1,8 +1,6 @@
 use Rattle.std.proofs.Common.{◌≡◌, ◌<◌, ap, ◌∙◌, sym, subst}
 use Rattle.std.specs.Prelude.{nat_lt, IfSome}
-use Rattle.std.specs.List.{find, Contains}
-use Rattle.pg_game.specs.Game.{free_points}
-use Rattle.pg_undo.specs.Ring.{present}
+use Rattle.pg_board.proofs.Common.{find, Contains, free_points, present}
 use Rattle.pg_board.specs.Shape.{shape_of}
 use Rattle.pg_board.specs.Fits.{position_of}
 use Rattle.pg_board.proofs.Fitting.{fit-first}

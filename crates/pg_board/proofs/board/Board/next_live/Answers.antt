@@ -1,8 +1,6 @@
 use Rattle.std.proofs.Common.{◌≡◌, ap, ◌∙◌, sym, subst}
 use Rattle.std.specs.Prelude.{nat_lt}
-use Rattle.std.specs.List.{find, Contains}
-use Rattle.pg_base.specs.declared.side.Side.TheVariants.{X, Y}
-use Rattle.pg_undo.specs.Ring.{present}
+use Rattle.pg_board.proofs.Common.{find, Contains, X, Y, present}
 use Rattle.pg_board.specs.Shape.{shape_of}
 use Rattle.pg_board.specs.Fits.{position_of}
 use Rattle.pg_board.proofs.Fitting.{fit-first}

@@ -1,11 +1,5 @@
 use Rattle.std.proofs.Common.{◌≡◌, ◌+◌, ◌^◌, ◌≤◌, [], length, reverse, arith, ap, ◌∙◌}
-use Rattle.pg_base.specs.declared.side.Side.TheVariants.{Y}
-use Rattle.pg_game.specs.Game.{point_count, lines_of}
-use Rattle.pg_game.specs.Potential.{greatest_length}
-use Rattle.pg_game.proofs.LineSums.{full_weight-is}
-use Rattle.pg_game.proofs.Moves.{some_bias}
-use Rattle.pg_game.proofs.WeightBounds.{bias-le, bias-few}
-use Rattle.pg_undo.specs.Trail.{Cells, with_set}
+use Rattle.pg_board.proofs.Common.{Y, point_count, lines_of, greatest_length, full_weight-is, some_bias, bias-le, bias-few, Cells, with_set}
 use Rattle.pg_board.specs.Shape.{Shape, turn_cell}
 use Rattle.pg_board.specs.Opening.{turn_code}
 use Rattle.pg_board.specs.Fits.{Rules, Fits, position_of}

@@ -1,8 +1,5 @@
 use Rattle.std.proofs.Common.{◌≡◌, ◌∙◌, ap}
-use Rattle.std.specs.List.{list_any}
-use Rattle.pg_base.specs.declared.side.Side.TheVariants.{X, Y}
-use Rattle.pg_game.specs.Position.{points_of}
-use Rattle.pg_game.specs.Game.{is_filled, has_filled}
+use Rattle.pg_board.proofs.Common.{list_any, X, Y, points_of, is_filled, has_filled}
 use Rattle.pg_board.specs.Shape.{shape_of}
 use Rattle.pg_board.specs.Fits.{position_of}
 use Rattle.pg_board.proofs.Fitting.{fit-first}

@@ -1,12 +1,7 @@
 use Rattle.std.proofs.Common.{◌≡◌, ℕ, ◌+◌, ◌<◌, ◌≤◌, [], ◌∷◌, ◌++◌, true, length, reverse, arith, ap, ◌∙◌, sym, subst}
-use Rattle.std.proofs.lemmas.List.{reverse-append, length-reverse}
-use Rattle.std.specs.Vec.{vec_capacity}
-use Rattle.pg_game.specs.Position.{is_free}
-use Rattle.pg_game.specs.Game.{after}
+use Rattle.pg_board.proofs.Common.{reverse-append, length-reverse, vec_capacity, is_free, after, present, Cells, back_to}
 use Rattle.pg_board.specs.Shape.{Shape, shape_of, degree_in}
 use Rattle.pg_board.proofs.Judging.{degree-of}
-use Rattle.pg_undo.specs.Ring.{present}
-use Rattle.pg_undo.specs.Trail.{Cells, back_to}
 use Rattle.pg_board.specs.declared.plays.Played.{Played}
 use Rattle.pg_board.specs.Fits.{Rules, PlaysBack, stand_of, earlier_of}
 use Rattle.pg_board.proofs.Fitting.{fit-first, fit-more}

@@ -1,8 +1,5 @@
 use Rattle.std.proofs.Common.{◌≡◌, ℕ, ◌+◌, ◌≤◌, List, [], ◌∷◌, ◌++◌, length, reverse, arith, rules, ap, ◌∙◌, sym, subst}
-use Rattle.std.proofs.lemmas.List.{reverse-append, length-reverse}
-use Rattle.std.specs.Vec.{vec_len, vec_capacity}
-use Rattle.pg_undo.specs.Ring.{present}
-use Rattle.pg_undo.specs.Trail.{Cells}
+use Rattle.pg_board.proofs.Common.{reverse-append, length-reverse, vec_len, vec_capacity, present, Cells}
 use Rattle.pg_board.specs.Fits.{Rules, AreFit, stand_of, earlier_of}
 use Rattle.pg_board.proofs.Fitting.{fit-first, fit-played, fit-before}
 use Rattle.pg_board.proofs.Earlier.{earlier-more, length-earlier}

@@ -1,8 +1,5 @@
 use Rattle.std.proofs.Common.{◌≡◌, ◌<◌, map, arith, rules, ap, ◌∙◌, sym}
-use Rattle.std.specs.List.{range_with_len}
-use Rattle.pg_game.specs.Game.{lines_of}
-use Rattle.pg_game.specs.Potential.{greatest_length}
-use Rattle.pg_game.proofs.WeightBounds.{greatest_length-few}
+use Rattle.pg_board.proofs.Common.{range_with_len, lines_of, greatest_length, greatest_length-few}
 use Rattle.pg_board.specs.Shape.{IsShape, lines_holding}
 use Rattle.pg_board.proofs.OpenShape.{shape-is, layout-is}
 use Rattle.pg_board.proofs.layout.Layout.of_game.Goals as goal

@@ -1,6 +1,5 @@
 use Rattle.std.proofs.Common.{◌≡◌, ◌<◌, ◌++◌, ◌∷◌, [], arith, length, Some, None}
-use Rattle.std.proofs.lemmas.Bool.Decides.{nat_tests}
-use Rattle.std.proofs.lemmas.List.{nil_from_length}
+use Rattle.pg_cert_files.proofs.Common.{nat_tests, nil_from_length}
 use Rattle.pg_cert_files.specs.CertFile.{fault_of}
 use Rattle.pg_cert_files.proofs.Stands.{end_bad, end_whole, end_unfinished, is_bad}
 use Rattle.pg_cert_files.proofs.reader.LineReader.end.Goals as goal

@@ -1,8 +1,7 @@
 use Rattle.std.proofs.Common.{◌≡◌, ◌∙◌, ◌∷◌, ◌++◌, [], List, ap, sym, subst}
 use Rattle.std.specs.Prelude.{IfOk}
+use Rattle.pg_check.proofs.Common.{Node, Part}
 use Rattle.pg_check.specs.Checking.{StandsFor, AreNext}
-use Rattle.pg_cert.specs.declared.node.Node.{Node}
-use Rattle.pg_cert.specs.declared.part.Part.{Part}
 use Rattle.pg_cert.specs.declared.part.Part.TheVariants as parts
 use Rattle.pg_check.proofs.checking.Checking.part.Goals as goal
 

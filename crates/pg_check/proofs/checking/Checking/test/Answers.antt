@@ -1,6 +1,5 @@
 use Rattle.std.proofs.Common.{◌≡◌, ◌∙◌, ◌+◌, ◌-◌, ◌*◌, ◌∷◌, ◌++◌, [], Some, length, sym, subst, ap, refl, arith}
-use Rattle.pg_base.specs.Points.{AreBelow}
-use Rattle.pg_game.specs.declared.position.Position.{Position}
+use Rattle.pg_check.proofs.Common.{AreBelow, Position}
 use Rattle.pg_cert.specs.declared.node_fault.NodeFault.TheVariants as faults
 use Rattle.pg_check.specs.Marks.{kept}
 use Rattle.pg_check.proofs.FlatMarks.{fits-row, made-more}

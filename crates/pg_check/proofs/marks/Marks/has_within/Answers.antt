@@ -1,6 +1,5 @@
 use Rattle.std.proofs.Common.{◌*◌, ◌∙◌, sym, ap, subst, subst₂, List, ℕ}
-use Rattle.pg_base.specs.Points.{AreWithin}
-use Rattle.pg_base.specs.Words.{members_below}
+use Rattle.pg_check.proofs.Common.{AreWithin, members_below}
 use Rattle.pg_check.proofs.FlatMarks.{Fit, fit-set}
 use Rattle.pg_check.proofs.RowsWithin.{rest-set, rest-long, rest-fits, members-words}
 use Rattle.pg_check.proofs.marks.Marks.has_within.Goals as goal

@@ -1,6 +1,5 @@
 use Rattle.std.proofs.Common.{◌∙◌, ◌<◌, length, sym, subst, arith}
-use Rattle.std.proofs.lemmas.Bool.{false≢true}
-use Rattle.pg_game.specs.declared.position.Position.{Position}
+use Rattle.pg_check.proofs.Common.{false≢true, Position}
 use Rattle.pg_check.specs.Marks.{position_at, KeepsPoints}
 use Rattle.pg_check.proofs.FlatMarks.{kept-past, kept-get, kept-is, at-parts}
 use Rattle.pg_check.proofs.marks.Marks.is_no_worse.Goals as goal

@@ -1,6 +1,5 @@
 use Rattle.std.proofs.Common.{◌≡◌, ◌+◌, ◌-◌, ℕ, true, false, arith, ap, ◌∙◌, sym, subst, suc, refl}
-use Rattle.pg_graph.specs.Span.{IsBase, circuit}
-use Rattle.std.specs.FinSet.{contains}
+use Rattle.pg_exchange.proofs.Common.{IsBase, circuit, contains}
 use Rattle.pg_exchange.specs.Chain.{SomeShift, reads_up, reads_test}
 use Rattle.pg_exchange.proofs.TreeLemmas.{SomeShift-begin, link_first, link_second, SomeShift-first, SomeShift-second, IsNearest-shift, shift_ends}
 use Rattle.pg_exchange.proofs.exchange.Exchange.exchange.Goals as goal

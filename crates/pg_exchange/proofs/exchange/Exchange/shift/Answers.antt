@@ -1,9 +1,6 @@
+use Rattle.pg_exchange.proofs.Common.{both_ways, false_from_ne_true, either, outside, minus, IsWithin, contains, both_parts, both_from, outside_parts, outside_from, either_left}
 use Rattle.pg_exchange.proofs.Tests.{emptied, none_left}
 use Rattle.std.proofs.Common.{◌≡◌, ℕ, Bool, true, false, ap, ◌∙◌, sym, refl, subst, arith, inl, inr}
-use Rattle.std.proofs.lemmas.Bool.{both_ways, false_from_ne_true}
-use Rattle.pg_base.specs.Sets.{either, outside, minus, IsWithin}
-use Rattle.std.specs.FinSet.{contains}
-use Rattle.pg_base.proofs.SetLemmas.{both_parts, both_from, outside_parts, outside_from, either_left}
 use Rattle.pg_exchange.specs.Chain.{links, IsNearest, IsSearch, IsMoved, SomeTree, reads_up, reads_test}
 use Rattle.pg_exchange.proofs.SearchSteps.{either-none, either-moved, IsSearch-begin, IsSearch-next, IsSearch-fewer, Leads-seen}
 use Rattle.pg_exchange.proofs.TreeLemmas.{IsTree-begin}

@@ -1,6 +1,5 @@
 use Rattle.std.proofs.Common.{◌≡◌, ℕ, length, true, false}
-use Rattle.pg_base.specs.Sets.{either, outside, count}
-use Rattle.std.specs.FinSet.{contains}
+use Rattle.pg_exchange.proofs.Common.{either, outside, count, contains}
 use Rattle.pg_exchange.specs.Chain.{IsSearch, IsTree, IsLevelled, reads_up, reads_test}
 use Rattle.pg_exchange.proofs.exchange.Exchange.shift.Given as goal
 

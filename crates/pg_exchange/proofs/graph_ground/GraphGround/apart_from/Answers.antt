@@ -1,14 +1,5 @@
 use Rattle.std.proofs.Common.{◌≡◌, ◌<◌, ◌≤◌, suc, ℕ, Bool, true, false, arith, ap, ◌∙◌, sym, subst, inl, inr, List}
-use Rattle.std.proofs.lemmas.Bool.{both_ways}
-use Rattle.std.specs.FinSet.{contains}
-use Rattle.pg_base.specs.Sets.{below, either, outside, IsWithin}
-use Rattle.pg_base.proofs.SetLemmas.{both_parts, either_cases, outside_parts}
-use Rattle.pg_base.proofs.BelowLemmas.{below_parts}
-use Rattle.pg_graph.specs.declared.graph.Graph.{Graph}
-use Rattle.pg_graph.specs.Graph.{IsGraph, spans_in, edge_count}
-use Rattle.pg_graph.specs.Joiner.{AreEdges}
-use Rattle.pg_graph.specs.Labels.{AreLabels}
-use Rattle.pg_graph.specs.Span.{IsBase}
+use Rattle.pg_exchange.proofs.Common.{both_ways, contains, below, either, outside, IsWithin, both_parts, either_cases, outside_parts, below_parts, Graph, IsGraph, spans_in, edge_count, AreEdges, AreLabels, IsBase}
 use Rattle.pg_exchange.specs.Forest.{graph_matroid, IsGrown}
 use Rattle.pg_exchange.specs.ForestLaws.{IsSpan-graph_matroid}
 use Rattle.pg_exchange.proofs.Tests.{emptied, of_outside}

@@ -1,8 +1,5 @@
 use Rattle.std.proofs.Common.{◌≡◌, ℕ, Bool, subst}
-use Rattle.std.specs.FinSet.{contains}
-use Rattle.pg_graph.specs.Span.{IsBase, swapped}
-use Rattle.pg_graph.proofs.Swap.{IsBase-swap}
-use Rattle.pg_graph.proofs.Circuit.{circuit_parts}
+use Rattle.pg_exchange.proofs.Common.{contains, IsBase, swapped, IsBase-swap, circuit_parts}
 use Rattle.pg_exchange.specs.Forest.{graph_matroid}
 use Rattle.pg_exchange.specs.ForestLaws.{IsSpan-graph_matroid, small_edges}
 use Rattle.pg_exchange.proofs.Tests.{with_point, without_point}

@@ -1,7 +1,5 @@
 use Rattle.std.proofs.Common.{◌&&◌, ap, sym, ◌∙◌}
-use Rattle.std.specs.Str.{bytes_eq}
-use Rattle.std.proofs.lemmas.Bool.{and_right}
-use Rattle.pg_text.specs.Text.{Bytes}
+use Rattle.pg_family_files.proofs.Common.{bytes_eq, and_right, Bytes}
 use Rattle.pg_family_files.proofs.Bits.{and_first}
 use Rattle.pg_files.proofs.Finds.{find_more}
 use Rattle.pg_family_files.specs.Family.{key_name, has_key}

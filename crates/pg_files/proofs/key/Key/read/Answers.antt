@@ -1,6 +1,5 @@
 use Rattle.std.proofs.Common.{ap, sym, ◌∙◌}
-use Rattle.std.specs.Str.{bytes_eq}
-use Rattle.pg_text.specs.Text.{Bytes}
+use Rattle.pg_files.proofs.Common.{bytes_eq, Bytes}
 use Rattle.pg_files.specs.Key.{key_name}
 use Rattle.pg_files.proofs.Finds.{find_more}
 use Rattle.pg_files.proofs.key.Key.read.Goals as goal

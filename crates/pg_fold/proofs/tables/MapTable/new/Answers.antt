@@ -1,9 +1,5 @@
 use Rattle.std.proofs.Common.{◌<◌, ◌++◌, ◌∷◌, [], ℕ, List, sym, ap, ap₂, ◌∙◌, subst, arith}
-use Rattle.std.proofs.lemmas.List.Elements.{All-push}
-use Rattle.std.proofs.lemmas.List.FromFn.{map-range_with_len_more}
-use Rattle.std.specs.List.{All}
-use Rattle.pg_maps.specs.GridMaps.{image_of, reverse_of}
-use Rattle.pg_maps.specs.declared.grid_map.GridMap.{GridMap}
+use Rattle.pg_fold.proofs.Common.{All-push, map-range_with_len_more, All, image_of, reverse_of, GridMap}
 use Rattle.pg_fold.proofs.tables.MapTable.new.Goals as goal
 
 pub loop-v-preserved : goal.loop-v-preserved

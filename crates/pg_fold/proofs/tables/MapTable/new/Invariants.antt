@@ -1,7 +1,5 @@
 use Rattle.std.proofs.Common.{◌≡◌, ◌<◌, map}
-use Rattle.std.specs.List.{All, range_with_len}
-use Rattle.pg_base.specs.declared.limits.TheConstants.{MAX_MEMBERS}
-use Rattle.pg_maps.specs.GridMaps.{image_of, reverse_of}
+use Rattle.pg_fold.proofs.Common.{All, range_with_len, MAX_MEMBERS, image_of, reverse_of}
 use Rattle.pg_fold.proofs.tables.MapTable.new.Given as goal
 
 abbrev pub invariant-loop-v : goal.invariant-loop-v

@@ -1,7 +1,5 @@
 use Rattle.std.proofs.Common.{ℕ, map, sym, ap, ◌∙◌, arith}
-use Rattle.std.proofs.lemmas.List.{get_or-map, length-map}
-use Rattle.std.specs.FinSet.{insert}
-use Rattle.std.specs.Ordering.{nat_cmp}
+use Rattle.pg_fold.proofs.Common.{get_or-map, length-map, insert, nat_cmp}
 use Rattle.pg_base.proofs.MoreMembers.{from_list-more, from_list-all}
 use Rattle.pg_fold.specs.Tables.{come_from}
 use Rattle.pg_fold.proofs.tables.MapTable.sources_of.Goals as goal

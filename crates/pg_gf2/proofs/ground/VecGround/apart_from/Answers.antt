@@ -1,12 +1,6 @@
 use Rattle.std.proofs.Common.{◌≡◌, ℕ, ◌+◌, ◌<◌, Bool, true, false, List, [], ◌∷◌, ◌++◌, length, ap, ◌∙◌, subst, sym, arith}
-use Rattle.std.proofs.lemmas.Bool.{both_ways}
-use Rattle.std.proofs.lemmas.List.{length-append}
-use Rattle.std.specs.FinSet.{contains}
-use Rattle.pg_base.specs.Sets.{either, both, below, outside, IsBelow}
-use Rattle.pg_exchange.proofs.Tests.{emptied, of_outside}
-use Rattle.pg_exchange.proofs.ForestLemmas.{IsBase-apart, spanned-apart}
+use Rattle.pg_gf2.proofs.Common.{both_ways, length-append, contains, either, both, below, outside, IsBelow, emptied, of_outside, IsBase-apart, spanned-apart, IsFree, IsGrown}
 use Rattle.pg_exchange.proofs.SearchSteps.{outside-outside}
-use Rattle.pg_exchange.specs.Forest.{IsFree, IsGrown}
 use Rattle.pg_gf2.specs.declared.row.Row.{Row}
 use Rattle.pg_gf2.specs.Vectors.{vector_at, spans_over}
 use Rattle.pg_gf2.specs.GroundLaws.{IsSpan-over_vectors}

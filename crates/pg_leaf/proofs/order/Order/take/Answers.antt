@@ -1,6 +1,5 @@
 use Rattle.std.proofs.Common.{arith}
-use Rattle.std.proofs.lemmas.Option.{slice_get-get_or}
-use Rattle.pg_base.proofs.Stands.{at_set_same}
+use Rattle.pg_leaf.proofs.Common.{slice_get-get_or, at_set_same}
 use Rattle.pg_leaf.proofs.Taking.{one-taken, stays-gone}
 use Rattle.pg_leaf.proofs.order.Order.take.Goals as goal
 

@@ -1,6 +1,5 @@
 use Rattle.std.proofs.Common.{IfSome}
-use Rattle.std.specs.List.{Contains}
-use Rattle.pg_board.specs.Board.{live_lines}
+use Rattle.pg_leaf.proofs.Common.{Contains, live_lines}
 use Rattle.pg_leaf.specs.Order.{Takes}
 use Rattle.pg_leaf.proofs.order.Order.take_lines.Given as goal
 

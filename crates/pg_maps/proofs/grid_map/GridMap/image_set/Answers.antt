@@ -1,8 +1,5 @@
 use Rattle.std.proofs.Common.{◌≡◌, ◌<◌, ◌≤◌, ℕ, ◌||◌, sym, ap, ◌∙◌, inl, inr, arith, eqb, eq-eqb, eqb-true}
-use Rattle.std.proofs.lemmas.Bool.{cases_eq, cases_lt, both_ways, or_cases, or_left, or_right}
-use Rattle.std.specs.FinSet.{FinSet, contains, contains-empty}
-use Rattle.std.specs.Ordering.{nat_cmp}
-use Rattle.pg_base.specs.WordLemmas.{in_insert}
+use Rattle.pg_maps.proofs.Common.{cases_eq, cases_lt, both_ways, or_cases, or_left, or_right, FinSet, contains, contains-empty, nat_cmp, in_insert}
 use Rattle.pg_maps.specs.GridMaps.{image_of}
 use Rattle.pg_maps.proofs.SetImages.{image_set-from}
 use Rattle.pg_maps.proofs.grid_map.GridMap.image_set.Goals as goal

@@ -1,7 +1,6 @@
 use Rattle.std.proofs.Common.{ℕ, List, ap, arith}
-use Rattle.std.proofs.lemmas.List.{length-map}
+use Rattle.pg_match.proofs.Common.{length-map, MatchOption-at_some, MatchOption-at_none}
 use Rattle.pg_match.specs.Cache.{kept_of}
-use Rattle.std.proofs.lemmas.Option.{MatchOption-at_some, MatchOption-at_none}
 use Rattle.pg_match.specs.Private.{told}
 use Rattle.pg_match.proofs.Below.{points-below}
 use Rattle.pg_match.proofs.CacheLaws.{hit-remembers_to, hit-fits_to, hit-answer_to, hit-length_to, miss-remembers_to, miss-fits_to, miss-length}

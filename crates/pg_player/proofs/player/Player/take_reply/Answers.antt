@@ -1,8 +1,5 @@
 use Rattle.std.proofs.Common.{◌≡◌, ◌∙◌, ℕ, Some, refl, sym, subst}
-use Rattle.pg_graph.specs.Joiner.{Room}
-use Rattle.pg_game.specs.Game.{after}
-use Rattle.pg_game.specs.Judge.{IsMadeForGame}
-use Rattle.pg_cert.specs.OwnMove.{replied, replied_by}
+use Rattle.pg_player.proofs.Common.{Room, after, IsMadeForGame, replied, replied_by}
 use Rattle.pg_player.specs.Player.{Play, Waits, TakesReply}
 use Rattle.pg_player.specs.Stand.{body_of, standing_of}
 use Rattle.pg_player.proofs.Replying.{judged-legal}

@@ -1,6 +1,5 @@
 use Rattle.std.proofs.Common.{ap}
-use Rattle.std.specs.Map.{lookup}
-use Rattle.pg_game.specs.PositionLemmas.{equal_positions}
+use Rattle.pg_pns.proofs.Common.{lookup, equal_positions}
 use Rattle.pg_pns.proofs.Searching.{empty-tree}
 use Rattle.pg_pns.proofs.table.Table.new.Goals as goal
 

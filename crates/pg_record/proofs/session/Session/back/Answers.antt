@@ -1,6 +1,5 @@
 use Rattle.std.proofs.Common.{◌≡◌, ◌∙◌, ℕ, ◌-◌, ◌<◌, List, length, take, ap, subst, arith, rules}
-use Rattle.std.specs.Vec.{vec_len}
-use Rattle.std.proofs.lemmas.Bool.Decides.{nat_tests}
+use Rattle.pg_record.proofs.Common.{vec_len, nat_tests}
 use Rattle.pg_record.specs.Session.{IsTableAfter}
 use Rattle.pg_record.proofs.Sessions.{session-back}
 use Rattle.pg_record.proofs.session.Session.back.Goals as goal

@@ -1,8 +1,5 @@
 use Rattle.std.proofs.Common.{◌≡◌, ◌∙◌, ◌++◌, [], ◌∷◌, ℕ, List, length, true, is_ok, ap, sym, subst, arith, rules}
-use Rattle.std.specs.Vec.{vec_len}
-use Rattle.pg_game.specs.Game.{start}
-use Rattle.pg_game.specs.Judge.{judged_move}
-use Rattle.pg_game.specs.Play.{IsLegalPlay}
+use Rattle.pg_record.proofs.Common.{vec_len, start, judged_move, IsLegalPlay}
 use Rattle.pg_record.specs.Replay.{position_after}
 use Rattle.pg_record.specs.Session.{IsTableAfter}
 use Rattle.pg_record.proofs.Sessions.{not-refused, session-play}

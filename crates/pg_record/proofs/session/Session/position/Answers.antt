@@ -1,7 +1,5 @@
 use Rattle.std.proofs.Common.{◌≡◌, ◌∙◌, ℕ, List, ap, sym, subst}
-use Rattle.pg_game.specs.declared.position.Position.{Position}
-use Rattle.pg_game.specs.Game.{start, IsPosition}
-use Rattle.pg_game.specs.Play.{IsLegalPlay}
+use Rattle.pg_record.proofs.Common.{Position, start, IsPosition, IsLegalPlay}
 use Rattle.pg_record.specs.Replay.{position_after, standing}
 use Rattle.pg_record.proofs.Standing.{legal-standing, position-standing}
 use Rattle.pg_record.proofs.session.Session.position.Goals as goal

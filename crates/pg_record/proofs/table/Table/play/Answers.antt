@@ -1,8 +1,5 @@
 use Rattle.std.proofs.Common.{◌∙◌, sym, subst}
-use Rattle.pg_game.specs.declared.position.Position.{Position}
-use Rattle.pg_game.specs.Game.{start, IsPosition}
-use Rattle.pg_game.specs.Judge.{judged_move}
-use Rattle.pg_game.proofs.Moves.{IsPosition-start, IsPosition-played}
+use Rattle.pg_record.proofs.Common.{Position, start, IsPosition, judged_move, IsPosition-start, IsPosition-played}
 use Rattle.pg_record.specs.declared.table.Table.{Table}
 use Rattle.pg_record.specs.Session.{refusal_of, IsBoardAfter, IsTableAfter}
 use Rattle.pg_record.proofs.Boards.{board-position, board-played}

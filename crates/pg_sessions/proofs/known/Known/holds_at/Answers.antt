@@ -1,8 +1,5 @@
 use Rattle.std.proofs.Common.{◌≡◌, ◌∙◌, ◌<◌, false, List, length, get_or, take_all, refl, sym, ap, subst, arith, rules}
-use Rattle.std.specs.List.{All}
-use Rattle.std.proofs.lemmas.Bool.{false≢true}
-use Rattle.std.proofs.lemmas.List.Elements.{All-more}
-use Rattle.pg_cert.specs.declared.cert.Claim.{Claim}
+use Rattle.pg_sessions.proofs.Common.{All, false≢true, All-more, Claim}
 use Rattle.pg_sessions.specs.Known.{HasNode}
 use Rattle.pg_sessions.proofs.known.Known.holds_at.Goals as goal
 

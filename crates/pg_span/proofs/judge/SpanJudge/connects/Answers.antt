@@ -1,7 +1,6 @@
 use Rattle.std.proofs.Common.{◌∙◌, sym, ap, arith}
 use Rattle.std.specs.Prelude.{nat_lt}
-use Rattle.std.specs.FinSet.{contains}
-use Rattle.std.proofs.lemmas.Bool.{false_from_ne_true, both_ways}
+use Rattle.pg_span.proofs.Common.{contains, false_from_ne_true, both_ways}
 use Rattle.pg_span.proofs.Connects.{connects-found, connects-more}
 use Rattle.pg_span.proofs.judge.SpanJudge.connects.Goals as goal
 

@@ -1,9 +1,6 @@
 use Rattle.std.proofs.Common.{◌∙◌, sym, ap, true, subst}
 use Rattle.std.specs.Prelude.{nat_lt}
-use Rattle.std.specs.FinSet.{contains}
-use Rattle.std.proofs.lemmas.Bool.{lt-ltb}
-use Rattle.pg_graph.specs.Graph.{edge_count}
-use Rattle.pg_graph.specs.Joiner.{Room, IsMadeFor}
+use Rattle.pg_span.proofs.Common.{contains, lt-ltb, edge_count, Room, IsMadeFor}
 use Rattle.pg_span.proofs.Connects.{connects-same}
 use Rattle.pg_span.proofs.judge.SpanJudge.new.Goals as goal
 

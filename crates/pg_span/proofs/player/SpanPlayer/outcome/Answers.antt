@@ -1,6 +1,5 @@
 use Rattle.std.proofs.Common.{◌≡◌, IfSome, true, subst}
-use Rattle.pg_base.specs.declared.goal.Goal.TheVariants.{Win}
-use Rattle.pg_game.specs.Rules.{reaches}
+use Rattle.pg_span.proofs.Common.{Win, reaches}
 use Rattle.pg_span.specs.Player.{SpanPlay}
 use Rattle.pg_span.specs.Game.{span_rules_of}
 use Rattle.pg_span.proofs.Keeping.{outcome-reached}

@@ -1,6 +1,5 @@
 use Rattle.std.proofs.Common.{refl, sym, ◌∙◌, eq-eqb}
-use Rattle.std.proofs.lemmas.Bool.{or_left, or_right, false≢true}
-use Rattle.pg_base.specs.WordLemmas.{in_insert}
+use Rattle.pg_threat.proofs.Common.{or_left, or_right, false≢true, in_insert}
 use Rattle.pg_threat.proofs.lacking.Lacked.put.Goals as goal
 use Rattle.pg_threat.proofs.lacking.Lacked.put.Goals.{then-has, else-has}
 

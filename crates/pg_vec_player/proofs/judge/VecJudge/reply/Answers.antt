@@ -1,11 +1,5 @@
 use Rattle.std.proofs.Common.{◌≡◌, ◌∙◌, ℕ, length, sym, ap, subst}
-use Rattle.std.specs.FinSet.{contains, remove}
-use Rattle.pg_base.specs.Sets.{either}
-use Rattle.pg_base.specs.declared.side.Side.{Side}
-use Rattle.pg_switch.specs.Claims.{left_without}
-use Rattle.pg_gf2.specs.Answers.{lowest_free, reply_vector, lowest_unspanned, lowest_needed}
-use Rattle.pg_gf2.specs.Classes.{with_target}
-use Rattle.pg_gf2.specs.Vectors.{vector_spans}
+use Rattle.pg_vec_player.proofs.Common.{contains, remove, either, Side, left_without, lowest_free, reply_vector, lowest_unspanned, lowest_needed, with_target, vector_spans}
 use Rattle.pg_vec_player.proofs.JudgeLemmas.{reply-some, reply-none}
 use Rattle.pg_vec_player.proofs.MoveLemmas.{found-x, found-y}
 use Rattle.pg_vec_player.proofs.judge.VecJudge.reply.Goals.{in-X, in-Y}

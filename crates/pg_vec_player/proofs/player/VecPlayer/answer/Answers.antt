@@ -1,8 +1,7 @@
 use Rattle.std.proofs.Common.{◌∙◌, true, false, Some, refl, sym, ap, subst}
-use Rattle.pg_game.specs.Rules.{moved}
+use Rattle.pg_vec_player.proofs.Common.{moved, vector_rules}
 use Rattle.pg_vec_player.specs.Player.{VecPlay, VecWaits, TakesVecReply}
 use Rattle.pg_vec_player.specs.Player.{IsVecDue}
-use Rattle.pg_gf2.specs.Classes.{vector_rules}
 use Rattle.pg_vec_player.proofs.Keeping.{judged-legal, over-known, theirs, on-over, due-reply, playing-next}
 use Rattle.pg_vec_player.proofs.player.VecPlayer.answer.Goals as goal
 

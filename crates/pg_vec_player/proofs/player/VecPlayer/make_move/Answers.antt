@@ -1,8 +1,7 @@
 use Rattle.std.proofs.Common.{refl, sym, subst}
-use Rattle.pg_game.specs.Rules.{moved}
+use Rattle.pg_vec_player.proofs.Common.{moved, vector_rules}
 use Rattle.pg_vec_player.specs.Player.{VecPlay, MakesVecMove}
 use Rattle.pg_vec_player.specs.Player.{IsVecDue}
-use Rattle.pg_gf2.specs.Classes.{vector_rules}
 use Rattle.pg_vec_player.proofs.Keeping.{own_is_kept, lost-bound, on-own, small, playing-next}
 use Rattle.pg_vec_player.proofs.player.VecPlayer.make_move.Goals as goal
 

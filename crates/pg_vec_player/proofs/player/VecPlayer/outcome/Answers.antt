@@ -1,8 +1,6 @@
 use Rattle.std.proofs.Common.{◌≡◌, IfSome, true, subst}
-use Rattle.pg_base.specs.declared.goal.Goal.TheVariants.{Win}
-use Rattle.pg_game.specs.Rules.{reaches}
+use Rattle.pg_vec_player.proofs.Common.{Win, reaches, vector_rules}
 use Rattle.pg_vec_player.specs.Player.{VecPlay}
-use Rattle.pg_gf2.specs.Classes.{vector_rules}
 use Rattle.pg_vec_player.proofs.Keeping.{outcome-reached}
 use Rattle.pg_vec_player.proofs.player.VecPlayer.outcome.Goals as goal
 

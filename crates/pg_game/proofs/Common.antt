@@ -1,0 +1,11 @@
+-- What the proofs of this crate name of crates below.
+pub use Rattle.pg_game.specs.Prelude.{All, AllPairs, AllZip, Any, AreBelow, AreWithin, AvoiderEnforcer, Contains, Decides, Draw, FinSet, Goal, Graph, Grid, IsBelow, IsBridge, IsGraph, IsJoined, IsJoinedIn, IsMadeFor, IsStrictlyIncreasing, JoinsEndsOf, Kind, MAX_EDGES, MakerBreaker, MakerMaker, Room, Score, ShareNone, Side, Switching, Win, X, XWins, Y, YWins, below, contains, count_by, edge_count, either, filter, find, first_end, first_end_of, in_insert, insert, is_none, is_same_side, joins_in, len, list_all, list_any, minus, nat_cmp, one_if, option_or, other, outside, range_with_len, remove, second_end, second_end_of, sum_by}
+unfoldable pub use Rattle.pg_game.specs.Prelude.{count, joins}
+pub use Rattle.pg_base.proofs.SetLemmas.{count_same, find_below}
+pub use Rattle.pg_graph.proofs.GraphLemmas.{first_end_of-edge, joins-below, joins_in-complete, joins_in-edges, joins_in-sound, joins_same, second_end_of-edge, switching_full}
+pub use Rattle.std.proofs.Math.Nat.{add-mod_right, add-mul, mul-add, mul_comm, pow-le-pow_left, pow-le-pow_right, zero-mod}
+pub use Rattle.std.proofs.lemmas.Bool.{and_from, and_parts, both_ways, cases_Bool, cases_eq, cases_lt, cases_order, cond-false, cond-true, false_from_ne_true, false≢true, le-ltb, lt-ltb, ltb-true, not-true, not_from_false, or_cases, or_from, or_left, or_parts, or_right}
+pub use Rattle.std.proofs.lemmas.List.{at_drop_more, get_or-set_other, get_or-set_same, get_or_default, take_more}
+pub use Rattle.std.proofs.lemmas.List.Elements.{All-contains, All-weaker, Contains-get_or, filter_agree}
+pub use Rattle.std.proofs.lemmas.List.Folds.{Any-from_list_any, list_all_at, list_any_at, list_any_more}
+pub use Rattle.std.proofs.lemmas.List.Sums.{count_by-le-length, get_or-le-sum_by, sum_by-cons, sum_by-le, sum_by_more_le}

@@ -1,0 +1,10 @@
+-- What the proofs of this crate name of crates below.
+pub use Rattle.pg_graph.specs.Prelude.{FinSet, IsBelow, IsWithin, contains, minus, one_if, plus}
+unfoldable pub use Rattle.pg_graph.specs.Prelude.{below, both, count, cut_below, either, outside}
+pub use Rattle.pg_base.proofs.BelowLemmas.{below_from, below_in, below_out, below_parts, same_sets}
+pub use Rattle.pg_base.proofs.PointSetLaws.{contains-difference_outside, contains-remove_minus}
+pub use Rattle.pg_base.proofs.SetLemmas.{both_from, both_parts, count_both_either, count_le, count_minus, count_plus, either_cases, either_left, either_right, find_below, minus_from, minus_parts, outside_from, outside_parts, plus_cases, plus_new, plus_old, sets}
+pub use Rattle.std.proofs.Math.Bool.{beq}
+pub use Rattle.std.proofs.Math.ListN.{length-set, set}
+pub use Rattle.std.proofs.lemmas.Bool.{and_cases, and_from, and_left, and_parts, and_right, both_ways, cases_Bool, cases_eq, cases_lt, eq-eqb, eqb-true, false_from_ne_true, le-ltb, lt-ltb, ne_eqb, not-true, not_from_false, or_cases, or_left, or_right, true_from_ne_false}
+pub use Rattle.std.proofs.lemmas.List.{get_or-set_other, get_or-set_same, take_at}

@@ -1,0 +1,13 @@
+-- What the proofs of this crate name of crates below.
+pub use Rattle.pg_pairing.specs.Prelude.{All, AllPairs, Any, AreOpenPairs, AvoiderEnforcer, Contains, Draw, FinSet, Forces, Game, HoldLines, HoldsPair, IsInGame, IsPosition, IsSafe, Kind, MAX_MEMBERS, MakerBreaker, MakerMaker, Pair, PairsHold, PairsLeaveNone, Position, ShareNone, SharesNone, Side, Switching, Win, X, Y, after, bias_of, breaker_of, claims_in_turn, contains, contains-empty, filter, find, free_partner, has_filled, has_point, if_free, in_insert, insert, is_filled, is_free, is_full, is_loose, is_open, is_over, is_paired, is_touched, lines_of, list_any, lowest_free, nat_cmp, other, outcome, partner, point_count, points_of, range_with_len, reaches, unpaired, unpaired_due}
+unfoldable pub use Rattle.pg_pairing.specs.Prelude.{free_points, pairs_answer}
+pub use Rattle.pg_game.proofs.FreeCounts.{passed, passed-both, passed-more, passed-none, passed-same}
+pub use Rattle.pg_game.proofs.FreePoints.{any-free_points, first_free, is_free-after, is_full-one}
+pub use Rattle.pg_game.proofs.Limits.{point_count-le}
+pub use Rattle.pg_game.proofs.Lowest.{any_both, find_same, first_below, none_below}
+pub use Rattle.pg_game.proofs.Members.{All-from_members, Contains-filter, Contains-head, Contains-tail, apart-or_same, false-at, filter_both, list_any-none, list_any-one, member-from_any, true-at}
+pub use Rattle.pg_game.proofs.Moves.{IsPosition-after, apart, free-of, free-stays, free-was, own-point, points-stay, points_of-waiter, side≢other, turn-after_x, turn-replied}
+pub use Rattle.std.proofs.lemmas.Bool.{and_from, and_parts, cases_Bool, cases_eq, false≢true, not-true, not_from_false, or_cases, or_from, or_left, or_parts, or_right}
+pub use Rattle.std.proofs.lemmas.List.{get_or-replicate, get_or-set_other, get_or-set_same, get_or_default, length-set, take_more}
+pub use Rattle.std.proofs.lemmas.List.Elements.{All-contains, All-contains_itself, All-filter, All-get_or, All-head, All-nil, All-push, All-tail, All-weaker, Contains-get_or, filter_agree, filter_passes}
+pub use Rattle.std.proofs.lemmas.Option.{none-some, same_Some}

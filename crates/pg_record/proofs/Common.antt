@@ -1,0 +1,10 @@
+-- What the proofs of this crate name of crates below.
+pub use Rattle.pg_record.specs.Prelude.{AllByRecursion, Bytes, Game, Illegal, IsLeast, IsLegalPlay, IsMadeForGame, IsPosition, Over, Position, Range, SPACE, Stand, Switching, Taken, View, and_then, bytes_eq, decimal, flat_map, go_on, judged_move, least, lines, number, parts, played, point_count, spaced, spelled, start, unless, vec_len}
+unfoldable pub use Rattle.pg_record.specs.Prelude.{after, reading}
+pub use Rattle.pg_game.proofs.Limits.{point_count-le}
+pub use Rattle.pg_game.proofs.Moves.{IsPosition-played, IsPosition-start}
+pub use Rattle.pg_text.proofs.PlainWords.{IsWord, decimal_is_word, quiet_lacks_feed, spaced_quiet, words_spaced}
+pub use Rattle.pg_text.proofs.Reading.{ends, first_fault, is_least, is_over, lines_few, reads_on, unless_err}
+pub use Rattle.std.proofs.lemmas.Bool.{false≢true, ltb-true}
+pub use Rattle.std.proofs.lemmas.Bool.Decides.{nat_tests}
+pub use Rattle.std.proofs.lemmas.List.{append-nil, length-append, length-map, length-take-le, length_push, map-append, take_at, take_more}

@@ -1,0 +1,11 @@
+-- What the proofs of this crate name of crates below.
+pub use Rattle.pg_scene.specs.Prelude.{All, AllByRecursion, AreLinesOf, AvoiderEnforcer, Body, Claim, Field, FieldFits, FinSet, Game, Graph, IsBaseOf, IsFit, IsLineOf, Kind, Lines, MAX_EDGES, MAX_MEMBERS, MakerBreaker, MakerMaker, Node, Pair, Parts, Position, Reply, Side, SpanBody, SpanClaim, SpanGame, Switching, Trees, Vec, contains, count_by, count_text, decimal, edge_count, field_points, filter, flat_map, greatest_length, is_free, is_graph, is_on, is_touched, line_weight, lines_of, list_any, longest, marks_at, nat_cmp, point_count, points_of, position_of, range_with_len, side_word, start, sum_by}
+unfoldable pub use Rattle.pg_scene.specs.Prelude.{free_points, full_weight, point_weight, points_below}
+pub use Rattle.pg_game.proofs.LineSums.{length-le-greatest, line_weight-clear, line_weight-touched}
+pub use Rattle.pg_game.proofs.WeightBounds.{IsBaseOf-bias, IsBaseOf-two, greatest_length-few, line-fit}
+pub use Rattle.std.proofs.Math.Nat.{mul-div_cancel_left, one-le-pow, pow-le-pow_right}
+pub use Rattle.std.proofs.lemmas.Bool.{and_parts, cases_Bool}
+pub use Rattle.std.proofs.lemmas.Bool.Decides.{nat_tests}
+pub use Rattle.std.proofs.lemmas.List.{append-nil, at_drop_more, length-append, length-take-le, map-append, take_more}
+pub use Rattle.std.proofs.lemmas.List.Concat.{flat_map-append, flat_map-cons}
+pub use Rattle.std.proofs.lemmas.List.Elements.{All-append, All-map, All-nil, Contains-get_or}

@@ -1,0 +1,9 @@
+-- What the proofs of this crate name of crates below.
+pub use Rattle.pg_text.specs.Prelude.{All, AllByRecursion, AllDigits, IsAllAdjacentAnswer, LINE_FEED, SPACE, YieldsFirstRef, after_first, before_first, decimal, digit_value, digits_value, flat_map, is_ascii_digit, item_count, list_all, list_any, position, position_or_len, slice_split}
+pub use Rattle.std.proofs.lemmas.Bool.{and_parts, cases_Bool, cases_lt, eqb-true}
+pub use Rattle.std.proofs.lemmas.Bool.Decides.{nat_tests}
+pub use Rattle.std.proofs.lemmas.List.{append-nil, drop_all, length-append, length-drop, length-take-le, take-append-drop, take_all}
+pub use Rattle.std.proofs.lemmas.List.Elements.{All-from_recursion}
+pub use Rattle.std.proofs.lemmas.List.Splits.{length-slice_split, slice_split_at, slice_split_first, slice_split_none}
+pub use Rattle.std.proofs.lemmas.List.Sums.{count_by-le-length, fails_before_first, position_or_len_is}
+pub use Rattle.std.proofs.lemmas.Str.Parse.{digit_at, digit_from_value, digits_value-take-le}

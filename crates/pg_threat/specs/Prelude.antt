@@ -1,0 +1,21 @@
+-- The definitions of crates below that this crate names.
+pub use Rattle.pg_base.specs.Points.{IsLeastFrom, ShareNone}
+pub use Rattle.pg_base.specs.Side.{other}
+pub use Rattle.pg_base.specs.WordLemmas.{in_insert, in_remove, same_points}
+pub use Rattle.pg_base.specs.declared.kind.Kind.TheVariants.{MakerMaker}
+pub use Rattle.pg_base.specs.declared.side.Side.{Side}
+pub use Rattle.pg_base.specs.declared.side.Side.TheVariants.{X, Y}
+pub use Rattle.pg_board.specs.Board.{Stand, View, count_of, is_live_with, line_at}
+unfoldable pub use Rattle.pg_board.specs.Board.{live_lines, live_with}
+unfoldable pub use Rattle.pg_board.specs.Shape.{lines_holding}
+pub use Rattle.pg_game.specs.Game.{IsPosition, after, has_filled, is_filled, is_over, is_touched, lines_of, point_count}
+pub use Rattle.pg_game.specs.Position.{is_free, points_of}
+pub use Rattle.pg_game.specs.Potential.{is_on}
+pub use Rattle.pg_game.specs.Threat.{AreDeeper, ComesFirst, Filling, Forcing, IsAttack, IsAttacking, IsFirstThreatLine, IsThreatLine, IsUnfilled, LeadsToLine, depth_of, has_threat, is_near, may_attack, threatens}
+unfoldable pub use Rattle.pg_game.specs.Threat.{has_threat_line}
+pub use Rattle.pg_game.specs.declared.game.Game.{Game}
+pub use Rattle.pg_game.specs.declared.position.Position.{Position}
+pub use Rattle.std.specs.FinSet.{FinSet, contains, contains-empty, empty, insert, remove}
+pub use Rattle.std.specs.List.{Contains, count_by, find, list_all, list_any, range_with_len, slice_get}
+pub use Rattle.std.specs.Option.{is_some}
+pub use Rattle.std.specs.Ordering.{nat_cmp}
