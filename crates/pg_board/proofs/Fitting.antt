@@ -1,6 +1,6 @@
 -- A board that fits its position does so after a play.
-use Rattle.std.proofs.Common.{◌≡◌, ◌≢◌, ℕ, ◌+◌, ◌-◌, ◌*◌, ◌<◌, ◌≤◌, true, false, ◌&&◌, List, [], ◌∷◌, ◌++◌, length, get_or, set, take, eqb, refl, sym, ap, ◌∙◌, arith, inl, inr, subst}
-use Rattle.pg_board.proofs.Common.{cases_Bool, cases_eq, cases_lt, eq-eqb, ne_eqb, lt-ltb, and_left, and_right, false≢true, get_or-set_same, get_or-set_other, length-set, length_push, take_all, take_at, Contains, contains, one_if, Side, X, Y, other, is_same_side, is_free, points_of, after_with, is_on, present, without, Cells, with_set, back_to, Extends, extends-set, extends-both, extends-back}
+use Rattle.std.proofs.Common.{◌≡◌, ◌≢◌, ℕ, ◌+◌, ◌-◌, ◌*◌, ◌<◌, ◌≤◌, true, false, ◌&&◌, List, [], ◌∷◌, length, get_or, set, take, eqb, refl, sym, ap, ◌∙◌, arith, inl, inr, subst}
+use Rattle.pg_board.proofs.Common.{cases_eq, eq-eqb, ne_eqb, and_right, get_or-set_same, get_or-set_other, length-set, length_push, take_all, take_at, Contains, contains, one_if, Side, X, Y, other, is_same_side, is_free, points_of, after_with, is_on, present, without, Cells, with_set, back_to, Extends, extends-set, extends-both, extends-back}
 use Rattle.pg_board.specs.Shape.{Shape, line_in, lines_through, degree_in, turn_cell, mark_cell, count_cell, free_cell, cell_count}
 use Rattle.pg_board.specs.Counts.{AreCounted, count_in, lines_with, is_clear, clear_lines}
 use Rattle.pg_board.specs.Lines.{clear_in}

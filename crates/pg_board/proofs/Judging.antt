@@ -181,3 +181,15 @@ over-is g p kind x y touched full over kind_is x_is y_is touched_is full_is by l
     by (short_joins g p) (can_join g p) (λ e. lines (sym kind_is ∙ e))
     ∙ (λ i. is_over_by (kind_is i) (x_is i) (y_is i) (touched_is i) (full_is i) (short_joins g p)
     (can_join g p))
+
+pub outcome-is : (g : Game) (p : Position) (kind : Kind) (x y : Bool) (score : Score)
+    → kind ≡ g.kind
+    → x ≡ has_filled g p X
+    → y ≡ has_filled g p Y
+    → ((joined : Bool) → kind ≢ Switching → score ≡ outcome_by kind x y joined)
+    → g.kind ≢ Switching
+    → score ≡ outcome g p
+unfolding outcome
+outcome-is g p kind x y score kind_is x_is y_is by lines =
+    by (short_joins g p) (λ e. lines (sym kind_is ∙ e))
+    ∙ (λ i. outcome_by (kind_is i) (x_is i) (y_is i) (short_joins g p))

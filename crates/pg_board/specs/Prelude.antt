@@ -8,8 +8,8 @@ pub use Rattle.pg_base.specs.declared.side.Side.{Side}
 pub use Rattle.pg_base.specs.declared.side.Side.TheVariants.{X, Y}
 pub use Rattle.pg_game.specs.Avoider.{avoider_total, avoider_weight, x_takes_last}
 unfoldable pub use Rattle.pg_game.specs.Avoider.{avoider_holds}
-pub use Rattle.pg_game.specs.Game.{IsPosition, after, all_touched, can_join, has_filled, is_empty, is_filled, is_full, is_over_by, is_touched, lines_of, outcome, outcome_by, point_count, short_joins}
-unfoldable pub use Rattle.pg_game.specs.Game.{free_points, is_over}
+pub use Rattle.pg_game.specs.Game.{IsPosition, after, all_touched, can_join, has_filled, is_empty, is_filled, is_full, is_over_by, is_touched, lines_of, outcome_by, point_count, short_joins}
+unfoldable pub use Rattle.pg_game.specs.Game.{free_points, is_over, outcome}
 pub use Rattle.pg_game.specs.Position.{after_with, claims_in_turn, is_free, left_after, points_of, turn_after, x_after, y_after}
 pub use Rattle.pg_game.specs.Potential.{greatest, greatest_length, greatest_weight, is_on, total, weight}
 unfoldable pub use Rattle.pg_game.specs.Potential.{full_weight, line_weight, point_weight, potential_holds, total_weight}

@@ -3,7 +3,7 @@ use Rattle.pg_board.proofs.Common.{list_any, X, Y, points_of, is_filled, has_fil
 use Rattle.pg_board.specs.Shape.{shape_of}
 use Rattle.pg_board.specs.Fits.{position_of}
 use Rattle.pg_board.proofs.Fitting.{fit-first}
-use Rattle.pg_board.proofs.Judging.{agree-is}
+use Rattle.pg_board.proofs.Judging.{agree-is, outcome-is}
 use Rattle.pg_board.proofs.board.Board.outcome.Goals as goal
 
 pub has_filled-requires : goal.has_filled-requires
