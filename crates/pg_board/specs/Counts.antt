@@ -44,6 +44,11 @@ pub record AreCounted (s : Shape) (cells : List ℕ) : Type 0 where
       → f ≤ s.longest
       → lines_in s cells side f ≡ lines_with s (count_in s cells) side f
 
+-- a line of which a point is free
+pub record IsUnfilled (s : Shape) (cells : List ℕ) (i : ℕ) : Type 0 where
+  pub range : i < length s.lines
+  pub free : count_in s cells X i + count_in s cells Y i < length (line_in s i)
+
 -- the counts with one more point of the side in one line
 pub record IsCountedMore (s : Shape) (side : Side) (i : ℕ) (cells now : List ℕ) : Type 0 where
   pub counts : (k : Side) (j : ℕ)

@@ -1,8 +1,8 @@
 //! The counts of a board's lines, as cells of its trail.
-ghost use Rattle.std.specs.Prelude.{◌≡◌, ◌<◌, ◌≤◌, ◌+◌, ℕ, ◌==◌, ◌&&◌, length};
-ghost use Rattle.pg_board.specs.Prelude.{Side, X, Y, other, one_if, Extends};
-ghost use Rattle.pg_board.specs.Shape.{line_in, count_cell, free_cell, cell_count};
-ghost use Rattle.pg_board.specs.Counts.{AreCounted, IsCountedMore, IsMoved, count_in, lines_in};
+ghost use Rattle.std.specs.Prelude.{◌≡◌, ◌≤◌, ◌+◌, ℕ, ◌==◌, ◌&&◌, length};
+ghost use Rattle.pg_board.specs.Prelude.{Side, other, one_if, Extends};
+ghost use Rattle.pg_board.specs.Shape.{count_cell, free_cell, cell_count};
+ghost use Rattle.pg_board.specs.Counts.{AreCounted, IsUnfilled, IsCountedMore, IsMoved, count_in, lines_in};
 
 use crate::layout::Layout;
 use pg_base::Side;
@@ -33,8 +33,7 @@ fn leave(layout: &Layout, trail: &mut Trail, side: Side, own: u32, free: u32) ->
 /// Where the line has none of the side's points: it has one free point fewer.
 fn narrow(layout: &Layout, trail: &mut Trail, side: Side, own: u32, free: u32)
     requires width { length trail.old.cells ≡ cell_count layout.now }
-    requires short { free ≤ layout.now.longest }
-    requires more { 1 ≤ free }
+    requires range { (1 ≤ free) × (free ≤ layout.now.longest) }
     requires some { own ≡ 0 → 1 ≤ lines_in layout.now trail.old.cells side free }
     requires few { (f : ℕ) → f ≤ layout.now.longest
         → lines_in layout.now trail.old.cells side f ≤ MAX_LINES }
@@ -53,9 +52,7 @@ fn narrow(layout: &Layout, trail: &mut Trail, side: Side, own: u32, free: u32)
 /// One more point of the side in the line. Tells whether it had none before.
 pub(crate) fn claim(layout: &Layout, trail: &mut Trail, side: Side, line: u32) -> bool
     requires counted { AreCounted layout.now trail.old.cells }
-    requires range { line < length layout.now.lines }
-    requires free { count_in layout.now trail.old.cells X line
-        + count_in layout.now trail.old.cells Y line < length (line_in layout.now line) }
+    requires unfilled { IsUnfilled layout.now trail.old.cells line }
     requires room { 4 ≤ trail.old.spare }
     ensures clear { result ≡ (count_in layout.now trail.old.cells side line == 0) }
     ensures counted { AreCounted layout.now trail.new.cells }

@@ -2,7 +2,7 @@
 ghost use Rattle.std.specs.Prelude.{◌≡◌, ◌<◌, ◌≤◌, ◌+◌, ◌-◌, ◌*◌, ℕ, true, [], ◌∷◌, length, take};
 ghost use Rattle.pg_board.specs.Prelude.{X, Y, is_on, present};
 ghost use Rattle.pg_board.specs.Shape.{line_in, lines_through, degree_in, cell_count};
-ghost use Rattle.pg_board.specs.Counts.{AreCounted, count_in, clear_lines};
+ghost use Rattle.pg_board.specs.Counts.{AreCounted, IsUnfilled, count_in, clear_lines};
 ghost use Rattle.pg_board.specs.Lines.{Claims, clear_in};
 
 use crate::counts::claim;
@@ -13,9 +13,7 @@ use pg_undo::{Ring, Trail};
 /// One more point of the side in the line, which leaves the side's live lines.
 fn claim_line(layout: &Layout, trail: &mut Trail, live: &mut Ring, side: Side, line: u32)
     requires counted { AreCounted layout.now trail.old.cells }
-    requires range { line < length layout.now.lines }
-    requires free { count_in layout.now trail.old.cells X line
-        + count_in layout.now trail.old.cells Y line < length (line_in layout.now line) }
+    requires unfilled { IsUnfilled layout.now trail.old.cells line }
     requires live { present live.old
         ≡ clear_lines layout.now (count_in layout.now trail.old.cells) side }
     requires room { 4 ≤ trail.old.spare }

@@ -8,19 +8,20 @@ use Rattle.pg_board.proofs.counts.claim.Goals as goal
 
 pub get-own-requires : goal.get-own-requires
 get-own-requires c =
-    let within = count_cell-within c.args.layout.now c.args.side c.args.line c.requires.range in
+    let within =
+    count_cell-within c.args.layout.now c.args.side c.args.line c.requires.unfilled.range in
     omega (arith, c.count_cell-cell.ensures, c.requires.counted.width)
 
 pub get-theirs-requires : goal.get-theirs-requires
 get-theirs-requires c =
-    let within =
-    count_cell-within c.args.layout.now c.other-enemy.result c.args.line c.requires.range in
+    let within = count_cell-within c.args.layout.now c.other-enemy.result c.args.line
+    c.requires.unfilled.range in
     omega (arith, c.count_cell.ensures, c.requires.counted.width)
 
 pub leave-requires-clause-short : goal.leave-requires-clause-short
 leave-requires-clause-short c = rw c.line_len.ensures.count
     (free-short c.args.layout.now c.args.line
-    (c.get-own.result + c.get-theirs.result) c.line_len.ensures.shape c.requires.range)
+    (c.get-own.result + c.get-theirs.result) c.line_len.ensures.shape c.requires.unfilled.range)
 
 pub leave-requires-clause-some : goal.leave-requires-clause-some
 leave-requires-clause-some c = λ none.
@@ -37,14 +38,27 @@ leave-requires-clause-some c = λ none.
     ≡ length (line_in c.args.layout.now c.args.line) - (c.get-own.result + c.get-theirs.result) =
     omega arith in
     rw c.line_len.ensures.count
-    (some-line c.args.layout.now cells c.args.side c.args.line _ c.requires.counted c.requires.range
+    (some-line c.args.layout.now cells c.args.side c.args.line _ c.requires.counted
+    c.requires.unfilled.range
     (free-short c.args.layout.now c.args.line (c.get-own.result + c.get-theirs.result)
-    c.line_len.ensures.shape c.requires.range) (sym own ∙ none) free)
+    c.line_len.ensures.shape c.requires.unfilled.range) (sym own ∙ none) free)
 
-pub narrow-requires-clause-short : goal.narrow-requires-clause-short
-narrow-requires-clause-short c = rw c.line_len.ensures.count
-    (free-short c.args.layout.now c.args.line
-    (c.get-own.result + c.get-theirs.result) c.line_len.ensures.shape c.requires.range)
+pub narrow-requires-clause-range : goal.narrow-requires-clause-range
+narrow-requires-clause-range c =
+    let cells = c.args.trail.now.cells in
+    let own : c.get-own.result ≡ count_in c.args.layout.now cells c.args.side c.args.line =
+    c.get-own.ensures ∙ ap (λ k. get_or cells k 0) c.count_cell-cell.ensures in
+    let theirs : c.get-theirs.result
+    ≡ count_in c.args.layout.now cells (other c.args.side) c.args.line = c.get-theirs.ensures
+    ∙ (ap (λ k. get_or cells k 0) c.count_cell.ensures
+    ∙ ap (λ k. count_in c.args.layout.now cells k c.args.line) c.other-enemy.ensures) in
+    let sum =
+    sides-sum c.args.layout.now (count_in c.args.layout.now cells) c.args.side c.args.line in
+    rw c.line_len.ensures.count (
+      omega (arith, own, theirs, sum, c.requires.unfilled.free),
+      free-short c.args.layout.now c.args.line (c.get-own.result + c.get-theirs.result)
+          c.line_len.ensures.shape c.requires.unfilled.range,
+    )
 
 pub narrow-requires-clause-some : goal.narrow-requires-clause-some
 narrow-requires-clause-some c = λ none.
@@ -63,9 +77,9 @@ narrow-requires-clause-some c = λ none.
     ≡ length (line_in c.args.layout.now c.args.line) - (c.get-own.result + c.get-theirs.result) =
     omega arith in
     let short = free-short c.args.layout.now c.args.line
-    (c.get-own.result + c.get-theirs.result) c.line_len.ensures.shape c.requires.range in
+    (c.get-own.result + c.get-theirs.result) c.line_len.ensures.shape c.requires.unfilled.range in
     let before = some-line c.args.layout.now cells (other c.args.side) c.args.line _
-    c.requires.counted c.requires.range short (sym theirs ∙ none) free in
+    c.requires.counted c.requires.unfilled.range short (sym theirs ∙ none) free in
     let stayed = c.leave.ensures.lines.theirs _ short in
     rw (c.other-enemy.ensures, c.line_len.ensures.count) (omega (arith, before, stayed))
 
@@ -78,7 +92,8 @@ narrow-requires-clause-few c = λ f short.
 
 pub set-requires-clause-within : goal.set-requires-clause-within
 set-requires-clause-within c =
-    let within = count_cell-within c.args.layout.now c.args.side c.args.line c.requires.range in
+    let within =
+    count_cell-within c.args.layout.now c.args.side c.args.line c.requires.unfilled.range in
     omega (
       arith,
       c.count_cell-cell.ensures,
@@ -105,9 +120,9 @@ returns-clause-counted c =
     rw now
     (claimed-counted c.args.layout.now c.args.side c.args.line cells c.leave.new.trail.cells
     c.narrow.new.trail.cells c.get-own.result c.get-theirs.result _ c.requires.counted
-    c.requires.range own theirs
+    c.requires.unfilled.range own theirs
     (ap (λ n. n - (c.get-own.result + c.get-theirs.result)) c.line_len.ensures.count)
-    c.requires.free c.leave.ensures.lines narrowed
+    c.requires.unfilled.free c.leave.ensures.lines narrowed
     (c.narrow.ensures.trail.width ∙ (c.leave.ensures.trail.width ∙ c.requires.counted.width)))
 
 pub returns-clause-more : goal.returns-clause-more
@@ -128,9 +143,9 @@ returns-clause-more c =
     rw now
     (claimed-more c.args.layout.now c.args.side c.args.line cells c.leave.new.trail.cells
     c.narrow.new.trail.cells c.get-own.result c.get-theirs.result _ c.requires.counted
-    c.requires.range own theirs
+    c.requires.unfilled.range own theirs
     (ap (λ n. n - (c.get-own.result + c.get-theirs.result)) c.line_len.ensures.count)
-    c.requires.free c.leave.ensures.lines narrowed
+    c.requires.unfilled.free c.leave.ensures.lines narrowed
     (c.narrow.ensures.trail.width ∙ (c.leave.ensures.trail.width ∙ c.requires.counted.width)))
 
 pub returns-clause-trail : goal.returns-clause-trail
