@@ -5,6 +5,7 @@ use Rattle.pg_board.specs.Shape.{Shape, IsShape, line_in, mark_cell, count_cell,
 use Rattle.pg_board.specs.Counts.{count_in, lines_in, lines_with, has_free, is_clear, clear_lines, free_by}
 use Rattle.pg_board.specs.Fits.{Rules, pick, has_mark, mark_of, position_of, entries_of, free_points_in}
 use Rattle.pg_board.specs.Opening.{AreBlank, Opens, whole_room}
+use Rattle.pg_board.specs.declared.rings.Rings.{Rings}
 use Rattle.pg_board.proofs.CellPlaces.{mark_cell-is, mark-within, count_cell-high, free_cell-low, free_cell-within, free_cell-apart, free_cell-sides}
 use Rattle.pg_board.proofs.Ranges.{filter-same, count-same, count-cons, count-few, filter-on, filter-off}
 use Rattle.pg_board.proofs.Decoding.{has-points}
@@ -174,19 +175,19 @@ filter-all p a n on = sym (all (range_with_len a n))
     all [] = refl
     all (x ∷ xs) = ap (λ (ys : List ℕ). x ∷ ys) (all xs)
 
-pub blank-opens : (r : Rules) (p : Position) (t : Cells) (x y free : List (List ℕ))
+pub blank-opens : (r : Rules) (p : Position) (t : Cells) (rings : Rings)
     → IsShape r.shape
     → 1 ≤ r.bias
     → r.bias ≤ 7
     → (1 + r.bias) ^ r.shape.longest ≤ 2 ^ 100
     → AreBlank r.shape (length r.shape.lines) t.cells
-    → x ≡ range_with_len 0 (length r.shape.lines) ∷ []
-    → y ≡ range_with_len 0 (length r.shape.lines) ∷ []
-    → free ≡ range_with_len 0 r.shape.points ∷ []
+    → rings.live_x ≡ range_with_len 0 (length r.shape.lines) ∷ []
+    → rings.live_y ≡ range_with_len 0 (length r.shape.lines) ∷ []
+    → rings.free ≡ range_with_len 0 r.shape.points ∷ []
     → whole_room r.shape ≤ t.spare
-    → Opens r p 0 t x y free
+    → Opens r p 0 t rings
 unfolding clear_lines free_points_in whole_room lines_with has_free has_mark
-blank-opens r p t x y free shape some few few_weights blank x_is y_is free_is room =
+blank-opens r p t rings shape some few few_weights blank x_is y_is free_is room =
     let s = r.shape in
     let q = position_of s t.cells in
     let zero_count : (k : Side) (i : ℕ) → i < length s.lines → count_in s t.cells k i ≡ 0 =
@@ -251,11 +252,11 @@ blank-opens r p t x y free shape some few few_weights blank x_is y_is free_is ro
     by_side : (k : Side)
         → range_with_len 0 (length r.shape.lines)
         ≡ filter (is_clear (count_in r.shape t.cells) k) (range_with_len 0 (length r.shape.lines))
-        → present (pick k x y)
+        → present (pick k rings.live_x rings.live_y)
         ≡ filter (is_clear (count_in r.shape t.cells) k) (range_with_len 0 (length r.shape.lines))
     by_side X all = ap present x_is ∙ all
     by_side Y all = ap present y_is ∙ all
 
-    one_list : (k : Side) → 1 ≤ length (pick k x y)
+    one_list : (k : Side) → 1 ≤ length (pick k rings.live_x rings.live_y)
     one_list X = subst (λ (ls : List (List ℕ)). 1 ≤ length ls) (sym x_is) (omega arith)
     one_list Y = subst (λ (ls : List (List ℕ)). 1 ≤ length ls) (sym y_is) (omega arith)

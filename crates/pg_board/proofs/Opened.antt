@@ -8,6 +8,7 @@ use Rattle.pg_board.proofs.Ranges.{count-few}
 use Rattle.pg_board.specs.Shape.{Shape, turn_cell}
 use Rattle.pg_board.specs.Fits.{Rules, Fits, position_of, turn_of, left_of}
 use Rattle.pg_board.specs.Opening.{Opens, turn_code}
+use Rattle.pg_board.specs.declared.rings.Rings.{Rings}
 use Rattle.pg_board.proofs.Fitting.{some-cells}
 use Rattle.pg_board.proofs.OpeningSteps.{turned-x, turned-y}
 
@@ -41,19 +42,19 @@ unfolding position_of
 left-now s cells = refl
 
 -- the position is the one at which the board was to be opened
-pub opened-position : (r : Rules) (p : Position) (t : Cells) (x y free : List (List ℕ))
-    → Opens r p r.shape.points t x y free
+pub opened-position : (r : Rules) (p : Position) (t : Cells) (rings : Rings)
+    → Opens r p r.shape.points t rings
     → ((v : ℕ) → contains p.x v ≡ true → v < r.shape.points)
     → ((v : ℕ) → contains p.y v ≡ true → v < r.shape.points)
     → 1 ≤ p.left
     → p.left ≤ claims_in_turn r.bias p.turn
     → position_of r.shape (with_set t turn_cell (turn_code p.turn p.left)).cells ≡ p
 unfolding with_set
-opened-position r p t x y free opens x_low y_low some few =
+opened-position r p t rings opens x_low y_low some few =
     let n = turn_code p.turn p.left in
     let cells = set t.cells turn_cell n in
-    let at : get_or cells 0 0 ≡ n =
-    get_or-set_same t.cells turn_cell n 0 (some-cells r t x y free opens.fits) in
+    let at : get_or cells 0 0 ≡ n = get_or-set_same t.cells turn_cell n 0
+    (some-cells r t rings.live_x rings.live_y rings.free opens.fits) in
     let x_is : (position_of r.shape cells).x ≡ p.x = turned-x r.shape t.cells n
     ∙ same_points _ _ (λ q. opens.marks X q ∙ below (contains p.x q) q (x_low q)) in
     let y_is : (position_of r.shape cells).y ≡ p.y = turned-y r.shape t.cells n

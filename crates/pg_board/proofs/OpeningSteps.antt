@@ -5,6 +5,7 @@ use Rattle.pg_board.specs.Shape.{Shape, line_in, turn_cell, mark_cell}
 use Rattle.pg_board.specs.Counts.{is_clear, clear_lines}
 use Rattle.pg_board.specs.Fits.{Rules, Fits, Leads, has_mark, mark_of, turn_of, position_of, set_below, summed, entries_of, free_points_in}
 use Rattle.pg_board.specs.Opening.{Opens, turn_code}
+use Rattle.pg_board.specs.declared.rings.Rings.{Rings}
 use Rattle.pg_board.proofs.CellPlaces.{mark_cell-is}
 use Rattle.pg_board.proofs.Claiming.{same_side, is_own, is_others}
 use Rattle.pg_board.proofs.Decoding.{turn-of}
@@ -115,49 +116,50 @@ other-mark false true l h = refl
 other-mark false false l h = refl
 
 -- a point that isn't marked yet is free
-pub unmarked-free : (r : Rules) (p : Position) (v : ℕ) (t : Cells) (x y free : List (List ℕ))
-    → Opens r p v t x y free
+pub unmarked-free : (r : Rules) (p : Position) (v : ℕ) (t : Cells) (rings : Rings)
+    → Opens r p v t rings
     → is_free (position_of r.shape t.cells) v ≡ true
-unmarked-free r p v t x y free opens =
+unmarked-free r p v t rings opens =
     let none : (k : Side) → contains (points_of (position_of r.shape t.cells) k) v ≡ false =
     λ k. opens.marks k v ∙ and_right _ _ (le-ltb v v (omega arith)) in
     let none_x : contains (position_of r.shape t.cells).x v ≡ false = none X in
     let none_y : contains (position_of r.shape t.cells).y v ≡ false = none Y in
     rw (none_x, none_y) refl
 
-pub turned-unmarked : (r : Rules) (p : Position) (v n : ℕ) (t : Cells) (x y free : List (List ℕ))
-    → Opens r p v t x y free
+pub turned-unmarked : (r : Rules) (p : Position) (v n : ℕ) (t : Cells) (rings : Rings)
+    → Opens r p v t rings
     → is_free (position_of r.shape (with_set t turn_cell n).cells) v ≡ true
 unfolding with_set
-turned-unmarked r p v n t x y free opens =
+turned-unmarked r p v n t rings opens =
     ap (λ (f : ℕ → Bool). f v) (turned-free r.shape t.cells n)
-    ∙ unmarked-free r p v t x y free opens
+    ∙ unmarked-free r p v t rings opens
 
-pub turned-fits : (r : Rules) (p : Position) (v n : ℕ) (t : Cells) (x y free : List (List ℕ))
-    → Opens r p v t x y free
+pub turned-fits : (r : Rules) (p : Position) (v n : ℕ) (t : Cells) (rings : Rings)
+    → Opens r p v t rings
     → n ≤ r.bias
-    → Fits r (with_set t turn_cell n) x y free
-turned-fits r p v n t x y free opens few =
-    fits-turned r t x y free n opens.fits few (omega (arith, opens.room))
+    → Fits r (with_set t turn_cell n) rings.live_x rings.live_y rings.free
+turned-fits r p v n t rings opens few = fits-turned r t rings.live_x rings.live_y rings.free n
+    opens.fits few (omega (arith, opens.room))
 
 pub opens-more : (r : Rules) (p : Position) (side : Side) (v : ℕ) (t : Cells)
-    (x y free : List (List ℕ)) (now : Cells) (x2 y2 free2 : List (List ℕ))
-    → Opens r p v t x y free
+    (rings : Rings) (now : Cells) (rings_now : Rings)
+    → Opens r p v t rings
     → v < r.shape.points
     → contains (points_of p side) v ≡ true
     → contains (points_of p (other side)) v ≡ false
-    → Leads r (with_set t turn_cell (turn_code side r.bias)) x y free now x2 y2 free2 v
-    → Opens r p (v + 1) now x2 y2 free2
+    → Leads r (with_set t turn_cell (turn_code side r.bias))
+    rings.live_x rings.live_y rings.free now rings_now.live_x rings_now.live_y rings_now.free v
+    → Opens r p (v + 1) now rings_now
 unfolding with_set
-opens-more r p side v t x y free now x2 y2 free2 opens low own theirs leads =
+opens-more r p side v t rings now rings_now opens low own theirs leads =
     let n = turn_code side r.bias in
     let was = position_of r.shape (set t.cells turn_cell n) in
-    let some = some-cells r t x y free opens.fits in
+    let some = some-cells r t rings.live_x rings.live_y rings.free opens.fits in
     let mover : was.turn ≡ side = turn-of r.shape (set t.cells turn_cell n)
     ∙ (ap turn_of (get_or-set_same t.cells turn_cell n 0 some)
     ∙ code-turn side r.bias opens.fits.some_bias) in
     let free_was : is_free was v ≡ true = ap (λ (f : ℕ → Bool). f v) (turned-free r.shape t.cells n)
-    ∙ unmarked-free r p v t x y free opens in
+    ∙ unmarked-free r p v t rings opens in
     let sum = summed-without (entries_of r.shape) (is_free was)
     (is_free (after_with r.bias was v)) v r.shape.points low free_was (free-gone r.bias was v)
     (λ q q_low apart. free-other r.bias was v q apart) in
@@ -190,12 +192,12 @@ opens-more r p side v t x y free now x2 y2 free2 opens low own theirs leads =
     }
 
 -- a point without a mark
-pub opens-skip : (r : Rules) (p : Position) (v : ℕ) (t : Cells) (x y free : List (List ℕ))
-    → Opens r p v t x y free
+pub opens-skip : (r : Rules) (p : Position) (v : ℕ) (t : Cells) (rings : Rings)
+    → Opens r p v t rings
     → contains p.x v ≡ false
     → contains p.y v ≡ false
-    → Opens r p (v + 1) t x y free
-opens-skip r p v t x y free opens none_x none_y = record {
+    → Opens r p (v + 1) t rings
+opens-skip r p v t rings opens none_x none_y = record {
   fits = opens.fits;
   marks = λ k q. opens.marks k q
       ∙ (skip k q ∙ ap (λ b. contains (points_of p k) q && b) (sym (ltb-more q v)));

@@ -4,6 +4,7 @@ use Rattle.pg_board.specs.Prelude.{count_by, range_with_len, contains, Side, X, 
 use Rattle.pg_board.specs.Shape.{Shape, line_in, cell_count}
 use Rattle.pg_board.specs.Counts.{lines_in}
 use Rattle.pg_board.specs.Fits.{Rules, Fits, position_of, summed, entries_of}
+use Rattle.pg_board.specs.declared.rings.Rings.{Rings}
 
 -- the cells without a mark, X to move, with the first lines counted by their lengths
 pub record AreBlank (s : Shape) (lines : ℕ) (cells : List ℕ) : Type 0 where
@@ -18,12 +19,11 @@ unfoldable pub whole_room : Shape → ℕ
 whole_room s = summed (entries_of s) (λ _. true) s.points + s.points + 1
 
 -- the first points of the position are marked
-pub record Opens (r : Rules) (p : Position) (v : ℕ) (t : Cells)
-    (x y free : List (List ℕ)) : Type 0 where
-  pub fits : Fits r t x y free
-  pub marks : (k : Side) (q : ℕ)
-      → contains (points_of (position_of r.shape t.cells) k) q
-      ≡ (contains (points_of p k) q && nat_lt q v)
+pub record Opens (r : Rules) (p : Position) (v : ℕ) (t : Cells) (rings : Rings) : Type 0 where
+  pub fits : Fits r t rings.live_x rings.live_y rings.free
+  pub marks : (side : Side) (q : ℕ)
+      → contains (points_of (position_of r.shape t.cells) side) q
+      ≡ (contains (points_of p side) q && nat_lt q v)
   pub room : summed (entries_of r.shape) (is_free (position_of r.shape t.cells)) r.shape.points
       + (r.shape.points - v) + 1 ≤ t.spare
 

@@ -8,13 +8,14 @@ ghost use Rattle.pg_board.specs.Shape.{lines_holding};
 
 use crate::decided::{self, has_filled};
 use crate::layout::Layout;
-use crate::opening::{Rings, blank_trail, open_marks, turn_code, whole_rings};
+use crate::opening::{blank_trail, open_marks, turn_code};
 use crate::plays::{Played, play_point, undo_play};
 use crate::points::{free_point, is_unmarked, left, marked, turn};
+use crate::rings::{Rings, whole_rings};
 use crate::totals;
 use pg_base::{Kind, Memory, Score, Side};
 use pg_game::{Game, MAX_POINTS, Position, at_least, defender, is_over_by, outcome_by};
-use pg_undo::{Ring, Trail};
+use pg_undo::Trail;
 use std::alloc::Global;
 use std::marker::Model;
 
@@ -24,12 +25,7 @@ pub struct Board<'a> {
     game: &'a Game,
     layout: Layout,
     trail: Trail,
-    /// The lines without a point of X.
-    live_x: Ring,
-    /// The lines without a point of Y.
-    live_y: Ring,
-    /// The free points.
-    free: Ring,
+    rings: Rings,
     /// The plays that stand, the last at the end.
     plays: Vec<Played>,
 }
@@ -52,8 +48,8 @@ impl<'a> Model for Board<'a> {
       earlier = earlier_of a.layout a.trail (reverse a.plays.items);
     } };
 
-    ghost invariant = { λ a. IsBoard a.game.now a.layout a.trail a.live_x a.live_y a.free
-        (reverse a.plays.items) (vec_capacity a.plays) };
+    ghost invariant = { λ a. IsBoard a.game.now a.layout a.trail a.rings.live_x
+        a.rings.live_y a.rings.free (reverse a.plays.items) (vec_capacity a.plays) };
 }
 
 impl<'a> Board<'a> {
@@ -73,30 +69,15 @@ impl<'a> Board<'a> {
         let layout = Layout::of_game(alloc, g)?;
         let mut trail = blank_trail(alloc, &layout)?;
         let plays = Vec::with_capacity(alloc, usize::from(layout.points()))?;
-        let rings = whole_rings(alloc, &layout)?;
-        let Rings {
-            mut live_x,
-            mut live_y,
-            mut free,
-        } = rings;
-        open_marks(
-            &layout,
-            g.bias,
-            &mut trail,
-            &mut live_x,
-            &mut live_y,
-            &mut free,
-            p,
-        );
+        let mut rings = whole_rings(alloc, &layout)?;
+        open_marks(&layout, g.bias, &mut trail, &mut rings, p);
         trail.set(0, turn_code(p.turn, p.left));
         trail.settle();
         Ok(Board {
             game: g,
             layout,
             trail,
-            live_x,
-            live_y,
-            free,
+            rings,
             plays,
         })
     }
@@ -116,9 +97,7 @@ impl<'a> Board<'a> {
             &self.layout,
             self.game.bias,
             &mut self.trail,
-            &mut self.live_x,
-            &mut self.live_y,
-            &mut self.free,
+            &mut self.rings,
             v,
         );
         let Ok(()) = self.plays.push(Played { point: v, level }) else {
@@ -139,9 +118,7 @@ impl<'a> Board<'a> {
             &self.layout,
             self.game.bias,
             &mut self.trail,
-            &mut self.live_x,
-            &mut self.live_y,
-            &mut self.free,
+            &mut self.rings,
             play,
         );
     }
@@ -254,8 +231,8 @@ impl<'a> Board<'a> {
         ensures fits { IsPosition self.now.game self.now.stand.position }
     {
         match side {
-            Side::X => self.live_x.first(),
-            Side::Y => self.live_y.first(),
+            Side::X => self.rings.live_x.first(),
+            Side::Y => self.rings.live_y.first(),
         }
     }
 
@@ -266,8 +243,8 @@ impl<'a> Board<'a> {
             ≡ find (nat_lt line) (live_lines self.now.game self.now.stand.position side) }
     {
         match side {
-            Side::X => self.live_x.next(line),
-            Side::Y => self.live_y.next(line),
+            Side::X => self.rings.live_x.next(line),
+            Side::Y => self.rings.live_y.next(line),
         }
     }
 
@@ -275,7 +252,7 @@ impl<'a> Board<'a> {
     pub fn first_free(&self) -> Option<u16>
         ensures { result ≡ slice_get (free_points self.now.game self.now.stand.position) 0 }
     {
-        point_of(self.free.first())
+        point_of(self.rings.free.first())
     }
 
     /// The next free point after a free point, and None at the last one.
@@ -283,14 +260,14 @@ impl<'a> Board<'a> {
         requires { Contains (free_points self.now.game self.now.stand.position) v }
         ensures { result ≡ find (nat_lt v) (free_points self.now.game self.now.stand.position) }
     {
-        point_of(self.free.next(u32::from(v)))
+        point_of(self.rings.free.next(u32::from(v)))
     }
 
     /// How many points are free, in a few steps.
     pub fn free_count(&self) -> u16
         ensures { result ≡ length (free_points self.now.game self.now.stand.position) }
     {
-        self.free.len() as u16
+        self.rings.free.len() as u16
     }
 
     /// How many lines without a point of the side have so many free points, in a few steps.
@@ -308,8 +285,8 @@ impl<'a> Board<'a> {
         ensures { result ≡ length (live_lines self.now.game self.now.stand.position side) }
     {
         match side {
-            Side::X => self.live_x.len(),
-            Side::Y => self.live_y.len(),
+            Side::X => self.rings.live_x.len(),
+            Side::Y => self.rings.live_y.len(),
         }
     }
 

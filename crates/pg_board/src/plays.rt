@@ -6,8 +6,9 @@ ghost use Rattle.pg_board.specs.Fits.{Fits, IsPlayed, Leads, fewer, left_by, pos
 use crate::layout::Layout;
 use crate::lines::relink_lines;
 use crate::points::{claim_point, pass, turn};
+use crate::rings::Rings;
 use pg_base::Side;
-use pg_undo::{Ring, Trail};
+use pg_undo::Trail;
 
 /// A play: its point, and how many entries the trail had before it.
 #[derive(Clone, Copy, Debug)]
@@ -17,25 +18,32 @@ pub(crate) struct Played {
 }
 
 /// The side to move takes the point.
-pub(crate) fn play_point(
-    layout: &Layout,
-    bias: u8,
-    trail: &mut Trail,
-    live_x: &mut Ring,
-    live_y: &mut Ring,
-    free: &mut Ring,
-    v: u16,
-)
-    requires fits { Fits (record { bias = bias; shape = layout.now }) trail.old live_x.old
-        live_y.old free.old }
+pub(crate) fn play_point(layout: &Layout, bias: u8, trail: &mut Trail, rings: &mut Rings, v: u16)
+    requires fits { Fits (record { bias = bias; shape = layout.now }) trail.old
+        rings.old.live_x rings.old.live_y rings.old.free }
     requires range { v < layout.now.points }
     requires open { is_free (position_of layout.now trail.old.cells) v ≡ true }
-    ensures { Leads (record { bias = bias; shape = layout.now }) trail.old live_x.old live_y.old
-        free.old trail.new live_x.new live_y.new free.new v }
+    ensures { Leads (record { bias = bias; shape = layout.now })
+        trail.old rings.old.live_x rings.old.live_y rings.old.free
+        trail.new rings.new.live_x rings.new.live_y rings.new.free v }
 {
     match turn(trail) {
-        Side::X => claim_point(layout, trail, live_x, free, Side::X, v),
-        Side::Y => claim_point(layout, trail, live_y, free, Side::Y, v),
+        Side::X => claim_point(
+            layout,
+            trail,
+            &mut rings.live_x,
+            &mut rings.free,
+            Side::X,
+            v,
+        ),
+        Side::Y => claim_point(
+            layout,
+            trail,
+            &mut rings.live_y,
+            &mut rings.free,
+            Side::Y,
+            v,
+        ),
     }
     pass(trail, bias);
 }
@@ -45,29 +53,31 @@ pub(crate) fn undo_play(
     layout: &Layout,
     bias: u8,
     trail: &mut Trail,
-    live_x: &mut Ring,
-    live_y: &mut Ring,
-    free: &mut Ring,
+    rings: &mut Rings,
     play: Played,
 )
-    requires played { IsPlayed (record { bias = bias; shape = layout.now }) trail.old live_x.old
-        live_y.old free.old play }
+    requires played { IsPlayed (record { bias = bias; shape = layout.now }) trail.old
+        rings.old.live_x rings.old.live_y rings.old.free play }
     requires before { Fits (record { bias = bias; shape = layout.now })
         (back_to play.level trail.old)
-        (fewer (left_by layout.now (back_to play.level trail.old).cells X play.point) live_x.old)
-        (fewer (left_by layout.now (back_to play.level trail.old).cells Y play.point) live_y.old)
-        (fewer 1 free.old) }
+        (fewer (left_by layout.now (back_to play.level trail.old).cells X play.point)
+        rings.old.live_x)
+        (fewer (left_by layout.now (back_to play.level trail.old).cells Y play.point)
+        rings.old.live_y)
+        (fewer 1 rings.old.free) }
     ensures trail { trail.new ≡ back_to play.level trail.old }
-    ensures live_x { live_x.new
-        ≡ fewer (left_by layout.now (back_to play.level trail.old).cells X play.point) live_x.old }
-    ensures live_y { live_y.new
-        ≡ fewer (left_by layout.now (back_to play.level trail.old).cells Y play.point) live_y.old }
-    ensures free { free.new ≡ fewer 1 free.old }
+    ensures live_x { rings.new.live_x
+        ≡ fewer (left_by layout.now (back_to play.level trail.old).cells X play.point)
+        rings.old.live_x }
+    ensures live_y { rings.new.live_y
+        ≡ fewer (left_by layout.now (back_to play.level trail.old).cells Y play.point)
+        rings.old.live_y }
+    ensures free { rings.new.free ≡ fewer 1 rings.old.free }
 {
     trail.undo_to(play.level);
     match turn(trail) {
-        Side::X => relink_lines(layout, trail, live_x, Side::X, play.point),
-        Side::Y => relink_lines(layout, trail, live_y, Side::Y, play.point),
+        Side::X => relink_lines(layout, trail, &mut rings.live_x, Side::X, play.point),
+        Side::Y => relink_lines(layout, trail, &mut rings.live_y, Side::Y, play.point),
     }
-    free.relink();
+    rings.free.relink();
 }

@@ -16,8 +16,8 @@ play_point-requires-clause-fits c =
     ≡ with_set c.args.trail.now turn_cell (turn_code c.args.side c.args.bias) =
     c.set.ensures ∙ ap (with_set c.args.trail.now turn_cell) c.turn_code.ensures in
     rw now
-    (turned-fits _ c.args.p.now c.args.v _ c.args.trail.now c.args.live_x.now c.args.live_y.now
-    c.args.free.now c.requires.opens (code-few c.args.side c.args.bias))
+    (turned-fits _ c.args.p.now c.args.v _ c.args.trail.now c.args.rings.now c.requires.opens
+    (code-few c.args.side c.args.bias))
 
 pub play_point-requires-clause-open : goal.play_point-requires-clause-open
 play_point-requires-clause-open c =
@@ -25,14 +25,13 @@ play_point-requires-clause-open c =
     ≡ with_set c.args.trail.now turn_cell (turn_code c.args.side c.args.bias) =
     c.set.ensures ∙ ap (with_set c.args.trail.now turn_cell) c.turn_code.ensures in
     subst (λ (t : Cells). is_free (position_of c.args.layout.now t.cells) c.args.v ≡ true) (sym now)
-    (turned-unmarked _ c.args.p.now c.args.v _ c.args.trail.now c.args.live_x.now c.args.live_y.now
-    c.args.free.now c.requires.opens)
+    (turned-unmarked _ c.args.p.now c.args.v _ c.args.trail.now c.args.rings.now c.requires.opens)
 
 pub returns : goal.returns
 returns c =
     let now : c.set.new.self
     ≡ with_set c.args.trail.now turn_cell (turn_code c.args.side c.args.bias) =
     c.set.ensures ∙ ap (with_set c.args.trail.now turn_cell) c.turn_code.ensures in
-    opens-more _ c.args.p.now c.args.side c.args.v c.args.trail.now c.args.live_x.now
-    c.args.live_y.now c.args.free.now _ _ _ _ c.requires.opens c.requires.range c.requires.own
+    opens-more _ c.args.p.now c.args.side c.args.v c.args.trail.now c.args.rings.now
+    _ _ c.requires.opens c.requires.range c.requires.own
     c.requires.theirs (rw now at c.play_point.ensures)

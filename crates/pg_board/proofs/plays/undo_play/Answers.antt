@@ -1,6 +1,7 @@
 use Rattle.std.proofs.Common.{arith, ap, ◌∙◌, sym}
 use Rattle.pg_board.proofs.Common.{X, Y, Cells}
 use Rattle.pg_board.specs.Fits.{fewer, left_by}
+use Rattle.pg_board.specs.declared.rings.Rings.{Rings}
 use Rattle.pg_board.proofs.Fitting.{some-cells, left_by-own, left_by-other, fewer-none}
 use Rattle.pg_board.proofs.plays.undo_play.Goals as goal
 use Rattle.pg_board.proofs.plays.undo_play.Goals.{in-X, in-Y}
@@ -28,34 +29,35 @@ relink_lines-requires-in-Y-clause-many c =
 
 pub returns-clause-live_x : goal.returns-clause-live_x
 returns-clause-live_x c =
-    let back = ap
-    (λ (t : Cells). fewer (left_by c.args.layout.now t.cells X c.args.play.point) c.args.live_x.now)
-    c.undo_to.ensures in
+    let back = ap (λ (t : Cells). fewer (left_by c.args.layout.now t.cells X c.args.play.point)
+    c.args.rings.now.live_x) c.undo_to.ensures in
     elim c.match-turn.branch [
       | in-X w ↦
           let own = left_by-own c.args.layout.now c.undo_to.new.self.cells X c.args.play.point
           (sym w.in-X.is ∙ c.turn.ensures) in
-          w.live_x-is
-          ∙ (w.relink_lines.ensures ∙ (ap (λ n. fewer n c.args.live_x.now) (sym own) ∙ back))
+          ap (λ (k : Rings). k.live_x) w.rings-is
+          ∙ (w.relink_lines.ensures ∙ (ap (λ n. fewer n c.args.rings.now.live_x) (sym own) ∙ back))
       | in-Y w ↦
           let none = left_by-other c.args.layout.now c.undo_to.new.self.cells Y c.args.play.point
           (sym w.in-Y.is ∙ c.turn.ensures) in
-          w.live_x-is ∙ (fewer-none _ c.args.live_x.now none ∙ back)
+          ap (λ (k : Rings). k.live_x) w.rings-is
+          ∙ (fewer-none _ c.args.rings.now.live_x none ∙ back)
     ]
 
 pub returns-clause-live_y : goal.returns-clause-live_y
 returns-clause-live_y c =
-    let back = ap
-    (λ (t : Cells). fewer (left_by c.args.layout.now t.cells Y c.args.play.point) c.args.live_y.now)
-    c.undo_to.ensures in
+    let back = ap (λ (t : Cells). fewer (left_by c.args.layout.now t.cells Y c.args.play.point)
+    c.args.rings.now.live_y) c.undo_to.ensures in
     elim c.match-turn.branch [
       | in-X w ↦
           let none = left_by-other c.args.layout.now c.undo_to.new.self.cells X c.args.play.point
           (sym w.in-X.is ∙ c.turn.ensures) in
-          w.live_y-is ∙ (fewer-none _ c.args.live_y.now none ∙ back)
+          ap (λ (k : Rings). k.live_y) w.rings-is
+          ∙ (fewer-none _ c.args.rings.now.live_y none ∙ back)
       | in-Y w ↦
           let own = left_by-own c.args.layout.now c.undo_to.new.self.cells Y c.args.play.point
           (sym w.in-Y.is ∙ c.turn.ensures) in
-          w.live_y-is
-          ∙ (w.relink_lines-in-Y.ensures ∙ (ap (λ n. fewer n c.args.live_y.now) (sym own) ∙ back))
+          ap (λ (k : Rings). k.live_y) w.rings-is
+          ∙ (w.relink_lines-in-Y.ensures
+          ∙ (ap (λ n. fewer n c.args.rings.now.live_y) (sym own) ∙ back))
     ]

@@ -21,7 +21,7 @@ returns c =
     c.self.invariant.layout ∙ ap (λ v. shape_of v.game) c.self.view_is in
     let at : position_of c.self.inside.layout c.self.inside.trail.cells
     ≡ c.args.self.now.stand.position = ap (λ v. v.stand.position) c.self.view_is in
-    let free : present c.self.inside.free
+    let free : present c.self.inside.rings.free
     ≡ free_points c.args.self.now.game c.args.self.now.stand.position = fits.free_is
     ∙ ((λ i. free_points_in (shape i) (at i))
     ∙ free-points-of c.args.self.now.game c.args.self.now.stand.position) in

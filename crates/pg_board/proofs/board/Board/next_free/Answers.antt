@@ -16,7 +16,7 @@ next-requires c =
     c.self.invariant.layout ∙ ap (λ v. shape_of v.game) c.self.view_is in
     let at : position_of c.self.inside.layout c.self.inside.trail.cells
     ≡ c.args.self.now.stand.position = ap (λ v. v.stand.position) c.self.view_is in
-    let free : present c.self.inside.free
+    let free : present c.self.inside.rings.free
     ≡ free_points c.args.self.now.game c.args.self.now.stand.position = fits.free_is
     ∙ ((λ i. free_points_in (shape i) (at i))
     ∙ free-points-of c.args.self.now.game c.args.self.now.stand.position) in
@@ -26,7 +26,7 @@ pub point_of-requires : goal.point_of-requires
 point_of-requires c =
     let fits = fit-first _ _ _ _ _ _ c.self.invariant.fit in
     subst (λ o. IfSome o (λ v. v < 65536)) (sym c.next.ensures)
-    (find-small (nat_lt c.from.result) (present c.self.inside.free) 65536
+    (find-small (nat_lt c.from.result) (present c.self.inside.rings.free) 65536
     (free-small _ _ _ _ _ fits))
 
 pub returns : goal.returns
@@ -36,11 +36,11 @@ returns c =
     c.self.invariant.layout ∙ ap (λ v. shape_of v.game) c.self.view_is in
     let at : position_of c.self.inside.layout c.self.inside.trail.cells
     ≡ c.args.self.now.stand.position = ap (λ v. v.stand.position) c.self.view_is in
-    let free : present c.self.inside.free
+    let free : present c.self.inside.rings.free
     ≡ free_points c.args.self.now.game c.args.self.now.stand.position = fits.free_is
     ∙ ((λ i. free_points_in (shape i) (at i))
     ∙ free-points-of c.args.self.now.game c.args.self.now.stand.position) in
     c.point_of.ensures
     ∙ (c.next.ensures
-    ∙ (ap (λ n. find (nat_lt n) (present c.self.inside.free)) c.from.ensures
+    ∙ (ap (λ n. find (nat_lt n) (present c.self.inside.rings.free)) c.from.ensures
     ∙ ap (find (nat_lt c.args.v)) free))

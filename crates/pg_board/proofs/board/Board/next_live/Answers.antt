@@ -16,7 +16,7 @@ next-requires c =
     c.self.invariant.layout ∙ ap (λ v. shape_of v.game) c.self.view_is in
     let at : position_of c.self.inside.layout c.self.inside.trail.cells
     ≡ c.args.self.now.stand.position = ap (λ v. v.stand.position) c.self.view_is in
-    let live : present c.self.inside.live_x
+    let live : present c.self.inside.rings.live_x
     ≡ live_lines c.args.self.now.game c.args.self.now.stand.position X =
     live-is _ _ _ _ _ (fit-first _ _ _ _ _ _ c.self.invariant.fit) X
     ∙ ((λ i. live_lines_in (shape i) (at i) X)
@@ -31,7 +31,7 @@ next-requires-in-Y c =
     c.self.invariant.layout ∙ ap (λ v. shape_of v.game) c.self.view_is in
     let at : position_of c.self.inside.layout c.self.inside.trail.cells
     ≡ c.args.self.now.stand.position = ap (λ v. v.stand.position) c.self.view_is in
-    let live : present c.self.inside.live_y
+    let live : present c.self.inside.rings.live_y
     ≡ live_lines c.args.self.now.game c.args.self.now.stand.position Y =
     live-is _ _ _ _ _ (fit-first _ _ _ _ _ _ c.self.invariant.fit) Y
     ∙ ((λ i. live_lines_in (shape i) (at i) Y)
@@ -46,7 +46,7 @@ returns-in-X c =
     c.self.invariant.layout ∙ ap (λ v. shape_of v.game) c.self.view_is in
     let at : position_of c.self.inside.layout c.self.inside.trail.cells
     ≡ c.args.self.now.stand.position = ap (λ v. v.stand.position) c.self.view_is in
-    let live : present c.self.inside.live_x
+    let live : present c.self.inside.rings.live_x
     ≡ live_lines c.args.self.now.game c.args.self.now.stand.position X =
     live-is _ _ _ _ _ (fit-first _ _ _ _ _ _ c.self.invariant.fit) X
     ∙ ((λ i. live_lines_in (shape i) (at i) X)
@@ -59,7 +59,7 @@ returns-in-Y c =
     c.self.invariant.layout ∙ ap (λ v. shape_of v.game) c.self.view_is in
     let at : position_of c.self.inside.layout c.self.inside.trail.cells
     ≡ c.args.self.now.stand.position = ap (λ v. v.stand.position) c.self.view_is in
-    let live : present c.self.inside.live_y
+    let live : present c.self.inside.rings.live_y
     ≡ live_lines c.args.self.now.game c.args.self.now.stand.position Y =
     live-is _ _ _ _ _ (fit-first _ _ _ _ _ _ c.self.invariant.fit) Y
     ∙ ((λ i. live_lines_in (shape i) (at i) Y)

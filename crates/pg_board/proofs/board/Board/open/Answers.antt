@@ -20,7 +20,7 @@ open_marks-requires-clause-opens c =
       bias-few c.args.g.now,
     ) in
     blank-opens (record { bias = c.args.g.now.bias; shape = s }) c.args.p.now c.in_ok-trail.trail
-    c.in_ok-rings.rings.live_x c.in_ok-rings.rings.live_y c.in_ok-rings.rings.free
+    c.in_ok-rings.rings
     c.in_ok-rings.ensures.shape (some_bias c.args.g.now Y) (bias-le c.args.g.now) weights
     c.in_ok-trail.ensures.cells c.in_ok-rings.ensures.live_x c.in_ok-rings.ensures.live_y
     c.in_ok-rings.ensures.free (omega (arith, c.in_ok-trail.ensures.spare))
@@ -38,13 +38,14 @@ invariant_of-result c =
     let now : c.set.new.self
     ≡ with_set c.open_marks.new.trail turn_cell (turn_code c.args.p.now.turn c.args.p.now.left) =
     c.set.ensures ∙ ap (with_set c.open_marks.new.trail turn_cell) c.turn_code.ensures in
-    let fits : Fits r c.set.new.self c.open_marks.new.live_x c.open_marks.new.live_y
-    c.open_marks.new.free = rw now
-    (turned-fits r c.args.p.now c.in_ok-layout.layout.points _ c.open_marks.new.trail _ _ _
+    let fits : Fits r c.set.new.self c.open_marks.new.rings.live_x
+    c.open_marks.new.rings.live_y c.open_marks.new.rings.free = rw now
+    (turned-fits r c.args.p.now c.in_ok-layout.layout.points _ c.open_marks.new.trail _
     c.open_marks.ensures (code-low c.args.p.now.turn c.args.g.now.bias c.args.p.now.left
     c.requires.position.few_left)) in
-    let settled_fits : Fits r c.settle.new.self c.open_marks.new.live_x c.open_marks.new.live_y
-    c.open_marks.new.free = rw c.settle.ensures (settled-fits r c.set.new.self _ _ _ fits) in
+    let settled_fits : Fits r c.settle.new.self c.open_marks.new.rings.live_x
+    c.open_marks.new.rings.live_y c.open_marks.new.rings.free =
+    rw c.settle.ensures (settled-fits r c.set.new.self _ _ _ fits) in
     let few = free-few r _ _ _ _ fits in
     let items = ap length none in
     record {
@@ -64,7 +65,7 @@ returns-clause-position c =
     ap (λ s. s.points) c.in_ok-layout.ensures in
     settled-position c.in_ok-layout.layout c.settle.new.self c.set.new.self c.settle.ensures
     ∙ (ap (λ (t : Cells). position_of c.in_ok-layout.layout t.cells) now
-    ∙ opened-position r c.args.p.now c.open_marks.new.trail _ _ _ c.open_marks.ensures
+    ∙ opened-position r c.args.p.now c.open_marks.new.trail _ c.open_marks.ensures
     (λ v on. (let low = c.requires.position.x_range v on in omega arith))
     (λ v on. (let low = c.requires.position.y_range v on in omega arith))
     c.requires.position.some_left c.requires.position.few_left)

@@ -28,14 +28,16 @@ invariant_of-self c =
     let now : reverse c.push.new.self.items ≡ play ∷ reverse c.self.inside.plays.items =
     ap reverse items ∙ reverse-append c.self.inside.plays.items (play ∷ []) in
     let leads = c.play_point.ensures in
-    let back : PlaysBack r c.self.inside.trail c.self.inside.live_x c.self.inside.live_y
-    c.self.inside.free c.play_point.new.trail c.play_point.new.live_x c.play_point.new.live_y
-    c.play_point.new.free play = subst (λ (n : ℕ).
-    PlaysBack r c.self.inside.trail c.self.inside.live_x c.self.inside.live_y c.self.inside.free
-    c.play_point.new.trail c.play_point.new.live_x c.play_point.new.live_y c.play_point.new.free
+    let back : PlaysBack r c.self.inside.trail c.self.inside.rings.live_x c.self.inside.rings.live_y
+    c.self.inside.rings.free c.play_point.new.trail c.play_point.new.rings.live_x
+    c.play_point.new.rings.live_y c.play_point.new.rings.free play = subst
+    (λ (n : ℕ). PlaysBack r c.self.inside.trail c.self.inside.rings.live_x
+    c.self.inside.rings.live_y c.self.inside.rings.free c.play_point.new.trail
+    c.play_point.new.rings.live_x c.play_point.new.rings.live_y c.play_point.new.rings.free
     (record { point = c.args.v; level = n })) (sym c.level-level.ensures) leads.back in
-    let room : length (reverse c.self.inside.plays.items) + length (present c.self.inside.free)
-    ≤ vec_capacity c.self.inside.plays = c.self.invariant.places in
+    let room : length (reverse c.self.inside.plays.items)
+    + length (present c.self.inside.rings.free) ≤ vec_capacity c.self.inside.plays =
+    c.self.invariant.places in
     record {
       has_lines = c.self.invariant.has_lines;
       layout = c.self.invariant.layout;

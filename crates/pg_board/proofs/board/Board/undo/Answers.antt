@@ -23,10 +23,10 @@ undo_play-requires c =
     c.in-Some.ensures.items in
     let was : reverse c.self.inside.plays.items ≡ c.in-Some.play ∷ reverse c.pop.new.self.items =
     ap reverse items ∙ reverse-append c.pop.new.self.items (c.in-Some.play ∷ []) in
-    let fit : AreFit r c.self.inside.trail c.self.inside.live_x c.self.inside.live_y
-    c.self.inside.free (c.in-Some.play ∷ reverse c.pop.new.self.items) = subst
-    (AreFit r c.self.inside.trail c.self.inside.live_x c.self.inside.live_y c.self.inside.free) was
-    c.self.invariant.fit in
+    let fit : AreFit r c.self.inside.trail c.self.inside.rings.live_x c.self.inside.rings.live_y
+    c.self.inside.rings.free (c.in-Some.play ∷ reverse c.pop.new.self.items) = subst
+    (AreFit r c.self.inside.trail c.self.inside.rings.live_x c.self.inside.rings.live_y
+    c.self.inside.rings.free) was c.self.invariant.fit in
     record {
       played = fit-played r _ _ _ _ c.in-Some.play _ fit;
       before = fit-first r _ _ _ _ _ (fit-before r _ _ _ _ c.in-Some.play _ fit);
@@ -39,16 +39,18 @@ invariant_of-self c =
     c.in-Some.ensures.items in
     let was : reverse c.self.inside.plays.items ≡ c.in-Some.play ∷ reverse c.pop.new.self.items =
     ap reverse items ∙ reverse-append c.pop.new.self.items (c.in-Some.play ∷ []) in
-    let fit : AreFit r c.self.inside.trail c.self.inside.live_x c.self.inside.live_y
-    c.self.inside.free (c.in-Some.play ∷ reverse c.pop.new.self.items) = subst
-    (AreFit r c.self.inside.trail c.self.inside.live_x c.self.inside.live_y c.self.inside.free) was
-    c.self.invariant.fit in
+    let fit : AreFit r c.self.inside.trail c.self.inside.rings.live_x c.self.inside.rings.live_y
+    c.self.inside.rings.free (c.in-Some.play ∷ reverse c.pop.new.self.items) = subst
+    (AreFit r c.self.inside.trail c.self.inside.rings.live_x c.self.inside.rings.live_y
+    c.self.inside.rings.free) was c.self.invariant.fit in
     let played = fit-played r _ _ _ _ c.in-Some.play _ fit in
     let back = c.undo_play.ensures in
-    let more : length (present c.undo_play.new.free) ≡ length (present c.self.inside.free) + 1 =
+    let more : length (present c.undo_play.new.rings.free)
+    ≡ length (present c.self.inside.rings.free) + 1 =
     ap (λ (ls : List (List ℕ)). length (present ls)) back.free ∙ played.one_more in
-    let room : length (reverse c.self.inside.plays.items) + length (present c.self.inside.free)
-    ≤ vec_capacity c.self.inside.plays = c.self.invariant.places in
+    let room : length (reverse c.self.inside.plays.items)
+    + length (present c.self.inside.rings.free) ≤ vec_capacity c.self.inside.plays =
+    c.self.invariant.places in
     record {
       has_lines = c.self.invariant.has_lines;
       layout = c.self.invariant.layout;

@@ -1,6 +1,6 @@
 use Rattle.std.proofs.Common.{◌∷◌, [], ◌∙◌, ap}
 use Rattle.std.specs.List.{range_with_len}
-use Rattle.pg_board.proofs.opening.whole_rings.Goals as goal
+use Rattle.pg_board.proofs.rings.whole_rings.Goals as goal
 
 pub returns-clause-shape : goal.returns-clause-shape
 returns-clause-shape c = c.lines-lines.ensures.shape
