@@ -124,3 +124,22 @@ Settles-root g claim h turn =
     Settles-node g claim h (length claim.nodes - 1) node.node node.at
 
 -- ---- the outcome reaches the goal
+
+pub outcome-reaches : (g : Game) (claim : Claim) (p : Position) (ending : Option Score)
+    → Forces g p claim.side claim.goal
+    → ending ≡ (if is_over g p then Some (outcome g p) else None)
+    → IfSome ending (λ score. reaches claim.side claim.goal score ≡ true)
+outcome-reaches g claim p ending forced known = elim (cases_Bool (is_over g p)) [
+  | inl over ↦
+      let is : ending ≡ Some (outcome g p) =
+      known ∙ ap (λ (b : Bool). if b then Some (outcome g p) else None) over in
+      let P : Option Score → Type 0 =
+      λ o. IfSome o (λ score. reaches claim.side claim.goal score ≡ true) in
+      subst P (sym is) (ap (reaches claim.side claim.goal) (sym (value-over g p over)) ∙ forced)
+  | inr going ↦
+      let is : ending ≡ None =
+      known ∙ ap (λ (b : Bool). if b then Some (outcome g p) else None) going in
+      let P : Option Score → Type 0 =
+      λ o. IfSome o (λ score. reaches claim.side claim.goal score ≡ true) in
+      subst P (sym is) tt
+]

@@ -77,5 +77,3 @@ module _ (g : SpanGame) where
   span_class-solved (solved.Breaker parts) t = rw (by_parts X parts t.0, by_parts Y parts t.1) refl
   span_class-solved (solved.First v a1 a2 parts) t =
       rw (by_trees X (Some v) a1 a2 t.0, by_parts Y parts t.1) refl
-
--- ---- the certificate of what was found

@@ -132,5 +132,3 @@ delivers_first Act file texts files files' before after halt h = go files.held h
   go (Some held) (Refused refusal) (none, changes) = absurd none
   go (Some held) (Stopped stop) (done, inl none, changes) = (done, inl none, changes)
   go (Some held) (Stopped stop) (done, inr act, changes) = (done, inr (more done stop act), changes)
-
--- ---- files

@@ -3,6 +3,7 @@ use Rattle.pg_game.specs.Value.{reaches}
 use Rattle.pg_player.specs.Player.{Play}
 use Rattle.pg_player.specs.Stand.{standing_of}
 use Rattle.pg_player.proofs.Going.{on-forces}
+use Rattle.pg_player.proofs.Opening.{outcome-reaches}
 use Rattle.pg_player.proofs.player.Player.outcome.Goals as goal
 
 pub returns-clause-reached : goal.returns-clause-reached
