@@ -1,5 +1,5 @@
--- What the proofs of this crate name of crates below.
-pub use Rattle.pg_cli.specs.Prelude.{ActsInFamily, AllByRecursion, AllZip, AreForcedBy, AreForcedInFamily, AreSound, AreUnfolded, AvoiderEnforcer, BothCauses, Bridge, Bytes, Calm, Cert, Certificate, Changes, Check, Claim, ClaimHead, Command, ConsoleTold, Contains, Contender, Cut, DONE, Data, Delivers, DeliversThen, DifferInPosition, Does, Done, Draw, End, Entry, Evidence, Expanded, FAULTY_GAME, FAULTY_RECORD, Failed, FamilyTask, Faults, Field, FilesTold, Finished, First, Folded, FoldsWell, Follows, Forces, Game, Gen, GivesInFamily, GivesRecord, GivesReview, Goal, Graph, Grows, Halt, HaltCauses, HasCause, HasFault, HasImageFault, HaveDifferentPositions, Heading, Holding, INPUT_ENDED, ImageCert, IsAlong, IsAskedLast, IsCut, IsFaultless, IsFoldedWell, IsForcedInFamily, IsForcedInFamilyFrom, IsFound, IsGameHalt, IsGameLacking, IsImageWithinLimits, IsInnerHalt, IsLackingTwo, IsLeft, IsLeftOpen, IsNothing, IsOfNames, IsPlay, IsPlayEnd, IsPlayHalt, IsReached, IsReadHalt, IsSaidBy, IsSameClaim, IsShown, IsTalkHalt, IsTrueOf, IsUnfolded, IsUnfoldedCert, IsValid, IsWithinItsLimits, IsWithinLimits, IsWriteHalt, Items, Kind, LacksInFamily, LeavesFamilyFiles, LeavesSearch, Lines, MAX_NODES, MAX_POSITIONS, MIN_POSITIONS, MakerBreaker, MakerMaker, MakesStanding, Making, Members, Memory, Message, MuteAtMemory, NO_MEANING, NO_MEMORY, NoClaim, NoMeaning, OUT_OF_REPLIES, OfFamily, OpensGame, OpensTwo, Performs, Plain, Play, Position, QuietAtReadInFamily, QuietsBy, READ_FAILED, REFUSED, Read, ReadsOnly, Record, Records, RecordsGame, Refusal, Refused, RefusesFamily, RefusesReview, Rejected, RejectedImage, RejectedSpan, RejectedVectors, RejectsEvidence, Report, Review, Reviews, ReviewsMoves, ReviewsRead, Rose, Rows, Runs, Said, SaysAll, SaysAtLeast, SaysFirst, Scatter, Short, ShowsValid, Side, Solution, Solve, Source, Speaks, StandsAgainst, StandsFor, Starved, Stop, Stopped, Stops, StoresAt, Switching, UNKNOWN, Unfolded, Unknown, Value, Verdict, WRITE_FAILED, Win, Write, X, Y, accepted_text, array, behind, both, budget, certificate_of, class_cut_text, class_first_mover_text, class_short_text, compact_text, contender_of, delivered, due, ending, entry, evidence, evidence_held, expanded_text, free_points, game, game_held, goal_word, has_float, heading, heads_of_evidence, image_head, is_claim_of, is_class, is_same_side, is_switching, is_win, is_win_of, items_have_float, items_of, items_text, kind_word, lacking, line_game_text, loss_texts, lost_text, meaning_of, member, members_have_float, members_text, message_text, no_meaning_text, no_members, node_count, nothing, number, object, ordered, player_of, printed_certificate, printed_image_certificate, refusal_status, refusal_text, reply_text, result_text, reviewed_text, side_word, start, statuses_in_family, stop_end, stop_status, string, switching_game_text, talk, text, texts_of, unknown_at_text, unknown_text, unsigned, view, with_turn}
+-- What the proofs of this crate name of std and of the crates below.
+pub use Rattle.pg_cli.specs.Prelude.{ActsInFamily, AllByRecursion, AllZip, AreForcedInFamily, AreSound, AreUnfolded, AvoiderEnforcer, BothCauses, Bridge, Bytes, Calm, Cert, Certificate, Changes, Check, Claim, ClaimHead, Command, ConsoleTold, Contains, Contender, Cut, DONE, Data, Delivers, DifferInPosition, Does, Done, Draw, End, Entry, Evidence, Expanded, Failed, FamilyTask, Faults, Field, FilesTold, Finished, First, Folded, FoldsWell, Follows, Forces, Game, Gen, GivesInFamily, Goal, Graph, Grows, Halt, HasCause, HasFault, HasImageFault, HaveDifferentPositions, Heading, Holding, INPUT_ENDED, ImageCert, IsCut, IsFoldedWell, IsForcedInFamily, IsForcedInFamilyFrom, IsFound, IsImageWithinLimits, IsInnerHalt, IsLeft, IsLeftOpen, IsNothing, IsOfNames, IsPlay, IsPlayHalt, IsReached, IsSaidBy, IsSameClaim, IsShown, IsTalkHalt, IsUnfolded, IsUnfoldedCert, IsValid, IsWithinLimits, IsWriteHalt, Kind, LeavesFamilyFiles, LeavesSearch, Lines, MAX_NODES, MakerBreaker, MakerMaker, MakesStanding, Making, Members, Memory, Message, MuteAtMemory, NO_MEANING, NO_MEMORY, NoClaim, NoMeaning, OUT_OF_REPLIES, OfFamily, OpensGame, Performs, Plain, Play, Position, QuietAtReadInFamily, READ_FAILED, REFUSED, Read, ReadsOnly, Record, Records, RecordsGame, Refusal, Refused, RefusesFamily, Rejected, RejectedImage, RejectedSpan, RejectedVectors, Report, Review, ReviewsMoves, ReviewsRead, Rose, Rows, Runs, Said, SaysAtLeast, SaysFirst, Scatter, Short, ShowsValid, Side, Solution, Solve, Source, StandsFor, Starved, Stop, Stopped, Stops, Switching, UNKNOWN, Unfolded, Unknown, Value, Verdict, WRITE_FAILED, Win, Write, X, Y, accepted_text, array, behind, both, budget, certificate_of, compact_text, contender_of, delivered, ending, evidence, evidence_held, expanded_text, free_points, game, game_held, goal_word, has_float, heading, heads_of_evidence, image_head, is_claim_of, is_same_side, is_switching, is_win, is_win_of, items_have_float, items_text, kind_word, loss_texts, lost_text, meaning_of, member, members_have_float, members_text, message_text, node_count, nothing, number, object, ordered, player_of, printed_certificate, printed_image_certificate, refusal_status, refusal_text, reply_text, reviewed_text, side_word, start, statuses_in_family, stop_end, stop_status, string, talk, text, texts_of, unknown_at_text, unknown_text, unsigned, with_turn}
 unfoldable pub use Rattle.pg_cli.specs.Prelude.{chosen_claim}
 pub use Rattle.pg_families.proofs.Announced.{AllOther, AreOther, IsOther, accepted_forced, apart, delivers_other, first_or_later, held_there, image_of, none_of, one_of, one_other, others_forced, play_forced, said_is, stays_other, unsaid}
 pub use Rattle.pg_talk.proofs.Delivering.{follows_more, stopped_first}

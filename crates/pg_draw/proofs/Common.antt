@@ -1,5 +1,5 @@
--- What the proofs of this crate name of crates below.
-pub use Rattle.pg_draw.specs.Prelude.{Board, Bow, Disc, Graph, Grid, IsBoard, Item, MAX_BRIDGE_ROWS, MAX_EDGES, MAX_POINTS, MAX_VERTICES, Picture, Place, Ring, Scene, Shape, Square, Stroke, Words, count_by, flat_map, points_on, range_with_len, vertices_on}
+-- What the proofs of this crate name of std and of the crates below.
+pub use Rattle.pg_draw.specs.Prelude.{Board, Graph, Grid, IsBoard, Item, MAX_VERTICES, Place, Ring, Scene, Words, points_on, vertices_on}
 pub use Rattle.std.proofs.Math.Nat.{add-mul-div_right, div-le_of_le-mul, div-lt_iff_lt-mul, div-mul-le_self, lt-div-mul-add, mul-add, mul-le-mul_left, mul_comm}
 pub use Rattle.std.proofs.lemmas.Bool.{and_parts, cases_Bool, cases_lt}
 pub use Rattle.std.proofs.lemmas.Bool.Decides.{nat_tests}

@@ -1,4 +1,4 @@
--- The definitions of crates below that this crate names.
+-- What the definitions of this crate name of std and of the crates below.
 pub use Rattle.pg_base.specs.declared.limits.TheConstants.{MAX_EDGES}
 pub use Rattle.pg_game.specs.declared.bounds.TheConstants.{MAX_POINTS, MAX_VERTICES}
 pub use Rattle.pg_gen.specs.declared.limits.TheConstants.{MAX_BRIDGE_ROWS}

@@ -1,4 +1,4 @@
--- The definitions of crates below that this crate names.
+-- What the definitions of this crate name of std and of the crates below.
 pub use Rattle.pg_cert.specs.Limits.{IsWithinLimits}
 pub use Rattle.pg_cert.specs.Valid.{IsFirstFault, IsValid}
 pub use Rattle.pg_cert.specs.declared.cert.Cert.{Cert}

@@ -1,5 +1,5 @@
--- What the proofs of this crate name of crates below.
-pub use Rattle.pg_family_files.specs.Prelude.{All, AllByRecursion, AreBelow, AreSpanParts, AreVectorParts, Becomes, Bytes, Fault, FileError, FinSet, Gives, Graph, IsLeast, IsReadAs, MAX_CLAIMS, MAX_EDGES, MAX_GAME_BYTES, MAX_MEMBERS, MAX_ROWS, MAX_VECTORS, MAX_VERTICES, SPACE, ShareNone, Side, SpanBody, SpanCert, SpanClaim, SpanGame, VecGame, after_slash, and_then, ascend_from, before_slash, begins_comment, behind_spaces, bytes_eq, contains, contains-empty, contains-from_list_nat, decimal, each_of, edge_words, empty, first, first_number, flat_map, following, from_list, go_on, has_one_slash, is_outside, is_printable, is_slash, last_lines, least, list_all, list_any, marked, members, nat_cmp, number, number_of, number_words, numbers, numbers_of, one_where, onto, parts, repeats, rest, second_number, separated, set_of, set_words, side_of, side_word, spaced, spelled, unless}
+-- What the proofs of this crate name of std and of the crates below.
+pub use Rattle.pg_family_files.specs.Prelude.{All, AllByRecursion, AreBelow, AreSpanParts, AreVectorParts, Bytes, Fault, FileError, FinSet, Gives, Graph, IsLeast, ShareNone, Side, SpanBody, SpanCert, SpanClaim, SpanGame, VecGame, after_slash, and_then, ascend_from, before_slash, begins_comment, behind_spaces, bytes_eq, contains, contains-empty, contains-from_list_nat, decimal, each_of, edge_words, empty, first, first_number, flat_map, following, from_list, go_on, has_one_slash, is_printable, is_slash, last_lines, least, list_all, list_any, marked, members, nat_cmp, number, number_of, number_words, numbers, numbers_of, onto, parts, repeats, rest, second_number, set_of, set_words, side_of, side_word, spaced, spelled}
 unfoldable pub use Rattle.pg_family_files.specs.Prelude.{lines, points_below, reading, words}
 pub use Rattle.pg_base.proofs.MemberLemmas.{from_list-points_below, points_below-ascend, points_below-each, points_below-length, points_below-small}
 pub use Rattle.pg_files.proofs.PrintLemmas.{each_text, joined}

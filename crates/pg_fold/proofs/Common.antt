@@ -1,5 +1,5 @@
--- What the proofs of this crate name of crates below.
-pub use Rattle.pg_fold.specs.Prelude.{All, AllByRecursion, AllPairs, AllZip, AreBelow, AreCopies, AreReplyImages, AreSound, AreUnfolded, BecomesUnder, Body, Cert, Claim, ComesBefore, Contains, Copy, Cuts, EndsRight, FinSet, Fits, FollowMoves, FollowsMove, Game, Goal, Grid, GridMap, HasCuts, HasPairs, HasPotential, HasSymmetry, HasThreat, HasTrees, HasTurn, HasWeaker, HaveRoom, Image, ImageCert, ImageClaim, ImageNode, IsAt, IsAutomorphism, IsBodyImage, IsClaim, IsCopied, IsImage, IsImageClaim, IsImageNode, IsImageWithinLimits, IsInGame, IsMapOf, IsMapOn, IsMarked, IsMet, IsMetBy, IsNode, IsNodeOf, IsOwed, IsPlaced, IsPlain, IsPosition, IsReplyImage, IsSoundClaim, IsTurn, IsUnfolded, IsUnfoldedCert, IsUsable, IsValid, IsValidClaim, IsWithinLimits, LeadsTo, MAX_MEMBERS, Move, NamesChild, NamesEarlier, Node, Over, Pairs, Passes, Plain, Position, Potential, PotentialFits, Reply, SettlesBy, Side, StandsFor, TakesFree, Threat, Trees, Unfolded, Weaker, after, board_of, contains, equal_positions, equal_positions-decides, followed_by, free_points, from_list, get, identity, image_node_count, image_node_position, image_of, image_on, image_position, image_set, insert, is_allowed, is_free, is_over, members, nat_cmp, node_count, number_of, point_count, position_of, range_with_len, reverse_of, shows_cuts, shows_trees, sum_by, with_turn}
+-- What the proofs of this crate name of std and of the crates below.
+pub use Rattle.pg_fold.specs.Prelude.{All, AllByRecursion, AllPairs, AllZip, AreBelow, AreCopies, AreReplyImages, AreSound, AreUnfolded, BecomesUnder, Body, Cert, Claim, ComesBefore, Contains, Copy, Cuts, EndsRight, FinSet, Fits, FollowMoves, FollowsMove, Game, Goal, Grid, GridMap, HasCuts, HasPairs, HasPotential, HasThreat, HasTrees, HasTurn, HasWeaker, Image, ImageCert, ImageClaim, ImageNode, IsAt, IsAutomorphism, IsBodyImage, IsClaim, IsCopied, IsImage, IsImageClaim, IsImageNode, IsImageWithinLimits, IsInGame, IsMapOf, IsMapOn, IsMarked, IsMet, IsMetBy, IsNode, IsNodeOf, IsOwed, IsPlaced, IsPlain, IsPosition, IsReplyImage, IsSoundClaim, IsTurn, IsUnfolded, IsUnfoldedCert, IsUsable, IsValid, IsValidClaim, IsWithinLimits, LeadsTo, MAX_MEMBERS, Move, NamesChild, NamesEarlier, Node, Over, Pairs, Passes, Plain, Position, Potential, PotentialFits, Reply, SettlesBy, Side, StandsFor, TakesFree, Threat, Trees, Weaker, after, board_of, contains, equal_positions, equal_positions-decides, followed_by, free_points, from_list, get, identity, image_node_count, image_node_position, image_of, image_on, image_position, image_set, insert, is_allowed, is_free, is_over, members, nat_cmp, node_count, number_of, point_count, position_of, range_with_len, reverse_of, shows_cuts, shows_trees, sum_by, with_turn}
 pub use Rattle.pg_base.proofs.MemberLemmas.{points_below-small}
 pub use Rattle.pg_base.proofs.Stands.{at_contains, at_new, at_old, at_push, contains_at, contains_old, contains_push, from_take, one_at, same_some, some≢none}
 pub use Rattle.pg_game.proofs.RowLines.{zip-more}

@@ -1,5 +1,5 @@
--- What the proofs of this crate name of crates below.
-pub use Rattle.pg_gf2.specs.Prelude.{All, AreBelow, AreFree, AreFreeOrE, ArePoints, AreSpanCuts, AreSpanTrees, AreWithin, Body, Cert, Claim, Class, Cuts, FinSet, ForcesBy, IsApart, IsBase, IsBelow, IsBody, IsClaim, IsFree, IsGrown, IsNode, IsOfVersion, IsPlace, IsSpan, IsSpanBridge, IsTurn, IsWithin, IsWithinLimits, Matroid, Node, One, Position, Rules, ShareNone, Side, SpanSetsHold, Trees, Version, Win, X, Y, below, bit_at, both, circuit, class_claims, contains, contains-empty, empty, find, has_body, insert, is_free, kept, left_without, minus, named, nat_cmp, node_at, node_count, plus, range_with_len, remove, set_claim, sets_body, span_rules, value_by, vec_capacity, vec_len, w128, xor_assoc, xor_self, xor_zero_l, xor_zero_r}
+-- What the proofs of this crate name of std and of the crates below.
+pub use Rattle.pg_gf2.specs.Prelude.{All, AreBelow, AreFree, AreFreeOrE, ArePoints, AreSpanCuts, AreSpanTrees, AreWithin, Body, Cert, Claim, Class, Cuts, FinSet, ForcesBy, IsBase, IsBelow, IsBody, IsClaim, IsFree, IsGrown, IsNode, IsOfVersion, IsPlace, IsSpan, IsSpanBridge, IsTurn, IsWithin, IsWithinLimits, Matroid, Node, One, Position, ShareNone, Side, Trees, Version, Win, X, Y, below, bit_at, both, circuit, class_claims, contains, contains-empty, empty, find, has_body, insert, is_free, kept, left_without, minus, named, nat_cmp, node_at, node_count, plus, range_with_len, remove, set_claim, sets_body, vec_capacity, vec_len, w128, xor_assoc, xor_self, xor_zero_r}
 unfoldable pub use Rattle.pg_gf2.specs.Prelude.{either, free_with_e, outside, swapped}
 pub use Rattle.pg_base.proofs.BelowLemmas.{below_from, below_in, below_none, below_out, below_parts, same_sets}
 pub use Rattle.pg_base.proofs.PointSetLaws.{contains-remove_minus, insert-remove, remove-old, remove-other, remove-self}

@@ -1,4 +1,4 @@
--- The definitions of crates below that this crate names.
+-- What the definitions of this crate name of std and of the crates below.
 pub use Rattle.pg_cert.specs.Limits.{IsWithinLimits}
 pub use Rattle.pg_cert.specs.Parts.{BeginCert, all_parts, claim_parts, parts_of}
 pub use Rattle.pg_cert.specs.Valid.{AreSoundBefore, FollowMoves, FollowsMove, HasWeaker, IsFirstFault, IsInGame, IsLeastFault, IsNodeOf, IsOwed, IsSound, IsValid, IsValidClaim, Passes}

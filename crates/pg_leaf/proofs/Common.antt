@@ -1,5 +1,5 @@
--- What the proofs of this crate name of crates below.
-pub use Rattle.pg_leaf.specs.Prelude.{All, AvoiderEnforcer, Body, ByEnd, ByPairs, ByPotential, ByThreat, Contains, Criterion, Cuts, EndsRight, FollowMoves, Game, Goal, HasCuts, HasPairs, HasPotential, HasThreat, HasTrees, HasTurn, IsBody, IsMarked, IsNodeOf, IsPair, IsPosition, IsQuestion, IsThreatLine, LeadsToLine, MAX_CLAIM_NODES, MAX_POINTS, MakerBreaker, MakerMaker, Move, NamesEarlier, Node, Over, Pair, Pairs, PairsHold, Position, Potential, PotentialFits, Reply, Score, Side, Switching, TakesFree, Threat, Trees, View, Weaker, after, answer_by, answer_for, at_least, avoider_can_pair, breaker_of, by_end, claimed_goal, claimer, count, count_by, defender, defends, find, has_body, has_filled, has_lines, is_allowed, is_free, is_live_with, is_over, is_touched, line_at, lines_meant, lines_of, list_any, may_attack, minus, outcome_by, pairs_fit, point_count, points_of, position_of, range_with_len, short_joins, shows_defence}
+-- What the proofs of this crate name of std and of the crates below.
+pub use Rattle.pg_leaf.specs.Prelude.{All, AvoiderEnforcer, Body, ByEnd, ByPairs, ByPotential, ByThreat, Contains, Criterion, Cuts, FollowMoves, Game, Goal, IsMarked, IsNodeOf, IsPair, IsPosition, IsQuestion, IsThreatLine, LeadsToLine, MakerBreaker, MakerMaker, Move, NamesEarlier, Node, Over, Pair, Pairs, PairsHold, Position, Potential, PotentialFits, Reply, Score, Side, Switching, Threat, Trees, View, Weaker, after, answer_by, answer_for, at_least, avoider_can_pair, breaker_of, by_end, claimed_goal, claimer, count, count_by, defender, defends, find, has_filled, has_lines, is_free, is_live_with, is_over, is_touched, line_at, lines_meant, lines_of, list_any, may_attack, minus, outcome_by, pairs_fit, point_count, points_of, position_of, range_with_len, short_joins, shows_defence}
 unfoldable pub use Rattle.pg_leaf.specs.Prelude.{attack_wins, decided, first_criterion, free_points, has_private_pairs, live_lines, live_with, outcome, pairs_exist}
 pub use Rattle.pg_base.proofs.Stands.{at_contains, at_new, at_old, at_push, at_set_other, at_set_same, contains_at, contains_old, contains_push, from_take, in_take, map-same_at, one_at, same_some, some≢none}
 pub use Rattle.pg_game.proofs.Limits.{lines-range, point_count-le}

@@ -1,5 +1,5 @@
--- What the proofs of this crate name of crates below.
-pub use Rattle.pg_plain.specs.Prelude.{All, AreBelow, Contains, Filling, FinSet, Forcing, Game, IsAttack, IsBaseOf, IsMadeForGame, IsThreatLine, LeadsToLine, Position, Score, Side, Switching, X, Y, after, all_touched, answer_for, at_least, attack_wins, avoider_can_pair, avoider_ends, avoider_limit, avoider_risk, best, better, breaker_of, class_by, contains, defender, defends, depth_of, filter, greatest_weight, has_filled, has_lines, has_threat, has_threat_line, is_answer, is_filled, is_free, is_graph, is_listed, is_near, is_on, is_over, is_pairable, is_switching, is_touched, limit, lines_of, list_all, list_any, nat_cmp, outcome, point_count, points_of, range_with_len, settled, threatens, times_counted, total, value, weight, with_turn}
+-- What the proofs of this crate name of std and of the crates below.
+pub use Rattle.pg_plain.specs.Prelude.{All, AreBelow, Contains, Filling, FinSet, Forcing, Game, LeadsToLine, Position, Score, Side, Switching, X, Y, after, answer_for, at_least, attack_wins, avoider_can_pair, avoider_limit, avoider_risk, best, better, breaker_of, class_by, contains, defender, defends, filter, greatest_weight, has_lines, has_threat_line, is_answer, is_filled, is_free, is_graph, is_listed, is_near, is_on, is_over, is_switching, is_touched, limit, lines_of, list_all, list_any, nat_cmp, outcome, point_count, points_of, range_with_len, settled, threatens, times_counted, total, value, weight, with_turn}
 unfoldable pub use Rattle.pg_plain.specs.Prelude.{avoider_holds, by_moves, class_of, decided, first_criterion, free_points, has_private_pairs, minus, pairs_exist, potential_holds}
 pub use Rattle.pg_game.proofs.FreePoints.{length-free_points-after}
 pub use Rattle.pg_game.proofs.Greatest.{greatest-le, running, running-all, running-next, running-none}

@@ -1,5 +1,5 @@
--- What the proofs of this crate name of crates below.
-pub use Rattle.pg_scene.specs.Prelude.{All, AllByRecursion, AreLinesOf, AvoiderEnforcer, Body, Claim, Field, FieldFits, FinSet, Game, Graph, IsBaseOf, IsFit, IsLineOf, Kind, Lines, MAX_EDGES, MAX_MEMBERS, MakerBreaker, MakerMaker, Node, Pair, Parts, Position, Reply, Side, SpanBody, SpanClaim, SpanGame, Switching, Trees, Vec, contains, count_by, count_text, decimal, edge_count, field_points, filter, flat_map, greatest_length, is_free, is_graph, is_on, is_touched, line_weight, lines_of, list_any, longest, marks_at, nat_cmp, point_count, points_of, position_of, range_with_len, side_word, start, sum_by}
+-- What the proofs of this crate name of std and of the crates below.
+pub use Rattle.pg_scene.specs.Prelude.{All, AllByRecursion, AreLinesOf, AvoiderEnforcer, Body, Claim, Field, FieldFits, FinSet, Game, IsBaseOf, IsFit, IsLineOf, Kind, Lines, MakerBreaker, MakerMaker, Node, Pair, Parts, Position, Reply, Side, SpanBody, SpanClaim, SpanGame, Switching, Trees, Vec, contains, count_by, decimal, edge_count, field_points, filter, flat_map, greatest_length, is_free, is_graph, is_on, is_touched, line_weight, lines_of, list_any, longest, marks_at, nat_cmp, point_count, position_of, range_with_len, start, sum_by}
 unfoldable pub use Rattle.pg_scene.specs.Prelude.{free_points, full_weight, point_weight, points_below}
 pub use Rattle.pg_game.proofs.LineSums.{length-le-greatest, line_weight-clear, line_weight-touched}
 pub use Rattle.pg_game.proofs.WeightBounds.{IsBaseOf-bias, IsBaseOf-two, greatest_length-few, line-fit}

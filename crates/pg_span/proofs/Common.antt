@@ -1,5 +1,5 @@
--- What the proofs of this crate name of crates below.
-pub use Rattle.pg_span.specs.Prelude.{All, Answered, AreBases, AreBelow, AreEdges, AreJoiningTrees, AreLabels, AreParts, Coded-set, Crosses, Draw, FinSet, ForcesBy, Graph, IsBase, IsBelow, IsEnding, IsFirst, IsFreeEdge, IsGraph, IsJoinedIn, IsLeastFrom, IsLowest, IsMadeFor, IsPlace, IsPlayBy, IsSettled, IsWithin, MAX_VERTICES, Matroid, Position, Room, Rules, Score, ShareNone, Side, Win, X, XWins, Y, YWins, answered_edge, below, both, claimed, coded_bool, coded_ℕ, connectivity_rules, contains, crosses, crossing, differ, edge_count, either, ending_by, first_end_of, graph_matroid, insert, is_free, is_same_side, joins_all, joins_in, judged_by, kept, lowest_free_edge, minus, moved, nat_cmp, one_if, other, outside, played_by, range_with_len, reaches, remove, second_end_of, short_edge, short_reply, spans_in, spare, value_by, with_first, with_set}
+-- What the proofs of this crate name of std and of the crates below.
+pub use Rattle.pg_span.specs.Prelude.{All, Answered, AreBases, AreBelow, AreEdges, AreJoiningTrees, AreLabels, AreParts, Coded-set, Crosses, Draw, FinSet, ForcesBy, Graph, IsBase, IsBelow, IsEnding, IsFirst, IsFreeEdge, IsGraph, IsJoinedIn, IsLeastFrom, IsLowest, IsMadeFor, IsPlace, IsPlayBy, IsSettled, IsWithin, Matroid, Position, Room, Rules, Score, Side, Win, X, XWins, Y, YWins, answered_edge, below, both, claimed, coded_bool, coded_ℕ, contains, crosses, crossing, differ, edge_count, either, ending_by, first_end_of, insert, is_free, is_same_side, joins_all, joins_in, judged_by, kept, lowest_free_edge, minus, moved, nat_cmp, one_if, other, outside, played_by, reaches, remove, second_end_of, short_edge, short_reply, spans_in, spare, value_by, with_set}
 unfoldable pub use Rattle.pg_span.specs.Prelude.{count, elements_of, image, joins_below, joins_pairs, plus, trees_answer}
 pub use Rattle.pg_base.proofs.BelowLemmas.{below_from, below_parts, same_sets}
 pub use Rattle.pg_base.proofs.PointSetLaws.{contains-insert_plus, contains-remove_minus, contains-union_either, insert-cases}

@@ -1,5 +1,5 @@
--- What the proofs of this crate name of crates below.
-pub use Rattle.pg_talk.specs.Prelude.{Bytes, Causes, Cert, ConsoleTold, Consumes, DONE, Ended, Entry, FileError, FilesTold, Game, Goal, Grows, Heard, Holding, INPUT_ENDED, Illegal, IsFile, IsPlayBy, IsReadAs, IsWhole, Kind, Making, MayStore, Memory, Message, NO_MEMORY, NoNumber, NoPoint, OUT_OF_REPLIES, Play, Position, READ_FAILED, Read, ReadsOnly, Refusal, ReplyFault, Rules, Said, Says, Side, Skipped, Stop, StopCauses, Stored, Stores, Taken, WRITE_FAILED, Write, bytes_eq, claim_text, ending_by, entry, free_below, is_free, judged_by, message_text, move_text, moved, number_of, other, played_by, reaches, reply, reply_text, result_text}
+-- What the proofs of this crate name of std and of the crates below.
+pub use Rattle.pg_talk.specs.Prelude.{Bytes, Cert, ConsoleTold, Consumes, DONE, Ended, Entry, FileError, FilesTold, Game, Goal, Grows, Heard, Holding, INPUT_ENDED, Illegal, IsFile, IsPlayBy, IsReadAs, IsWhole, Kind, Making, MayStore, Memory, Message, NoNumber, NoPoint, OUT_OF_REPLIES, Play, Position, Read, Refusal, ReplyFault, Rules, Said, Says, Side, Skipped, Stop, Stored, Stores, Taken, Write, bytes_eq, claim_text, ending_by, entry, free_below, is_free, judged_by, message_text, move_text, moved, number_of, other, played_by, reaches, reply, reply_text, result_text}
 unfoldable pub use Rattle.pg_talk.specs.Prelude.{certificate, game}
 pub use Rattle.std.proofs.lemmas.Bool.Decides.{nat_tests}
 pub use Rattle.std.proofs.lemmas.List.{append-nil, map-append, map_more, take-append-drop, take_all}

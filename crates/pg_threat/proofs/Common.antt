@@ -1,5 +1,5 @@
--- What the proofs of this crate name of crates below.
-pub use Rattle.pg_threat.specs.Prelude.{AreDeeper, ComesFirst, Contains, Filling, FinSet, Forcing, Game, IsAttack, IsAttacking, IsFirstThreatLine, IsLeastFrom, IsPosition, IsThreatLine, IsUnfilled, LeadsToLine, MakerMaker, Position, ShareNone, Side, Stand, View, X, Y, after, contains, contains-empty, count_by, count_of, depth_of, empty, find, has_filled, has_threat, in_insert, in_remove, insert, is_filled, is_free, is_live_with, is_near, is_on, is_over, is_some, is_touched, line_at, lines_of, list_all, list_any, may_attack, nat_cmp, other, point_count, points_of, range_with_len, remove, same_points, slice_get, threatens}
+-- What the proofs of this crate name of std and of the crates below.
+pub use Rattle.pg_threat.specs.Prelude.{AreDeeper, ComesFirst, Contains, Filling, FinSet, Forcing, Game, IsAttack, IsAttacking, IsLeastFrom, IsPosition, IsThreatLine, LeadsToLine, MakerMaker, Position, ShareNone, Side, Stand, View, X, Y, after, contains, contains-empty, count_by, count_of, depth_of, empty, find, has_filled, has_threat, in_insert, in_remove, insert, is_filled, is_free, is_live_with, is_near, is_on, is_over, is_some, is_touched, line_at, lines_of, list_all, list_any, may_attack, nat_cmp, other, point_count, points_of, range_with_len, remove, same_points, slice_get}
 unfoldable pub use Rattle.pg_threat.specs.Prelude.{has_threat_line, lines_holding, live_lines, live_with}
 pub use Rattle.pg_board.proofs.Answering.{clear-any}
 pub use Rattle.pg_game.proofs.Limits.{point_count-le}

@@ -1,5 +1,5 @@
--- What the proofs of this crate name of crates below.
-pub use Rattle.pg_unfold.specs.Prelude.{All, AllPairs, AllZip, AreBelow, AreInverse, ArePoints, Body, Cert, Claim, Contains, Cuts, FinSet, Fits, Game, Grid, GridMap, Image, ImageCert, ImageClaim, ImageNode, IsBody, IsClaim, IsImageClaim, IsImageNode, IsImageWithinLimits, IsMapOf, IsMapOn, IsMarked, IsNode, IsOfVersion, IsPair, IsPermutation, IsReply, IsSorted, IsSortedByKey, IsTurn, IsWithinLimits, MAX_CLAIMS, MAX_CLAIM_NODES, MAX_NODES, Move, NamesEarlier, Node, Over, Pairs, Plain, Position, Potential, Reply, Side, Threat, Trees, Two, Vec, Weaker, board_of, contains, followed_by, has_body, identity, image_line, image_node_position, image_of, image_on, image_pair, image_position, image_set, is_lt, members, nat_cmp, node_count, number_of, numbered, position_of, reverse_of}
+-- What the proofs of this crate name of std and of the crates below.
+pub use Rattle.pg_unfold.specs.Prelude.{All, AllPairs, AllZip, AreInverse, ArePoints, Body, Cert, Claim, Contains, Cuts, FinSet, Fits, Game, Grid, GridMap, Image, ImageCert, ImageClaim, ImageNode, IsBody, IsClaim, IsImageClaim, IsImageNode, IsImageWithinLimits, IsMapOf, IsMarked, IsNode, IsOfVersion, IsPair, IsPermutation, IsReply, IsSorted, IsSortedByKey, IsTurn, IsWithinLimits, MAX_CLAIM_NODES, MAX_NODES, Move, NamesEarlier, Node, Over, Pairs, Plain, Position, Potential, Reply, Side, Threat, Trees, Two, Vec, Weaker, board_of, contains, followed_by, has_body, identity, image_line, image_node_position, image_of, image_on, image_pair, image_position, image_set, is_lt, members, nat_cmp, node_count, number_of, numbered, position_of, reverse_of}
 pub use Rattle.pg_game.proofs.Members.{Contains-head, Contains-tail, member-from_any}
 pub use Rattle.pg_maps.proofs.Boards.{Fits-followed, Fits-identity, cells, image_on-identity}
 pub use Rattle.pg_maps.proofs.Criteria.{Contains-map-from, sum-through}

@@ -1,5 +1,5 @@
--- What the proofs of this crate name of crates below.
-pub use Rattle.pg_vec_player.specs.Prelude.{AreFreeOrE, AreSpanCuts, AreSpanTrees, Body, Cert, Claim, Coded-set, Cuts, FinSet, ForcesBy, HasCuts, HasTrees, IsBelow, IsCuts, IsEnding, IsMonotone, IsOfSide, IsPlace, IsPlayBy, IsSpan, IsTrees, IsVecClaimValid, IsVecValid, IsWithin, Move, Node, Over, Pairs, Position, Potential, Rules, Score, Side, Threat, Trees, VecGame, VecMove, VecPlan, Weaker, Win, X, Y, answer_vector, at_turn, below, coded_bool, coded_ℕ, contains, difference, either, empty, ending_by, is_free, is_same_side, judged_by, kept, left_without, lost_vector, lowest_free, lowest_needed, lowest_unspanned, minus, moved, names_sets, nat_cmp, other, outside, plan_without, played_by, plus, reaches, remove, reply_vector, union, vector_rules, vector_spans, with_e_named, with_target}
+-- What the proofs of this crate name of std and of the crates below.
+pub use Rattle.pg_vec_player.specs.Prelude.{AreFreeOrE, AreSpanCuts, AreSpanTrees, Body, Cert, Claim, Coded-set, Cuts, FinSet, ForcesBy, HasCuts, HasTrees, IsBelow, IsCuts, IsEnding, IsMonotone, IsOfSide, IsPlace, IsPlayBy, IsSpan, IsTrees, IsVecClaimValid, IsVecValid, IsWithin, Move, Node, Over, Pairs, Position, Potential, Rules, Score, Side, Threat, Trees, VecGame, VecMove, VecPlan, Weaker, Win, X, Y, answer_vector, below, coded_bool, coded_ℕ, contains, difference, either, ending_by, is_free, is_same_side, judged_by, kept, left_without, lost_vector, lowest_free, lowest_needed, lowest_unspanned, minus, moved, names_sets, nat_cmp, other, outside, plan_without, played_by, plus, reaches, remove, reply_vector, union, vector_rules, vector_spans, with_target}
 unfoldable pub use Rattle.pg_vec_player.specs.Prelude.{vec_move}
 pub use Rattle.pg_base.proofs.BelowLemmas.{below_from, below_parts, same_sets}
 pub use Rattle.pg_base.proofs.PointSetLaws.{contains-difference_outside, contains-remove_minus, contains-union_either}
