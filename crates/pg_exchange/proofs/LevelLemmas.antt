@@ -1,5 +1,5 @@
 -- A search that goes level by level.
-use Rattle.std.proofs.Common.{◌≡◌, ℕ, Bool, true, false, ◌⊎◌, inl, inr, refl, arith, sym, ◌∙◌, ap, ◌<◌, ◌≤◌, ◌+◌, subst, suc, zero, cond}
+use Rattle.std.proofs.Common.{◌≡◌, ℕ, Bool, true, false, ◌⊎◌, inl, inr, refl, arith, sym, ◌∙◌, ap, ◌≤◌, subst, suc, zero, cond}
 use Rattle.pg_exchange.proofs.Common.{both_ways, cases_Bool, cases_lt, false_from_ne_true, either, outside, IsWithin, either_cases, either_left, either_right, outside_parts}
 use Rattle.pg_exchange.specs.Matroid.{Matroid}
 use Rattle.pg_exchange.specs.Chain.{links, LeadsIn, IsNearest, IsShortest, IsSearch, IsLevelled, IsRolled, IsNext}

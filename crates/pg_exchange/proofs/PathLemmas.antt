@@ -1,13 +1,31 @@
 -- Spreading along members, and following the steps back.
-use Rattle.std.proofs.Common.{◌≡◌, ◌≢◌, ℕ, ◌<◌, Bool, true, false, ◌⊎◌, List, [], ◌∷◌, refl, inl, inr, sym, ap, ◌∙◌, subst, arith, suc}
-use Rattle.pg_exchange.proofs.Common.{cases_Bool, cases_eq, both_ways, false_from_ne_true, true_from_ne_false, plus, minus, either, plus_cases, plus_old, plus_new, minus_parts, either_right, IsWalk, IsJoined, joined_self, joined_on, joined_edge, joined_back, joined_more}
+use Rattle.std.proofs.Common.{◌≡◌, ◌≢◌, ℕ, ◌<◌, Bool, true, false, ◌⊎◌, List, [], ◌∷◌, length, refl, inl, inr, sym, ap, ◌∙◌, subst, arith, suc}
+use Rattle.std.proofs.lemmas.List.{get_or-set_other, get_or-set_same}
+use Rattle.pg_exchange.proofs.Common.{set, IsBelow, IsWithin, cases_Bool, cases_eq, both_ways, false_from_ne_true, true_from_ne_false, plus, minus, either, plus_cases, plus_old, plus_new, minus_parts, either_right, IsWalk, IsJoined, joined_self, joined_on, joined_edge, joined_back, joined_more}
 use Rattle.pg_graph.proofs.Crossing.{find_crossing}
-use Rattle.pg_exchange.specs.Path.{HasEnds, IsStep, IsSpread, IsFound, IsPath, IsSide, IsTrail, IsTraced}
+use Rattle.pg_exchange.specs.declared.path.Step.{Step}
+use Rattle.pg_exchange.specs.Path.{HasEnds, no_step, above_of, via_of, IsStep, IsSpread, SpreadsOn, IsFound, IsPath, IsSide, IsTrail, IsTraced}
 use Rattle.pg_exchange.proofs.TreeLemmas.{numbered, numbered_self, numbered_other}
 
+-- ---- the step of one label is written
+
+module _ (steps : List Step) (q : ℕ) (step : Step) where
+  pub above_of-same : q < length steps → above_of (set steps q step) q ≡ step.above
+  above_of-same l = ap (λ (s : Step). s.above) (get_or-set_same steps q step no_step l)
+
+  pub via_of-same : q < length steps → via_of (set steps q step) q ≡ step.via
+  via_of-same l = ap (λ (s : Step). s.via) (get_or-set_same steps q step no_step l)
+
+  pub above_of-other : (c : ℕ) → c ≢ q → above_of (set steps q step) c ≡ above_of steps c
+  above_of-other c d = ap (λ (s : Step). s.above) (get_or-set_other steps q c step no_step d)
+
+  pub via_of-other : (c : ℕ) → c ≢ q → via_of (set steps q step) c ≡ via_of steps c
+  via_of-other c d = ap (λ (s : Step). s.via) (get_or-set_other steps q c step no_step d)
+
 module _ (a b : ℕ → ℕ) where
-  turned : (k p q : ℕ) → HasEnds a b k p q → HasEnds a b k q p
-  turned k p q h = elim h [ inl e ↦ inr (e.0, e.1) | inr e ↦ inl (e.0, e.1) ]
+  -- seen from the other end
+  pub HasEnds-turned : (k p q : ℕ) → HasEnds a b k p q → HasEnds a b k q p
+  HasEnds-turned k p q h = elim h [ inl e ↦ inr (e.0, e.1) | inr e ↦ inl (e.0, e.1) ]
 
   -- q is reached from p by a member
   pub IsSpread-attach : (base : ℕ → Bool) (from : ℕ) (reached : ℕ → Bool)
@@ -60,7 +78,7 @@ module _ (a b : ℕ → ℕ) where
               (numbered s.order q s.last) z) e (record {
                 member = subst (λ (z : ℕ). base z ≡ true) (sym by_q) member;
                 ends = subst (λ (z : ℕ). HasEnds a b z q (above' q)) (sym by_q)
-                    (subst (λ (z : ℕ). HasEnds a b k q z) (sym at_q) (turned k p q ends));
+                    (subst (λ (z : ℕ). HasEnds a b k q z) (sym at_q) (HasEnds-turned k p q ends));
                 onward = plus_old reached q (above' q)
                     (subst (λ (z : ℕ). reached z ≡ true) (sym at_q) rp);
                 lower =
@@ -90,6 +108,55 @@ module _ (a b : ℕ → ℕ) where
     before = λ c h. omega arith;
     step = λ c h d. absurd (d (only c h));
   }
+
+  -- a search goes on by a step to q
+  pub SpreadsOn-attach : (members : ℕ → Bool) (n : ℕ) (reached : ℕ → Bool) (steps : List Step)
+      (q : ℕ) (step : Step)
+      → members step.via ≡ true
+      → HasEnds a b step.via step.above q
+      → reached step.above ≡ true
+      → reached q ≡ false
+      → q < n
+      → length steps ≡ n
+      → IsBelow reached n
+      → SpreadsOn a b members n reached steps (plus reached q) (set steps q step)
+  SpreadsOn-attach members n reached steps q step member ends begun fresh l size low =
+      let room : q < length steps = omega arith in
+      record {
+        spread = λ base from w s. IsSpread-attach base from reached (above_of steps) (via_of steps)
+            (above_of (set steps q step)) (via_of (set steps q step)) step.via step.above q
+            (w step.via member) ends begun fresh (above_of-same steps q step room)
+            (via_of-same steps q step room) (above_of-other steps q step)
+            (via_of-other steps q step) s;
+        more = λ z h. plus_old reached q z h;
+        small = λ z h. elim (plus_cases reached q z h) [
+          | inl r ↦ low z r
+          | inr e ↦ omega arith
+        ];
+      }
+
+  -- a search rests
+  pub SpreadsOn-rest : (members : ℕ → Bool) (n : ℕ) (reached : ℕ → Bool) (steps : List Step)
+      → IsBelow reached n
+      → SpreadsOn a b members n reached steps reached steps
+  SpreadsOn-rest members n reached steps low =
+      record { spread = λ base from w s. s; more = λ z h. h; small = low }
+
+  -- a search goes on twice, then by some of the members
+  pub SpreadsOn-twice : (members members' : ℕ → Bool) (n : ℕ) (reached : ℕ → Bool)
+      (steps : List Step) (reached' : ℕ → Bool) (steps' : List Step) (reached'' : ℕ → Bool)
+      (steps'' : List Step)
+      → IsWithin members' members
+      → SpreadsOn a b members n reached steps reached' steps'
+      → SpreadsOn a b members' n reached' steps' reached'' steps''
+      → SpreadsOn a b members n reached steps reached'' steps''
+  SpreadsOn-twice members members' n reached steps reached' steps' reached'' steps'' fewer i e =
+      record {
+        spread = λ base from w s.
+            e.spread base from (λ k h. w k (fewer k h)) (i.spread base from w s);
+        more = λ z h. e.more z (i.more z h);
+        small = e.small;
+      }
 
   -- where the members join from and to, some member leaves what is reached, while to isn't
   pub find_leaving : (base reached : ℕ → Bool) (from to : ℕ)

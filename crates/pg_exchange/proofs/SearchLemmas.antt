@@ -1,29 +1,31 @@
-use Rattle.std.proofs.Common.{◌≡◌, ℕ, Bool, true, false, ◌⊎◌, inl, inr, refl, sym, ◌∙◌, ◌≢◌, ◌<◌, subst, cond, List, length}
+use Rattle.std.proofs.Common.{◌≡◌, ℕ, Bool, true, false, ◌⊎◌, inl, inr, refl, sym, ◌∙◌, ◌≢◌, ◌<◌, subst, cond, List, length, get_or}
 use Rattle.pg_exchange.proofs.Common.{set, both_ways, cases_Bool, cases_eq, false_from_ne_true, true_from_ne_false, minus, either, outside, IsWithin, minus_parts, minus_from, either_cases, either_left, either_right, outside_parts, outside_from}
 use Rattle.std.proofs.lemmas.List.{get_or-set_other, get_or-set_same}
 use Rattle.pg_exchange.specs.Matroid.{Matroid}
-use Rattle.pg_exchange.specs.Chain.{links, IsTree, IsSearch, reads_up, reads_test}
+use Rattle.pg_exchange.specs.declared.search.Parent.{Parent}
+use Rattle.pg_exchange.specs.Chain.{links, IsTree, IsSearch, no_parent, up_of, second_of, IsNoted}
 use Rattle.pg_exchange.proofs.TreeLemmas.{IsTree-step}
 
-pub reads_up-same : (up : List ℕ) (i f : ℕ) → i < length up → reads_up (set up i f) i ≡ f
-unfolding reads_up
-reads_up-same up i f l = get_or-set_same up i f 0 l
+module _ (parents : List Parent) (i : ℕ) (parent : Parent) where
+  pub parent-same : i < length parents → get_or (set parents i parent) i no_parent ≡ parent
+  parent-same l = get_or-set_same parents i parent no_parent l
 
-pub reads_up-other : (up : List ℕ) (i f z : ℕ) → z ≢ i → reads_up (set up i f) z ≡ reads_up up z
-unfolding reads_up
-reads_up-other up i f z d = get_or-set_other up i z f 0 d
+  pub parent-other : (z : ℕ) → z ≢ i
+      → get_or (set parents i parent) z no_parent ≡ get_or parents z no_parent
+  parent-other z d = get_or-set_other parents i z parent no_parent d
 
-pub reads_test-same : (s : List Bool) (i : ℕ) (f : Bool)
-    → i < length s
-    → reads_test (set s i f) i ≡ f
-unfolding reads_test
-reads_test-same s i f l = get_or-set_same s i f false l
+-- what a step of a search writes at what is new, and at what was seen
+module _ (a seen : ℕ → Bool) (f : ℕ) (by_second : Bool) (parents parents' : List Parent)
+    (n : IsNoted (outside a seen) f by_second parents parents') (z : ℕ) where
+  pub noted_new : a z ≡ true
+      → seen z ≡ false
+      → (up_of parents' z ≡ f) × (second_of parents' z ≡ by_second)
+  noted_new h o = n.noted z (outside_from a seen z h o)
 
-pub reads_test-other : (s : List Bool) (i : ℕ) (f : Bool) (z : ℕ)
-    → z ≢ i
-    → reads_test (set s i f) z ≡ reads_test s z
-unfolding reads_test
-reads_test-other s i f z d = get_or-set_other s i z f false d
+  pub noted_seen : seen z ≡ true
+      → (up_of parents' z ≡ up_of parents z) × (second_of parents' z ≡ second_of parents z)
+  noted_seen h = n.others z
+      (false_from_ne_true _ (λ k. both_ways _ (outside_parts a seen z k).1 h))
 
 pub done_cases : (m : Matroid) (b c seen todo seen2 todo2 : ℕ → Bool) (f : ℕ)
     → seen2 ≡ either (either seen (links m b f)) (links m c f)

@@ -1,7 +1,7 @@
 use Rattle.std.proofs.Common.{◌≡◌, ℕ, Bool, true, false, ◌⊎◌, inl, inr, refl, arith, sym, ◌∙◌, ap, ◌≢◌, ◌<◌, ◌≤◌, ◌+◌, subst, suc, zero, eqb, ltb, cond}
 use Rattle.pg_exchange.proofs.Common.{both_ways, cases_Bool, false_from_ne_true, true_from_ne_false, and_parts, and_from, eq-eqb, ne_eqb, ltb-true, lt-ltb, minus, either, IsWithin, IsBelow, one_if, count, IsSpan, IsBase, circuit, swapped, either_left, either_right, count_minus, count_less, circuit_parts}
 use Rattle.pg_exchange.specs.Matroid.{Matroid}
-use Rattle.pg_exchange.specs.Chain.{links, LeadsIn, IsNearest, IsTree, IsShifted, lower, SomeTree, SomeShift}
+use Rattle.pg_exchange.specs.Chain.{links, IsNearest, IsTree, IsShifted, lower, SomeTree, SomeShift}
 use Rattle.pg_exchange.specs.Chain.LeadsIn.{at_once}
 use Rattle.pg_exchange.proofs.SearchSteps.{links_parts}
 use Rattle.pg_exchange.proofs.ShiftLemmas.{links-swapped, members-swapped}

@@ -1,6 +1,7 @@
-use Rattle.std.specs.Prelude.{◌≡◌, ℕ, ◌+◌, ◌<◌, ◌≤◌, ◌==◌, Bool, true, false, not, ◌&&◌, nat_lt, if◌then◌else◌, List, slice_index, slice_index_or, suc, ◌⊎◌}
+use Rattle.std.specs.Prelude.{◌≡◌, ℕ, ◌+◌, ◌<◌, ◌≤◌, ◌==◌, Bool, true, false, not, ◌&&◌, nat_lt, if◌then◌else◌, List, slice_index_or, suc, ◌⊎◌}
 use Rattle.pg_exchange.specs.Prelude.{MAX_MEMBERS, IsWithin, either, both, outside, count, one_if, IsBase, IsReached, circuit}
 use Rattle.pg_exchange.specs.Matroid.{Matroid}
+use Rattle.pg_exchange.specs.declared.search.Parent.{Parent}
 
 -- Chains of links between two bases, and what shifts along them do.
 
@@ -102,12 +103,27 @@ pub record IsShifted (m : Matroid) (b c b' c' from done : ℕ → Bool) (order u
       → one_if (b' z) + one_if (c' z) + one_if (y == z)
       ≡ one_if (b z) + one_if (c z) + one_if (at == z)
 
--- what two arrays tell of a search
-unfoldable pub reads_up : List ℕ → ℕ → ℕ
-reads_up up z = slice_index up z
+-- what stands for how a search came to an element past the last one
+abbrev pub no_parent : Parent
+no_parent = record { up = 0; second = false }
 
-unfoldable pub reads_test : List Bool → ℕ → Bool
-reads_test tests z = slice_index_or tests z false
+-- the element from which a search came to z
+abbrev pub up_of : List Parent → ℕ → ℕ
+up_of parents z = (slice_index_or parents z no_parent).up
+
+-- whether it came there by the second base
+abbrev pub second_of : List Parent → ℕ → Bool
+second_of parents z = (slice_index_or parents z no_parent).second
+
+-- f, and by which base, is written at each member of the set, and the others are as they were
+pub record IsNoted (fresh : ℕ → Bool) (f : ℕ) (by_second : Bool)
+    (parents parents' : List Parent) : Type 0 where
+  pub noted : (z : ℕ)
+      → fresh z ≡ true
+      → (up_of parents' z ≡ f) × (second_of parents' z ≡ by_second)
+  pub others : (z : ℕ)
+      → fresh z ≡ false
+      → (up_of parents' z ≡ up_of parents z) × (second_of parents' z ≡ second_of parents z)
 
 -- some search has seen y, and so many links as its depth says lead there
 pub record SomeTree (m : Matroid) (b c from : ℕ → Bool) (up : ℕ → ℕ) (second : ℕ → Bool)

@@ -1,6 +1,7 @@
 -- Paths along the members of a base. Edge k joins a k and b k.
-use Rattle.std.specs.Prelude.{◌≡◌, ◌≢◌, ◌⊎◌, ◌<◌, ◌≤◌, ℕ, Bool, true, false, List, slice_index}
-use Rattle.pg_exchange.specs.Prelude.{minus, IsWithin, IsBelow, Graph, first_end_of, second_end_of, IsJoined}
+use Rattle.std.specs.Prelude.{◌≡◌, ◌≢◌, ◌⊎◌, ◌<◌, ◌≤◌, ℕ, Bool, true, false, List, length, slice_index, slice_index_or}
+use Rattle.pg_exchange.specs.Prelude.{MAX_MEMBERS, minus, IsWithin, IsBelow, Graph, IsGraph, first_end_of, second_end_of, IsJoined}
+use Rattle.pg_exchange.specs.declared.path.Step.{Step}
 
 -- the label of the first end of edge k
 unfoldable pub first_label : Graph → List ℕ → ℕ → ℕ
@@ -9,6 +10,29 @@ first_label g names k = slice_index names (first_end_of g k)
 -- the label of the second end of edge k
 unfoldable pub second_label : Graph → List ℕ → ℕ → ℕ
 second_label g names k = slice_index names (second_end_of g k)
+
+-- each vertex of a graph has a label, which is below the number of vertices
+pub record IsLabelled (g : Graph) (names : List ℕ) : Type 0 where
+  pub graph : IsGraph g
+  pub few : g.vertices ≤ MAX_MEMBERS
+  pub size : length names ≡ g.vertices
+  pub range : (v : ℕ) → v < g.vertices → slice_index names v < g.vertices
+
+-- what stands for the step of a label past the last one
+abbrev pub no_step : Step
+no_step = record { above = 0; via = 0; depth = 0 }
+
+-- the label above this one
+abbrev pub above_of : List Step → ℕ → ℕ
+above_of steps c = (slice_index_or steps c no_step).above
+
+-- the member that leads there
+abbrev pub via_of : List Step → ℕ → ℕ
+via_of steps c = (slice_index_or steps c no_step).via
+
+-- how deep this one lies
+abbrev pub depth_of : List Step → ℕ → ℕ
+depth_of steps c = (slice_index_or steps c no_step).depth
 
 -- edge k joins p and q
 abbrev pub HasEnds : (ℕ → ℕ) → (ℕ → ℕ) → ℕ → ℕ → ℕ → Type 0
@@ -35,7 +59,28 @@ pub record IsSpread (a b : ℕ → ℕ) (base : ℕ → Bool) (from : ℕ) (reac
   pub before : (c : ℕ) → reached c ≡ true → order c < last
   pub step : (c : ℕ) → reached c ≡ true → c ≢ from → IsStep a b base reached above via order c
 
--- the same, where to is reached
+-- a search goes on by some members: in every base that holds these, steps lead back to where they
+-- led back before; and what is reached stays reached, and is below n
+pub record SpreadsOn (a b : ℕ → ℕ) (members : ℕ → Bool) (n : ℕ) (reached : ℕ → Bool)
+    (steps : List Step) (reached' : ℕ → Bool) (steps' : List Step) : Type 0 where
+  pub spread : (base : ℕ → Bool)
+      → (from : ℕ) → IsWithin members base
+      → IsSpread a b base from reached (above_of steps) (via_of steps)
+      → IsSpread a b base from reached' (above_of steps') (via_of steps')
+  pub more : IsWithin reached reached'
+  pub small : IsBelow reached' n
+
+-- a sweep through the members that are left leaves out only those of which both ends are reached
+-- now, and these are all of which one end was reached before
+pub record IsSwept (a b : ℕ → ℕ) (left left' reached reached' : ℕ → Bool) : Type 0 where
+  pub fewer : IsWithin left' left
+  pub done : (k : ℕ) → left k ≡ true → left' k ≡ false → IsReachedBoth reached' (a k) (b k)
+  pub across : (k : ℕ)
+      → left k ≡ true
+      → (reached (a k) ≡ true) ⊎ (reached (b k) ≡ true)
+      → IsReachedBoth reached' (a k) (b k)
+
+-- a search is done, and to is reached
 pub record IsFound (a b : ℕ → ℕ) (base : ℕ → Bool) (from to n : ℕ)
     (above via : ℕ → ℕ) : Type 0 where
   pub reached : ℕ → Bool

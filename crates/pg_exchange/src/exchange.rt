@@ -5,10 +5,10 @@
 //! to itself.
 ghost use Rattle.std.specs.Prelude.{◌≡◌, ◌<◌, ◌↔◌, ◌⊎◌, ◌==◌, ℕ, true, false, IfSome, IfNone, length};
 ghost use Rattle.pg_exchange.specs.Prelude.{contains, IsWithin, both, outside, IsReached, circuit, swapped};
-ghost use Rattle.pg_exchange.specs.Chain.{base_of, LeadsFrom, SomeTree, IsClosed, IsLeast, IsSettled, IsMoved, IsShift, IsNearest, IsShortest, reads_up, reads_test};
+ghost use Rattle.pg_exchange.specs.Chain.{base_of, LeadsFrom, SomeTree, IsClosed, IsLeast, IsSettled, IsMoved, IsShift, IsNearest, IsShortest, up_of, second_of};
 
 use crate::ground::Ground;
-use crate::search::{explore, follow, members, shared, take_next};
+use crate::search::{Parent, explore, follow, members, shared, take_next};
 use pg_base::{MAX_MEMBERS, PointSet};
 
 /// Two bases of one ground.
@@ -121,12 +121,11 @@ impl<G: Ground> Exchange<G> {
     }
 
     /// Swaps along the chain that ends in y, from its end, and gives its beginning.
-    fn exchange(&mut self, from: &PointSet, up: &[u16], second: &[bool], y: u16) -> u16
+    fn exchange(&mut self, from: &PointSet, parents: &[Parent], y: u16) -> u16
         requires tree { SomeTree (G.matroid self.old.first) (G.base self.old.first)
-            (G.base self.old.second) (contains from.now) (reads_up up.now)
-            (reads_test second.now) y }
-        requires up { length up.now ≡ MAX_MEMBERS }
-        requires second { length second.now ≡ MAX_MEMBERS }
+            (G.base self.old.second) (contains from.now) (up_of parents.now)
+            (second_of parents.now) y }
+        requires parents { length parents.now ≡ MAX_MEMBERS }
         ensures begins { contains from.now result ≡ true }
         ensures kept { G.matroid self.new.first ≡ G.matroid self.old.first }
         ensures kept_second { G.matroid self.new.second ≡ G.matroid self.old.second }
@@ -140,13 +139,13 @@ impl<G: Ground> Exchange<G> {
             if from.has(at) {
                 return at;
             }
-            let above = up[at as usize];
-            if second[at as usize] {
-                self.second.swap(at, above);
+            let parent = parents[at as usize];
+            if parent.second {
+                self.second.swap(at, parent.up);
             } else {
-                self.first.swap(at, above);
+                self.first.swap(at, parent.up);
             }
-            at = above;
+            at = parent.up;
         }
         at
     }
@@ -180,14 +179,17 @@ impl<G: Ground> Exchange<G> {
         ensures unchanged { IfNone result ((G.base self.new.first ≡ G.base self.old.first)
             × (G.base self.new.second ≡ G.base self.old.second)) }
     {
-        let mut up = [0u16; MAX_MEMBERS as usize];
-        let mut second = [false; MAX_MEMBERS as usize];
+        let nowhere = Parent {
+            up: 0,
+            second: false,
+        };
+        let mut parents = [nowhere; MAX_MEMBERS as usize];
         let mut seen = *from;
         let mut level = *from;
         let mut later = PointSet::empty();
         while let Some(f) = take_next(&mut level, &mut later) {
             if let Some(y) = shared(&seen, to).first_from(0) {
-                let x = self.exchange(from, &up, &second, y);
+                let x = self.exchange(from, &parents, y);
                 return Some((x, y));
             }
             explore(
@@ -196,8 +198,7 @@ impl<G: Ground> Exchange<G> {
                 false,
                 &mut seen,
                 &mut later,
-                &mut up,
-                &mut second,
+                &mut parents,
             );
             explore(
                 &mut self.second,
@@ -205,8 +206,7 @@ impl<G: Ground> Exchange<G> {
                 true,
                 &mut seen,
                 &mut later,
-                &mut up,
-                &mut second,
+                &mut parents,
             );
         }
         None

@@ -4,7 +4,7 @@ ghost use Rattle.pg_exchange.specs.Prelude.{contains, AreBelow, ShareNone, eithe
 ghost use Rattle.pg_exchange.specs.Forest.{graph_matroid, elements_of, IsApart, IsFree, IsGrown};
 
 use crate::ground::Ground;
-use crate::path::path;
+use crate::path::{Step, path};
 use crate::search::shared;
 use pg_base::{MAX_MEMBERS, Memory, PointSet};
 use pg_graph::{Ends, Graph, Joiner, labels};
@@ -17,18 +17,14 @@ use std::alloc::Global;
 pub struct GraphGround {
     graph: Graph,
     names: Vec<u16>,
-    above: Vec<u16>,
-    via: Vec<u16>,
-    depth: Vec<u16>,
+    steps: Vec<Step>,
     x: PointSet,
     elements: PointSet,
     base: PointSet,
     ghost fits: { IsGraph graph },
     ghost few: { graph.vertices ≤ MAX_MEMBERS },
     ghost labelled: { AreLabels graph (contains x) names.items },
-    ghost above_size: { vec_len above ≡ graph.vertices },
-    ghost via_size: { vec_len via ≡ graph.vertices },
-    ghost depth_size: { vec_len depth ≡ graph.vertices },
+    ghost steps_size: { vec_len steps ≡ graph.vertices },
     ghost x_edges: { AreEdges graph (contains x) },
     ghost element_edges: { AreEdges graph (contains elements) },
     ghost is_forest: { IsBase (graph_matroid graph (contains x) (contains elements)).spans
@@ -86,9 +82,12 @@ impl GraphGround {
         let base = grown(&mut joiner, g, x, &shared(&elements, avoided), &others);
         let ends = g.ends.as_slice().to_vec(alloc)?;
         let names = labels(alloc, g, x)?;
-        let above = vec![in alloc; 0; g.vertices as usize]?;
-        let via = vec![in alloc; 0; g.vertices as usize]?;
-        let depth = vec![in alloc; 0; g.vertices as usize]?;
+        let nowhere = Step {
+            above: 0,
+            via: 0,
+            depth: 0,
+        };
+        let steps = vec![in alloc; nowhere; g.vertices as usize]?;
         let graph = Graph {
             vertices: g.vertices,
             s: g.s,
@@ -98,9 +97,7 @@ impl GraphGround {
         Ok(GraphGround {
             graph,
             names,
-            above,
-            via,
-            depth,
+            steps,
             x: *x,
             elements,
             base,
@@ -138,7 +135,6 @@ fn grown(
     requires graph { IsGraph g.now }
     requires made { IsMadeFor joiner.old g.now }
     requires x { AreEdges g.now (contains x.now) }
-    requires candidates { AreEdges g.now (contains candidates.now) }
     requires base { AreEdges g.now (contains base.now) }
     requires free { IsFree (λ a k. spans_in g.now (either (contains x.now) a) k)
         (contains base.now) }
@@ -184,9 +180,7 @@ impl Ground for GraphGround {
         let (u, v) = self.graph.ends_of(f);
         let (from, to) = (self.names[u as usize], self.names[v as usize]);
         path(
-            &mut self.above,
-            &mut self.via,
-            &mut self.depth,
+            &mut self.steps,
             &self.names,
             &self.graph,
             &self.base,

@@ -1,10 +1,18 @@
 //! Searches along the links of a base.
 ghost use Rattle.std.specs.Prelude.{◌≡◌, ◌<◌, ℕ, true, false, IfSome, IfNone, length};
 ghost use Rattle.pg_exchange.specs.Prelude.{contains, both, either, minus, outside};
-ghost use Rattle.pg_exchange.specs.Chain.{links, reads_up, reads_test, IsRolled, IsNext};
+ghost use Rattle.pg_exchange.specs.Chain.{links, IsNoted, IsRolled, IsNext};
 
 use crate::ground::Ground;
 use pg_base::{MAX_MEMBERS, PointSet};
+
+/// How a search came to an element: from the element `up`, by a link of the second base or of the
+/// first.
+#[derive(Clone, Copy)]
+pub(crate) struct Parent {
+    pub(crate) up: u16,
+    pub(crate) second: bool,
+}
 
 /// Adds what f links to by one base, and to those left to follow what is new of it.
 pub(crate) fn follow<G: Ground>(ground: &mut G, f: u16, seen: &mut PointSet, todo: &mut PointSet)
@@ -25,19 +33,16 @@ pub(crate) fn follow<G: Ground>(ground: &mut G, f: u16, seen: &mut PointSet, tod
 }
 
 /// Writes f, and which base, at each member of the set.
-fn note(up: &mut [u16], second: &mut [bool], fresh: &PointSet, f: u16, by_second: bool)
-    requires up { length up.old ≡ MAX_MEMBERS }
-    requires second { length second.old ≡ MAX_MEMBERS }
-    ensures noted { (z : ℕ) → contains fresh.now z ≡ true
-        → (reads_up up.new z ≡ f) × (reads_test second.new z ≡ by_second) }
-    ensures others { (z : ℕ) → contains fresh.now z ≡ false
-        → (reads_up up.new z ≡ reads_up up.old z)
-        × (reads_test second.new z ≡ reads_test second.old z) }
+fn note(parents: &mut [Parent], fresh: &PointSet, f: u16, by_second: bool)
+    requires { length parents.old ≡ MAX_MEMBERS }
+    ensures { IsNoted (contains fresh.now) f by_second parents.old parents.new }
 {
     let mut next = 0;
     while let Some(i) = fresh.first_from(next) {
-        up[i as usize] = f;
-        second[i as usize] = by_second;
+        parents[i as usize] = Parent {
+            up: f,
+            second: by_second,
+        };
         next = i + 1;
     }
 }
@@ -49,31 +54,26 @@ pub(crate) fn explore<G: Ground>(
     by_second: bool,
     seen: &mut PointSet,
     todo: &mut PointSet,
-    up: &mut [u16],
-    second: &mut [bool],
+    parents: &mut [Parent],
 )
     requires element { (G.matroid ground.old).elements f ≡ true }
-    requires up { length up.old ≡ MAX_MEMBERS }
-    requires second { length second.old ≡ MAX_MEMBERS }
+    requires parents { length parents.old ≡ MAX_MEMBERS }
     ensures seen { contains seen.new
         ≡ either (contains seen.old) (links (G.matroid ground.old) (G.base ground.old) f) }
     ensures todo { contains todo.new ≡ either (contains todo.old)
         (outside (links (G.matroid ground.old) (G.base ground.old) f) (contains seen.old)) }
     ensures kept { G.matroid ground.new ≡ G.matroid ground.old }
     ensures kept_base { G.base ground.new ≡ G.base ground.old }
-    ensures noted { (z : ℕ) → links (G.matroid ground.old) (G.base ground.old) f z ≡ true
-        → contains seen.old z ≡ false
-        → (reads_up up.new z ≡ f) × (reads_test second.new z ≡ by_second) }
-    ensures others { (z : ℕ) → contains seen.old z ≡ true
-        → (reads_up up.new z ≡ reads_up up.old z)
-        × (reads_test second.new z ≡ reads_test second.old z) }
+    ensures noted { IsNoted
+        (outside (links (G.matroid ground.old) (G.base ground.old) f) (contains seen.old)) f
+        by_second parents.old parents.new }
 {
     if !ground.member(f) {
         let found = ground.circuit(f);
         let fresh = found.without(seen);
         *seen = seen.union(&fresh);
         *todo = todo.union(&fresh);
-        note(up, second, &fresh, f, by_second);
+        note(parents, &fresh, f, by_second);
     }
 }
 

@@ -1,8 +1,8 @@
-use Rattle.std.proofs.Common.{◌≡◌, ◌<◌, ◌≤◌, ◌+◌, ◌⊎◌, ℕ, Bool, true, false, arith, length, slice_index, ap, ◌∙◌, sym, subst, inl, inr, refl, suc}
-use Rattle.pg_exchange.proofs.Common.{cases_eq, cases_lt, cases_Bool, both_ways, false_from_ne_true, FinSet, contains, nat_cmp, minus, IsWithin, minus_parts, minus_from, edge_count, first_end_of, second_end_of}
-use Rattle.pg_exchange.specs.Chain.{reads_up}
-use Rattle.pg_exchange.specs.Path.{first_label, second_label, HasEnds, IsReachedBoth, IsSpread}
+use Rattle.std.proofs.Common.{◌≡◌, ◌<◌, ◌≤◌, ◌+◌, ◌⊎◌, ℕ, Bool, true, false, arith, slice_index, ap, ◌∙◌, sym, subst, inl, inr}
+use Rattle.pg_exchange.proofs.Common.{cases_eq, cases_lt, cases_Bool, both_ways, false_from_ne_true, FinSet, contains, nat_cmp, minus, minus_parts, minus_from}
+use Rattle.pg_exchange.specs.Path.{first_label, second_label, IsReachedBoth, SpreadsOn}
 use Rattle.pg_exchange.proofs.Tests.{without_point}
+use Rattle.pg_exchange.proofs.PathLemmas.{SpreadsOn-twice}
 use Rattle.pg_exchange.proofs.path.sweep.Goals as goal
 use Rattle.pg_exchange.proofs.path.sweep.Goals.{then-cross, else-cross}
 
@@ -25,9 +25,8 @@ loop-k-preserved c =
     ap (λ (p : ℕ × ℕ). slice_index names p.0) (sym c.ends_of-u.ensures.ends) in
     let second : lb k ≡ slice_index names c.ends_of-u.result.1 =
     ap (λ (p : ℕ × ℕ). slice_index names p.1) (sym c.ends_of-u.ensures.ends) in
-    let e = c.cross.ensures in
     let both : c.cross.result ≡ true → IsReachedBoth now (la k) (lb k) = λ t.
-    let p = e.both t in (
+    let p = c.cross.ensures.both t in (
       subst (λ (z : ℕ). now z ≡ true) (sym first) p.0,
       subst (λ (z : ℕ). now z ≡ true) (sym second) p.1,
     ) in
@@ -35,14 +34,23 @@ loop-k-preserved c =
     elim (cases_Bool c.cross.result) [
       | inl t ↦ t
       | inr o ↦
-          let p = e.neither o in
+          let p = c.cross.ensures.neither o in
           absurd (elim some [
             | inl h ↦ both_ways _ p.0
-                (subst (λ (z : ℕ). contains c.loop-k.reached z ≡ true) first (i.more (la k) h))
+                (subst (λ (z : ℕ). contains c.loop-k.reached z ≡ true) first
+                (i.onward.more (la k) h))
             | inr h ↦ both_ways _ p.1
-                (subst (λ (z : ℕ). contains c.loop-k.reached z ≡ true) second (i.more (lb k) h))
+                (subst (λ (z : ℕ). contains c.loop-k.reached z ≡ true) second
+                (i.onward.more (lb k) h))
           ])
     ] in
+    let e : SpreadsOn la lb begun g.vertices (contains c.loop-k.reached) c.loop-k.steps now
+    c.cross.new.steps =
+    subst (λ (n : ℕ). SpreadsOn la lb begun n (contains c.loop-k.reached) c.loop-k.steps now
+    c.cross.new.steps) i.size
+    (c.cross.ensures.onward la lb begun (i.fewer k found.member) (inl (first, second))) in
+    let onward = SpreadsOn-twice la lb begun begun g.vertices old c.args.steps.now
+    (contains c.loop-k.reached) c.loop-k.steps now c.cross.new.steps (λ z h. h) i.onward e in
     let lifted : (j : ℕ) → begun j ≡ true → left j ≡ false → IsReachedBoth now (la j) (lb j) =
     λ j on out. let p = i.done j on out in (e.more (la j) p.0, e.more (lb j) p.1) in
     let across : (j : ℕ) → j < k + 1
@@ -59,24 +67,15 @@ loop-k-preserved c =
         ]
       ]
     ] in
-    let spread : (base : ℕ → Bool) (from : ℕ) → IsWithin begun base
-    → IsSpread la lb base from old (reads_up c.args.above.now) (reads_up c.args.via.now)
-    → IsSpread la lb base from now (reads_up c.cross.new.above) (reads_up c.cross.new.via) =
-    λ base from w s. e.spread la lb base from (w k (i.fewer k found.member)) (inl (first, second))
-    (i.spread base from w s) in
     elim c.if-cross.branch [
       | then-cross w ↦
           let is : contains c.if-cross.left ≡ minus left k =
           ap (λ (s : FinSet nat_cmp). contains s) w.left-is
           ∙ without_point c.loop-k.left w.take.new.self k w.take.ensures in
           record {
-            above_length = omega arith;
-            via_length = omega arith;
-            depth_length = omega arith;
+            size = omega arith;
             next = omega arith;
-            spread = spread;
-            more = λ z h. e.more z (i.more z h);
-            small = λ z h. let l = e.small z h in omega (arith, l, i.above_length);
+            onward = onward;
             fewer = λ z h. i.fewer z
                 (minus_parts left k z (subst (λ (s : ℕ → Bool). s z ≡ true) is h)).0;
             done = λ j on out. elim (cases_eq k j) [
@@ -92,23 +91,23 @@ loop-k-preserved c =
           let is : contains c.if-cross.left ≡ left =
           ap (λ (s : FinSet nat_cmp). contains s) w.left-is in
           record {
-            above_length = omega arith;
-            via_length = omega arith;
-            depth_length = omega arith;
+            size = omega arith;
             next = omega arith;
-            spread = spread;
-            more = λ z h. e.more z (i.more z h);
-            small = λ z h. let l = e.small z h in omega (arith, l, i.above_length);
+            onward = onward;
             fewer = λ z h. i.fewer z (subst (λ (s : ℕ → Bool). s z ≡ true) is h);
             done = λ j on out. lifted j on (subst (λ (s : ℕ → Bool). s j ≡ false) is out);
             across = across;
           }
     ]
 
-pub returns-clause-across : goal.returns-clause-across
-returns-clause-across c k on some =
+pub returns-clause-swept : goal.returns-clause-swept
+returns-clause-swept c =
     let i = c.loop-k.invariant in
-    elim (cases_lt k c.loop-k.next) [
-      | inl lt ↦ i.across k lt on some
-      | inr ge ↦ i.done k on (c.in_default.ensures.none k ge)
-    ]
+    record {
+      fewer = i.fewer;
+      done = i.done;
+      across = λ k on some. elim (cases_lt k c.loop-k.next) [
+        | inl lt ↦ i.across k lt on some
+        | inr ge ↦ i.done k on (c.in_default.ensures.none k ge)
+      ];
+    }

@@ -1,5 +1,5 @@
-use Rattle.std.proofs.Common.{◌≡◌, ◌<◌, ℕ, Bool, true, false, arith, ap, ◌∙◌, sym, refl, inl, inr}
-use Rattle.pg_exchange.proofs.Common.{both_ways, false_from_ne_true, contains, either}
+use Rattle.std.proofs.Common.{◌≡◌, ◌<◌, ℕ, false, arith, ◌∙◌, sym, refl, inl, inr}
+use Rattle.pg_exchange.proofs.Common.{both_ways, false_from_ne_true, contains}
 use Rattle.pg_exchange.proofs.Tests.{emptied}
 use Rattle.pg_exchange.proofs.SearchSteps.{either-none, either-comm}
 use Rattle.pg_exchange.proofs.search.go_on.Goals as goal

@@ -1,17 +1,16 @@
 use Rattle.pg_exchange.proofs.Common.{both_ways, false_from_ne_true, either, outside, minus, IsWithin, contains, both_parts, both_from, outside_parts, outside_from, either_left}
 use Rattle.pg_exchange.proofs.Tests.{emptied, none_left}
 use Rattle.std.proofs.Common.{◌≡◌, ℕ, Bool, true, false, ap, ◌∙◌, sym, refl, subst, arith, inl, inr}
-use Rattle.pg_exchange.specs.Chain.{links, IsNearest, IsSearch, IsMoved, SomeTree, reads_up, reads_test}
+use Rattle.pg_exchange.specs.Chain.{links, IsNoted, IsNearest, IsSearch, IsMoved, SomeTree, up_of, second_of}
 use Rattle.pg_exchange.proofs.SearchSteps.{either-none, either-moved, IsSearch-begin, IsSearch-next, IsSearch-fewer, Leads-seen}
 use Rattle.pg_exchange.proofs.TreeLemmas.{IsTree-begin}
-use Rattle.pg_exchange.proofs.SearchLemmas.{IsTree-next, done_cases}
+use Rattle.pg_exchange.proofs.SearchLemmas.{IsTree-next, done_cases, noted_new, noted_seen}
 use Rattle.pg_exchange.proofs.LevelLemmas.{IsLevelled-begin, IsLevelled-follow, level-near, IsShortest-level}
 use Rattle.pg_exchange.proofs.exchange.Exchange.shift.Goals as goal
 
 pub loop-f-init : goal.loop-f-init
 loop-f-init g c = record {
-  up_length = refl;
-  second_length = refl;
+  parents_size = refl;
   search = subst (λ (k : ℕ → Bool). IsSearch (g.G.Ground.matroid c.args.self.now.first)
       (g.G.Ground.base c.args.self.now.first) (g.G.Ground.base c.args.self.now.second)
       (contains c.args.from.now) (contains c.args.from.now) k)
@@ -43,7 +42,7 @@ exchange-x-requires-clause-tree g c =
     c.in-Some-first_from.ensures.found.member) in
     let t : SomeTree (g.G.Ground.matroid c.args.self.now.first)
     (g.G.Ground.base c.args.self.now.first) (g.G.Ground.base c.args.self.now.second)
-    (contains c.args.from.now) (reads_up c.loop-f.up) (reads_test c.loop-f.second) y = record {
+    (contains c.args.from.now) (up_of c.loop-f.parents) (second_of c.loop-f.parents) y = record {
       seen = seen;
       done = outside seen (either (contains c.loop-f.level) (contains c.loop-f.later));
       known = λ z h. (outside_parts _ _ z h).0;
@@ -56,17 +55,17 @@ exchange-x-requires-clause-tree g c =
       near = level-near (g.G.Ground.matroid c.args.self.now.first)
           (g.G.Ground.base c.args.self.now.first) (g.G.Ground.base c.args.self.now.second)
           (contains c.args.from.now) (contains c.args.to.now) seen (contains c.loop-f.level)
-          (contains c.loop-f.later) (reads_up c.loop-f.up) i.levels y hit.0;
+          (contains c.loop-f.later) (up_of c.loop-f.parents) i.levels y hit.0;
     } in
     subst
     (λ q. SomeTree q (g.G.Ground.base c.loop-f.self.first) (g.G.Ground.base c.loop-f.self.second)
-    (contains c.args.from.now) (reads_up c.loop-f.up) (reads_test c.loop-f.second) y) (sym i.kept)
+    (contains c.args.from.now) (up_of c.loop-f.parents) (second_of c.loop-f.parents) y) (sym i.kept)
     (subst (λ q. SomeTree (g.G.Ground.matroid c.args.self.now.first) q
-    (g.G.Ground.base c.loop-f.self.second) (contains c.args.from.now) (reads_up c.loop-f.up)
-    (reads_test c.loop-f.second) y) (sym i.kept_base)
+    (g.G.Ground.base c.loop-f.self.second) (contains c.args.from.now) (up_of c.loop-f.parents)
+    (second_of c.loop-f.parents) y) (sym i.kept_base)
     (subst (λ q. SomeTree (g.G.Ground.matroid c.args.self.now.first)
-    (g.G.Ground.base c.args.self.now.first) q (contains c.args.from.now) (reads_up c.loop-f.up)
-    (reads_test c.loop-f.second) y) (sym i.kept_second_base) t))
+    (g.G.Ground.base c.args.self.now.first) q (contains c.args.from.now) (up_of c.loop-f.parents)
+    (second_of c.loop-f.parents) y) (sym i.kept_second_base) t))
 
 pub loop-f-preserved : goal.loop-f-preserved
 loop-f-preserved g c =
@@ -94,9 +93,17 @@ loop-f-preserved g c =
     let e2 : links (g.G.Ground.matroid c.loop-f.self.second)
     (g.G.Ground.base c.loop-f.self.second) f ≡ links m d f = cc in
     let e3 : contains c.explore.new.seen ≡ either seen (links m b f) = cc in
+    let one : IsNoted (outside (links m b f) seen) f false c.loop-f.parents c.explore.new.parents =
+    subst (λ (k : ℕ → Bool). IsNoted (outside k seen) f false c.loop-f.parents
+    c.explore.new.parents) e1 c.explore.ensures.noted in
+    let two : IsNoted (outside (links m d f) (either seen (links m b f))) f true
+    c.explore.new.parents c.explore-in-Some.new.parents =
+    subst (λ (k : ℕ → Bool). IsNoted (outside (links m d f) k) f true c.explore.new.parents
+    c.explore-in-Some.new.parents) e3
+    (subst (λ (k : ℕ → Bool). IsNoted (outside k (contains c.explore.new.seen)) f true
+    c.explore.new.parents c.explore-in-Some.new.parents) e2 c.explore-in-Some.ensures.noted) in
     record {
-      up_length = omega arith;
-      second_length = omega arith;
+      parents_size = omega arith;
       search = IsSearch-next m b d (contains c.args.from.now) seen todo
           (contains c.explore-in-Some.new.seen) todo2 f
           (g.met.G.Ground.is_base c.args.self.now.first).within
@@ -104,30 +111,25 @@ loop-f-preserved g c =
           (g.met.G.Ground.is_base c.args.self.now.second).within) i.search c.in-Some.ensures.found
           es et;
       tree = IsTree-next m b d (contains c.args.from.now) seen todo
-          (contains c.explore-in-Some.new.seen) todo2 (reads_up c.loop-f.up)
-          (reads_up c.explore.new.up) (reads_up c.explore-in-Some.new.up)
-          (reads_test c.loop-f.second) (reads_test c.explore.new.second)
-          (reads_test c.explore-in-Some.new.second) f i.search c.in-Some.ensures.found es et
-          (λ z h n. c.explore.ensures.noted z (subst (λ k. k z ≡ true) (sym e1) h) n)
-          (λ z h. c.explore.ensures.others z h)
-          (λ z h n. c.explore-in-Some.ensures.noted z (subst (λ k. k z ≡ true) (sym e2) h)
-          (subst (λ k. k z ≡ false) (sym e3) n))
-          (λ z h. c.explore-in-Some.ensures.others z (subst (λ k. k z ≡ true) (sym e3) h)) i.tree;
+          (contains c.explore-in-Some.new.seen) todo2 (up_of c.loop-f.parents)
+          (up_of c.explore.new.parents) (up_of c.explore-in-Some.new.parents)
+          (second_of c.loop-f.parents) (second_of c.explore.new.parents)
+          (second_of c.explore-in-Some.new.parents) f i.search c.in-Some.ensures.found es et
+          (noted_new _ _ _ _ _ _ one) (noted_seen _ _ _ _ _ _ one) (noted_new _ _ _ _ _ _ two)
+          (noted_seen _ _ _ _ _ _ two) i.tree;
       levels = IsLevelled-follow m b d (contains c.args.from.now) (contains c.args.to.now) seen
-          (contains c.loop-f.level) (contains c.loop-f.later)
-          (reads_up c.loop-f.up) i.levels i.search (contains c.explore-in-Some.new.seen) level rest
-          (contains c.explore-in-Some.new.todo) (reads_up c.explore.new.up)
-          (reads_up c.explore-in-Some.new.up) f c.in-Some.ensures.levels
+          (contains c.loop-f.level) (contains c.loop-f.later) (up_of c.loop-f.parents) i.levels
+          i.search (contains c.explore-in-Some.new.seen) level rest
+          (contains c.explore-in-Some.new.todo) (up_of c.explore.new.parents)
+          (up_of c.explore-in-Some.new.parents) f c.in-Some.ensures.levels
           (i.search.waiting f c.in-Some.ensures.found)
           (λ z k. false_from_ne_true _
           (λ h. both_ways _ (none_left c.shared.result c.in_default-first_from.ensures.none z)
           (subst (λ (j : ℕ → Bool). j z ≡ true) (sym c.shared.ensures) (both_from _ _ z k h))))
           (λ z k o. (outside_parts _ _ _ (i.tree.parent z k o).0).0) es later
-          (λ z h n. (c.explore.ensures.noted z (subst (λ k. k z ≡ true) (sym e1) h) n).0)
-          (λ z h. (c.explore.ensures.others z h).0) (λ z h n.
-          (c.explore-in-Some.ensures.noted z (subst (λ k. k z ≡ true) (sym e2) h)
-          (subst (λ k. k z ≡ false) (sym e3) n)).0)
-          (λ z h. (c.explore-in-Some.ensures.others z (subst (λ k. k z ≡ true) (sym e3) h)).0);
+          (λ z h n. (noted_new _ _ _ _ _ _ one z h n).0) (λ z h. (noted_seen _ _ _ _ _ _ one z h).0)
+          (λ z h n. (noted_new _ _ _ _ _ _ two z h n).0)
+          (λ z h. (noted_seen _ _ _ _ _ _ two z h).0);
       missed = λ z h. elim (done_cases m b d seen todo
           (contains c.explore-in-Some.new.seen) todo2 f es et z h) [
             | inl k ↦ i.missed z k
@@ -232,4 +234,4 @@ returns-in-Some-first_from-clause-shortest g c =
     from x y) i.kept_second_base c.exchange-x.ensures.nearest)) in
     IsShortest-level m b d from (contains c.args.to.now) (contains c.loop-f.seen)
     (contains c.loop-f.level) (contains c.loop-f.later)
-    (reads_up c.loop-f.up) i.levels x y hit.0 hit.1 near
+    (up_of c.loop-f.parents) i.levels x y hit.0 hit.1 near

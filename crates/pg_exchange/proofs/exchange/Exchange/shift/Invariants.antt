@@ -1,23 +1,22 @@
 use Rattle.std.proofs.Common.{◌≡◌, ℕ, length, true, false}
 use Rattle.pg_exchange.proofs.Common.{either, outside, count, contains}
-use Rattle.pg_exchange.specs.Chain.{IsSearch, IsTree, IsLevelled, reads_up, reads_test}
+use Rattle.pg_exchange.specs.Chain.{IsSearch, IsTree, IsLevelled, up_of, second_of}
 use Rattle.pg_exchange.proofs.exchange.Exchange.shift.Given as goal
 
 abbrev pub invariant-loop-f : goal.invariant-loop-f
 invariant-loop-f g l = record {
-  up_length : length l.up ≡ 1024;
-  second_length : length l.second ≡ 1024;
+  parents_size : length l.parents ≡ 1024;
   search : IsSearch (g.G.Ground.matroid l.initial.self.first) (g.G.Ground.base l.initial.self.first)
       (g.G.Ground.base l.initial.self.second) (contains l.from) (contains l.seen)
       (either (contains l.level) (contains l.later));
   tree : IsTree (g.G.Ground.matroid l.initial.self.first) (g.G.Ground.base l.initial.self.first)
       (g.G.Ground.base l.initial.self.second) (contains l.from) (contains l.seen)
-      (outside (contains l.seen) (either (contains l.level) (contains l.later))) (reads_up l.up)
-      (reads_test l.second);
+      (outside (contains l.seen) (either (contains l.level) (contains l.later))) (up_of l.parents)
+      (second_of l.parents);
   levels : IsLevelled (g.G.Ground.matroid l.initial.self.first)
       (g.G.Ground.base l.initial.self.first) (g.G.Ground.base l.initial.self.second)
       (contains l.from) (contains l.to) (contains l.seen) (contains l.level) (contains l.later)
-      (reads_up l.up);
+      (up_of l.parents);
   missed : (z : ℕ)
       → outside (contains l.seen) (either (contains l.level) (contains l.later)) z ≡ true
       → contains l.to z ≡ false;

@@ -1,19 +1,10 @@
 use Rattle.std.proofs.Common.{◌≡◌, ◌<◌, ◌≤◌, suc, ℕ, Bool, true, false, arith, ap, ◌∙◌, sym, subst, inl, inr, List}
-use Rattle.pg_exchange.proofs.Common.{both_ways, contains, below, either, outside, IsWithin, both_parts, either_cases, outside_parts, below_parts, Graph, IsGraph, spans_in, edge_count, AreEdges, AreLabels, IsBase}
+use Rattle.pg_exchange.proofs.Common.{both_ways, contains, below, either, outside, IsWithin, either_cases, outside_parts, below_parts, Graph, IsGraph, spans_in, edge_count, AreEdges, AreLabels, IsBase}
 use Rattle.pg_exchange.specs.Forest.{graph_matroid, IsGrown}
 use Rattle.pg_exchange.specs.ForestLaws.{IsSpan-graph_matroid}
 use Rattle.pg_exchange.proofs.Tests.{emptied, of_outside}
 use Rattle.pg_exchange.proofs.ForestLemmas.{elements-edges, IsBase-apart, spanned-apart}
 use Rattle.pg_exchange.proofs.graph_ground.GraphGround.apart_from.Goals as goal
-
-pub grown-others-requires-clause-candidates : goal.grown-others-requires-clause-candidates
-grown-others-requires-clause-candidates c z h =
-    let e = of_outside c.elements_of-elements.result c.args.avoided.now c.without.result
-    c.without.ensures.difference in
-    let in_elements : contains c.elements_of-elements.result z ≡ true =
-    (outside_parts _ _ z (subst (λ (s : ℕ → Bool). s z ≡ true) e h)).0 in
-    elements-edges c.args.g.now (contains c.args.x.now) (contains c.args.y.now) c.args.with_e z
-    (subst (λ (s : ℕ → Bool). s z ≡ true) c.elements_of-elements.ensures in_elements)
 
 pub grown-others-requires-clause-base : goal.grown-others-requires-clause-base
 grown-others-requires-clause-base c z h =
@@ -22,13 +13,6 @@ grown-others-requires-clause-base c z h =
 pub grown-others-requires-clause-free : goal.grown-others-requires-clause-free
 grown-others-requires-clause-free c f h =
     absurd (both_ways _ (emptied c.empty-none.result c.empty-none.ensures f) h)
-
-pub grown-base-requires-clause-candidates : goal.grown-base-requires-clause-candidates
-grown-base-requires-clause-candidates c z h =
-    let in_elements : contains c.elements_of-elements.result z ≡ true =
-    (both_parts _ _ z (subst (λ (s : ℕ → Bool). s z ≡ true) c.shared.ensures h)).0 in
-    elements-edges c.args.g.now (contains c.args.x.now) (contains c.args.y.now) c.args.with_e z
-    (subst (λ (s : ℕ → Bool). s z ≡ true) c.elements_of-elements.ensures in_elements)
 
 within_elements : (none others elements candidates : ℕ → Bool) (n : ℕ)
     → ((z : ℕ) → none z ≡ false)
@@ -98,9 +82,7 @@ invariant_of-result c =
       few = subst (λ (h : Graph). h.vertices ≤ 1024) (sym own) c.requires.few;
       labelled = subst (λ (h : Graph). AreLabels h x c.in_ok-names.names.items)
           (sym own) c.in_ok-names.ensures;
-      above_size = c.in_ok-above.ensures.len;
-      via_size = c.in_ok-via.ensures.len;
-      depth_size = c.in_ok-depth.ensures.len;
+      steps_size = c.in_ok-steps.ensures.len;
       x_edges = λ z h. subst (λ (h : Graph). z < suc (edge_count h)) (sym own)
           (let low : z < edge_count g = c.requires.x z h in omega arith);
       element_edges = subst (λ (h : Graph). AreEdges h elements) (sym own) edges;

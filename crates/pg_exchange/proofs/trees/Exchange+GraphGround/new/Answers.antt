@@ -1,4 +1,4 @@
-use Rattle.std.proofs.Common.{◌≡◌, ℕ, Bool, ap, ◌∙◌, sym}
+use Rattle.std.proofs.Common.{ℕ, Bool, ap, ◌∙◌, sym}
 use Rattle.std.specs.FinSet.{contains}
 use Rattle.pg_exchange.specs.Matroid.{Matroid}
 use Rattle.pg_exchange.specs.Forest.{graph_matroid}
