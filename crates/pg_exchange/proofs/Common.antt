@@ -1,5 +1,5 @@
 -- What the proofs of this crate name of crates below.
-pub use Rattle.pg_exchange.specs.Prelude.{AreBelow, AreEdges, AreLabels, FinSet, Graph, IsBase, IsBelow, IsGraph, IsJoined, IsJoinedIn, IsMadeFor, IsReached, IsSpan, IsWalk, IsWithin, MAX_MEMBERS, ShareNone, below, circuit, contains, contains-empty, difference, edge_count, either, empty, first_end_of, insert, minus, nat_cmp, one_if, outside, remove, second_end_of, spans_in, union}
+pub use Rattle.pg_exchange.specs.Prelude.{AreEdges, AreLabels, FinSet, Graph, IsBase, IsBelow, IsGraph, IsJoined, IsJoinedIn, IsMadeFor, IsReached, IsSpan, IsWalk, IsWithin, below, circuit, contains, contains-empty, difference, edge_count, either, empty, first_end_of, insert, minus, nat_cmp, one_if, outside, remove, second_end_of, spans_in, union}
 unfoldable pub use Rattle.pg_exchange.specs.Prelude.{both, count, plus, swapped}
 pub use Rattle.pg_base.proofs.BelowLemmas.{below_from, below_in, below_none, below_out, below_parts, cuts, same_sets}
 pub use Rattle.pg_base.proofs.SetLemmas.{both_from, both_parts, count_le, count_minus, count_plus, count_same, either_cases, either_left, either_right, minus_from, minus_parts, minus_same, minus_self, one_if-false, one_if-true, outside_from, outside_parts, plus_cases, plus_new, plus_old, plus_same, sets}
