@@ -1,6 +1,6 @@
 -- Every node of a valid claim is forced, by induction on its number.
 use Rattle.std.proofs.Common.{◌≡◌, ◌∙◌, ℕ, zero, suc, ◌+◌, ◌<◌, true, ◌&&◌, ◌==◌, List, [], ◌∷◌, Some, slice_get, length, map, get_or, refl, sym, ap, subst, inl, inr, arith, eqb, eqb-true, eq-eqb}
-use Rattle.pg_check.proofs.Common.{list_any, FinSet, nat_cmp, get_or_default, slice_get_within, slice_get-get_or, cases_Bool, and_parts, false≢true, Goal, Kind, MakerBreaker, MakerMaker, AvoiderEnforcer, Switching, Side, X, Y, Game, Position, is_free, point_count, free_points, after, with_turn, IsPosition, Forces, may_attack, IsThreatLine, Forces-threat, TreesHold, CutsHold, Claim, Cert, Node, Body, Over, Move, Pairs, Potential, Trees, Cuts, Threat, Weaker, Reply}
+use Rattle.pg_check.proofs.Common.{list_any, FinSet, nat_cmp, get_or_default, slice_get_within, slice_get-get_or, cases_Bool, and_parts, false≢true, Goal, Kind, MakerBreaker, MakerMaker, AvoiderEnforcer, Switching, Side, X, Y, Game, Position, is_free, point_count, free_points, after, with_turn, IsPosition, Forces, may_attack, IsThreatLine, Forces-threat, TreesHold, CutsHold, Claim, Cert, Node, Body, Over, Move, Pairs, Potential, Trees, Cuts, Threat, Weaker, Reply, position_of, IsTurn, IsNode, IsClaim, IsWithinLimits, is_allowed, shows_defence, shows_trees, shows_cuts, pairs_fit, allows_weaker, IsInGame, NamesEarlier, IsNodeOf, FollowsMove, FollowMoves, HasTurn, TakesFree, EndsRight, PotentialFits, with_e_named, HasPairs, HasPotential, HasTrees, HasCuts, HasThreat, HasWeaker, IsOwed, IsSound, IsValidClaim, IsValid}
 use Rattle.std.specs.List.{All as Each}
 use Rattle.pg_base.specs.declared.goal.Goal.TheVariants.{Win, Draw as AtLeastDraw}
 use Rattle.pg_base.specs.declared.pair.Pair.{Pair}
@@ -14,7 +14,6 @@ use Rattle.pg_switch.proofs.SwitchLaws.{Forces-trees, Forces-cuts}
 use Rattle.pg_game.proofs.NoWorse.{Forces-no_worse}
 use Rattle.pg_cert.specs.declared.node.Body.TheVariants.{All}
 use Rattle.pg_cert.specs.declared.node_fault.NodeFault.TheVariants as faults
-use Rattle.pg_check.proofs.Common.{position_of, IsTurn, IsNode, IsClaim, IsWithinLimits, is_allowed, shows_defence, shows_trees, shows_cuts, pairs_fit, allows_weaker, IsInGame, NamesEarlier, IsNodeOf, FollowsMove, FollowMoves, HasTurn, TakesFree, EndsRight, PotentialFits, with_e_named, HasPairs, HasPotential, HasTrees, HasCuts, HasThreat, HasWeaker, IsOwed, IsSound, IsValidClaim, IsValid}
 
 -- ---- pairs
 

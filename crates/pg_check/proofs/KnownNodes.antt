@@ -1,10 +1,9 @@
 -- What is known of a claim by its nodes so far decides as the claim does.
 use Rattle.std.proofs.Common.{◌≡◌, ◌∙◌, ◌↔◌, ℕ, ◌+◌, ◌<◌, zero, suc, true, List, [], ◌∷◌, ◌++◌, map, take, get_or, Option, Some, None, slice_get, refl, sym, ap, subst, arith}
 use Rattle.std.specs.Prelude.{option_map}
-use Rattle.pg_check.proofs.Common.{slice_get-map, slice_get_within, slice_get-get_or, take_more, map_push, Side, Game, Position, IsNoWorse, Claim, Node, Body, Over, Move, Pairs, Potential, Trees, Cuts, Threat, Weaker, NodeFault}
+use Rattle.pg_check.proofs.Common.{slice_get-map, slice_get_within, slice_get-get_or, take_more, map_push, Side, Game, Position, IsNoWorse, Claim, Node, Body, Over, Move, Pairs, Potential, Trees, Cuts, Threat, Weaker, NodeFault, position_of, fault_number, is_allowed, IsNodeOf, NamesEarlier, Owes, HasTurn, TakesFree, EndsRight, HasPairs, HasPotential, HasTrees, HasCuts, HasThreat, FollowsMove, FollowMoves, HasWeaker, Passes, IsSound, IsLeastFault}
 use Rattle.pg_cert.specs.declared.node.Body.TheVariants.{All}
 use Rattle.pg_cert.specs.declared.node_fault.NodeFault.TheVariants as faults
-use Rattle.pg_check.proofs.Common.{position_of, fault_number, is_allowed, IsNodeOf, NamesEarlier, Owes, HasTurn, TakesFree, EndsRight, HasPairs, HasPotential, HasTrees, HasCuts, HasThreat, FollowsMove, FollowMoves, HasWeaker, Passes, IsSound, IsLeastFault}
 use Rattle.pg_check.specs.Marks.{kept}
 use Rattle.pg_check.specs.declared.present.Present.{Present}
 use Rattle.pg_check.specs.Present.{bare, known, PassesSoFar, IsSoundSoFar, IsLeastSoFar, IsKnownOf}

@@ -1,15 +1,20 @@
 -- The claim that is being checked: what it says, how many nodes it has, and the positions of those
 -- that were checked.
-use Rattle.std.specs.Prelude.{◌≡◌, ℕ, ◌+◌, ◌<◌, length, map, take}
-use Rattle.pg_check.specs.Prelude.{Game, Position, with_turn, Claim, Node, Over, NodeFault}
+use Rattle.std.specs.Prelude.{◌≡◌, ℕ, ◌+◌, ◌<◌, ◌≤◌, length, map, take}
+use Rattle.pg_check.specs.Prelude.{ShareNone, Game, Position, with_turn, Claim, Node, Over, NodeFault, position_of, fault_number, Passes}
 use Rattle.pg_cert.specs.declared.node_fault.NodeFault.TheVariants as faults
-use Rattle.pg_check.specs.Prelude.{position_of, fault_number, Passes}
 use Rattle.pg_check.specs.Marks.{kept}
 use Rattle.pg_check.specs.declared.present.Present.{Present}
 
 -- a node of which no more than its position is known
 abbrev pub bare : Position → Node
 bare p = record { x = p.x; y = p.y; turn = p.turn; left = p.left; body = Over }
+
+-- the node has the position, no point is both sides', and the side to move claims at least one
+pub record HasPosition (n : Node) (p : Position) : Type 0 where
+  pub same : p ≡ position_of n
+  pub apart : ShareNone n.x n.y
+  pub some_left : 1 ≤ n.left
 
 -- the claim as far as it is known
 abbrev pub known : Present → Claim

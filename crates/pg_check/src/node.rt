@@ -1,9 +1,9 @@
 //! One node against the table of faults.
 ghost use Rattle.std.specs.Prelude.{◌≡◌, ◌<◌, ◌≤◌, ◌+◌, ◌↔◌, IsTrue, IfSome, IfNone, Some, true};
-ghost use Rattle.pg_check.specs.Prelude.{ShareNone, IsMadeForGame, IsPosition, is_over, outcome, with_turn, reaches, position_of, IsInGame, IsOwed, EndsRight};
+ghost use Rattle.pg_check.specs.Prelude.{IsMadeForGame, IsPosition, is_over, outcome, with_turn, reaches, IsInGame, IsOwed, EndsRight};
 ghost use Rattle.pg_check.specs.Tester.{ArePointsOf, IsReadyFor};
 ghost use Rattle.pg_check.specs.Marks.{AreMarksOf};
-ghost use Rattle.pg_check.specs.Present.{PassesSoFar, IsSoundSoFar, IsLeastSoFar, known};
+ghost use Rattle.pg_check.specs.Present.{HasPosition, PassesSoFar, IsSoundSoFar, IsLeastSoFar, known};
 
 use crate::allowed::{is_allowed, is_in_game};
 use crate::leaves::{has_cuts, has_pairs, has_potential, has_threat, has_trees};
@@ -84,27 +84,37 @@ fn is_root(g: &Game, claim: &Present, k: usize, p: &Position) -> bool
     *p == g.with_turn(claim.turn)
 }
 
-/// Whether the node, which has the position, owes nothing under the fault's name.
+/// A node with its position, and whether more is owed of it than its marks, its children and its
+/// place.
+#[derive(Clone, Copy)]
+struct Seen<'a> {
+    node: &'a Node,
+    position: &'a Position,
+    owed: bool,
+}
+
+/// Whether the node owes nothing under the fault's name.
 fn passes(
     tester: &mut Tester,
     g: &Game,
     claim: &Present,
     k: usize,
-    node: &Node,
-    p: &Position,
-    owed: bool,
+    seen: &Seen<'_>,
     fault: NodeFault,
 ) -> bool
-    requires position { p.now ≡ position_of node.now }
     requires made { IsReadyFor tester.old g.now }
     requires kept { AreMarksOf g.now claim.now.marks }
     requires place { k < claim.now.count }
-    requires marks { ShareNone node.now.x node.now.y }
-    requires left { 1 ≤ node.now.left }
-    requires owed { IsTrue owed ↔ IsOwed g.now (known claim.now) node.now }
-    ensures passes { IsTrue result ↔ PassesSoFar g.now claim.now k node.now fault }
+    requires position { HasPosition seen.now.node.now seen.now.position.now }
+    requires owed { IsTrue seen.now.owed ↔ IsOwed g.now (known claim.now) seen.now.node.now }
+    ensures passes { IsTrue result ↔ PassesSoFar g.now claim.now k seen.now.node.now fault }
     ensures kept { tester.new ≡ tester.old }
 {
+    let Seen {
+        node,
+        position: p,
+        owed,
+    } = *seen;
     match fault {
         NodeFault::Child => {
             !is_allowed(g.kind, g.bias, claim.side, claim.goal, &node.body)
@@ -143,17 +153,19 @@ pub(crate) fn first_fault(
     node: &Node,
     p: &Position,
 ) -> Option<NodeFault>
-    requires position { p.now ≡ position_of node.now }
     requires made { IsReadyFor tester.old g.now }
     requires kept { AreMarksOf g.now claim.now.marks }
     requires place { k < claim.now.count }
-    requires marks { ShareNone node.now.x node.now.y }
-    requires left { 1 ≤ node.now.left }
+    requires position { HasPosition node.now p.now }
     ensures sound { IfNone result (IsSoundSoFar g.now claim.now k node.now) }
     ensures least { IfSome result (λ fault. IsLeastSoFar g.now claim.now k node.now fault) }
     ensures kept { tester.new ≡ tester.old }
 {
-    let owed = is_owed(&tester.points, g, claim, node);
+    let seen = Seen {
+        node,
+        position: p,
+        owed: is_owed(&tester.points, g, claim, node),
+    };
     for fault in [
         NodeFault::Child,
         NodeFault::Marks,
@@ -169,7 +181,7 @@ pub(crate) fn first_fault(
         NodeFault::Body,
         NodeFault::Weaker,
     ] {
-        if !passes(tester, g, claim, k, node, p, owed, fault) {
+        if !passes(tester, g, claim, k, &seen, fault) {
             return Some(fault);
         }
     }

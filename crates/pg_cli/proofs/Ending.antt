@@ -1,10 +1,9 @@
 -- How a run ends.
 use Rattle.std.proofs.Common.{◌≡◌, ◌≢◌, ℕ, Bool, true, false, if◌then◌else◌, List, [], ◌∷◌, Option, Some, None, Ok, Err, refl, sym, ◌∙◌, ap, subst, inl, inr, arith}
 use Rattle.std.specs.Prelude.{IfSome}
-use Rattle.pg_cli.proofs.Common.{Contains, Faults, Rose, ConsoleTold, Grows, Bytes, Holding, FilesTold, Entry, Said, Stop, Read, Write, Memory, refusal_status, refusal_text, Refusal, NoMeaning, NoClaim, Certificate, Rejected, RejectedSpan, RejectedVectors, RejectedImage, DONE, UNKNOWN, REFUSED, NO_MEANING, READ_FAILED, WRITE_FAILED, NO_MEMORY, OUT_OF_REPLIES, Command, Solve, Check, Play, Gen, Report, OfFamily, Record, Review}
+use Rattle.pg_cli.proofs.Common.{Contains, Faults, Rose, ConsoleTold, Grows, Bytes, Holding, FilesTold, Entry, Said, Stop, Read, Write, Memory, refusal_status, refusal_text, Refusal, NoMeaning, NoClaim, Certificate, Rejected, RejectedSpan, RejectedVectors, RejectedImage, DONE, UNKNOWN, REFUSED, NO_MEANING, READ_FAILED, WRITE_FAILED, NO_MEMORY, OUT_OF_REPLIES, Command, Solve, Check, Play, Gen, Report, OfFamily, Record, Review, Source, Done, End, Finished, Failed, Starved, Changes, IsNothing, ending, nothing, talk, stop_end, BothCauses, Calm, HasCause, stop_status, Expanded, Halt, Refused, Stopped, Grows-then}
 use Rattle.pg_messages.specs.declared.refusal.Refusal.TheVariants.{Game, Record as FaultyRecord}
 use Rattle.pg_words.specs.declared.family.FamilyTask.TheVariants as tasks
-use Rattle.pg_cli.proofs.Common.{Source, Done, End, Finished, Failed, Starved, Changes, IsNothing, ending, nothing, talk, stop_end, BothCauses, Calm, HasCause, stop_status, Expanded, Halt, Refused, Stopped, Grows-then}
 use Rattle.pg_cli.specs.Generating.{searches}
 use Rattle.pg_cli.specs.Commands.{Gives, Quiets, Silences, SaysNoMeaning, statuses_of}
 use Rattle.pg_talk.specs.Hearing.{Hearing}

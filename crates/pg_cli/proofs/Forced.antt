@@ -1,14 +1,13 @@
 -- Claims that are said are forced.
 use Rattle.std.proofs.Common.{◌≡◌, ℕ, suc, Bool, true, false, cond, List, [], ◌∷◌, ◌++◌, length, map, find, slice_get, Option, Some, None, Result, Ok, Err, refl, sym, ◌∙◌, ap, subst, inl, inr}
 use Rattle.std.specs.Prelude.{◌==◌, if◌then◌else◌, codes, decimal, IfSome}
-use Rattle.pg_cli.proofs.Common.{Contains, append_cancel_left, Contains-append_cases, is_same_side, Side, X, Y, ConsoleTold, Grows, Bytes, Holding, Making, FilesTold, Entry, Said, Field, Graph, Lines, Game, game, evidence, evidence_held, StandsFor, Evidence, Plain, Folded, IsWithinLimits, node_count, IsValid, Cert, Claim, with_turn, Forces, is_win, is_claim_of, is_win_of, chosen_claim, refusal_text, unknown_text, expanded_text, Refusal}
+use Rattle.pg_cli.proofs.Common.{Contains, append_cancel_left, Contains-append_cases, is_same_side, Side, X, Y, ConsoleTold, Grows, Bytes, Holding, Making, FilesTold, Entry, Said, Field, Graph, Lines, Game, game, evidence, evidence_held, StandsFor, Evidence, Plain, Folded, IsWithinLimits, node_count, IsValid, Cert, Claim, with_turn, Forces, is_win, is_claim_of, is_win_of, chosen_claim, refusal_text, unknown_text, expanded_text, Refusal, Command, Solve, Check, Play, Gen, Report, OfFamily, Record, Review, FamilyTask, Done, End, Finished, Failed, Starved, Stops, behind, ending, ActsInFamily, AreForcedInFamily, IsForcedInFamily, IsForcedInFamilyFrom, AllOther, AreOther, IsOther, accepted_forced, apart, delivers_other, first_or_later, held_there, none_of, one_of, one_other, others_forced, play_forced, said_is, stays_other, unsaid, game_held, IsSaidBy, both, delivered, budget, certificate_of, Short, Cut, First, Solution, Value, Unknown, Expanded, Halt}
 use Rattle.std.specs.Option.{option_or}
 use Rattle.std.proofs.lemmas.Bool.{and_parts}
 use Rattle.pg_files.specs.GameFile.{Entry as GameEntry}
 use Rattle.pg_cert_files.specs.CertFile.{certificate}
 use Rattle.pg_evidence.proofs.Judged.{read_plain}
 use Rattle.pg_messages.specs.declared.refusal.Refusal.TheVariants as refusals
-use Rattle.pg_cli.proofs.Common.{Command, Solve, Check, Play, Gen, Report, OfFamily, Record, Review, FamilyTask, Done, End, Finished, Failed, Starved, Stops, behind, ending, ActsInFamily, AreForcedInFamily, IsForcedInFamily, IsForcedInFamilyFrom, AllOther, AreOther, IsOther, accepted_forced, apart, delivers_other, first_or_later, held_there, none_of, one_of, one_other, others_forced, play_forced, said_is, stays_other, unsaid, game_held, IsSaidBy, both, delivered, budget, certificate_of, Short, Cut, First, Solution, Value, Unknown, Expanded, Halt}
 use Rattle.pg_words.specs.declared.family.Family.{Family}
 use Rattle.pg_cli.specs.Checking.{AcceptsAll}
 use Rattle.pg_cli.specs.Commands.{game_read}

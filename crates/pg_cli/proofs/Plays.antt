@@ -1,10 +1,9 @@
 -- A play, put together.
 use Rattle.std.proofs.Common.{◌≡◌, ◌∙◌, ℕ, List, [], None, Some, Result, Ok, Err, refl, ap, subst, inl, inr}
 use Rattle.std.specs.Prelude.{IfErr}
-use Rattle.pg_cli.proofs.Common.{Side, ConsoleTold, Entry, Game, Position, start, Cert, IsValid, IsInnerHalt, HasFault, MakesStanding, StandsFor, Evidence, chosen_claim}
+use Rattle.pg_cli.proofs.Common.{Side, ConsoleTold, Entry, Game, Position, start, Cert, IsValid, IsInnerHalt, HasFault, MakesStanding, StandsFor, Evidence, chosen_claim, Contender, contender_of, player_of, End, Starved, Performs, stop_end, IsPlayHalt, IsTalkHalt, IsPlay, Halt, Refused, Stopped, performs_more, silent}
 use Rattle.pg_player.specs.Player.{Play}
 use Rattle.pg_messages.specs.declared.refusal.Refusal.TheVariants as refusals
-use Rattle.pg_cli.proofs.Common.{Contender, contender_of, player_of, End, Starved, Performs, stop_end, IsPlayHalt, IsTalkHalt, IsPlay, Halt, Refused, Stopped, performs_more, silent}
 use Rattle.pg_cli.specs.Playing.{PlaysOn, RefusesPlay, claimer}
 use Rattle.pg_cli.specs.Reading.{read_of}
 

@@ -1,10 +1,9 @@
 -- What is said of recorded games: no claim is accepted, and none is said.
 use Rattle.std.proofs.Common.{ℕ, ◌-◌, List, [], ◌∷◌, ◌++◌, length, take, Option, Result, Ok, Err, refl, sym, subst, inl, inr}
-use Rattle.pg_cli.proofs.Common.{Contains, Contains-append_cases, Contains-append_left, Bytes, Entry, Said, start, Game, lost_text, reply_text, reviewed_text, unknown_at_text}
+use Rattle.pg_cli.proofs.Common.{Contains, Contains-append_cases, Contains-append_left, Bytes, Entry, Said, start, Game, lost_text, reply_text, reviewed_text, unknown_at_text, Done, End, Finished, Failed, Starved, SaysFirst, Halt, Expanded, budget, Records, RecordsGame, ReviewsMoves, ReviewsRead, loss_texts, AllOther, AreOther, IsOther, apart, first_or_later, image_of, none_of, one_other, stays_other}
 use Rattle.pg_files.specs.GameFile.{Entry as GameEntry}
 use Rattle.pg_messages.specs.declared.message.ReplyFault.{ReplyFault}
 use Rattle.pg_messages.specs.declared.message.ReplyFault.TheVariants as fault
-use Rattle.pg_cli.proofs.Common.{Done, End, Finished, Failed, Starved, SaysFirst, Halt, Expanded, budget, Records, RecordsGame, ReviewsMoves, ReviewsRead, loss_texts, AllOther, AreOther, IsOther, apart, first_or_later, image_of, none_of, one_other, stays_other}
 use Rattle.pg_sessions.specs.Course.{LeadsBy}
 use Rattle.pg_sessions.specs.SessionLog.{Stage, Listens, Stands, Refuses, Closes, Over, Steps}
 use Rattle.pg_sessions.specs.Losses.{Loss, losses}

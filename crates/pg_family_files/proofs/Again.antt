@@ -1,9 +1,8 @@
 -- What is printed of a game is read again as that game.
 use Rattle.std.proofs.Common.{◌≡◌, ℕ, ◌^◌, ◌<◌, ◌≤◌, lit≤, List, [], ◌∷◌, ◌++◌, length, map, arith, refl, sym, ap, ap₂, ◌∙◌, Ok}
 use Rattle.std.specs.Prelude.{nat_lt, true}
-use Rattle.pg_family_files.proofs.Common.{list_all, FinSet, nat_cmp, AreBelow, members, points_below-length, Side, side_word, Bytes, Graph, marked, edge_words, last_lines}
+use Rattle.pg_family_files.proofs.Common.{list_all, FinSet, nat_cmp, AreBelow, members, points_below-length, Side, side_word, Bytes, Graph, marked, edge_words, last_lines, below-members, smaller, one_small, two_small, SpanGame, VecGame}
 use Rattle.pg_files.specs.declared.key.Key.TheVariants as game_keys
-use Rattle.pg_family_files.proofs.Common.{below-members, smaller, one_small, two_small, SpanGame, VecGame}
 use Rattle.pg_family_files.specs.FamilyFile.{made, span_of, span_game, vectors_of, vector_game}
 use Rattle.pg_family_files.specs.Print.{header, numbered, worded, signs_of, vector_words, span_lines, vector_lines, printed_span, printed_vectors}
 use Rattle.pg_family_files.specs.Views.{span_entry, vector_entry}

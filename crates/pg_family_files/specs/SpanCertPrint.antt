@@ -1,8 +1,7 @@
 -- The printed text of a connectivity game's certificate, and the ranges of what is printed.
 use Rattle.std.specs.Prelude.{◌≡◌, ℕ, ◌<◌, ◌≤◌, true, List, [], ◌∷◌, ◌++◌, length, map, codes, Option, Some, None, IfSome}
-use Rattle.pg_family_files.specs.Prelude.{FinSet, contains, decimal, All, flat_map, nat_cmp, side_word, Bytes, spelled, set_words, MAX_CLAIMS, SpanBody}
+use Rattle.pg_family_files.specs.Prelude.{FinSet, contains, decimal, All, flat_map, nat_cmp, side_word, Bytes, spelled, set_words, MAX_CLAIMS, SpanBody, SpanCert, SpanClaim}
 use Rattle.pg_span.specs.declared.cert.SpanBody.TheVariants as bodies
-use Rattle.pg_family_files.specs.Prelude.{SpanCert, SpanClaim}
 use Rattle.pg_family_files.specs.declared.cert_limits.TheConstants.{MAX_SPAN_NUMBER}
 
 -- ---- the ranges

@@ -1,9 +1,8 @@
 -- The claims that folded claims stand for are valid, and no node of a folded claim is faulty.
 use Rattle.std.proofs.Common.{◌≡◌, ℕ, zero, suc, ◌+◌, ◌-◌, ◌<◌, true, List, get_or, [], ◌∷◌, Some, length, refl, sym, ap, ◌∙◌, subst, arith, slice_get}
-use Rattle.pg_fold.proofs.Common.{none-some, slice_get-get_or, AllZip, same_some, one_at, at_contains, Side, Goal, IsClaim, IsWithinLimits, position_of, is_allowed, NamesEarlier, IsNodeOf, FollowMoves, HasTurn, TakesFree, EndsRight, HasPairs, HasPotential, HasTrees, HasCuts, HasThreat, HasWeaker, IsOwed, Passes, IsValidClaim, IsValid, Cert, Claim, Node}
+use Rattle.pg_fold.proofs.Common.{none-some, slice_get-get_or, AllZip, same_some, one_at, at_contains, Side, Goal, IsClaim, IsWithinLimits, position_of, is_allowed, NamesEarlier, IsNodeOf, FollowMoves, HasTurn, TakesFree, EndsRight, HasPairs, HasPotential, HasTrees, HasCuts, HasThreat, HasWeaker, IsOwed, Passes, IsValidClaim, IsValid, Cert, Claim, Node, with_turn, IsPosition, Game, Position, ImageCert, ImageClaim, Plain, Image, Fits, board_of, GridMap, Copy, IsSoundClaim, AreSound, IsBodyImage, BecomesUnder, IsCopied, IsUnfolded, AreUnfolded, IsUnfoldedCert}
 use Rattle.pg_cert.specs.declared.node_fault.NodeFault.{NodeFault}
 use Rattle.pg_cert.specs.declared.node_fault.NodeFault.TheVariants as faults
-use Rattle.pg_fold.proofs.Common.{with_turn, IsPosition, Game, Position, ImageCert, ImageClaim, Plain, Image, Fits, board_of, GridMap, Copy, IsSoundClaim, AreSound, IsBodyImage, BecomesUnder, IsCopied, IsUnfolded, AreUnfolded, IsUnfoldedCert}
 use Rattle.pg_fold.specs.Folded.{IsFoldedClaim, IsFolded, IsSameClaim}
 use Rattle.pg_fold.proofs.Listing.{all_at, within_at, zip_left, zip_length, zip_all}
 use Rattle.pg_fold.proofs.Positions.{points_by, image_by, image-is, image-identity}

@@ -1,9 +1,8 @@
 -- What valid claims force, and that a fault is told by what it says.
 use Rattle.std.proofs.Common.{◌≡◌, ℕ, true, inl, inr, refl, sym, ap, ◌∙◌, subst, Option, Some, None, length, List, slice_get, unwrap_or, arith, zero, suc, [], ◌∷◌}
-use Rattle.pg_gf2.proofs.Common.{both_ways, cases_lt, FinSet, nat_cmp, Win, Side, X, Y, Body}
+use Rattle.pg_gf2.proofs.Common.{both_ways, cases_lt, FinSet, nat_cmp, Win, Side, X, Y, Body, Node, Cert, Claim, Version, spans_mono, ForcesBy}
 use Rattle.std.specs.Option.{is_some}
 use Rattle.pg_cert.specs.declared.node.Body.TheVariants as bodies
-use Rattle.pg_gf2.proofs.Common.{Node, Cert, Claim, Version, spans_mono, ForcesBy}
 use Rattle.pg_switch.proofs.SpanLaws.{ForcesBy-trees, ForcesBy-cuts}
 use Rattle.pg_gf2.specs.declared.flaw.VecFlaw.{VecFlaw}
 use Rattle.pg_gf2.specs.declared.flaw.VecFlaw.TheVariants as flaws

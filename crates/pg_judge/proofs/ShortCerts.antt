@@ -1,7 +1,7 @@
 -- A certificate that is cut short has the first fault of the whole one, for every game.
 use Rattle.std.proofs.Common.{◌≡◌, ◌∙◌, ◌↔◌, ℕ, suc, ◌+◌, ◌<◌, ◌≤◌, Bool, true, false, List, [], ◌∷◌, ◌++◌, length, map, get_or, Option, Some, None, Result, Ok, Err, slice_get, refl, sym, ap, ap₂, subst, inl, inr, arith}
 use Rattle.std.specs.Prelude.{◌||◌, ◌==◌, option_map, IsErrAnd, MatchResult}
-use Rattle.pg_judge.proofs.Common.{append-nil, length-map, Game, AreSoundBefore, FollowMoves, FollowsMove, HasWeaker, IsFirstFault, IsInGame, IsLeastFault, IsNodeOf, IsOwed, IsSound, IsValid, IsValidClaim, Passes, Cert, Claim, Node}
+use Rattle.pg_judge.proofs.Common.{append-nil, length-map, Game, AreSoundBefore, FollowMoves, FollowsMove, HasWeaker, IsFirstFault, IsInGame, IsLeastFault, IsNodeOf, IsOwed, IsSound, IsValid, IsValidClaim, Passes, Cert, Claim, Node, clash, share, short_body, short_cert, short_claim, short_node, short_pairs, twice, certificate, short_result, number_of}
 use Rattle.std.specs.List.{AllPairs, list_any, slice_index_or}
 use Rattle.std.proofs.lemmas.Bool.{cases_Bool, eqb-true, or_cases}
 use Rattle.std.proofs.lemmas.Option.{slice_get-map}
@@ -16,7 +16,6 @@ use Rattle.pg_cert.specs.declared.node.Body.{Body}
 use Rattle.pg_cert.specs.declared.node.Body.TheVariants.{Over, Move, All, Pairs, Potential, Trees, Cuts, Threat, Weaker}
 use Rattle.pg_cert.specs.declared.node_fault.NodeFault.{NodeFault}
 use Rattle.pg_cert.specs.declared.node_fault.NodeFault.TheVariants as faults
-use Rattle.pg_judge.proofs.Common.{clash, share, short_body, short_cert, short_claim, short_node, short_pairs, twice, certificate, short_result, number_of}
 use Rattle.pg_cert_files.specs.declared.fault.Fault.{Fault}
 use Rattle.pg_cert_files.specs.declared.fault.Fault.TheVariants as form_faults
 use Rattle.pg_cert_files.specs.declared.limits.TheConstants.{MAX_CERT_BYTES}

@@ -1,9 +1,8 @@
 -- A piece more, part after part.
 use Rattle.std.proofs.Common.{◌≡◌, ◌∙◌, ℕ, ◌-◌, ◌≤◌, List, [], ◌∷◌, ◌++◌, length, take, drop, Option, Some, None, refl, sym, ap, ap₂, subst, arith, map}
 use Rattle.std.specs.Prelude.{IfSome}
-use Rattle.pg_judge.proofs.Common.{append_assoc, append-nil, nil_from_length, take_all, length-drop, take-append-drop, length-append, Bytes, all_parts, claim_parts, parts_of, BeginCert, Cert, Claim, Node, Part}
+use Rattle.pg_judge.proofs.Common.{append_assoc, append-nil, nil_from_length, take_all, length-drop, take-append-drop, length-append, Bytes, all_parts, claim_parts, parts_of, BeginCert, Cert, Claim, Node, Part, listed, IsFed, AreAllParts, parts_told, size_of, HasBeenFed, IsFedShort, alike_more, alike_on, CertReader}
 use Rattle.pg_cert.specs.declared.part.Part.TheVariants as parts
-use Rattle.pg_judge.proofs.Common.{listed, IsFed, AreAllParts, parts_told, size_of, HasBeenFed, IsFedShort, alike_more, alike_on, CertReader}
 use Rattle.pg_check.specs.Checking.{StandsFor as IsChecked}
 use Rattle.pg_cert_files.proofs.PartsBegin.{begin_seen}
 use Rattle.pg_judge.specs.Heads.{head_of, heads_in, heads_of}

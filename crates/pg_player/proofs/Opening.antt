@@ -1,8 +1,7 @@
 -- What a player has when it is opened.
 use Rattle.std.proofs.Common.{◌≡◌, ◌∙◌, ℕ, ◌-◌, ◌<◌, Bool, true, List, [], ◌∷◌, Option, Some, None, find, length, get_or, slice_get, if◌then◌else◌, IfSome, refl, sym, ap, subst, inl, inr, arith, Contains}
-use Rattle.pg_player.proofs.Common.{∥∥₁_elim, ∥∥₁_map, le_prop, cases_Bool, and_parts, false≢true, slice_get-get_or, slice_get_read, slice_get_within, option_or, is_same_side, Score, Side, X, Y, Game, Position, is_over, outcome, start, with_turn, reaches, Forces, value-over, find_member, Cert, Claim, Node}
+use Rattle.pg_player.proofs.Common.{∥∥₁_elim, ∥∥₁_map, le_prop, cases_Bool, and_parts, false≢true, slice_get-get_or, slice_get_read, slice_get_within, option_or, is_same_side, Score, Side, X, Y, Game, Position, is_over, outcome, start, with_turn, reaches, Forces, value-over, find_member, Cert, Claim, Node, IsClaim, IsWithinLimits, Standing, arrives, IsNodeOf, IsValid}
 use Rattle.pg_cert.specs.declared.node_fault.NodeFault.TheVariants as faults
-use Rattle.pg_player.proofs.Common.{IsClaim, IsWithinLimits, Standing, arrives, IsNodeOf, IsValid}
 use Rattle.pg_player.specs.InPlay.{GoesOn, IsSoundClaim}
 use Rattle.pg_player.specs.Stand.{Settles}
 use Rattle.pg_player.specs.Player.{is_claim_of, is_win_of, is_win, chosen_claim}

@@ -1,8 +1,7 @@
 -- What a reply of the other side keeps, body by body.
 use Rattle.std.proofs.Common.{◌≡◌, ◌∙◌, ℕ, ◌<◌, ◌≤◌, Bool, true, false, ◌&&◌, ◌==◌, List, [], ◌∷◌, Option, Some, None, map, find, refl, sym, ap, subst, inl, inr, ◌⊎◌, arith, eqb, eqb-true, eq-eqb, ltb-true, nat_lt, if◌then◌else◌, Ok, Err}
-use Rattle.pg_player.proofs.Common.{cases_Bool, false≢true, both_ways, list_any, other, Goal, Kind, MakerBreaker, MakerMaker, AvoiderEnforcer, Switching, Side, X, Y, Game, Position}
+use Rattle.pg_player.proofs.Common.{cases_Bool, false≢true, both_ways, list_any, other, Goal, Kind, MakerBreaker, MakerMaker, AvoiderEnforcer, Switching, Side, X, Y, Game, Position, judged_move, is_free, point_count, bias_of, free_points, is_over, after, IsPosition, Forces, AvoiderHolds, side≢other, other_other, turn-passes, IsPosition-after, LeadsToLine, near-from, near-stays, near-filling, Forces-all-from, find_member, find_none, kept-reply_breaker, kept-reply_draw, kept-y, Claim, Node, Body, Over, Move, All, Pairs, Potential, Trees, Cuts, Threat, Weaker, Reply, Standing, arrives, replied_by, shows_defence, pairs_fit, PotentialFits, FollowsMove, IsNodeOf}
 use Rattle.pg_game.specs.declared.position.Illegal.TheVariants as illegal
-use Rattle.pg_player.proofs.Common.{judged_move, is_free, point_count, bias_of, free_points, is_over, after, IsPosition, Forces, AvoiderHolds, side≢other, other_other, turn-passes, IsPosition-after, LeadsToLine, near-from, near-stays, near-filling, Forces-all-from, find_member, find_none, kept-reply_breaker, kept-reply_draw, kept-y, Claim, Node, Body, Over, Move, All, Pairs, Potential, Trees, Cuts, Threat, Weaker, Reply, Standing, arrives, replied_by, shows_defence, pairs_fit, PotentialFits, FollowsMove, IsNodeOf}
 use Rattle.pg_game.proofs.FreePoints.{any-free_points}
 use Rattle.pg_player.specs.Stand.{LeadsOn}
 use Rattle.pg_player.specs.InPlay.{Stands, PotentialWaiting, InPlay, GoesOn}

@@ -1,14 +1,13 @@
 -- The soundness of a node is decided by tests, so that it holds wherever it is known to hold
 -- without a proof at hand.
 use Rattle.std.proofs.Common.{◌≡◌, ◌∙◌, ℕ, suc, ◌<◌, ◌≤◌, Bool, true, false, ◌&&◌, List, Option, Some, None, slice_get, refl, sym, ap, subst, inl, inr, ◌⊎◌, arith, eqb, Any}
-use Rattle.pg_player.proofs.Common.{∥∥₁_elim, ∥∥₁_map, le_prop, cases_lt, and_parts, Coded-set, coded_ℕ, coded_bool, coded_list, FinSet, contains, list_any, nat_cmp, AreBelow, Goal, Kind, MakerBreaker, MakerMaker, AvoiderEnforcer, Switching, Pair, Side, X, Y}
+use Rattle.pg_player.proofs.Common.{∥∥₁_elim, ∥∥₁_map, le_prop, cases_lt, and_parts, Coded-set, coded_ℕ, coded_bool, coded_list, FinSet, contains, list_any, nat_cmp, AreBelow, Goal, Kind, MakerBreaker, MakerMaker, AvoiderEnforcer, Switching, Pair, Side, X, Y, Field, Lines, Game, Position, point_count, after, is_free, PairsHold, HoldsPair, IsThreatLine, IsFreeEdge, AreFreeWithE, AreTrees, AreCuts, TreesHoldOn, CutsHoldOn, with_set, IsNoWorse, Claim, Node, Body, Over, Move, Pairs, Potential, Trees, Cuts, Threat, Weaker, position_of, IsInGame, NamesEarlier, IsNodeOf, FollowsMove, FollowMoves, HasTurn, TakesFree, EndsRight, PotentialFits, with_e_named, HasPairs, HasPotential, HasTrees, HasCuts, HasThreat, IsNoWorseThanNode, HasWeaker, Passes, IsSound, IsValidClaim}
 use Rattle.pg_base.specs.Sets.{IsBelow}
 use Rattle.pg_base.specs.contracts.side.Side as side_row
 use Rattle.pg_graph.specs.declared.graph.Graph.{Graph}
 use Rattle.pg_graph.specs.Graph.{edge_count, IsJoinedIn}
 use Rattle.pg_graph.proofs.GraphLemmas.{joins_in-sound, joins_in-complete}
 use Rattle.pg_game.specs.contracts.position.Position as position_row
-use Rattle.pg_player.proofs.Common.{Field, Lines, Game, Position, point_count, after, is_free, PairsHold, HoldsPair, IsThreatLine, IsFreeEdge, AreFreeWithE, AreTrees, AreCuts, TreesHoldOn, CutsHoldOn, with_set, IsNoWorse, Claim, Node, Body, Over, Move, Pairs, Potential, Trees, Cuts, Threat, Weaker}
 use Rattle.pg_game.specs.declared.field.Field.TheVariants.{Graph as OnGraph}
 use Rattle.pg_game.specs.Field.{field_points}
 use Rattle.pg_game.proofs.ThreatSearch.{leads_test, leads-tested, tested-leads}
@@ -18,7 +17,6 @@ use Rattle.pg_pairing.proofs.PairLoops.{Contains-any, any-Contains}
 use Rattle.pg_cert.specs.declared.node.Body.TheVariants.{All as Every}
 use Rattle.pg_cert.specs.declared.node_fault.NodeFault.{NodeFault}
 use Rattle.pg_cert.specs.declared.node_fault.NodeFault.TheVariants as faults
-use Rattle.pg_player.proofs.Common.{position_of, IsInGame, NamesEarlier, IsNodeOf, FollowsMove, FollowMoves, HasTurn, TakesFree, EndsRight, PotentialFits, with_e_named, HasPairs, HasPotential, HasTrees, HasCuts, HasThreat, IsNoWorseThanNode, HasWeaker, Passes, IsSound, IsValidClaim}
 
 -- ---- facts that have one proof at most
 

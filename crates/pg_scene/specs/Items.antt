@@ -1,9 +1,8 @@
 -- What is to be seen on a board, of a position, of lines, and of the bodies of nodes.
 use Rattle.std.specs.Prelude.{ℕ, suc, ◌+◌, ◌-◌, ◌^◌, max, nat_lt, nat_le, Bool, true, false, ◌&&◌, List, [], ◌∷◌, ◌++◌, length, map, Option, Some, None, if◌then◌else◌}
-use Rattle.pg_scene.specs.Prelude.{FinSet, contains, decimal, count_by, flat_map, range_with_len, sum_by, nat_cmp, points_below, Kind, AvoiderEnforcer, Pair, Side, Body}
+use Rattle.pg_scene.specs.Prelude.{FinSet, contains, decimal, count_by, flat_map, range_with_len, sum_by, nat_cmp, points_below, Kind, AvoiderEnforcer, Pair, Side, Body, Reply, is_graph, free_points, is_touched, lines_of, point_count, is_free, points_of, greatest_length, is_on, line_weight, Game, Position}
 use Rattle.pg_base.specs.declared.side.Side.TheVariants.{X, Y}
 use Rattle.pg_cert.specs.declared.node.Body.TheVariants as bodies
-use Rattle.pg_scene.specs.Prelude.{Reply, is_graph, free_points, is_touched, lines_of, point_count, is_free, points_of, greatest_length, is_on, line_weight, Game, Position}
 use Rattle.pg_scene.specs.declared.item.Item.{Item}
 use Rattle.pg_scene.specs.declared.item.Item.TheVariants as items
 use Rattle.pg_scene.specs.declared.item.Set.{Set}

@@ -1,10 +1,9 @@
 -- What a player has when it is opened.
 use Rattle.std.proofs.Common.{◌≡◌, ◌∙◌, ℕ, ◌≤◌, Bool, true, List, [], Option, Some, None, find, get_or, slice_get, suc, ◌∷◌, inl, inr, refl, sym, ap, subst}
-use Rattle.pg_span.proofs.Common.{All-get_or, slice_get-get_or, slice_get_within, All, and_parts, false≢true, cases_Bool, Coded-set, coded_ℕ, coded_bool, FinSet, nat_cmp, is_same_side, Side, X, Y}
+use Rattle.pg_span.proofs.Common.{All-get_or, slice_get-get_or, slice_get_within, All, and_parts, false≢true, cases_Bool, Coded-set, coded_ℕ, coded_bool, FinSet, nat_cmp, is_same_side, Side, X, Y, edge_count, Position, IsPlace, AreParts, AreJoiningTrees, IsFirst}
 use Rattle.std.proofs.Math.Logic.{∥∥₁_elim, ∥∥₁_map}
 use Rattle.std.proofs.Math.Bridge.{le_prop}
 use Rattle.pg_base.specs.contracts.side.Side as side_row
-use Rattle.pg_span.proofs.Common.{edge_count, Position, IsPlace, AreParts, AreJoiningTrees, IsFirst}
 use Rattle.pg_span.specs.declared.cert.SpanBody.{SpanBody}
 use Rattle.pg_span.specs.declared.cert.SpanBody.TheVariants.{Trees, Parts}
 use Rattle.pg_span.specs.declared.cert.SpanCert.{SpanCert}

@@ -55,16 +55,15 @@ first_fault-requires-clause-place c =
     (sym c.take.ensures.value ∙ c.in-Some.is) c.requires.next in
     omega (arith, due.place, c.count-k.ensures)
 
-pub first_fault-requires-clause-marks : goal.first_fault-requires-clause-marks
-first_fault-requires-clause-marks c =
-    (due-next c.args.self.now c.in-Some.present c.args.node.now c.requires.sound
-    (sym c.take.ensures.value ∙ c.in-Some.is) c.requires.next).node.apart
-
-pub first_fault-requires-clause-left : goal.first_fault-requires-clause-left
-first_fault-requires-clause-left c =
+pub first_fault-requires-clause-position : goal.first_fault-requires-clause-position
+first_fault-requires-clause-position c =
     let due = due-next c.args.self.now c.in-Some.present c.args.node.now c.requires.sound
     (sym c.take.ensures.value ∙ c.in-Some.is) c.requires.next in
-    some-left c.args.node.now.turn c.args.node.now.left due.node.turn
+    record {
+      same = c.position-p.ensures;
+      apart = due.node.apart;
+      some_left = some-left c.args.node.now.turn c.args.node.now.left due.node.turn;
+    }
 
 pub overflow_sub-self : goal.overflow_sub-self
 overflow_sub-self c =
