@@ -1,6 +1,6 @@
 -- What the proofs of this crate name of std and of the crates below.
-pub use Rattle.pg_record.specs.Prelude.{AllByRecursion, Bytes, Game, Illegal, IsLegalPlay, IsPosition, Over, Position, Range, Stand, Switching, Taken, View, and_then, bytes_eq, decimal, flat_map, go_on, judged_move, least, lines, number, parts, played, point_count, spaced, spelled, start, unless, vec_len}
-unfoldable pub use Rattle.pg_record.specs.Prelude.{after, reading}
+pub use Rattle.pg_record.specs.Prelude.{AllByRecursion, Bytes, Game, Illegal, IsLegalPlay, IsPosition, Over, Position, Range, Stand, Switching, Taken, View, after, and_then, bytes_eq, decimal, flat_map, go_on, judged_move, least, lines, number, parts, played, point_count, spaced, spelled, start, unless, vec_len}
+unfoldable pub use Rattle.pg_record.specs.Prelude.{reading}
 pub use Rattle.pg_game.proofs.Limits.{point_count-le}
 pub use Rattle.pg_game.proofs.Moves.{IsPosition-played, IsPosition-start}
 pub use Rattle.pg_text.proofs.PlainWords.{IsWord, decimal_is_word, quiet_lacks_feed, spaced_quiet, words_spaced}

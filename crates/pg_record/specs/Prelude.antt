@@ -2,8 +2,7 @@
 pub use Rattle.pg_base.specs.declared.kind.Kind.TheVariants.{Switching}
 pub use Rattle.pg_base.specs.declared.signs.TheConstants.{SPACE}
 pub use Rattle.pg_board.specs.Board.{Stand, View}
-pub use Rattle.pg_game.specs.Game.{IsPosition, point_count, start}
-unfoldable pub use Rattle.pg_game.specs.Game.{after}
+pub use Rattle.pg_game.specs.Game.{IsPosition, after, point_count, start}
 pub use Rattle.pg_game.specs.Judge.{IsMadeForGame, judged_move}
 pub use Rattle.pg_game.specs.Play.{IsLegalPlay, played}
 pub use Rattle.pg_game.specs.declared.game.Game.{Game}
