@@ -10,6 +10,7 @@ pub mod TableLaws
 pub mod Growing
 pub mod Meeting
 pub mod Searching
+pub mod Settling
 pub mod Claiming
 pub mod Expanding
 pub mod Moving

@@ -29,7 +29,7 @@ pub use Rattle.pg_leaf.specs.At.{IsAt}
 pub use Rattle.pg_leaf.specs.Leaf.{IsLeaf, criterion_of, first_criterion}
 pub use Rattle.pg_leaf.specs.Pruned.{AreMarked, IsMoved, IsPruned, IsUsed, Renumbers}
 pub use Rattle.pg_leaf.specs.Sound.{BodyHolds, NodesHold}
-pub use Rattle.pg_match.specs.Cache.{Fits}
+pub use Rattle.pg_match.specs.Cache.{Cache, Fits}
 pub use Rattle.std.specs.HashMap.{get}
 pub use Rattle.std.specs.List.{All, Contains, count_by, filter, list_all, list_any, range_with_len, sum_by}
 pub use Rattle.std.specs.Map.{keys_of, lookup}

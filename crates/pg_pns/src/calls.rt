@@ -4,6 +4,7 @@ ghost use Rattle.pg_pns.specs.Prelude.{Switching, IsQuestion, free_points, lines
 ghost use Rattle.pg_pns.specs.Budget.{budget_for, most_for};
 ghost use Rattle.pg_pns.specs.Found.{IsAnswer};
 
+use crate::asked::Asked;
 use crate::expansion::explore;
 use crate::limits::{MAX_EXPANDED_MOVES, MAX_SEARCH_ANSWERS};
 use crate::work::{Found, Work};
@@ -95,5 +96,6 @@ pub fn search_with(
     ensures count { length work.new.positions ≤ budget }
 {
     work.begin(question);
-    explore(alloc, g, question, budget, &mut work.positions, cache)
+    let asked = Asked { game: g, question };
+    explore(alloc, asked, budget, &mut work.positions, cache)
 }

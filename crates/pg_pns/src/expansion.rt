@@ -1,13 +1,15 @@
 //! The search: expansion after expansion, until the root has an answer or the budget is spent.
-ghost use Rattle.std.specs.Prelude.{◌≡◌, ◌≢◌, ◌<◌, ◌≤◌, ◌+◌, ◌*◌, ◌^◌, [], ◌∷◌, ◌++◌, List, ℕ, length, slice_get, slice_set, true, false, Some, None, IfOk, IfSome, IfNone, OnOk, OnErr};
-ghost use Rattle.pg_pns.specs.Prelude.{Position, Game, Score, start, free_points, point_count, lines_of, Fits, Switching, is_free, IsTable, keys_of, IsQuestion, IsAt, Contains, MAX_CLAIM_NODES, MAX_MEMBERS};
+ghost use Rattle.std.specs.Prelude.{◌≡◌, ◌<◌, ◌≤◌, ◌+◌, ◌*◌, ◌^◌, [], ◌∷◌, ◌++◌, List, ℕ, length, slice_get, slice_set, Some, None, IfOk, IfSome, IfNone, OnOk, OnErr};
+ghost use Rattle.pg_pns.specs.Prelude.{Position, Score, start, free_points, lines_of, Fits, IsTable, keys_of, Contains, MAX_CLAIM_NODES};
 ghost use Rattle.pg_game.specs.Decided.{claimer as claimer_of, claimed_goal as claimed_by};
 ghost use Rattle.pg_pns.specs.Found.{IsAnswer};
 ghost use Rattle.pg_pns.specs.Descent.{IsAtStart};
 ghost use Rattle.pg_pns.specs.Known.{answer_at};
-ghost use Rattle.pg_pns.specs.Search.{IsSearch, CanGrow, IsGrowing};
+ghost use Rattle.pg_pns.specs.Reading.{IsAskedOf, IsKept, IsMoveAt, IsReadAt, IsReadAtStart};
+ghost use Rattle.pg_pns.specs.Search.{IsSearch, CanGoOn, CanGrow, GoesOn, IsGrowing, IsListed, IsRootFound};
 ghost use Rattle.pg_pns.specs.declared.limits.TheConstants.{MAX_EXPANDED_MOVES};
 
+use crate::asked::Asked;
 use crate::descent::{go_down, go_up};
 use crate::guide::Guide;
 use crate::known::Answered;
@@ -19,10 +21,18 @@ use indexmap::IndexMap;
 use pg_base::{Goal, Kind, Memory, Score, Side};
 use pg_board::Board;
 use pg_cert::{Claim, Nodes};
-use pg_game::{Game, Position};
+use pg_game::Position;
 use pg_leaf::{order_of, prune};
 use pg_match::PairCache;
 use std::alloc::Global;
+
+/// A position that is expanded, with its place and its moves that are met so far.
+#[derive(Debug, Drop)]
+struct Expansion {
+    place: u32,
+    position: Position,
+    nexts: Moves,
+}
 
 /// Adds a place before the place.
 fn add_parent(parents: &mut [Places], place: u32, k: u32) -> Result<(), Memory>
@@ -35,104 +45,77 @@ fn add_parent(parents: &mut [Places], place: u32, k: u32) -> Result<(), Memory>
     Ok(())
 }
 
-/// Meets the position after one move of the position at the place, where the board stands.
+/// Meets the position after one move of the position that is expanded, where the board stands.
 fn meet_move(
     alloc: Global,
-    g: &Game,
-    question: Score,
-    k: u32,
-    p: &Position,
+    asked: Asked<'_>,
     v: u16,
     board: &mut Board<'_>,
     cache: &mut PairCache,
     table: &mut Table,
-    nexts: &mut Moves,
+    expansion: &mut Expansion,
 ) -> Result<(), Memory>
-    requires asked { IsQuestion g.now.kind question }
-    requires lines { g.now.kind ≢ Switching }
-    requires stands { IsAt g.now p.now board.old }
-    requires fits { Fits cache.old (lines_of g.now) }
-    requires range { v < MAX_MEMBERS }
-    requires point { v < point_count g.now }
-    requires free { is_free p.now v ≡ true }
+    requires reads { IsReadAt asked.game.now asked.question expansion.old.position board.old
+        cache.old }
+    requires moves { IsMoveAt asked.game.now expansion.old.position v }
     requires few { length table.old.positions.items < 2 ^ 32 }
     requires grows { (list : List Position)
-        × IsGrowing g.now question list k p.now v table.old nexts.old }
-    ensures kept { board.new ≡ board.old }
-    ensures fits { Fits cache.new (lines_of g.now) }
+        × IsGrowing asked.game.now asked.question list expansion.old.place expansion.old.position v
+        table.old expansion.old.nexts }
+    ensures kept { IsKept asked.entry.game.now board.old board.new cache.new }
+    ensures same { (expansion.new.place ≡ expansion.old.place)
+        × (expansion.new.position ≡ expansion.old.position) }
     ensures grows { OnOk result
-        ((list : List Position) → IsGrowing g.now question list k p.now v table.old nexts.old
-        → IsGrowing g.now question list k p.now (v + 1) table.new nexts.new) }
+        ((list : List Position) → IsGrowing asked.entry.game.now asked.entry.question list
+        expansion.old.place expansion.old.position v table.old expansion.old.nexts
+        → IsGrowing asked.entry.game.now asked.entry.question list expansion.new.place
+        expansion.new.position (v + 1) table.new expansion.new.nexts) }
 {
-    let place = meet_after(alloc, g, question, p, v, board, cache, table)?;
-    add_parent(table.parents.as_mut_slice(), place, k)?;
-    nexts.push(v, place)?;
+    let place = meet_after(alloc, asked, &expansion.position, v, board, cache, table)?;
+    add_parent(table.parents.as_mut_slice(), place, expansion.place)?;
+    expansion.nexts.push(v, place)?;
     Ok(())
 }
 
 /// Adds the moves of the position at the place, where the board stands.
 fn expand(
     alloc: Global,
-    g: &Game,
-    question: Score,
+    asked: Asked<'_>,
     k: u32,
     board: &mut Board<'_>,
     cache: &mut PairCache,
     table: &mut Table,
 ) -> Result<(), Memory>
-    requires asked { IsQuestion g.now.kind question }
-    requires lines { g.now.kind ≢ Switching }
-    requires stands { (p : Position) → slice_get table.old.positions.items k ≡ Some p
-        → IsAt g.now p board.old }
-    requires fits { Fits cache.old (lines_of g.now) }
+    requires reads { (p : Position) → slice_get table.old.positions.items k ≡ Some p
+        → IsReadAt asked.game.now asked.question p board.old cache.old }
     requires grows { (list : List Position) × (p : Position)
-        × CanGrow g.now question list table.old k p
-        × (1 + (length list + 1) * length (free_points g.now (start g.now)) ≤ 100000) }
-    ensures kept { board.new ≡ board.old }
-    ensures fits { Fits cache.new (lines_of g.now) }
-    ensures grows { OnOk result
-        ((list : List Position) → (p : Position) → CanGrow g.now question list table.old k p
-        → IsSearch g.now question (k ∷ []) (list ++ p ∷ []) table.new) }
+        × CanGrow asked.game.now asked.question list table.old k p
+        × (1 + (length list + 1) * length (free_points asked.game.now (start asked.game.now))
+        ≤ 100000) }
+    ensures kept { IsKept asked.entry.game.now board.old board.new cache.new }
+    ensures grows { OnOk result ((list : List Position) → (p : Position)
+        → CanGrow asked.entry.game.now asked.entry.question list table.old k p
+        → IsSearch asked.entry.game.now asked.entry.question (k ∷ []) (list ++ p ∷ []) table.new) }
 {
     let positions = table.positions.as_slice();
     let p = positions[k as usize];
-    let mut nexts = Moves::new(alloc);
-    for v in 0..g.points() {
-        if !p.is_free(v) {
+    let mut expansion = Expansion {
+        place: k,
+        position: p,
+        nexts: Moves::new(alloc),
+    };
+    for v in 0..asked.game.points() {
+        if !expansion.position.is_free(v) {
             continue;
         }
-        meet_move(
-            alloc, g, question, k, &p, v, board, cache, table, &mut nexts,
-        )?;
+        meet_move(alloc, asked, v, board, cache, table, &mut expansion)?;
     }
+    let Expansion {
+        place: _place,
+        position: _position,
+        nexts,
+    } = expansion;
     table.moves.as_mut_slice()[k as usize] = nexts;
-    Ok(())
-}
-
-/// Lets the answers spread from the place that was expanded.
-fn settle_table(
-    alloc: Global,
-    g: &Game,
-    question: Score,
-    k: u32,
-    table: &mut Table,
-) -> Result<(), Memory>
-    requires some { (list : List Position) × IsSearch g.now question (k ∷ []) list table.old }
-    requires few { length table.old.positions.items ≤ MAX_CLAIM_NODES }
-    ensures { OnOk result ((list : List Position) → IsSearch g.now question (k ∷ []) list table.old
-        → IsSearch g.now question [] list table.new) }
-{
-    settle_from(
-        alloc,
-        g,
-        question,
-        table.positions.as_slice(),
-        table.moves.as_slice(),
-        table.parents.as_slice(),
-        k,
-        table.answers.as_mut_slice(),
-        &mut table.claims,
-    )?;
     Ok(())
 }
 
@@ -159,57 +142,49 @@ fn order_at(alloc: Global, table: &Table, board: &Board<'_>, k: u32) -> Result<V
 /// Expands one position more. The board stands at the game's position before and after.
 fn step(
     alloc: Global,
-    g: &Game,
-    question: Score,
+    asked: Asked<'_>,
     work: &mut IndexMap<Position, u32>,
     board: &mut Board<'_>,
     cache: &mut PairCache,
     table: &mut Table,
     guide: &mut Guide,
 ) -> Result<(), Memory>
-    requires asked { IsQuestion g.now.kind question }
-    requires lines { g.now.kind ≢ Switching }
-    requires starts { IsAtStart g.now board.old }
-    requires fits { Fits cache.old (lines_of g.now) }
-    requires search { IsSearch g.now question [] (keys_of work.old.entries) table.old }
-    requires unanswered { answer_at table.old.answers.items 0 ≡ None }
-    requires few { 1
-        + (length (keys_of work.old.entries) + 1) * length (free_points g.now (start g.now))
-        ≤ MAX_CLAIM_NODES }
-    ensures fits { Fits cache.new (lines_of g.now) }
-    ensures rules { IsTable g.now question (keys_of work.new.entries) }
+    requires reads { IsReadAtStart asked.game.now asked.question board.old cache.old }
+    requires goes { CanGoOn asked.game.now asked.question (keys_of work.old.entries) table.old }
+    ensures fits { Fits cache.new (lines_of asked.entry.game.now) }
+    ensures rules { IsTable asked.entry.game.now asked.entry.question (keys_of work.new.entries) }
     ensures more { length (keys_of work.new.entries) ≤ length (keys_of work.old.entries) + 1 }
-    ensures starts { OnOk result (IsAtStart g.now board.new) }
-    ensures count { OnOk result
-        (length (keys_of work.new.entries) ≡ length (keys_of work.old.entries) + 1) }
-    ensures search { OnOk result (IsSearch g.now question [] (keys_of work.new.entries) table.new) }
+    ensures starts { OnOk result (IsAtStart asked.entry.game.now board.new) }
+    ensures goes { OnOk result
+        (GoesOn asked.entry.game.now asked.entry.question (length (keys_of work.old.entries) + 1)
+        (keys_of work.new.entries) table.new) }
 {
     let k = go_down(table, guide, board);
     let positions = table.positions.as_slice();
     let p = positions[k as usize];
     keep(work, p, k)?;
-    expand(alloc, g, question, k, board, cache, table)?;
+    expand(alloc, asked, k, board, cache, table)?;
     let order = order_at(alloc, table, board, k)?;
     go_up(board);
-    settle_table(alloc, g, question, k, table)?;
-    guide.update(alloc, table, k, order, g.points())?;
+    settle_from(alloc, k, table)?;
+    guide.update(alloc, table, k, order, asked.game.points())?;
     Ok(())
 }
 
 /// The claim that the root's answer makes.
 fn claim_of(
     alloc: Global,
-    g: &Game,
-    question: Score,
+    asked: Asked<'_>,
     answered: Answered,
     table: Table,
 ) -> Result<Found, Memory>
-    requires some { (list : List Position) × IsSearch g.now question [] list table }
+    requires some { (list : List Position)
+        × IsSearch asked.game.now asked.question [] list table }
     requires few { length table.positions.items ≤ MAX_CLAIM_NODES }
     requires root { slice_get table.answers.items 0 ≡ Some (Some answered) }
-    ensures { IfOk result
-        (λ found. (list : List Position) → (budget : ℕ) → IsSearch g.now question [] list table
-        → IsAnswer g.now question budget list found) }
+    ensures { IfOk result (λ found. (list : List Position) → (budget : ℕ)
+        → IsSearch asked.entry.game.now asked.entry.question [] list table
+        → IsAnswer asked.entry.game.now asked.entry.question budget list found) }
 {
     let Table {
         positions: _positions,
@@ -223,9 +198,9 @@ fn claim_of(
     nodes.truncate(answered.node as usize + 1);
     let reached = prune(alloc, nodes.as_slice())?;
     let claim = Claim {
-        turn: g.turn,
+        turn: asked.game.turn,
         side: claimer(answered.answer),
-        goal: claimed_goal(g.kind, question, answered.answer),
+        goal: claimed_goal(asked.game.kind, asked.question, answered.answer),
         nodes: Nodes::from_vec(reached),
     };
     if answered.answer {
@@ -239,30 +214,23 @@ fn claim_of(
 /// expanded, and gives the root's answer.
 fn find_answer(
     alloc: Global,
-    g: &Game,
-    question: Score,
+    asked: Asked<'_>,
     budget: u32,
     expanded: &mut IndexMap<Position, u32>,
     board: &mut Board<'_>,
     cache: &mut PairCache,
     table: &mut Table,
 ) -> Result<Option<Answered>, Memory>
-    requires asked { IsQuestion g.now.kind question }
-    requires lines { g.now.kind ≢ Switching }
-    requires starts { IsAtStart g.now board.old }
-    requires fits { Fits cache.old (lines_of g.now) }
-    requires few { budget * length (free_points g.now (start g.now)) ≤ MAX_EXPANDED_MOVES }
+    requires reads { IsReadAtStart asked.game.now asked.question board.old cache.old }
+    requires few { budget * length (free_points asked.game.now (start asked.game.now))
+        ≤ MAX_EXPANDED_MOVES }
     requires empty { (keys_of expanded.old.entries) ≡ [] }
-    requires search { IsSearch g.now question [] [] table.old }
-    ensures fits { Fits cache.new (lines_of g.now) }
-    ensures rules { IsTable g.now question (keys_of expanded.new.entries) }
-    ensures count { length (keys_of expanded.new.entries) ≤ budget }
-    ensures search { OnOk result
-        (IsSearch g.now question [] (keys_of expanded.new.entries) table.new) }
-    ensures some { IfOk result
-        (λ found. IfSome found (λ a. slice_get table.new.answers.items 0 ≡ Some (Some a))) }
-    ensures none { IfOk result (λ found. IfNone found ((answer_at table.new.answers.items 0 ≡ None)
-        × (length (keys_of expanded.new.entries) ≡ budget))) }
+    requires search { IsSearch asked.game.now asked.question [] [] table.old }
+    ensures fits { Fits cache.new (lines_of asked.entry.game.now) }
+    ensures listed { IsListed asked.entry.game.now asked.entry.question budget
+        (keys_of expanded.new.entries) }
+    ensures found { IfOk result (IsRootFound asked.entry.game.now asked.entry.question budget
+        (keys_of expanded.new.entries) table.new) }
 {
     let mut guide = Guide::new(alloc);
     for n in 0..budget {
@@ -270,9 +238,7 @@ fn find_answer(
         if answer.is_some() {
             return Ok(answer);
         }
-        step(
-            alloc, g, question, expanded, board, cache, table, &mut guide,
-        )?;
+        step(alloc, asked, expanded, board, cache, table, &mut guide)?;
     }
     Ok(root_answer(table))
 }
@@ -281,31 +247,26 @@ fn find_answer(
 /// expanding positions, which are kept in their order.
 fn explore_on(
     alloc: Global,
-    g: &Game,
-    question: Score,
+    asked: Asked<'_>,
     budget: u32,
     expanded: &mut IndexMap<Position, u32>,
     board: &mut Board<'_>,
     cache: &mut PairCache,
 ) -> Result<Found, Memory>
-    requires asked { IsQuestion g.now.kind question }
-    requires lines { g.now.kind ≢ Switching }
-    requires starts { IsAtStart g.now board.old }
-    requires fits { Fits cache.old (lines_of g.now) }
-    requires few { budget * length (free_points g.now (start g.now)) ≤ MAX_EXPANDED_MOVES }
+    requires reads { IsReadAtStart asked.game.now asked.question board.old cache.old }
+    requires few { budget * length (free_points asked.game.now (start asked.game.now))
+        ≤ MAX_EXPANDED_MOVES }
     requires empty { (keys_of expanded.old.entries) ≡ [] }
-    ensures fits { Fits cache.new (lines_of g.now) }
-    ensures answer { IfOk result
-        (λ found. IsAnswer g.now question budget (keys_of expanded.new.entries) found) }
-    ensures rules { IsTable g.now question (keys_of expanded.new.entries) }
-    ensures count { length (keys_of expanded.new.entries) ≤ budget }
+    ensures fits { Fits cache.new (lines_of asked.entry.game.now) }
+    ensures answer { IfOk result (λ found. IsAnswer asked.entry.game.now asked.entry.question budget
+        (keys_of expanded.new.entries) found) }
+    ensures listed { IsListed asked.entry.game.now asked.entry.question budget
+        (keys_of expanded.new.entries) }
 {
-    let mut table = first_table(alloc, g, question, board, cache)?;
-    let found = find_answer(
-        alloc, g, question, budget, expanded, board, cache, &mut table,
-    )?;
+    let mut table = first_table(alloc, asked, board, cache)?;
+    let found = find_answer(alloc, asked, budget, expanded, board, cache, &mut table)?;
     match found {
-        Some(answered) => Ok(claim_of(alloc, g, question, answered, table)?),
+        Some(answered) => Ok(claim_of(alloc, asked, answered, table)?),
         None => Ok(Found::Unknown),
     }
 }
@@ -314,45 +275,40 @@ fn explore_on(
 /// kept in their order.
 pub(crate) fn explore(
     alloc: Global,
-    g: &Game,
-    question: Score,
+    asked: Asked<'_>,
     budget: u32,
     expanded: &mut IndexMap<Position, u32>,
     cache: &mut PairCache,
 ) -> Result<Found, Memory>
-    requires asked { IsQuestion g.now.kind question }
-    requires lines { g.now.kind ≢ Switching }
-    requires fits { Fits cache.old (lines_of g.now) }
-    requires few { budget * length (free_points g.now (start g.now)) ≤ MAX_EXPANDED_MOVES }
+    requires can { IsAskedOf asked.game.now asked.question }
+    requires fits { Fits cache.old (lines_of asked.game.now) }
+    requires few { budget * length (free_points asked.game.now (start asked.game.now))
+        ≤ MAX_EXPANDED_MOVES }
     requires empty { (keys_of expanded.old.entries) ≡ [] }
-    ensures fits { Fits cache.new (lines_of g.now) }
-    ensures answer { IfOk result
-        (λ found. IsAnswer g.now question budget (keys_of expanded.new.entries) found) }
-    ensures rules { IsTable g.now question (keys_of expanded.new.entries) }
-    ensures count { length (keys_of expanded.new.entries) ≤ budget }
+    ensures fits { Fits cache.new (lines_of asked.entry.game.now) }
+    ensures answer { IfOk result (λ found. IsAnswer asked.entry.game.now asked.entry.question budget
+        (keys_of expanded.new.entries) found) }
+    ensures listed { IsListed asked.entry.game.now asked.entry.question budget
+        (keys_of expanded.new.entries) }
 {
-    let mut board = Board::open(alloc, g, &g.start())?;
-    explore_on(alloc, g, question, budget, expanded, &mut board, cache)
+    let mut board = Board::open(alloc, asked.game, &asked.game.start())?;
+    explore_on(alloc, asked, budget, expanded, &mut board, cache)
 }
 
 /// The table with the game's position alone, where the board stands.
 fn first_table(
     alloc: Global,
-    g: &Game,
-    question: Score,
+    asked: Asked<'_>,
     board: &mut Board<'_>,
     cache: &mut PairCache,
 ) -> Result<Table, Memory>
-    requires asked { IsQuestion g.now.kind question }
-    requires lines { g.now.kind ≢ Switching }
-    requires stands { IsAt g.now (start g.now) board.old }
-    requires fits { Fits cache.old (lines_of g.now) }
-    ensures kept { board.new ≡ board.old }
-    ensures fits { Fits cache.new (lines_of g.now) }
-    ensures search { IfOk result (λ table. IsSearch g.now question [] [] table) }
+    requires reads { IsReadAtStart asked.game.now asked.question board.old cache.old }
+    ensures kept { IsKept asked.entry.game.now board.old board.new cache.new }
+    ensures search { IfOk result
+        (λ table. IsSearch asked.entry.game.now asked.entry.question [] [] table) }
 {
     let mut table = Table::new(alloc);
-    table.add(alloc, g, question, g.start(), board, cache)?;
+    table.add(alloc, asked, asked.game.start(), board, cache)?;
     Ok(table)
 }
 

@@ -2,6 +2,7 @@
 //! shows the answer.
 #![tactic(auto)]
 
+mod asked;
 mod calls;
 mod claims;
 mod descent;

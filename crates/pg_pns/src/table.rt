@@ -1,17 +1,19 @@
 //! The positions that a search has met.
-ghost use Rattle.std.specs.Prelude.{◌≡◌, ◌≢◌, ◌<◌, ◌^◌, [], length, Some, None, IfOk, true, false};
-ghost use Rattle.pg_pns.specs.Prelude.{get, Switching, Score, Game, Position, IsQuestion, lines_of, point_count, after, IsPosition, is_free, equal_positions, Fits, IsAt, MAX_MEMBERS};
+ghost use Rattle.std.specs.Prelude.{◌≡◌, ◌<◌, ◌^◌, [], length, Some, None, IfOk, true, false};
+ghost use Rattle.pg_pns.specs.Prelude.{get, Score, Game, Position, after, equal_positions};
 ghost use Rattle.pg_pns.specs.Claims.{nodes_of};
 ghost use Rattle.pg_pns.specs.Met.{LeafAdds};
+ghost use Rattle.pg_pns.specs.Reading.{IsReadAt, IsKept, IsMoveAt};
 ghost use Rattle.pg_pns.specs.Tree.{IsTreeOf, IsMetAt};
 
+use crate::asked::Asked;
 use crate::claims::Claims;
 use crate::known::Answered;
 use crate::lists::{Moves, Places};
-use pg_base::{Memory, Score};
+use pg_base::Memory;
 use pg_board::Board;
 use pg_cert::Node;
-use pg_game::{Game, Position};
+use pg_game::Position;
 use pg_leaf::leaf;
 use pg_match::PairCache;
 use std::alloc::Global;
@@ -33,26 +35,20 @@ pub(crate) struct Table {
 /// it.
 pub(crate) fn leaf_answer(
     alloc: Global,
-    g: &Game,
-    question: Score,
+    asked: Asked<'_>,
     p: &Position,
     board: &mut Board<'_>,
     cache: &mut PairCache,
     claims: &mut Claims,
 ) -> Result<Option<Answered>, Memory>
-    requires asked { IsQuestion g.now.kind question }
-    requires lines { g.now.kind ≢ Switching }
-    requires position { IsPosition g.now p.now }
-    requires stands { IsAt g.now p.now board.old }
-    requires fits { Fits cache.old (lines_of g.now) }
+    requires reads { IsReadAt asked.game.now asked.question p.now board.old cache.old }
     requires yes_room { length (nodes_of claims.old true) < 2 ^ 32 }
     requires no_room { length (nodes_of claims.old false) < 2 ^ 32 }
-    ensures kept { board.new ≡ board.old }
-    ensures fits { Fits cache.new (lines_of g.now) }
-    ensures adds { IfOk result
-        (λ a. LeafAdds g.now question p.now a (nodes_of claims.old) (nodes_of claims.new)) }
+    ensures kept { IsKept asked.entry.game.now board.old board.new cache.new }
+    ensures adds { IfOk result (λ a. LeafAdds asked.entry.game.now asked.entry.question p.now a
+        (nodes_of claims.old) (nodes_of claims.new)) }
 {
-    match leaf(alloc, g, question, p, board, cache)? {
+    match leaf(alloc, asked.game, asked.question, p, board, cache)? {
         Some((answer, body)) => {
             let node = claims.add(
                 answer,
@@ -103,26 +99,21 @@ impl Table {
     pub(crate) fn add(
         &mut self,
         alloc: Global,
-        g: &Game,
-        question: Score,
+        asked: Asked<'_>,
         q: Position,
         board: &mut Board<'_>,
         cache: &mut PairCache,
     ) -> Result<u32, Memory>
-        requires asked { IsQuestion g.now.kind question }
-        requires lines { g.now.kind ≢ Switching }
-        requires position { IsPosition g.now q }
+        requires reads { IsReadAt asked.game.now asked.question q board.old cache.old }
         requires fresh { get equal_positions self.old.places q ≡ None }
-        requires stands { IsAt g.now q board.old }
-        requires fits { Fits cache.old (lines_of g.now) }
         requires few { length self.old.positions.items < 2 ^ 32 }
-        requires tree { IsTreeOf g.now question self.old }
-        ensures kept { board.new ≡ board.old }
-        ensures fits { Fits cache.new (lines_of g.now) }
-        ensures met { IfOk result (λ place. IsMetAt g.now question self.old self.new q place) }
+        requires tree { IsTreeOf asked.game.now asked.question self.old }
+        ensures kept { IsKept asked.entry.game.now board.old board.new cache.new }
+        ensures met { IfOk result
+            (λ place. IsMetAt asked.entry.game.now asked.entry.question self.old self.new q place) }
     {
         let number = self.positions.len() as u32;
-        let answer = leaf_answer(alloc, g, question, &q, board, cache, &mut self.claims)?;
+        let answer = leaf_answer(alloc, asked, &q, board, cache, &mut self.claims)?;
         self.places.insert(q, number)?;
         self.positions.push(q)?;
         self.moves.push(Moves::new(alloc))?;
@@ -136,35 +127,28 @@ impl Table {
 /// where it wasn't met yet.
 pub(crate) fn meet_after(
     alloc: Global,
-    g: &Game,
-    question: Score,
+    asked: Asked<'_>,
     p: &Position,
     v: u16,
     board: &mut Board<'_>,
     cache: &mut PairCache,
     table: &mut Table,
 ) -> Result<u32, Memory>
-    requires asked { IsQuestion g.now.kind question }
-    requires lines { g.now.kind ≢ Switching }
-    requires position { IsPosition g.now p.now }
-    requires range { v < MAX_MEMBERS }
-    requires point { v < point_count g.now }
-    requires free { is_free p.now v ≡ true }
-    requires stands { IsAt g.now p.now board.old }
-    requires fits { Fits cache.old (lines_of g.now) }
+    requires reads { IsReadAt asked.game.now asked.question p.now board.old cache.old }
+    requires moves { IsMoveAt asked.game.now p.now v }
     requires few { length table.old.positions.items < 2 ^ 32 }
-    requires tree { IsTreeOf g.now question table.old }
-    ensures kept { board.new ≡ board.old }
-    ensures fits { Fits cache.new (lines_of g.now) }
+    requires tree { IsTreeOf asked.game.now asked.question table.old }
+    ensures kept { IsKept asked.entry.game.now board.old board.new cache.new }
     ensures met { IfOk result
-        (λ place. IsMetAt g.now question table.old table.new (after g.now p.now v) place) }
+        (λ place. IsMetAt asked.entry.game.now asked.entry.question table.old table.new
+        (after asked.entry.game.now p.now v) place) }
 {
-    let q = g.after(p, v);
+    let q = asked.game.after(p, v);
     if let Some(known) = table.find(&q) {
         return Ok(known);
     }
     board.play(v);
-    let added = table.add(alloc, g, question, q, board, cache);
+    let added = table.add(alloc, asked, q, board, cache);
     board.undo();
     added
 }

@@ -1,99 +1,128 @@
-use Rattle.std.proofs.Common.{◌≡◌, ◌∙◌, ◌<◌, ◌++◌, ◌∷◌, [], ℕ, List, slice_set, get_or, length, refl, sym, ap, subst, arith}
-use Rattle.pg_pns.proofs.Common.{slice_get_within, slice_get_read, with_items_is, length-set, with_items, Position, Game, Score, point_count, View, IsAt, one_at}
+use Rattle.std.proofs.Common.{◌≡◌, ◌∙◌, ◌<◌, ◌++◌, ◌∷◌, [], ℕ, List, slice_get, slice_set, get_or, length, refl, sym, ap, subst, arith}
+use Rattle.pg_pns.proofs.Common.{slice_get_within, slice_get_read, with_items_is, length-set, with_items, Position, Game, Score, IsPosition, point_count, View, IsAt, one_at}
 use Rattle.pg_pns.specs.declared.table.Table.{Table}
 use Rattle.pg_pns.specs.Search.{CanGrow, IsGrowing, IsSearch}
 use Rattle.pg_pns.proofs.Moving.{growing-start, growing-taken}
 use Rattle.pg_pns.proofs.Expanding.{grown-search}
 use Rattle.pg_pns.proofs.expansion.expand.Goals as goal
 
-read-same : (g : Game) (t : Score) (list ps : List Position) (s : Table) (k : ℕ) (p r : Position)
+-- the position that is read at a place is that which stands there
+read-same : (g : Game) (t : Score) (list : List Position) (s : Table) (k : ℕ) (p r : Position)
     → CanGrow g t list s k p
-    → ps ≡ s.positions.items
-    → r ≡ get_or ps k r
+    → r ≡ get_or s.positions.items k r
     → p ≡ r
-read-same g t list ps s k p r c e is = one_at s.positions.items k p r c.at
+read-same g t list s k p r c is = one_at s.positions.items k p r c.at
     (slice_get_read s.positions.items (length s.positions.items) k r refl
-    (slice_get_within s.positions.items k p c.at)
-    (is ∙ ap (λ (qs : List Position). get_or qs k r) e))
+    (slice_get_within s.positions.items k p c.at) is)
 
 pub loop-v-init : goal.loop-v-init
 loop-v-init c = (
+  record {
+    same = refl;
+    fits = (c.requires.reads c.requires.grows.1 c.requires.grows.2.at).fits;
+  },
   refl,
-  c.requires.fits,
+  c.index-positions-k.is ∙ ap
+      (λ (qs : List Position). get_or qs c.args.k c.index-positions-k.result)
+      c.as_slice-positions.ensures.value,
   λ list p can. subst
-      (λ (ns : List (ℕ × ℕ)). IsGrowing c.args.g.now c.args.question list c.args.k
-      c.index-positions-k.result 0 c.args.table.now ns) (sym c.new-nexts.ensures)
+      (λ (ns : List (ℕ × ℕ)). IsGrowing c.args.asked.game.now c.args.asked.question list c.args.k
+      c.index-positions-k.result 0 c.args.table.now ns) (sym c.new.ensures)
       (subst (λ (q : Position).
-      IsGrowing c.args.g.now c.args.question list c.args.k q 0 c.args.table.now [])
-      (read-same c.args.g.now c.args.question list c.as_slice-positions.result.now c.args.table.now
-      c.args.k p c.index-positions-k.result can c.as_slice-positions.ensures.value
-      c.index-positions-k.is)
-      (growing-start c.args.g.now c.args.question list c.args.k p c.args.table.now can)),
+      IsGrowing c.args.asked.game.now c.args.asked.question list c.args.k q 0 c.args.table.now [])
+      (read-same c.args.asked.game.now c.args.asked.question list c.args.table.now c.args.k p
+      c.index-positions-k.result can (c.index-positions-k.is ∙ ap
+      (λ (qs : List Position). get_or qs c.args.k c.index-positions-k.result)
+      c.as_slice-positions.ensures.value))
+      (growing-start c.args.asked.game.now c.args.asked.question list c.args.k p c.args.table.now
+      can)),
 )
 
 pub bounds-as_mut_slice-k : goal.bounds-as_mut_slice-k
 bounds-as_mut_slice-k c =
     let can = c.requires.grows in
-    let is = c.loop-v.invariant.2 can.0 can.1 can.2 in
+    let is = c.loop-v.invariant.3 can.0 can.1 can.2 in
     subst (λ (ms : List (List (ℕ × ℕ))). c.args.k < length ms) (sym c.as_mut_slice.ensures.value)
-    (slice_get_within c.loop-v.table.moves.items c.args.k [] is.bare)
+    (slice_get_within c.loop-v.table.moves.items c.args.k []
+    (ap (slice_get c.loop-v.table.moves.items) (sym c.loop-v.invariant.1) ∙ is.bare))
 
 pub returns-clause-grows : goal.returns-clause-grows
 returns-clause-grows c =
-    let len : length (slice_set c.as_mut_slice.result.now c.args.k c.loop-v.nexts)
+    let len : length (slice_set c.as_mut_slice.result.now c.args.k c.loop-v.expansion.nexts)
     ≡ c.loop-v.table.moves.len =
-    length-set c.as_mut_slice.result.now c.args.k c.loop-v.nexts ∙ c.as_mut_slice.ensures.len in
+    length-set c.as_mut_slice.result.now c.args.k c.loop-v.expansion.nexts
+    ∙ c.as_mut_slice.ensures.len in
     let written = with_items_is c.loop-v.table.moves
-    (slice_set c.as_mut_slice.result.now c.args.k c.loop-v.nexts) len in
-    let count : c.loop-v.v ≡ point_count c.args.g.now = omega arith in
+    (slice_set c.as_mut_slice.result.now c.args.k c.loop-v.expansion.nexts) len in
+    let count : c.loop-v.v ≡ point_count c.args.asked.game.now = omega arith in
     λ list p can.
-    let is = subst
-    (λ (n : ℕ). IsGrowing c.args.g.now c.args.question list c.args.k c.index-positions-k.result n
-    c.loop-v.table c.loop-v.nexts) count (c.loop-v.invariant.2 list p can) in
-    let same = read-same c.args.g.now c.args.question list c.as_slice-positions.result.now
-    c.args.table.now c.args.k p c.index-positions-k.result can c.as_slice-positions.ensures.value
-    c.index-positions-k.is in
+    let is = subst (λ (j : ℕ). IsGrowing c.args.asked.game.now c.args.asked.question list j
+    c.loop-v.expansion.position (point_count c.args.asked.game.now) c.loop-v.table
+    c.loop-v.expansion.nexts) c.loop-v.invariant.1
+    (subst (λ (n : ℕ). IsGrowing c.args.asked.game.now c.args.asked.question list
+    c.loop-v.expansion.place c.loop-v.expansion.position n c.loop-v.table c.loop-v.expansion.nexts)
+    count (c.loop-v.invariant.3 list p can)) in
+    let same = read-same c.args.asked.game.now c.args.asked.question list c.args.table.now
+    c.args.k p c.loop-v.expansion.position can c.loop-v.invariant.2 in
     let new : Table = record {
       positions = c.loop-v.table.positions;
       places = c.loop-v.table.places;
       moves = with_items c.loop-v.table.moves
-          (slice_set c.as_mut_slice.result.now c.args.k c.loop-v.nexts);
+          (slice_set c.as_mut_slice.result.now c.args.k c.loop-v.expansion.nexts);
       parents = c.loop-v.table.parents;
       answers = c.loop-v.table.answers;
       claims = c.loop-v.table.claims;
     } in
-    subst
-    (λ (q : Position). IsSearch c.args.g.now c.args.question (c.args.k ∷ []) (list ++ q ∷ []) new)
-    (sym same)
-    (grown-search c.args.g.now c.args.question list c.args.k c.index-positions-k.result
-    c.loop-v.table new c.loop-v.nexts is refl
+    subst (λ (q : Position). IsSearch c.args.asked.game.now c.args.asked.question
+    (c.args.k ∷ []) (list ++ q ∷ []) new) (sym same)
+    (grown-search c.args.asked.game.now c.args.asked.question list c.args.k
+    c.loop-v.expansion.position c.loop-v.table new c.loop-v.expansion.nexts is refl
     (written
-    ∙ ap (λ (ms : List (List (ℕ × ℕ))). slice_set ms c.args.k c.loop-v.nexts)
+    ∙ ap (λ (ms : List (List (ℕ × ℕ))). slice_set ms c.args.k c.loop-v.expansion.nexts)
     c.as_mut_slice.ensures.value) refl refl refl refl)
 
 pub loop-v-preserved-then-not-is_free : goal.loop-v-preserved-then-not-is_free
 loop-v-preserved-then-not-is_free c = (
   c.loop-v.invariant.0,
   c.loop-v.invariant.1,
-  λ list p can. growing-taken c.args.g.now c.args.question list c.args.k c.index-positions-k.result
-      c.loop-v.v c.loop-v.table c.loop-v.nexts (sym c.is_free.ensures ∙ c.if-not-is_free.true)
-      (c.loop-v.invariant.2 list p can),
+  c.loop-v.invariant.2,
+  λ list p can. growing-taken c.args.asked.game.now c.args.asked.question list
+      c.loop-v.expansion.place c.loop-v.expansion.position c.loop-v.v c.loop-v.table
+      c.loop-v.expansion.nexts (sym c.is_free.ensures ∙ c.if-not-is_free.true)
+      (c.loop-v.invariant.3 list p can),
 )
 
-pub meet_move-requires-clause-stands : goal.meet_move-requires-clause-stands
-meet_move-requires-clause-stands c =
+pub meet_move-requires-clause-reads : goal.meet_move-requires-clause-reads
+meet_move-requires-clause-reads c =
     let can = c.requires.grows in
-    let same = read-same c.args.g.now c.args.question can.0 c.as_slice-positions.result.now
-    c.args.table.now c.args.k can.1 c.index-positions-k.result can.2
-    c.as_slice-positions.ensures.value c.index-positions-k.is in
-    let at = subst (λ (q : Position). IsAt c.args.g.now q c.args.board.now) same
-    (c.requires.stands can.1 can.2.at) in
-    subst (λ (b : View). IsAt c.args.g.now c.index-positions-k.result b)
-    (sym c.loop-v.invariant.0) at
+    let reads = c.requires.reads can.1 can.2.at in
+    let same : can.1 ≡ c.loop-v.expansion.position =
+    read-same c.args.asked.game.now c.args.asked.question can.0 c.args.table.now c.args.k can.1
+    c.loop-v.expansion.position can.2 c.loop-v.invariant.2 in
+    record {
+      asked = reads.asked;
+      position =
+          subst (λ (q : Position). IsPosition c.args.asked.game.now q) same reads.position;
+      stands = subst (λ (b : View). IsAt c.args.asked.game.now c.loop-v.expansion.position b)
+          (sym c.loop-v.invariant.0.same)
+          (subst (λ (q : Position). IsAt c.args.asked.game.now q c.args.board.now) same
+          reads.stands);
+      fits = c.loop-v.invariant.0.fits;
+    }
+
+pub meet_move-requires-clause-grows : goal.meet_move-requires-clause-grows
+meet_move-requires-clause-grows c =
+    let can = c.requires.grows in
+    (can.0, c.loop-v.invariant.3 can.0 can.1 can.2)
 
 pub loop-v-preserved : goal.loop-v-preserved
 loop-v-preserved c = (
-  c.in_ok-meet_move.ensures.kept ∙ c.loop-v.invariant.0,
-  c.in_ok-meet_move.ensures.fits,
-  λ list p can. c.in_ok-meet_move.ensures.grows list (c.loop-v.invariant.2 list p can),
+  record {
+    same = c.in_ok-meet_move.ensures.kept.same ∙ c.loop-v.invariant.0.same;
+    fits = c.in_ok-meet_move.ensures.kept.fits;
+  },
+  c.in_ok-meet_move.ensures.same.0 ∙ c.loop-v.invariant.1,
+  subst (λ (q : Position). q ≡ get_or c.args.table.now.positions.items c.args.k q)
+      (sym c.in_ok-meet_move.ensures.same.1) c.loop-v.invariant.2,
+  λ list p can. c.in_ok-meet_move.ensures.grows list (c.loop-v.invariant.3 list p can),
 )

@@ -1,11 +1,16 @@
-use Rattle.std.proofs.Common.{◌≡◌, List}
-use Rattle.pg_pns.proofs.Common.{Position, lines_of, Fits}
+use Rattle.std.proofs.Common.{◌≡◌, List, get_or}
+use Rattle.pg_pns.proofs.Common.{Position}
+use Rattle.pg_pns.specs.Reading.{IsKept}
 use Rattle.pg_pns.specs.Search.{CanGrow, IsGrowing}
 use Rattle.pg_pns.proofs.expansion.expand.Given as goal
 
--- the moves to the points so far are met
+-- the position is that of the place, and the moves to the points so far are met
 abbrev pub invariant-loop-v : goal.invariant-loop-v
-invariant-loop-v l = (l.board ≡ l.fn.board)
-    × Fits l.cache (lines_of l.fn.g)
-    × ((list : List Position) → (p : Position) → CanGrow l.fn.g l.question list l.fn.table l.k p
-    → IsGrowing l.fn.g l.question list l.k l.p l.v l.table l.nexts)
+invariant-loop-v l = IsKept l.asked.game.now l.fn.board l.board l.cache
+    × (l.expansion.place ≡ l.k)
+    × (l.expansion.position
+    ≡ get_or l.fn.table.positions.items l.k l.expansion.position)
+    × ((list : List Position) → (p : Position)
+    → CanGrow l.asked.game.now l.asked.question list l.fn.table l.k p
+    → IsGrowing l.asked.game.now l.asked.question list l.expansion.place l.expansion.position l.v
+    l.table l.expansion.nexts)

@@ -1,7 +1,9 @@
-use Rattle.std.proofs.Common.{◌≡◌, ◌+◌, ◌*◌, ◌≤◌, ℕ, Option, Some, None, length, arith}
-use Rattle.pg_pns.proofs.Common.{IfNone, some≢none, mul-le-mul_right, keys_of}
+use Rattle.std.proofs.Common.{◌≡◌, ◌+◌, ◌*◌, ◌≤◌, ℕ, Option, Some, None, List, length, sym, ap, subst, arith}
+use Rattle.pg_pns.proofs.Common.{IfNone, some≢none, mul-le-mul_right, keys_of, IsTable, Position, View}
 use Rattle.pg_pns.specs.declared.limits.TheConstants.{MAX_EXPANDED_MOVES}
 use Rattle.pg_pns.proofs.Searching.{open-table}
+use Rattle.pg_pns.proofs.TableLaws.{table-none}
+use Rattle.pg_pns.specs.Descent.{IsAtStart}
 use Rattle.pg_pns.proofs.expansion.explore_on.Goals as goal
 
 met-few : (met listed budget free : ℕ)
@@ -20,18 +22,34 @@ none-of (Some a) none holds = absurd (some≢none none)
 
 pub claim_of-requires-clause-some : goal.claim_of-requires-clause-some
 claim_of-requires-clause-some c =
-    (keys_of c.find_answer.new.expanded.entries, c.in_ok-found.ensures.search)
+    (keys_of c.find_answer.new.expanded.entries, c.in_ok-found.ensures.found.search)
 
 pub claim_of-requires-clause-few : goal.claim_of-requires-clause-few
-claim_of-requires-clause-few c = met-few _ (length (keys_of c.find_answer.new.expanded.entries))
-    c.args.budget _ c.in_ok-found.ensures.search.few c.find_answer.ensures.count c.requires.few
+claim_of-requires-clause-few c =
+    met-few _ (length (keys_of c.find_answer.new.expanded.entries)) c.args.budget _
+    c.in_ok-found.ensures.found.search.few c.find_answer.ensures.listed.count c.requires.few
 
 pub returns-in_ok-claim_of-in-Some-clause-answer : goal.returns-in_ok-claim_of-in-Some-clause-answer
 returns-in_ok-claim_of-in-Some-clause-answer c = c.in_ok-claim_of-in-Some.ensures
-    (keys_of c.find_answer.new.expanded.entries) c.args.budget c.in_ok-found.ensures.search
+    (keys_of c.find_answer.new.expanded.entries) c.args.budget c.in_ok-found.ensures.found.search
 
 pub returns-in-None-clause-answer : goal.returns-in-None-clause-answer
-returns-in-None-clause-answer c = open-table c.args.g.now c.args.question c.args.budget
-    (keys_of c.find_answer.new.expanded.entries) c.find_answer.new.table
-    c.in_ok-found.ensures.search (none-of _ c.in-None.is c.in_ok-found.ensures.none).0
-    (none-of _ c.in-None.is c.in_ok-found.ensures.none).1
+returns-in-None-clause-answer c = open-table c.args.asked.game.now c.args.asked.question
+    c.args.budget (keys_of c.find_answer.new.expanded.entries) c.find_answer.new.table
+    c.in_ok-found.ensures.found.search (none-of _ c.in-None.is c.in_ok-found.ensures.found.none).0
+    (none-of _ c.in-None.is c.in_ok-found.ensures.found.none).1
+
+pub find_answer-requires-clause-reads : goal.find_answer-requires-clause-reads
+find_answer-requires-clause-reads c = record {
+  asked = c.requires.reads.asked;
+  starts = subst (λ (b : View). IsAtStart c.args.asked.game.now b)
+      (sym c.first_table.ensures.kept.same) c.requires.reads.starts;
+  fits = c.first_table.ensures.kept.fits;
+}
+
+pub returns-in_err-table-clause-listed : goal.returns-in_err-table-clause-listed
+returns-in_err-table-clause-listed c = record {
+  rules = subst (λ (w : List Position). IsTable c.args.asked.game.now c.args.asked.question w)
+      (sym c.requires.empty) (table-none c.args.asked.game.now c.args.asked.question);
+  count = omega (arith, ap length c.requires.empty);
+}

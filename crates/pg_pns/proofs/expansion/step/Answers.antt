@@ -1,4 +1,4 @@
-use Rattle.std.proofs.Common.{◌≡◌, ◌<◌, ◌∙◌, ◌++◌, ◌∷◌, [], ℕ, List, get_or, length, refl, sym, ap, subst, arith}
+use Rattle.std.proofs.Common.{◌≡◌, ◌<◌, ◌∙◌, ◌++◌, ◌∷◌, [], ℕ, List, get_or, length, length-append, refl, sym, ap, subst, arith}
 use Rattle.pg_pns.proofs.Common.{slice_get_read, slice_get_within, keys_of, Contains, Position, Game, Score, IsTable, View, start, one_at, contains_at, at_old, at_new}
 use Rattle.pg_pns.specs.declared.table.Table.{Table}
 use Rattle.pg_pns.specs.Search.{IsSearch, IsNext, CanGrow}
@@ -22,39 +22,45 @@ chosen g t list ps s k p is next e read =
 
 pub go_down-k-requires-clause-search : goal.go_down-k-requires-clause-search
 go_down-k-requires-clause-search c = (
-  c.args.question,
+  c.args.asked.question,
   keys_of c.args.work.now.entries,
   subst
-      (λ (g : Game). IsSearch g c.args.question [] (keys_of c.args.work.now.entries)
-      c.args.table.now) (sym c.requires.starts.game) c.requires.search,
+      (λ (g : Game). IsSearch g c.args.asked.question [] (keys_of c.args.work.now.entries)
+      c.args.table.now) (sym c.requires.reads.starts.game) c.requires.goes.search,
 )
 
 pub go_down-k-requires-clause-starts : goal.go_down-k-requires-clause-starts
 go_down-k-requires-clause-starts c = record {
   game = refl;
-  position = c.requires.starts.position ∙ ap start (sym c.requires.starts.game);
-  earlier = c.requires.starts.earlier;
+  position = c.requires.reads.starts.position ∙ ap start (sym c.requires.reads.starts.game);
+  earlier = c.requires.reads.starts.earlier;
 }
 
-pub expand-requires-clause-stands : goal.expand-requires-clause-stands
-expand-requires-clause-stands c = λ p at. record {
-  game = c.go_down-k.ensures.game ∙ c.requires.starts.game;
-  position = one_at c.args.table.now.positions.items c.go_down-k.result
-      c.go_down-k.new.board.stand.position p c.go_down-k.ensures.stands at;
+pub expand-requires-clause-reads : goal.expand-requires-clause-reads
+expand-requires-clause-reads c = λ p at. record {
+  asked = c.requires.reads.asked;
+  position = c.requires.goes.search.tree.shape.fits c.go_down-k.result p at;
+  stands = record {
+    game = c.go_down-k.ensures.game ∙ c.requires.reads.starts.game;
+    position = one_at c.args.table.now.positions.items c.go_down-k.result
+        c.go_down-k.new.board.stand.position p c.go_down-k.ensures.stands at;
+  };
+  fits = c.requires.reads.fits;
 }
 
 pub returns-clause-starts : goal.returns-clause-starts
 returns-clause-starts c =
-    let kept = c.in_ok-expand.ensures.kept in
-    back-at-start c.args.g.now c.args.board.now c.go_down-k.new.board c.go_up.new.board
-    c.requires.starts c.go_down-k.ensures.game c.go_down-k.ensures.first
+    let kept = c.in_ok-expand.ensures.kept.same in
+    back-at-start c.args.asked.game.now c.args.board.now c.go_down-k.new.board c.go_up.new.board
+    c.requires.reads.starts c.go_down-k.ensures.game c.go_down-k.ensures.first
     (c.go_up.ensures.game ∙ ap (λ (b : View). b.game) kept)
     (c.go_up.ensures.stand ∙ ap first_stand kept) c.go_up.ensures.earlier
 
 pub bounds-positions-k : goal.bounds-positions-k
 bounds-positions-k c =
-    let inside = next-in c.args.g.now c.args.question (keys_of c.args.work.now.entries)
-    c.args.table.now c.go_down-k.result c.requires.search c.go_down-k.ensures.next in
+    let inside =
+    next-in c.args.asked.game.now c.args.asked.question (keys_of c.args.work.now.entries)
+    c.args.table.now c.go_down-k.result c.requires.goes.search c.go_down-k.ensures.next in
     subst (λ (ps : List Position). c.go_down-k.result < length ps)
     (sym c.as_slice-positions.ensures.value) inside
 
@@ -72,11 +78,11 @@ unlisted g t list s k p can c =
 
 pub keep-requires : goal.keep-requires
 keep-requires c = record {
-  fresh = unlisted c.args.g.now c.args.question (keys_of c.args.work.now.entries) c.args.table.now
-      c.go_down-k.result c.index-positions-k.result
-      (chosen c.args.g.now c.args.question
+  fresh = unlisted c.args.asked.game.now c.args.asked.question (keys_of c.args.work.now.entries)
+      c.args.table.now c.go_down-k.result c.index-positions-k.result
+      (chosen c.args.asked.game.now c.args.asked.question
       (keys_of c.args.work.now.entries) c.as_slice-positions.result.now c.args.table.now
-      c.go_down-k.result c.index-positions-k.result c.requires.search c.go_down-k.ensures.next
+      c.go_down-k.result c.index-positions-k.result c.requires.goes.search c.go_down-k.ensures.next
       c.as_slice-positions.ensures.value c.index-positions-k.is);
 }
 
@@ -84,91 +90,107 @@ pub expand-requires-clause-grows : goal.expand-requires-clause-grows
 expand-requires-clause-grows c = (
   (keys_of c.args.work.now.entries),
   c.index-positions-k.result,
-  chosen c.args.g.now c.args.question
+  chosen c.args.asked.game.now c.args.asked.question
       (keys_of c.args.work.now.entries) c.as_slice-positions.result.now c.args.table.now
-      c.go_down-k.result c.index-positions-k.result c.requires.search c.go_down-k.ensures.next
+      c.go_down-k.result c.index-positions-k.result c.requires.goes.search c.go_down-k.ensures.next
       c.as_slice-positions.ensures.value c.index-positions-k.is,
-  c.requires.few,
+  c.requires.goes.few,
 )
 
 pub returns-in_err-expand-clause-rules : goal.returns-in_err-expand-clause-rules
-returns-in_err-expand-clause-rules c = subst
-    (λ (w : List Position). IsTable c.args.g.now c.args.question w) (sym c.in_ok-keep.ensures.kept)
-    (chosen c.args.g.now c.args.question
+returns-in_err-expand-clause-rules c =
+    subst (λ (w : List Position). IsTable c.args.asked.game.now c.args.asked.question w)
+    (sym c.in_ok-keep.ensures.kept)
+    (chosen c.args.asked.game.now c.args.asked.question
     (keys_of c.args.work.now.entries) c.as_slice-positions.result.now c.args.table.now
-    c.go_down-k.result c.index-positions-k.result c.requires.search c.go_down-k.ensures.next
+    c.go_down-k.result c.index-positions-k.result c.requires.goes.search c.go_down-k.ensures.next
     c.as_slice-positions.ensures.value c.index-positions-k.is).rules
 
-pub settle_table-requires-clause-some : goal.settle_table-requires-clause-some
-settle_table-requires-clause-some c = (
-  (keys_of c.args.work.now.entries) ++ c.index-positions-k.result ∷ [],
-  (c.in_ok-expand.ensures.grows (keys_of c.args.work.now.entries) c.index-positions-k.result
-      (chosen c.args.g.now c.args.question
+pub settle_from-requires-clause-some : goal.settle_from-requires-clause-some
+settle_from-requires-clause-some c = (
+  c.args.asked.game.now,
+  c.args.asked.question,
+  keys_of c.args.work.now.entries ++ c.index-positions-k.result ∷ [],
+  c.in_ok-expand.ensures.grows (keys_of c.args.work.now.entries) c.index-positions-k.result
+      (chosen c.args.asked.game.now c.args.asked.question
       (keys_of c.args.work.now.entries) c.as_slice-positions.result.now c.args.table.now
-      c.go_down-k.result c.index-positions-k.result c.requires.search c.go_down-k.ensures.next
-      c.as_slice-positions.ensures.value c.index-positions-k.is)),
+      c.go_down-k.result c.index-positions-k.result c.requires.goes.search c.go_down-k.ensures.next
+      c.as_slice-positions.ensures.value c.index-positions-k.is),
 )
 
-pub settle_table-requires-clause-few : goal.settle_table-requires-clause-few
-settle_table-requires-clause-few c = few-from c.args.g.now c.args.question (c.go_down-k.result ∷ [])
+pub settle_from-requires-clause-few : goal.settle_from-requires-clause-few
+settle_from-requires-clause-few c =
+    few-from c.args.asked.game.now c.args.asked.question (c.go_down-k.result ∷ [])
     (keys_of c.args.work.now.entries) c.index-positions-k.result c.expand.new.table
     (c.in_ok-expand.ensures.grows (keys_of c.args.work.now.entries) c.index-positions-k.result
-    (chosen c.args.g.now c.args.question
+    (chosen c.args.asked.game.now c.args.asked.question
     (keys_of c.args.work.now.entries) c.as_slice-positions.result.now c.args.table.now
-    c.go_down-k.result c.index-positions-k.result c.requires.search c.go_down-k.ensures.next
-    c.as_slice-positions.ensures.value c.index-positions-k.is)) c.requires.few
+    c.go_down-k.result c.index-positions-k.result c.requires.goes.search c.go_down-k.ensures.next
+    c.as_slice-positions.ensures.value c.index-positions-k.is)) c.requires.goes.few
 
-pub returns-in_err-settle_table-clause-rules : goal.returns-in_err-settle_table-clause-rules
-returns-in_err-settle_table-clause-rules c = subst
-    (λ (w : List Position). IsTable c.args.g.now c.args.question w) (sym c.in_ok-keep.ensures.kept)
-    (chosen c.args.g.now c.args.question
+pub returns-in_err-settle_from-clause-rules : goal.returns-in_err-settle_from-clause-rules
+returns-in_err-settle_from-clause-rules c =
+    subst (λ (w : List Position). IsTable c.args.asked.game.now c.args.asked.question w)
+    (sym c.in_ok-keep.ensures.kept)
+    (chosen c.args.asked.game.now c.args.asked.question
     (keys_of c.args.work.now.entries) c.as_slice-positions.result.now c.args.table.now
-    c.go_down-k.result c.index-positions-k.result c.requires.search c.go_down-k.ensures.next
+    c.go_down-k.result c.index-positions-k.result c.requires.goes.search c.go_down-k.ensures.next
     c.as_slice-positions.ensures.value c.index-positions-k.is).rules
 
 pub returns-in_err-order-clause-rules : goal.returns-in_err-order-clause-rules
-returns-in_err-order-clause-rules c = subst
-    (λ (w : List Position). IsTable c.args.g.now c.args.question w) (sym c.in_ok-keep.ensures.kept)
-    (chosen c.args.g.now c.args.question
+returns-in_err-order-clause-rules c =
+    subst (λ (w : List Position). IsTable c.args.asked.game.now c.args.asked.question w)
+    (sym c.in_ok-keep.ensures.kept)
+    (chosen c.args.asked.game.now c.args.asked.question
     (keys_of c.args.work.now.entries) c.as_slice-positions.result.now c.args.table.now
-    c.go_down-k.result c.index-positions-k.result c.requires.search c.go_down-k.ensures.next
+    c.go_down-k.result c.index-positions-k.result c.requires.goes.search c.go_down-k.ensures.next
     c.as_slice-positions.ensures.value c.index-positions-k.is).rules
 
 pub update-requires : goal.update-requires
-update-requires c = few-from c.args.g.now c.args.question []
-    (keys_of c.args.work.now.entries) c.index-positions-k.result c.settle_table.new.table
-    (c.in_ok-settle_table.ensures
+update-requires c = few-from c.args.asked.game.now c.args.asked.question []
+    (keys_of c.args.work.now.entries) c.index-positions-k.result c.settle_from.new.table
+    (c.in_ok-settle_from.ensures c.args.asked.game.now c.args.asked.question
     ((keys_of c.args.work.now.entries) ++ c.index-positions-k.result ∷ [])
     (c.in_ok-expand.ensures.grows (keys_of c.args.work.now.entries) c.index-positions-k.result
-    (chosen c.args.g.now c.args.question
+    (chosen c.args.asked.game.now c.args.asked.question
     (keys_of c.args.work.now.entries) c.as_slice-positions.result.now c.args.table.now
-    c.go_down-k.result c.index-positions-k.result c.requires.search c.go_down-k.ensures.next
-    c.as_slice-positions.ensures.value c.index-positions-k.is))) c.requires.few
+    c.go_down-k.result c.index-positions-k.result c.requires.goes.search c.go_down-k.ensures.next
+    c.as_slice-positions.ensures.value c.index-positions-k.is))) c.requires.goes.few
 
 pub returns-in_err-update-clause-rules : goal.returns-in_err-update-clause-rules
-returns-in_err-update-clause-rules c = subst
-    (λ (w : List Position). IsTable c.args.g.now c.args.question w) (sym c.in_ok-keep.ensures.kept)
-    (chosen c.args.g.now c.args.question
+returns-in_err-update-clause-rules c =
+    subst (λ (w : List Position). IsTable c.args.asked.game.now c.args.asked.question w)
+    (sym c.in_ok-keep.ensures.kept)
+    (chosen c.args.asked.game.now c.args.asked.question
     (keys_of c.args.work.now.entries) c.as_slice-positions.result.now c.args.table.now
-    c.go_down-k.result c.index-positions-k.result c.requires.search c.go_down-k.ensures.next
+    c.go_down-k.result c.index-positions-k.result c.requires.goes.search c.go_down-k.ensures.next
     c.as_slice-positions.ensures.value c.index-positions-k.is).rules
 
 pub returns-clause-rules : goal.returns-clause-rules
-returns-clause-rules c = subst (λ (w : List Position). IsTable c.args.g.now c.args.question w)
+returns-clause-rules c =
+    subst (λ (w : List Position). IsTable c.args.asked.game.now c.args.asked.question w)
     (sym c.in_ok-keep.ensures.kept)
-    (chosen c.args.g.now c.args.question
+    (chosen c.args.asked.game.now c.args.asked.question
     (keys_of c.args.work.now.entries) c.as_slice-positions.result.now c.args.table.now
-    c.go_down-k.result c.index-positions-k.result c.requires.search c.go_down-k.ensures.next
+    c.go_down-k.result c.index-positions-k.result c.requires.goes.search c.go_down-k.ensures.next
     c.as_slice-positions.ensures.value c.index-positions-k.is).rules
 
-pub returns-clause-search : goal.returns-clause-search
-returns-clause-search c = subst
-    (λ (w : List Position). IsSearch c.args.g.now c.args.question [] w c.settle_table.new.table)
-    (sym c.in_ok-keep.ensures.kept)
-    (c.in_ok-settle_table.ensures
-    ((keys_of c.args.work.now.entries) ++ c.index-positions-k.result ∷ [])
-    (c.in_ok-expand.ensures.grows (keys_of c.args.work.now.entries) c.index-positions-k.result
-    (chosen c.args.g.now c.args.question
-    (keys_of c.args.work.now.entries) c.as_slice-positions.result.now c.args.table.now
-    c.go_down-k.result c.index-positions-k.result c.requires.search c.go_down-k.ensures.next
-    c.as_slice-positions.ensures.value c.index-positions-k.is)))
+pub returns-clause-goes : goal.returns-clause-goes
+returns-clause-goes c = record {
+  search = subst
+      (λ (w : List Position). IsSearch c.args.asked.game.now c.args.asked.question [] w
+      c.settle_from.new.table) (sym c.in_ok-keep.ensures.kept)
+      (c.in_ok-settle_from.ensures c.args.asked.game.now c.args.asked.question
+      (keys_of c.args.work.now.entries ++ c.index-positions-k.result ∷ [])
+      (c.in_ok-expand.ensures.grows (keys_of c.args.work.now.entries) c.index-positions-k.result
+      (chosen c.args.asked.game.now c.args.asked.question
+      (keys_of c.args.work.now.entries) c.as_slice-positions.result.now c.args.table.now
+      c.go_down-k.result c.index-positions-k.result c.requires.goes.search c.go_down-k.ensures.next
+      c.as_slice-positions.ensures.value c.index-positions-k.is)));
+  count = ap length c.in_ok-keep.ensures.kept
+      ∙ omega (
+        arith,
+        length-append (keys_of c.args.work.now.entries)
+            (c.index-positions-k.result ∷ []),
+      );
+}
