@@ -1,7 +1,8 @@
 -- What is read off the items of a scene.
-use Rattle.std.proofs.Common.{◌≡◌, ℕ, suc, ◌<◌, Bool, true, false, ◌&&◌, List, [], ◌∷◌, ◌++◌, map, Option, Some, None, refl, ap, ap₂, ◌∙◌, inl, inr, arith}
+use Rattle.std.proofs.Common.{◌≡◌, ℕ, suc, ◌<◌, ◌≤◌, Bool, true, false, ◌&&◌, List, [], ◌∷◌, ◌++◌, length, map, take, Option, Some, None, refl, sym, ap, ap₂, ◌∙◌, subst, inl, inr, arith}
 use Rattle.std.specs.Prelude.{nat_lt}
 use Rattle.pg_scene.proofs.Common.{FinSet, decimal, All, flat_map, range_with_len, nat_cmp, cases_Bool, nat_tests, append-nil, flat_map-append, flat_map-cons, points_below, Pair, Side, position_of, Claim, Body, Node, Reply, is_graph, free_points, lines_of, point_count, start, Game, Position}
+use Rattle.std.proofs.lemmas.List.{take_all}
 use Rattle.std.proofs.lemmas.List.Folds.{flat_map-map}
 use Rattle.pg_cert.specs.declared.node.Body.TheVariants as bodies
 use Rattle.pg_scene.specs.Items.{are_drawn, body_items, fault_items, line_items, mark_of, member_items, numbered, pair_item, point_items, reply_item, seen_if, set_items, step_item, units, weight_items}
@@ -134,7 +135,7 @@ no-points g p side (bodies.All replies) = none-each point_in (reply_item (point_
     (items.Reply a.point a.child) refl) replies
 no-points g p side (bodies.Pairs pairs) = none-numbered point_in (pair_item (point_count g))
     (λ k (q : Pair). none-seen point_in (nat_lt q.a (point_count g) && nat_lt q.b (point_count g))
-    (items.Pair q.a q.b k) refl) 0 pairs
+    (items.Pair q.a q.b k) refl) 0 (take (point_count g) pairs)
 no-points g p side bodies.Potential = no-points-weights g p side
 no-points g p side (bodies.Trees with_e first second) = no-points-sets g with_e first second
 no-points g p side (bodies.Cuts with_e first second) = no-points-sets g with_e first second
@@ -192,15 +193,30 @@ pairs-read n k (q ∷ pairs) h =
     ∙ ap₂ (λ a b. a ++ b) (pair-read n k q first.0 first.1)
     (pairs-read n (suc k) pairs (λ i d lt. h (suc i) d (omega arith)))
 
-pub pairs-node : (g : Game) (claim : Claim) (k : ℕ) (node : Node) (fault : Option ℕ) (scene : Scene)
+-- of any list the first pairs are drawn, as many as there are points
+pub pairs-first : (g : Game) (claim : Claim) (k : ℕ) (node : Node) (fault : Option ℕ)
+    (scene : Scene)
     → IsSceneOf g claim k node fault scene
     → (pairs : List Pair) → node.body ≡ bodies.Pairs pairs
-    → All (λ q. (q.a < point_count g) × (q.b < point_count g)) pairs
-    → flat_map pair_in scene.items ≡ pairs
-pairs-node g claim k node fault scene is pairs body within =
+    → All (λ q. (q.a < point_count g) × (q.b < point_count g)) (take (point_count g) pairs)
+    → flat_map pair_in scene.items ≡ take (point_count g) pairs
+pairs-first g claim k node fault scene is pairs body within =
     body-read pair_in (λ v mark. refl) (λ vs. refl) refl g claim k node fault scene is
     ∙ ap (λ (b : Body). flat_map pair_in (body_items g (position_of node) claim.side b)) body
-    ∙ pairs-read (point_count g) 0 pairs within
+    ∙ pairs-read (point_count g) 0 (take (point_count g) pairs) within
+
+-- no more pairs than points are drawn all
+pub pairs-all : (g : Game) (claim : Claim) (k : ℕ) (node : Node) (fault : Option ℕ) (scene : Scene)
+    → IsSceneOf g claim k node fault scene
+    → (pairs : List Pair) → node.body ≡ bodies.Pairs pairs
+    → length pairs ≤ point_count g
+    → All (λ q. (q.a < point_count g) × (q.b < point_count g)) pairs
+    → flat_map pair_in scene.items ≡ pairs
+pairs-all g claim k node fault scene is pairs body few within =
+    let whole : take (point_count g) pairs ≡ pairs = take_all (point_count g) pairs few in
+    pairs-first g claim k node fault scene is pairs body
+    (subst (All (λ (q : Pair). (q.a < point_count g) × (q.b < point_count g))) (sym whole) within)
+    ∙ whole
 
 -- ---- replies
 

@@ -1,5 +1,5 @@
 -- Each item of a scene can stand on its board.
-use Rattle.std.proofs.Common.{◌≡◌, ℕ, zero, suc, ◌+◌, ◌*◌, ◌<◌, ◌≤◌, Bool, true, false, ◌&&◌, List, [], ◌∷◌, ◌++◌, length, get_or, Option, Some, None, refl, sym, ap, ◌∙◌, inl, inr, subst, true≢false, arith}
+use Rattle.std.proofs.Common.{◌≡◌, ℕ, zero, suc, ◌+◌, ◌*◌, ◌<◌, ◌≤◌, Bool, true, false, ◌&&◌, List, [], ◌∷◌, ◌++◌, length, take, get_or, Option, Some, None, refl, sym, ap, ◌∙◌, inl, inr, subst, true≢false, arith}
 use Rattle.std.specs.Prelude.{nat_lt, ◌==◌}
 use Rattle.pg_scene.proofs.Common.{FinSet, decimal, All, AllByRecursion, flat_map, range_with_len, nat_cmp, and_parts, cases_Bool, nat_tests, length-append, flat_map-cons, All-append, All-map, All-nil, Contains-get_or, points_below, Kind, Pair, Side, position_of, Claim, Node, Body, Reply, field_points, AreLinesOf, FieldFits, IsFit, IsLineOf, is_graph, longest, free_points, lines_of, point_count, start, Field, Lines, Game, Position, line-fit}
 use Rattle.std.proofs.lemmas.List.FromFn.{get_or-range_with_len, length-range_with_len}
@@ -140,7 +140,7 @@ on-body board g p side (bodies.Pairs pairs) le two =
     let both = and_parts _ _ h in
     let first = below-of q.a (point_count g) both.0 in
     let second = below-of q.b (point_count g) both.1 in
-    (omega (arith, first, le), omega (arith, second, le)))) 0 pairs
+    (omega (arith, first, le), omega (arith, second, le)))) 0 (take (point_count g) pairs)
 on-body board g p side bodies.Potential le two = on-weights board g p side le
 on-body board g p side (bodies.Trees with_e first second) le two =
     on-sets board g with_e first second le two

@@ -1,5 +1,5 @@
 -- What is to be seen on a board, of a position, of lines, and of the bodies of nodes.
-use Rattle.std.specs.Prelude.{ℕ, suc, ◌+◌, ◌-◌, ◌^◌, max, nat_lt, nat_le, Bool, true, false, ◌&&◌, List, [], ◌∷◌, ◌++◌, length, map, Option, Some, None, if◌then◌else◌}
+use Rattle.std.specs.Prelude.{ℕ, suc, ◌+◌, ◌-◌, ◌^◌, max, nat_lt, nat_le, Bool, true, false, ◌&&◌, List, [], ◌∷◌, ◌++◌, length, map, take, Option, Some, None, if◌then◌else◌}
 use Rattle.pg_scene.specs.Prelude.{FinSet, contains, decimal, count_by, flat_map, range_with_len, sum_by, nat_cmp, points_below, Kind, AvoiderEnforcer, Pair, Side, Body, Reply, is_graph, free_points, is_touched, lines_of, point_count, is_free, points_of, greatest_length, is_on, line_weight, Game, Position}
 use Rattle.pg_base.specs.declared.side.Side.TheVariants.{X, Y}
 use Rattle.pg_cert.specs.declared.node.Body.TheVariants as bodies
@@ -89,6 +89,10 @@ reply_item n reply = seen_if (nat_lt reply.point n) (items.Reply reply.point rep
 abbrev pub pair_item : ℕ → ℕ → Pair → List Item
 pair_item n k pair = seen_if (nat_lt pair.a n && nat_lt pair.b n) (items.Pair pair.a pair.b k)
 
+-- the first pairs, as many as the game has points: no pairing has more
+abbrev pub pair_items : ℕ → List Pair → List Item
+pair_items n pairs = numbered (pair_item n) 0 (take n pairs)
+
 -- a point of a threat line
 abbrev pub step_item : ℕ → ℕ → ℕ → List Item
 step_item n k v = seen_if (nat_lt v n) (items.Step v k)
@@ -107,7 +111,7 @@ abbrev pub body_items : Game → Position → Side → Body → List Item
 body_items g p side bodies.Over = []
 body_items g p side (bodies.Move v child) = seen_if (nat_lt v (point_count g)) (items.Move v child)
 body_items g p side (bodies.All replies) = flat_map (reply_item (point_count g)) replies
-body_items g p side (bodies.Pairs pairs) = numbered (pair_item (point_count g)) 0 pairs
+body_items g p side (bodies.Pairs pairs) = pair_items (point_count g) pairs
 body_items g p side bodies.Potential = weight_items g p side
 body_items g p side (bodies.Trees with_e first second) = set_items g with_e first second
 body_items g p side (bodies.Cuts with_e first second) = set_items g with_e first second

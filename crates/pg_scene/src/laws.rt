@@ -1,5 +1,5 @@
 //! Laws of scenes. Each function is empty: what it promises is a law of the definitions alone.
-ghost use Rattle.std.specs.Prelude.{◌≡◌, ◌<◌, ℕ, Bool, List, Option, map};
+ghost use Rattle.std.specs.Prelude.{◌≡◌, ◌<◌, ◌≤◌, ℕ, Bool, List, Option, length, map, take};
 ghost use Rattle.pg_scene.specs.Prelude.{FinSet, All, flat_map, range_with_len, nat_cmp, points_below, Pair, position_of, Claim, Node, Reply, point_count, start, Game, SpanClaim, SpanGame};
 ghost use Rattle.pg_cert.specs.declared.node.Body.TheVariants as bodies;
 ghost use Rattle.pg_scene.specs.Items.{mark_of};
@@ -29,12 +29,19 @@ pub fn points_are_drawn_once()
         ≡ map (λ v. (v, mark_of (position_of node) v)) (range_with_len 0 (point_count g)) }
 {}
 
-/// The pairs drawn are those of the node, each exactly once and in its order, where they are of
-/// points of the game.
+/// The pairs drawn are the first of the node's, as many as the game has points, each exactly once
+/// and in its order, where they are of points of the game. These are all pairs of the node where it
+/// has no more, as that of a valid certificate has.
 pub fn pairs_are_drawn_once()
-    ensures { (g : Game) → (claim : Claim) → (k : ℕ) → (node : Node) → (fault : Option ℕ)
+    ensures first { (g : Game) → (claim : Claim) → (k : ℕ) → (node : Node) → (fault : Option ℕ)
         → (scene : Scene) → IsSceneOf g claim k node fault scene
         → (pairs : List Pair) → node.body ≡ bodies.Pairs pairs
+        → All (λ q. (q.a < point_count g) × (q.b < point_count g)) (take (point_count g) pairs)
+        → flat_map pair_in scene.items ≡ take (point_count g) pairs }
+    ensures all { (g : Game) → (claim : Claim) → (k : ℕ) → (node : Node) → (fault : Option ℕ)
+        → (scene : Scene) → IsSceneOf g claim k node fault scene
+        → (pairs : List Pair) → node.body ≡ bodies.Pairs pairs
+        → length pairs ≤ point_count g
         → All (λ q. (q.a < point_count g) × (q.b < point_count g)) pairs
         → flat_map pair_in scene.items ≡ pairs }
 {}

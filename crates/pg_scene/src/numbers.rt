@@ -1,6 +1,6 @@
 //! Lists whose members are numbered.
 ghost use Rattle.std.specs.Prelude.{◌≡◌, ◌<◌, ◌+◌, ◌++◌, ◌&&◌, OnOk};
-ghost use Rattle.pg_scene.specs.Items.{numbered, pair_item, step_item};
+ghost use Rattle.pg_scene.specs.Items.{numbered, pair_item, pair_items, step_item};
 
 use crate::item::Item;
 use pg_base::{Memory, Pair};
@@ -21,12 +21,12 @@ fn put_pair(items: &mut Vec<Item>, n: u16, number: usize, pair: Pair) -> Result<
     Ok(())
 }
 
-/// Puts the pairs whose points are below n.
+/// Puts the pairs among the first n whose points are below n.
 pub(crate) fn put_pairs(items: &mut Vec<Item>, n: u16, pairs: &[Pair]) -> Result<(), Memory>
-    ensures { OnOk result
-        (items.new.items ≡ items.old.items ++ numbered (pair_item n) 0 pairs.now) }
+    ensures { OnOk result (items.new.items ≡ items.old.items ++ pair_items n pairs.now) }
 {
-    for i in 0..pairs.len() {
+    let count = (n as usize).min(pairs.len());
+    for i in 0..count {
         put_pair(items, n, i, pairs[i])?;
     }
     Ok(())
