@@ -65,7 +65,7 @@ module _ (g : Game) (c : ImageClaim) (sound : IsSoundClaim g c) where
 
   module _ (limits : IsImageClaim c) (copies : List Copy) (are : AreCopies c.nodes copies)
       (few : length copies ≤ 100000) where
-    copy-limits : (d : Copy) (image : Node)
+    pub copy-limits : (d : Copy) (image : Node)
         → Contains copies d
         → IsCopied (board_of g.field) c.nodes copies d image
         → IsNode image

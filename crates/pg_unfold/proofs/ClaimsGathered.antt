@@ -1,5 +1,5 @@
 -- Claims that are unfolded one after the other.
-use Rattle.std.proofs.Common.{◌≡◌, ℕ, ◌+◌, ◌≤◌, true, List, [], ◌∷◌, ◌++◌, map, length, sum, Some, slice_get, take, suc, refl, sym, ap, ◌∙◌, subst, inl, inr, arith}
+use Rattle.std.proofs.Common.{◌≡◌, ℕ, ◌+◌, ◌≤◌, true, List, [], ◌∷◌, ◌++◌, map, length, sum, Some, slice_get, take, suc, refl, sym, ap, ◌∙◌, subst, arith}
 use Rattle.pg_unfold.proofs.Common.{map_push, All-push, All-nil, sum_by_push, IsClaim, IsOfVersion, IsWithinLimits, has_body, node_count, Cert, Claim, Two, Body, Game, IsImageWithinLimits, ImageCert, ImageClaim, board_of, sum-through}
 use Rattle.std.specs.List.{All as Each}
 use Rattle.pg_cert.specs.declared.cert.Version.{Version}
@@ -9,10 +9,10 @@ use Rattle.pg_unfold.specs.Unfolded.{IsCopied, IsUnfolded, AreUnfolded}
 use Rattle.pg_unfold.specs.declared.unfolding.Gathered.{Gathered}
 use Rattle.pg_unfold.proofs.ClaimSteps.{zip-length}
 use Rattle.pg_unfold.proofs.CopySteps.{push-zip}
-use Rattle.pg_unfold.proofs.Rooms.{counted-room}
+use Rattle.pg_unfold.proofs.Rooms.{counted-large, counted-room}
 
-unfolded-push : (g : Game) (cs : List ImageClaim) (claims : List Claim) (sources : List (List ℕ))
-    (c : ImageClaim) (claim : Claim) (origins : List ℕ)
+pub unfolded-push : (g : Game) (cs : List ImageClaim) (claims : List Claim)
+    (sources : List (List ℕ)) (c : ImageClaim) (claim : Claim) (origins : List ℕ)
     → AreUnfolded g cs claims sources
     → IsUnfolded g c claim origins
     → AreUnfolded g (cs ++ c ∷ []) (claims ++ claim ∷ []) (sources ++ origins ∷ [])
@@ -26,7 +26,8 @@ unfolded-push g (b ∷ bs) (d ∷ ds) [] c claim origins h now = absurd h
 unfolded-push g (b ∷ bs) (d ∷ ds) (o ∷ os) c claim origins h now =
     (h.0, unfolded-push g bs ds os c claim origins h.1 now)
 
-unfolded-length : (g : Game) (cs : List ImageClaim) (claims : List Claim) (sources : List (List ℕ))
+pub unfolded-length : (g : Game) (cs : List ImageClaim) (claims : List Claim)
+    (sources : List (List ℕ))
     → AreUnfolded g cs claims sources
     → length claims ≡ length cs
 unfolded-length g [] [] [] h = refl
@@ -105,25 +106,7 @@ module _ (g : Game) where
       → node + 1 ≡ length c.nodes
       → IsTooMuch c gathered.room
       → IsFirstTooLarge claims i node
-  too_large claims i node c gathered h at last much = record {
-    before = record {
-      sizes = h.counted.sizes;
-      are = h.counted.are;
-      few = record {
-        each = h.counted.each;
-        together = let all = h.counted.together in omega (arith, all);
-      };
-    };
-    large = c;
-    claim_at = at;
-    last = last;
-    size = much.size;
-    is = much.is;
-    much = elim much.much [
-      | inl many ↦ inl many
-      | inr full ↦ inr (let all = h.counted.together in omega (arith, all, full))
-    ];
-  }
+  too_large claims i node c gathered h = counted-large claims i node c gathered.room h.counted
 
   of_second : (body : Body) → has_body Two body ≡ true
   of_second body = refl

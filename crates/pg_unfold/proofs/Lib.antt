@@ -17,3 +17,4 @@ pub mod Sizes
 pub mod FirstFaults
 pub mod OneUnfolding
 pub mod Rooms
+pub mod Layouts

@@ -123,6 +123,25 @@ module _ (nodes : List ImageNode) (marks : List Bool) where
         | inr off ↦ let e = ap length (below-left key off) in omega (arith, e, less)
       ]
 
+  pub below-more : (key n : ℕ)
+      → key ≤ n
+      → length (copies_below nodes marks key) ≤ length (copies_below nodes marks n)
+  below-more key zero le =
+      let same : key ≡ 0 = omega (arith, le) in
+      subst (λ (k : ℕ). length (copies_below nodes marks k) ≤ 0) (sym same) (omega arith)
+  below-more key (suc n) le = elim (cases_lt n key) [
+    | inl over ↦
+        let same : key ≡ suc n = omega (arith, le, over) in
+        subst (λ (k : ℕ).
+        length (copies_below nodes marks k) ≤ length (copies_below nodes marks (suc n))) (sym same)
+        (omega arith)
+    | inr low ↦
+        let before = below-more key n low in
+        let more = length-append (copies_below nodes marks n)
+        (cond (is_kept nodes marks n) (copy_at n ∷ []) []) in
+        omega (arith, before, more)
+  ]
+
   -- the copy with a place stands behind those with lower places
   pub copy-at : (n key : ℕ)
       → key < n

@@ -1,8 +1,8 @@
 -- Claims whose nodes are counted one after the other.
-use Rattle.std.proofs.Common.{◌≡◌, ℕ, ◌+◌, ◌≤◌, List, [], ◌∷◌, ◌++◌, Some, slice_get, take, inl, inr, arith}
+use Rattle.std.proofs.Common.{◌≡◌, ℕ, ◌+◌, ◌≤◌, List, [], ◌∷◌, ◌++◌, length, Some, slice_get, take, inl, inr, arith}
 use Rattle.pg_unfold.proofs.Common.{cases_lt, All-push, All-nil, sum_by_push, ImageClaim}
-use Rattle.pg_unfold.specs.Flaws.{HasSize, HaveRoom}
-use Rattle.pg_unfold.specs.Gathered.{AreCounted}
+use Rattle.pg_unfold.specs.Flaws.{HasSize, HaveRoom, IsFirstTooLarge}
+use Rattle.pg_unfold.specs.Gathered.{AreCounted, IsTooMuch}
 use Rattle.pg_unfold.proofs.CopySteps.{push-zip}
 use Rattle.pg_unfold.proofs.Sizes.{too_large}
 
@@ -53,3 +53,26 @@ counted-full claims i c size room h at is full =
         | inr low ↦ absurd (full (le, low))
       ]
     ])
+
+pub counted-large : (claims : List ImageClaim) (i node : ℕ) (c : ImageClaim) (room : ℕ)
+    → AreCounted (take i claims) room
+    → slice_get claims i ≡ Some c
+    → node + 1 ≡ length c.nodes
+    → IsTooMuch c room
+    → IsFirstTooLarge claims i node
+counted-large claims i node c room h at last much = record {
+  before = record {
+    sizes = h.sizes;
+    are = h.are;
+    few = record { each = h.each; together = let all = h.together in omega (arith, all) };
+  };
+  large = c;
+  claim_at = at;
+  last = last;
+  size = much.size;
+  is = much.is;
+  much = elim much.much [
+    | inl many ↦ inl many
+    | inr full ↦ inr (let all = h.together in omega (arith, all, full))
+  ];
+}

@@ -5,3 +5,4 @@ pub mod Flaws
 pub mod Unfolded
 pub mod Marks
 pub mod Gathered
+pub mod Layouts

@@ -1,14 +1,17 @@
 //! The nodes of an unfolded claim.
 ghost use Rattle.std.specs.Prelude.{◌≡◌, ◌<◌, ◌≤◌, ◌*◌, ◌/◌, IfOk, IfSome, IfNone, length, map, false, slice_get, Some};
-ghost use Rattle.pg_unfold.specs.Prelude.{All, AllZip, MAX_CLAIM_NODES, IsImageNode, Plain, IsMarked};
+ghost use Rattle.pg_unfold.specs.Prelude.{All, MAX_CLAIM_NODES, IsImageNode, Plain, IsMarked};
 ghost use Rattle.pg_unfold.specs.Marks.{AreBoardMaps, AreEarlier, AreMet, ArePlaces, copies_of, is_kept};
-ghost use Rattle.pg_unfold.specs.Unfolded.{IsCopied};
+ghost use Rattle.pg_unfold.specs.Flaws.{IsSoundClaim};
+ghost use Rattle.pg_unfold.specs.Layouts.{AreCopiedBelow, IsLaidOut, IsNextCopy, copy_count};
 
 use crate::bodies::image_node;
+use crate::layout::Layout;
 use crate::met::{COPIES, map_at};
 use pg_base::{Grid, Memory};
 use pg_cert::Node;
-use pg_image::ImageNode;
+use pg_game::Game;
+use pg_image::{ImageClaim, ImageNode};
 use std::alloc::Global;
 
 /// The plain node of the copy with that place, where it is one of a plain node and met.
@@ -28,29 +31,48 @@ pub(crate) fn kept_node<'a>(nodes: &'a [ImageNode], marks: &[bool], key: usize) 
     }
 }
 
-/// The nodes of the unfolded claim, one for each copy of a plain node that is met.
-pub(crate) fn copied_nodes(
+/// The node of the unfolded claim that the copy with that place gives, where it is one of a plain
+/// node and met.
+pub(crate) fn copied_node(
     alloc: Global,
     board: Option<Grid>,
     nodes: &[ImageNode],
     marks: &[bool],
     places: &[u32],
-) -> Result<Vec<Node>, Memory>
-    requires few { length nodes.now ≤ MAX_CLAIM_NODES }
+    key: usize,
+) -> Result<Option<Node>, Memory>
     requires limits { All IsImageNode nodes.now }
     requires earlier { AreEarlier nodes.now }
     requires met { AreMet nodes.now marks.now }
     requires places { ArePlaces nodes.now marks.now places.now }
     requires maps { AreBoardMaps board marks.now }
-    ensures { IfOk result
-        (λ copied. AllZip (IsCopied board nodes.now (copies_of nodes.now marks.now))
-        (copies_of nodes.now marks.now) copied.items) }
+    requires place { key < length marks.now }
+    ensures { IfOk result (IsNextCopy board nodes.now marks.now key) }
+{
+    let Some(node) = kept_node(nodes, marks, key) else {
+        return Ok(None);
+    };
+    let image = image_node(alloc, board, map_at(key), key / COPIES, places, node)?;
+    Ok(Some(image))
+}
+
+/// The nodes of the unfolded claim, one for each copy of a plain node that is met.
+pub(crate) fn copied_nodes(
+    alloc: Global,
+    g: &Game,
+    claim: &ImageClaim,
+    layout: &Layout,
+) -> Result<Vec<Node>, Memory>
+    requires laid { IsLaidOut claim.now layout.now }
+    requires sound { IsSoundClaim g.now claim.now }
+    ensures { IfOk result (λ copied. AreCopiedBelow g.now claim.now layout.now
+        (copy_count layout.now) copied.items) }
 {
     let mut copied = Vec::new(alloc);
-    for key in 0..marks.len() {
-        if let Some(node) = kept_node(nodes, marks, key) {
-            let image = image_node(alloc, board, map_at(key), key / COPIES, places, node)?;
-            copied.push(image)?;
+    for key in 0..layout.copies() {
+        let next = layout.copied(alloc, g, claim, key)?;
+        if let Some(node) = next {
+            copied.push(node)?;
         }
     }
     Ok(copied)

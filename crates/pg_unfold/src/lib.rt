@@ -6,6 +6,8 @@ mod bodies;
 mod copying;
 mod flaw;
 pub mod laws;
+mod laying;
+mod layout;
 mod met;
 mod places;
 mod room;
@@ -14,6 +16,8 @@ mod unfolded;
 mod unfolding;
 
 pub use flaw::Flaw;
+pub use laying::lay_out;
+pub use layout::Layout;
 pub use room::has_room;
 pub use unfolded::{ImageFault, Origins, Sources, Unfolded};
 pub use unfolding::unfold;

@@ -10,7 +10,7 @@ use std::alloc::Global;
 
 /// The places of all copies in the unfolded claim, and how many nodes that has.
 #[derive(Debug, Drop)]
-pub(crate) struct Places {
+pub struct Places {
     /// For each copy that is met the place at which it settles; for other copies any number.
     pub(crate) places: Vec<u32>,
     /// How many nodes the unfolded claim has.

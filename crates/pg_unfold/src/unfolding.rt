@@ -5,11 +5,8 @@ ghost use Rattle.pg_unfold.specs.Flaws.{AreSound, IsFaultless, IsFirstFault, IsS
 ghost use Rattle.pg_unfold.specs.Gathered.{TakesNext, TellsUnfolded, UnfoldsWithin};
 ghost use Rattle.pg_unfold.specs.Unfolded.{IsUnfoldedCert};
 
-use crate::board_map::board_of;
-use crate::copying::{copied_nodes, origins_of};
-use crate::met::met_copies;
-use crate::places::places_of;
-use crate::room::is_few;
+use crate::copying::copied_nodes;
+use crate::layout::lay_out_claim;
 use crate::soundness::try_nodes;
 use crate::unfolded::{ImageFault, Origins, Sources, Unfolded};
 use pg_base::Memory;
@@ -19,7 +16,7 @@ use pg_image::{ImageCert, ImageClaim};
 use std::alloc::Global;
 
 /// The number of the fault of a claim that is too large, I4.
-const TOO_LARGE: u8 = 4;
+pub(crate) const TOO_LARGE: u8 = 4;
 
 /// A claim unfolded, and from which node each of its nodes came.
 #[derive(Debug, Drop)]
@@ -50,18 +47,11 @@ fn unfold_claim(
     requires sound { IsSoundClaim g.now claim.now }
     ensures { IfOk result (UnfoldsWithin g.now claim.now room) }
 {
-    let nodes = claim.nodes.as_slice();
-    let table = met_copies(alloc, nodes)?;
-    let marks = table.as_slice();
-    let found = places_of(alloc, nodes, marks)?;
-    let fits = is_few(found.count, room);
-    if !fits {
+    let Some(layout) = lay_out_claim(alloc, claim, room)? else {
         return Ok(None);
-    }
-    let places = found.places.as_slice();
-    let board = board_of(g);
-    let copied = copied_nodes(alloc, board, nodes, marks, places)?;
-    let origins = origins_of(alloc, nodes, marks)?;
+    };
+    let copied = copied_nodes(alloc, g, claim, &layout)?;
+    let origins = layout.origins(alloc, claim)?;
     Ok(Some(UnfoldedClaim {
         claim: Claim {
             turn: claim.turn,
@@ -69,12 +59,12 @@ fn unfold_claim(
             goal: claim.goal,
             nodes: Nodes::from_vec(copied),
         },
-        origins: Origins::from_vec(origins),
+        origins,
     }))
 }
 
 /// The number of the claim's last node.
-fn last_of(claim: &ImageClaim) -> u32
+pub(crate) fn last_of(claim: &ImageClaim) -> u32
     requires { IsImageClaim claim.now }
     ensures { result + 1 ≡ length claim.now.nodes }
 {
