@@ -3,3 +3,4 @@ pub mod FirstLines
 pub mod Coming
 pub mod Tracing
 pub mod Judged
+pub mod Feeding

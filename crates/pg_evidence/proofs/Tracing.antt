@@ -1,12 +1,12 @@
 -- From which node each node of an unfolding came.
 use Rattle.std.proofs.Common.{◌≡◌, ℕ, ◌<◌, List, [], ◌∷◌, length, map, slice_get, get_or, Option, Some, None, option_map, Result, Err, refl, sym, ◌∙◌, ap, ap₂, subst, arith}
-use Rattle.pg_evidence.proofs.Common.{length-map, IsWithinLimits, IsFirstFault, IsValid, Cert, Claim, CheckFault, Game, ImageCert, ImageClaim, AreUnfolded, IsCopied, IsUnfolded, IsUnfoldedCert, Unfolded}
+use Rattle.pg_evidence.proofs.Common.{length-map, IsWithinLimits, IsFirstFault, Cert, Claim, CheckFault, Game, ImageCert, ImageClaim, AreUnfolded, IsCopied, IsUnfolded, IsUnfoldedCert, Unfolded}
 use Rattle.std.proofs.lemmas.Option.{slice_get-get_or, slice_get-map, slice_get_within}
 use Rattle.pg_check.specs.declared.checked.CheckFault.TheVariants.{Reject}
 use Rattle.pg_maps.specs.Images.{board_of}
 use Rattle.pg_unfold.specs.Copies.{Copy}
 use Rattle.pg_unfold.proofs.ClaimSteps.{zip-length}
-use Rattle.pg_evidence.specs.Standing.{CameFromIn, HasFault, HasFaultIn, HasSource, HaveSources, IsStanding, IsTraced, ShowsValid, StandsFor, Unfolds}
+use Rattle.pg_evidence.specs.Standing.{CameFromIn, HasFault, HasFaultIn, HasSource, HaveSources, IsStanding, IsTraced, StandsFor}
 use Rattle.pg_evidence.specs.declared.evidence.Evidence.{Evidence}
 use Rattle.pg_evidence.specs.declared.evidence.Evidence.TheVariants.{Plain, Folded}
 use Rattle.pg_evidence.specs.declared.standing.Standing.{Standing}
@@ -108,24 +108,6 @@ faulty_in {T} g s i place k w first came claim node why e =
       from = subst (λ (n : ℕ). CameFromIn s.sources claim place n) two
           (subst (λ (n : ℕ). CameFromIn s.sources n place k) one came);
     }
-
--- ---- what is found of a certificate with images
-
-module _ (g : Game) (c : ImageCert) (u : Unfolded) (s : Standing) (same : s ≡ unfolding_of u)
-    (unfolds : Unfolds g c u) where
-  pub traced_so : IsTraced s
-  traced_so = subst IsTraced (sym same) (traced g c u unfolds.unfolded unfolds.limits)
-
-  pub shows_valid : IsValid g s.cert → ShowsValid g (Folded c)
-  shows_valid valid =
-      (u.cert, (u, unfolds, refl), subst (λ (s : Standing). IsValid g s.cert) same valid)
-
-  pub shows_fault : (claim node why : ℕ)
-      → HasFaultIn g s claim node why
-      → HasFault g (Folded c) claim node why
-  shows_fault claim node why fault =
-      let f = subst (λ (s : Standing). HasFaultIn g s claim node why) same fault in
-      (u, unfolds, f.place, f.first, f.from)
 
 -- ---- what was made of either form
 

@@ -4,3 +4,4 @@ pub mod Standing
 pub mod Verdicts
 pub mod Incoming
 pub mod Arriving
+pub mod Feeding

@@ -1,8 +1,12 @@
 -- What the definitions of this crate name of std and of the crates below.
-pub use Rattle.pg_cert.specs.Limits.{IsWithinLimits}
+pub use Rattle.pg_cert.specs.Limits.{IsClaim, IsNode, IsWithinLimits, node_count}
+pub use Rattle.pg_cert.specs.Parts.{BeginCert, all_parts}
 pub use Rattle.pg_cert.specs.Valid.{IsFirstFault, IsValid}
 pub use Rattle.pg_cert.specs.declared.cert.Cert.{Cert}
 pub use Rattle.pg_cert.specs.declared.cert.Claim.{Claim}
+pub use Rattle.pg_cert.specs.declared.limits.TheConstants.{MAX_CLAIMS, MAX_NODES}
+pub use Rattle.pg_cert.specs.declared.node.Node.{Node}
+pub use Rattle.pg_cert.specs.declared.part.Part.{Part}
 unfoldable pub use Rattle.pg_cert_files.specs.CertFile.{certificate}
 pub use Rattle.pg_cert_files.specs.Gatherer.{HasGathered}
 pub use Rattle.pg_cert_files.specs.Views.{IsReadAs, number_of}

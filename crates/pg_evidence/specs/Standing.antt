@@ -32,6 +32,10 @@ pub record CameFrom (sources : List (List ℕ)) (claim place node : ℕ) : Type 
   pub at_claim : slice_get sources claim ≡ Some origins
   pub at_place : slice_get origins place ≡ Some node
 
+-- it is known from which node the one at this place of an unfolded claim came
+abbrev pub HasOrigin : List (List ℕ) → ℕ → ℕ → Type 0
+HasOrigin sources claim place = (node : ℕ) × CameFrom sources claim place node
+
 -- the first fault of the certificate for which it stands, said of the node from which the faulty
 -- one came
 abbrev pub HasFault : Game → Evidence → ℕ → ℕ → ℕ → Type 0

@@ -7,20 +7,20 @@ ghost use Rattle.pg_evidence.specs.Incoming.{HasTaken, game_of};
 ghost use Rattle.pg_evidence.specs.declared.evidence.Evidence.TheVariants.{Folded};
 ghost use Rattle.pg_evidence.specs.Verdicts.{IsFound, IsJudgedAs, JudgesEvidence};
 
+use crate::folded::check_folded;
 use crate::heads::image_heads;
 use crate::incoming::{Incoming, with_images};
-use crate::standing::{Standing, check_standing};
 use crate::verdict::Verdict;
 use pg_base::Memory;
 use pg_cert_files::{CertFault, MAX_CERT_BYTES};
-use pg_check::CheckFault;
+use pg_check::Rejected;
 use pg_game::Game;
 use pg_image::{ImageCert, read_image};
 use pg_io::{Files, Stop, pour};
 use pg_judge::{JudgeFault, Judging};
 use pg_messages::Refusal;
 use pg_talk::Halt;
-use pg_unfold::{ImageFault, unfold};
+use pg_unfold::{ImageFault, lay_out};
 use std::alloc::Global;
 
 /// What judging a certificate with images for a game finds.
@@ -28,18 +28,17 @@ fn judge_folded(alloc: Global, game: &Game, certificate: &ImageCert) -> Result<V
     requires { IsImageWithinLimits certificate.now }
     ensures { IfOk result (IsFound game.now (Folded certificate.now)) }
 {
-    let unfolded = match unfold(alloc, game, certificate) {
-        Ok(unfolded) => unfolded,
+    let layouts = match lay_out(alloc, game, certificate) {
+        Ok(layouts) => layouts,
         Err(ImageFault::Bad { claim, node, why }) => {
             return Ok(Verdict::FaultyImage { claim, node, why });
         }
         Err(ImageFault::Memory) => return Err(Memory),
     };
-    let standing = Standing::from(unfolded);
-    match check_standing(alloc, game, &standing) {
-        Ok(_) => Ok(Verdict::Valid(image_heads(alloc, certificate)?)),
-        Err(CheckFault::Reject { claim, node, why }) => Ok(Verdict::Faulty { claim, node, why }),
-        Err(CheckFault::Memory) => Err(Memory),
+    let found = check_folded(alloc, game, certificate, &layouts)?;
+    match found {
+        Ok(()) => Ok(Verdict::Valid(image_heads(alloc, certificate)?)),
+        Err(Rejected { claim, node, why }) => Ok(Verdict::Faulty { claim, node, why }),
     }
 }
 
@@ -52,7 +51,7 @@ fn read_images(alloc: Global, text: Vec<u8>) -> Result<ImageCert, CertFault>
 }
 
 /// What judging the certificate of a text with images for a game finds. The text is dropped before
-/// it is unfolded.
+/// a node of the unfolding is made.
 fn judge_images(alloc: Global, game: &Game, text: Vec<u8>) -> Result<Verdict, Halt>
     ensures judged { has_images text.items ≡ true
         → IsJudgedAs game.now (evidence_held (Some text.items)) result }
@@ -100,8 +99,8 @@ fn judge_come(alloc: Global, game: &Game, incoming: Incoming<'_>) -> Result<Verd
 }
 
 /// What judging the certificate under this name for a game finds. One of plain nodes is judged
-/// piece by piece as it is read, to its end; one with images is read whole, and then its unfolding
-/// is checked.
+/// piece by piece as it is read, to its end; one with images is read whole, and then each node of
+/// its unfolding is made, checked and dropped.
 ///
 /// # Errors
 ///

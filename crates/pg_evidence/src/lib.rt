@@ -5,6 +5,7 @@
 mod arriving;
 mod evidence;
 mod first_line;
+mod folded;
 mod heads;
 mod incoming;
 mod judging;

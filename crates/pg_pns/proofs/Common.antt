@@ -1,5 +1,5 @@
 -- What the proofs of this crate name of std and of the crates below.
-pub use Rattle.pg_pns.specs.Prelude.{All, AreMarked, Body, BodyHolds, Claim, Contains, Cuts, Fits, Game, Goal, HasWeaker, IfNone, IsAt, IsClaim, IsInGame, IsMoved, IsNode, IsNodeOf, IsOfVersion, IsOpenTable, IsOpened, IsPosition, IsPruned, IsTable, IsTurn, IsUsed, IsValidClaim, Move, Node, NodesHold, One, Over, Pairs, Passes, Position, Potential, Renumbers, Reply, Score, Side, Stand, Threat, Trees, View, Weaker, X, Y, after, answer_for, bias_of, claimed_goal, claimer, count_by, criterion_of, decided, equal_positions, equal_positions-decides, filter, first_criterion, get, has_body, is_answer, is_free, is_listed, is_none, is_over, is_some, keys_of, lines_of, list_all, list_any, lookup, point_count, position_of, range_with_len, settled, start, sum_by, with_items, with_turn}
+pub use Rattle.pg_pns.specs.Prelude.{All, AreMarked, Body, BodyHolds, Claim, Contains, Cuts, Game, Goal, HasWeaker, IfNone, IsAt, IsClaim, IsInGame, IsMoved, IsNode, IsNodeOf, IsOfVersion, IsOpenTable, IsOpened, IsPosition, IsPruned, IsTable, IsTurn, IsUsed, IsValidClaim, Move, Node, NodesHold, One, Over, Pairs, Passes, Position, Potential, Renumbers, Reply, Score, Side, Stand, Threat, Trees, View, Weaker, X, Y, after, answer_for, bias_of, claimed_goal, claimer, count_by, criterion_of, decided, equal_positions, equal_positions-decides, filter, first_criterion, get, has_body, is_answer, is_free, is_listed, is_none, is_over, is_some, keys_of, list_all, list_any, lookup, point_count, position_of, range_with_len, settled, start, sum_by, with_items, with_turn}
 unfoldable pub use Rattle.pg_pns.specs.Prelude.{by_moves, free_points}
 pub use Rattle.pg_base.proofs.Stands.{at_contains, at_new, at_old, at_push, at_set_other, at_set_same, contains_at, contains_old, contains_push, from_take, in_take, list_all-map, list_any-map, map-same_at, one_at, same_some, some≢none}
 pub use Rattle.pg_game.proofs.FreePoints.{length-free_points-after}
