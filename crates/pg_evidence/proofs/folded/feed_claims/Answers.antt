@@ -6,7 +6,8 @@ use Rattle.pg_evidence.proofs.folded.feed_claims.Goals as goal
 pub loop-i-init : goal.loop-i-init
 loop-i-init c = record {
   game = refl;
-  fed = fed-nothing c.args.game.now _ c.args.checking.now c.new-sources.ensures.items c.requires.first;
+  fed = fed-nothing c.args.game.now _ c.args.checking.now c.new-sources.ensures.items
+      c.requires.first;
 }
 
 pub feed_claim-requires-clause-laid : goal.feed_claim-requires-clause-laid
