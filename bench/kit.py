@@ -342,6 +342,12 @@ def turned(cells: Cells) -> List[Tuple[Tuple[int, int], ...]]:
     return images
 
 
+def beside(cells: Cells) -> set[Tuple[int, int]]:
+    """Returns the cells that have a side in common with one of these, and aren't among them."""
+    steps = (0, 1), (1, 0), (0, -1), (-1, 0)
+    return {(row + i, column + j) for row, column in cells for i, j in steps} - set(cells)
+
+
 def word_of(cells: Cells) -> str:
     """Returns the word of a shape: its rows of 0 and 1."""
     taken = set(cells)

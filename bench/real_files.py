@@ -19,8 +19,6 @@ from __future__ import annotations
 import argparse
 import collections
 import contextlib
-import fcntl
-import functools
 import itertools
 import os
 import pathlib
@@ -33,7 +31,7 @@ import subprocess
 import tempfile
 import threading
 import time
-from typing import Any, Callable, Iterator, Optional, Union
+from typing import Any, Iterator, Optional
 
 import kit
 
@@ -51,7 +49,6 @@ NOBODY = 65534
 USER = NOBODY if os.getuid() == 0 else None
 MANY = "gen scatter 4 16 18 4 G C".split()
 OTHERS = "rows 4", "bridge 3", "scatter 3 9 8 3", "scatter 5 12 10 4"
-Before = Union[str, Callable[[pathlib.Path], None]]
 
 
 def held(path: pathlib.Path) -> Optional[str]:
@@ -81,18 +78,15 @@ class Rows:
         return folder
 
     def row(self, name: str, words: str, status: int, printed: str = "", holds: Any = (),
-            before: Before = "", user: Optional[int] = None, **how: Any) -> pathlib.Path:
-        """Runs one row, and returns its folder. `before` fills it, beside the game G, the
+            before: str = "", user: Optional[int] = None) -> pathlib.Path:
+        """Runs one row, and returns its folder. A shell does `before` there, beside the game G, the
         certificate C and the file O; `holds` says what files contain then (None: missing)."""
         self.rows += 1
         folder, due = self.folder(), {"G": TEXTS["GAME"], **dict(holds)}
         for file, text in ("G", "GAME"), ("C", "PAIRS"), ("O", "OLD"):
             (folder / file).write_text(TEXTS[text])
-        if callable(before):
-            before(folder)
-        else:
-            subprocess.run(["sh", "-c", before], cwd=folder, stdout=subprocess.DEVNULL, check=True)
-        ended = self.ended(words, folder, user, **how)
+        subprocess.run(["sh", "-c", before], cwd=folder, stdout=subprocess.DEVNULL, check=True)
+        ended = self.ended(words, folder, user)
         if ended != (status, printed, ""):
             self.wrong.append(f"{name}: {words}: {ended} in place of {(status, printed)}")
         for file, text in due.items():
@@ -102,20 +96,16 @@ class Rows:
         self.wrong += [f"{name}: {part[:60]} is left" for part in parts(folder) - set(due)]
         return folder
 
-    def ended(self, words: str, folder: pathlib.Path, user: Optional[int] = None,
-              **how: Any) -> Any:
+    def ended(self, words: str, folder: pathlib.Path, user: Optional[int] = None) -> Any:
         """Returns the status, the output and the errors of a run."""
-        *first, words = words.split("; ")
-        script = "; ".join([*first, f'exec "$0" {words}'])
-        streams = {"stdin": subprocess.DEVNULL, "stdout": subprocess.PIPE, **how}
-        if user:
-            streams.update(user=user, group=user, extra_groups=[])
+        script = re.sub("^(.*[;|] )?", r'\1exec "$0" ', words, count=1)
+        whose: Any = {"user": user, "group": user, "extra_groups": []} if user else {}
         try:
             run = subprocess.run(["sh", "-c", script, self.program], cwd=folder, timeout=20,
-                                 stderr=subprocess.PIPE, text=True, **streams)
+                                 stdin=subprocess.DEVNULL, capture_output=True, text=True, **whose)
         except subprocess.TimeoutExpired:
             return "more than twenty seconds"
-        return run.returncode, run.stdout or "", run.stderr
+        return run.returncode, run.stdout, run.stderr
 
 
 def listed(rows: Rows) -> None:
@@ -129,19 +119,6 @@ def listed(rows: Rows) -> None:
         pairs = [it.split(" = ") for it in holds]
         rows.row(name, words, int(status), said, [(it, TEXTS.get(due, due)) for it, due in pairs],
                  before, USER if user else None)
-
-
-def piped(rows: Rows) -> None:
-    """Standard input that is a pipe, as game, and standard output that nobody reads."""
-    reading, writing = os.pipe()
-    os.write(writing, TEXTS["GAME"].encode())
-    os.close(writing)
-    rows.row("standard input as game", "check /dev/stdin C", 0, TEXTS["ACCEPTED"], stdin=reading)
-    os.close(reading)
-    reading, writing = os.pipe()
-    os.close(reading)
-    rows.row("output that nobody reads", "check G C", 6, stdout=writing)
-    os.close(writing)
 
 
 def closed_streams(rows: Rows) -> None:
@@ -173,86 +150,53 @@ def modes(rows: Rows) -> None:
 
 def stale_parts(rows: Rows) -> None:
     """What runs that were killed have left is removed, and what another run writes is not."""
-    kept = []
-
-    def leave(count: int, folder: pathlib.Path) -> None:
-        for number in range(count):
-            (folder / f"O.posgame-part{number}").write_text("stale")
-
-    def locked(folder: pathlib.Path) -> None:
-        leave(3, folder)
-        kept.append(open(folder / "O.posgame-part0", "rb"))
-        fcntl.flock(kept[-1], fcntl.LOCK_EX)
-
-    cases: list[Any] = [(f"{count} stale parts", range(1, count), functools.partial(leave, count))
-                        for count in (1, 2, 99, 100)]
-    for name, numbers, before in [*cases, ("a part that is locked", (0, 2), locked)]:
-        holds = {"O": PAIRS, **{f"O.posgame-part{number}": "stale" for number in numbers}}
-        rows.row(name, "solve G O", 0, RESULT, holds, before)
-    kept.pop().close()
+    lock = "exec 9< O.posgame-part0; flock 9; "
+    for first, count, used in ("", 1, 0), ("", 2, 0), ("", 99, 0), ("", 100, 0), (lock, 3, 1):
+        names = [f"O.posgame-part{number}" for number in range(count)]
+        holds = {"O": PAIRS, **dict.fromkeys(names, "stale"), names[used]: None}
+        rows.row(f"{'one of ' if first else ''}{count} stale parts{' is locked' if first else ''}",
+                 f"{first}solve G O", 0, RESULT, holds, f"printf stale | tee {' '.join(names)}")
 
 
-def mounts(*words: object) -> bool:
-    """Returns whether the file or the disk can be mounted."""
-    return subprocess.run(["mount", *map(str, words)], stderr=subprocess.DEVNULL).returncode == 0
-
-
-def unmount(place: object) -> None:
-    """Ends a mount."""
-    subprocess.run(["umount", str(place)], check=True)
+@contextlib.contextmanager
+def mount(rows: Rows, place: pathlib.Path, *words: object) -> Iterator[bool]:
+    """Mounts a file or a disk, and tells whether that is permitted."""
+    command = ["mount", *map(str, words), str(place)]
+    is_mounted = subprocess.run(command, stderr=subprocess.DEVNULL).returncode == 0
+    rows.skipped += not is_mounted
+    try:
+        yield is_mounted
+    finally:
+        if is_mounted:
+            subprocess.run(["umount", str(place)], check=True)
 
 
 def mounted(rows: Rows) -> None:
     """A name on which another file is mounted: that file gets the bytes."""
     other, name = rows.folder() / "other", "a mounted file"
     other.write_text(OLD)
-    if os.getuid() != 0 or not mounts("--bind", other, other):
-        rows.skipped += 1
-        return
-    unmount(other)
-    for text in "", OLD, "old" * 1000:
+    with mount(rows, other, "--bind", other) as is_permitted:
+        pass
+    for text in ("", OLD, "old" * 1000) if is_permitted else ():
         other.write_text(text)
-        folder = rows.row(name, "solve G O", 0, RESULT, {"O": PAIRS},
-                          lambda path: mounts("--bind", other, path / "O") or None)
-        unmount(folder / "O")
+        folder = rows.row(name, "solve G O", 0, RESULT, {"O": PAIRS}, f"mount --bind {other} O")
+        subprocess.run(["umount", str(folder / "O")], check=True)
         if (other.read_text(), held(folder / "O")) != (PAIRS, OLD):
             rows.wrong.append(f"{name}: {held(other)!r:.60} and {held(folder / 'O')!r:.60}")
 
 
-@contextlib.contextmanager
-def small_disk(rows: Rows) -> Iterator[Optional[pathlib.Path]]:
-    """Mounts a disk of 64 KB, if that is permitted."""
-    place = rows.folder()
-    is_mounted = mounts("-t", "tmpfs", "-o", "size=64k,mode=777", "tmpfs", place)
-    try:
-        yield place if is_mounted else None
-    finally:
-        if is_mounted:
-            unmount(place)
-
-
-def fill(path: pathlib.Path) -> None:
-    """Writes a file until the disk is full."""
-    with contextlib.suppress(OSError), open(path, "wb", buffering=0) as filler:
-        while filler.write(b"0" * 4096):
-            pass
-
-
 def disks(rows: Rows) -> None:
     """Files that don't fit on a disk."""
-    with small_disk(rows) as disk:
-        if disk is None:
-            rows.skipped += 1
-            return
-        file = disk / "C"
-        made = f"gen scatter 1 256 2000 20 {file}"
-        for name, words in (("a game that doesn't fit", made),
-                            ("a game that doesn't fit, and a certificate", f"{made} O"),
-                            ("a certificate that doesn't fit", f"solve G {file}")):
+    disk = rows.folder()
+    file, made = disk / "C", f"gen scatter 1 256 2000 20 {disk / 'C'}"
+    fill = f"cat /dev/zero > {disk / 'filler'} 2> /dev/null || true"
+    cases = [("a game that doesn't fit", made, ""),
+             ("a game that doesn't fit, and a certificate", f"{made} O", ""),
+             ("a certificate that doesn't fit", f"solve G {file}", fill)]
+    with mount(rows, disk, "-t", "tmpfs", "-o", "size=64k,mode=777", "tmpfs") as is_permitted:
+        for name, words, before in cases if is_permitted else []:
             file.write_text(OLD)
-            if words.startswith("solve"):
-                fill(disk / "filler")
-            rows.row(name, words, 6, "", {"O": OLD})
+            rows.row(name, words, 6, "", {"O": OLD}, before)
             if held(file) != OLD or set(os.listdir(disk)) - {"C", "filler"}:
                 rows.wrong.append(f"{name}: the disk holds {sorted(os.listdir(disk))}")
 
@@ -387,7 +331,7 @@ def main() -> int:
         os.chmod(top, 0o755)
         rows = Rows(shutil.copy(given.program, os.path.join(top, "program")), top)
         os.chmod(rows.program, 0o755)
-        for part in listed, piped, closed_streams, modes, stale_parts, mounted, disks:
+        for part in listed, closed_streams, modes, stale_parts, mounted, disks:
             part(rows)
         wrong = len(rows.wrong)
         rows.table.row("rows of files, names and streams", "", rows.rows)

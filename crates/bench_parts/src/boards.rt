@@ -1,4 +1,4 @@
-//! Full games on 256 points, played in mixed orders and taken back: what `bench/board.py` measures.
+//! Full games on 256 points, played in mixed orders and taken back: what `bench/parts.py` measures.
 use pg_base::Kind;
 use pg_board::Board;
 use pg_game::Game;

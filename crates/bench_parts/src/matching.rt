@@ -1,5 +1,5 @@
 //! Private pairs for all lines of a game, asked for again and again, also through a cache: what
-//! `bench/asking.py` measures.
+//! `bench/parts.py` measures.
 ghost use Rattle.std.specs.Prelude.{◌<◌, ◌≤◌, IfSome, length};
 ghost use Rattle.std.specs.List.{All};
 ghost use Rattle.pg_base.specs.declared.limits.TheConstants.{MAX_MEMBERS};

@@ -1,4 +1,4 @@
-//! Threat lines asked for on a game of 256 points: what `bench/threat.py` measures.
+//! Threat lines asked for on a game of 256 points: what `bench/parts.py` measures.
 //!
 //! Its words are `walk`, for twenty walks through the game by moves at random, or `still`, for two
 //! thousand questions at its beginning, where no line lacks two points or fewer; and `ask`, or

@@ -1,4 +1,4 @@
-//! The table of all small games. `bench/small_families.py` finds the numbers of the two further
+//! The table of all small games. `bench/plain.py` finds the numbers of the two further
 //! families again.
 use crate::families::Family;
 use crate::tally::{Tally, add_games};

@@ -1,4 +1,4 @@
-//! Rows worked by hand, and a table of small games. Its numbers are those of bench/threat_lines.py,
+//! Rows worked by hand, and a table of small games. Its numbers are those of bench/plain.py,
 //! which finds them in another way.
 use crate::compared::{Tally, line_at_start};
 use pg_base::{Kind, PointSet, Side};

@@ -1,20 +1,25 @@
 #!/usr/bin/env python3
-"""Prints the lines `value` and `pair` of crates/test_stories/stdin, or counts them by value.
+"""Prints lines of crates/test_stories/stdin on small games, or counts them by value.
 
-There are 300 games with a point a turn, the first 120 of them with two points for Y except in
-Maker-Maker, 200 with two or three points for Y and without marks, and 200 pairs of positions. Each
-is drawn by the generator that the standard of C prints, from its number as the seed. Values are
-found by trying all plays; nothing is shared with the crates.
+    bench/stories.py [lines | counts | reviews | names]
 
-    bench/solved.py [lines | counts]
+lines: the lines `value` and `pair`. There are 300 games with a point a turn, the first 120 of them
+with two points for Y except in Maker-Maker, 200 with two or three points for Y and without marks,
+and 200 pairs of positions. Each is drawn by the generator that the standard of C prints, from its
+number as the seed. Letters: m and b for Maker and Breaker, a and e for Avoider and Enforcer, x, y
+and d for Maker-Maker and its draw. A pair is m or b if the first position is no worse for the
+winner of the second, and else that winner, x or y.
 
-Letters: m and b for Maker and Breaker, a and e for Avoider and Enforcer, x, y and d for Maker-Maker
-and its draw. A pair is m or b if the first position is no worse for the winner of the second, and
-else that winner, x or y. Unproved.
+reviews: 200 rows of reviews of noughts and crosses, and names: what test_stories says of them. In
+each kind with lines the board begins empty or with some marks, with either side to move; moves are
+taken back now and then. Records are drawn by a generator with a fixed seed.
+
+Values are found by trying all plays; nothing is shared with the crates. Unproved.
 """
 from __future__ import annotations
 
-from typing import List, NamedTuple, Optional, Set, Tuple
+import random
+from typing import Iterator, NamedTuple, Optional
 
 import kit
 
@@ -22,14 +27,18 @@ KINDS = {"mb": "maker-breaker", "ae": "avoider-enforcer", "xyd": "maker-maker"}
 WORDS = {"m": "maker x", "b": "breaker y", "a": "avoider x", "e": "enforcer y",
          "x": "x x", "y": "y y", "d": "draw -"}
 OTHER = {"x": "y", "y": "x"}
+# Noughts and crosses, and the words for the scores 0, 1 and -1.
+SQUARE = {kind: kit.LineGame(kind, 9, kit.in_row(3, 3, 3)) for kind in sorted(kit.KINDS)}
+SCORES = {"maker-breaker": ("draw", "maker", "breaker"), "maker-maker": ("draw", "x", "y"),
+          "avoider-enforcer": ("draw", "avoider", "enforcer")}
 
 
 class Game(NamedTuple):
     """The letters for X's win, Y's win and a draw, who owns each point, and Y's points a turn."""
 
     kind: str
-    lines: List[Set[int]]
-    marks: List[Optional[str]]
+    lines: list[set[int]]
+    marks: list[Optional[str]]
     turn: str
     bias: int
 
@@ -55,13 +64,13 @@ class Game(NamedTuple):
         return ";".join(rows + [f"turn {self.turn}"])
 
 
-def drawn_lines(draws: kit.Draws, points: int, most: int) -> List[Set[int]]:
+def drawn_lines(draws: kit.Draws, points: int, most: int) -> list[set[int]]:
     """One to `most` lines, each with some of the points."""
     return [{v for v in range(points) if draws.below(5) < 2} or {0}
             for _ in range(draws.below(most) + 1)]
 
 
-def drawn_marks(draws: kit.Draws, points: int, limit: int) -> List[Optional[str]]:
+def drawn_marks(draws: kit.Draws, points: int, limit: int) -> list[Optional[str]]:
     """For each point X's mark, Y's, or none, by a number below the limit."""
     return [{0: "x", 1: "y"}.get(draws.below(limit)) for _ in range(points)]
 
@@ -82,7 +91,7 @@ def biased_game(number: int) -> Game:
     return Game(list(KINDS)[number % 2], lines, [None] * points, turn, 2 + number // 2 % 2)
 
 
-def drawn_pair(number: int) -> Tuple[Game, Game]:
+def drawn_pair(number: int) -> tuple[Game, Game]:
     """Two positions of a Maker-Breaker game."""
     draws = kit.Draws(number)
     points = draws.below(3) + 4
@@ -127,14 +136,60 @@ def pair_line(first: Game, second: Game) -> str:
     return f"pair {word} {first.turn} {side} win={first.board()}={positions}={x}|{y}|{left}|"
 
 
-def main() -> None:
-    words = kit.parser(__doc__, None)
-    words.add_argument("what", nargs="?", choices=["lines", "counts"], default="lines")
-    given = words.parse_args()
+def drawn_record(chance: random.Random) -> tuple[kit.LineGame, list[str], list[kit.Position]]:
+    """Noughts and crosses, the events of a record, and the positions on its way."""
+    board = SQUARE[chance.choice(sorted(SQUARE))]
+    points = chance.sample(range(9), chance.choice([0, 0, 0, 2, 3]))
+    half = (len(points) + 1) // 2
+    start = frozenset(points[:half]), frozenset(points[half:]), chance.choice("xy"), 1
+    events, trail = [], [start]
+    for _ in range(chance.randint(1, 14)):
+        if len(trail) > 1 and chance.random() < 0.25:
+            trail.pop()
+            events.append("back")
+            continue
+        x, y, *_ = trail[-1]
+        if board.score(x, y) is not None:
+            break
+        v = chance.choice(board.free(x, y))
+        trail.append(board.after(*trail[-1], v))
+        events.append(f"move {v}")
+    return board, events, trail
+
+
+def losses(board: kit.LineGame, trail: list[kit.Position]) -> Iterator[str]:
+    """The lines on moves that lost value."""
+    words = SCORES[board.kind]
+    for number, (p, q) in enumerate(zip(trail, trail[1:])):
+        before, now = board.value(*p), board.value(*q)
+        if (now < before) if p[2] == "x" else (now > before):
+            point = next(iter((q[0] | q[1]) - (p[0] | p[1])))
+            yield f"says lost {number} {point} {words[before]} {words[now]}"
+
+
+def print_reviews(has_rows: bool) -> None:
+    """Prints the reviews, or what test_stories says of them."""
+    chance = random.Random(20261128)
+    for number in range(1, 201):
+        board, events, trail = drawn_record(chance)
+        name = f"a review of noughts and crosses, {number}: {board.kind}"
+        if not has_rows:
+            print(f"ok {name}")
+            continue
+        marks = "".join(f"{sign} {kit.field(sorted(points))}; "
+                        for sign, points in zip("xy", trail[0]) if points)
+        print(f"\nrow {name}\nfile G posgame 1; kind {board.kind}; @three; {marks}turn "
+              f"{trail[0][2]};\nfile R", *(f"{it};" for it in ["posgame-record 1", *events]))
+        print("run review G R\nstatus 0", *losses(board, trail), sep="\n")
+        print(f"says reviewed {len(trail) - 1}")
+
+
+def print_values(has_lines: bool) -> None:
+    """Prints the lines of games and of pairs, or how many have each value."""
     games = [game(number, 1) for number in range(300)] + [game(number, 2) for number in range(120)]
     games += map(biased_game, range(200))
     pairs = list(map(drawn_pair, range(200)))
-    if given.what == "lines":
+    if has_lines:
         print(*map(value_line, games), *(pair_line(*it) for it in pairs), sep="\n")
         return
     for name, letters, found in (("games", "mbaexyd", [it.value() for it in games]),
@@ -143,4 +198,11 @@ def main() -> None:
 
 
 if __name__ == "__main__":
-    main()
+    words = kit.parser(__doc__, None)
+    words.add_argument("what", nargs="?", choices=["lines", "counts", "reviews", "names"],
+                       default="lines")
+    what = words.parse_args().what
+    if what in ("lines", "counts"):
+        print_values(what == "lines")
+    else:
+        print_reviews(what == "reviews")

@@ -1,29 +1,76 @@
 #!/usr/bin/env python3
-"""Measures what a search for private pairs costs on 256 points with 60 to 120 lines of ten points.
+"""Measures parts of a search by themselves, under callgrind.
 
-    bench/asking.py [PROGRAM]
+    bench/parts.py [PROGRAM] board | threat | match
 
-PROGRAM is bench_parts. Families are drawn with lines near their own pair of points, far from it, or
-anywhere, and some are short at their last line. Of each kind the one is taken for which a matcher
-of this script goes over the most points; the worst of all is then made harder by small changes.
-Unproved.
+PROGRAM is bench_parts.
+
+board: what a play with its undo costs on a board of 256 points, and how long opening it takes. Full
+games in mixed orders are played and taken back; the instructions of a run without a game are
+subtracted. Each line has ten points, so that 204, 2,048 and 20,000 lines are about 8, 80 and 800
+through a point.
+
+threat: the search for threat lines on 16 by 16 points with five points in a row as lines. The
+program is run twice for each row, asking and only counting the same positions; the difference,
+shared among the positions, is what one question takes. Then how many positions have a threat line
+of no reply, one, two and three.
+
+match: what a search for private pairs costs on 256 points with 60 to 120 lines of ten points.
+Families are drawn with lines near their own pair of points, far from it, or anywhere, and some are
+short at their last line. Of each kind the one is taken for which a matcher of this script goes over
+the most points; the worst of all is then made harder by small changes. Unproved.
 """
 from __future__ import annotations
 
+import itertools
 import random
-from typing import Dict, List, Optional, Tuple
+import re
+from typing import Optional
 
 import kit
 
-POINTS, LONG, ASKS, STEPS = 256, 10, 100, 4_000
-Lines = List[kit.Line]
-Step = Optional[Tuple[int, int]]
+POINTS, LONG, ASKS, TRIES = 256, 10, 100, 4_000
+SIDE = 16
+# The step from a line's first point to its next, for one direction after the other.
+STEPS = [1, SIDE, SIDE + 1, SIDE - 1]
+Lines = list[kit.Line]
+Step = Optional[tuple[int, int]]
 
 
-def search(lines: Lines, holder: Dict[int, int], start: int) -> Tuple[int, Step, Dict[int, Step]]:
+def board(program: str) -> None:
+    """Measures plays with their undo. Each point of a line is an odd step after the one before, so
+    that no two are the same."""
+    table = kit.Table("lines", "plays", "instructions a play with its undo",
+                      "instructions to read and open", kit.Column("s", ".3f"))
+    for count in 204, 2_048, 20_000:
+        lines = [sorted((k + i * (2 * (k // 256) + 1)) % POINTS for i in range(LONG))
+                 for k in range(count)]
+        with kit.files(game=kit.short_game("maker-breaker", POINTS, lines)) as folder:
+            words = program, "board", folder / "game"
+            none, some = kit.count(*words, 0).instructions, kit.count(*words, 2)
+            opened = kit.run(*words, 0)
+        plays = int(some.output.split()[2])
+        table.row(count, plays, (some.instructions - none) // plays, none, opened.seconds)
+
+
+def threat(program: str) -> None:
+    """Measures searches for threat lines."""
+    lines = sorted(kit.in_row(SIDE, SIDE, 5), key=lambda line: STEPS.index(line[1] - line[0]))
+    table = kit.Table("game and way", "instructions a position", "positions", "no reply", "1 reply",
+                      "2 replies", "3 replies")
+    for way, kind in itertools.product(("walk", "still"), ("maker-breaker", "maker-maker")):
+        with kit.files(game=kit.short_game(kind, POINTS, lines)) as folder:
+            words = program, "threat", folder / "game", way
+            asking, counting = kit.count(*words, "ask"), kit.count(*words, "count").instructions
+        asked, *found = map(int, re.findall(r"\d+", asking.output))
+        each = (asking.instructions - counting) // asked
+        table.row(f"{kit.KINDS[kind]}, {way}", each, asked, *found)
+
+
+def search(lines: Lines, holder: dict[int, int], start: int) -> tuple[int, Step, dict[int, Step]]:
     """A search by breadth for a point without a holder, from a line: how many points it goes over,
     the line and point that it finds, and how each line was reached."""
-    queue, came, count = [start], {start: None}, 0  # type: List[int], Dict[int, Step], int
+    queue, came, count = [start], {start: None}, 0  # type: list[int], dict[int, Step], int
     for line in queue:
         for v in lines[line]:
             count += 1
@@ -37,7 +84,7 @@ def search(lines: Lines, holder: Dict[int, int], start: int) -> Tuple[int, Step,
 
 def passes(lines: Lines) -> int:
     """How many points are gone over until each line has two, or one has none to reach."""
-    holder, count = {}, 0  # type: Dict[int, int], int
+    holder, count = {}, 0  # type: dict[int, int], int
     for seat in range(2 * len(lines)):
         more, step, came = search(lines, holder, seat // 2)
         count += more
@@ -74,7 +121,7 @@ def short_at_last(draw: random.Random, count: int, width: int) -> Lines:
 def climb(draw: random.Random, lines: Lines) -> Lines:
     """Exchanges lines and points at random wherever more points are gone over then."""
     best = passes(lines)
-    for _ in range(STEPS):
+    for _ in range(TRIES):
         tried = list(lines)
         i, j = draw.sample(range(len(lines)), 2)
         if draw.random() < 0.5:
@@ -88,9 +135,9 @@ def climb(draw: random.Random, lines: Lines) -> Lines:
     return lines
 
 
-def families() -> Dict[str, Lines]:
+def families() -> dict[str, Lines]:
     """The worst family of each kind, by its name."""
-    draw, kinds = random.Random(1963), {}  # type: random.Random, Dict[str, List[Lines]]
+    draw, kinds = random.Random(1963), {}  # type: random.Random, dict[str, list[Lines]]
     for count in (60, 90, 120):
         for width in (5, 7, 10, 20, 60):
             for name, make in (("near", near), ("short", short_at_last)):
@@ -104,8 +151,8 @@ def families() -> Dict[str, Lines]:
     return greatest
 
 
-def main() -> None:
-    program = kit.program(__doc__, "bench_parts")
+def match(program: str) -> None:
+    """Measures searches for private pairs."""
     table = kit.Table("family", "lines", "points gone over", "pairs", f"instructions, {ASKS} asks",
                       "hits", "cached")
     ranked = sorted(families().items(), key=lambda entry: -passes(entry[1]))
@@ -120,4 +167,7 @@ def main() -> None:
 
 
 if __name__ == "__main__":
-    main()
+    options = kit.parser(__doc__, "bench_parts")
+    options.add_argument("part", choices=["board", "threat", "match"])
+    given = options.parse_args()
+    {"board": board, "threat": threat, "match": match}[given.part](given.program)

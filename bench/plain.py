@@ -1,19 +1,42 @@
 #!/usr/bin/env python3
-"""Finds the numbers of test_plain on connectivity games and on games on vectors again, by brute
-force without anything of the crates.
+"""Finds the numbers of crates/test_plain again, by brute force without anything of that crate.
 
-For connectivity games on two to four vertices and for games on vectors of three signs it prints,
-for each number of points, how many games X wins whoever moves, Y does, and the side to move does,
-over all choices of points in order and all marks; then the same for five points without marks.
-Unproved.
+First those of src/threat_rows.rt: at how many positions of small games the side to move may attack
+and its shortest threat line forces none, one, two or three replies, and at how many there is none,
+as docs/DEFINITIONS.md says what one is.
+
+Then, for connectivity games on two to four vertices and games on vectors of three signs, for each
+number of points, how many games X wins whoever moves, Y does, and the side to move does, over all
+choices of points in order and all marks; and the same for five points without marks. Unproved.
 """
 from __future__ import annotations
 
 import functools
 import itertools
-from typing import Callable, Iterable, List, Sequence
+from typing import Callable, Iterable, Sequence
 
 import kit
+
+BOARDS = [
+    (3, [(0, 1), (0, 2)]),
+    (5, [(0, 1, 2), (2, 3, 4)]),
+    (5, [(0, 1), (1, 2), (2, 3), (3, 4), (0, 4)]),
+    (6, [(0,), (1, 2, 3), (3, 4, 5)]),
+    (6, [(0, 1, 2), (1, 2, 3), (2, 3, 4), (3, 4, 5), (0, 4, 5)]),
+    (6, [(0, 1, 2), (0, 3, 4), (1, 3, 5), (2, 4, 5)]),
+    (7, [(0, 1, 2), (0, 3, 4), (0, 5, 6), (1, 3, 5), (1, 4, 6), (2, 3, 6), (2, 4, 5)]),
+    (7, [(0, 1), (0, 2, 3), (2, 4, 5), (2, 4, 6)]),
+]
+
+
+def depths(game: kit.LineGame) -> list[int]:
+    """How many positions have a shortest threat line of each length, and how many have none."""
+    found = [0] * 5
+    for x, y in kit.marked(game.points):
+        if game.score(x, y) is None:
+            for own, foe in [(x, y), (y, x)] if game.kind == "maker-maker" else [(x, y)]:
+                found[next((depth for depth in range(4) if game.attack(own, foe, depth)), 4)] += 1
+    return found
 
 
 def joins(vertices: int, ends: Sequence[kit.Edge], points: int) -> bool:
@@ -35,7 +58,7 @@ def sums(target: int, vectors: Sequence[int], points: int) -> bool:
     return target in known
 
 
-def classes(count: int, passes: Callable[[int], bool], has_marks: bool) -> List[int]:
+def classes(count: int, passes: Callable[[int], bool], has_marks: bool) -> list[int]:
     """Who wins at all marks, or at none: how many of X, of Y, of the mover, of the other."""
     x_wins, found = kit.set_game(count, passes), [0] * 4
     for marks in kit.marked(count) if has_marks else [((), ())]:
@@ -45,7 +68,7 @@ def classes(count: int, passes: Callable[[int], bool], has_marks: bool) -> List[
     return found
 
 
-def line(counts: Iterable[List[int]]) -> str:
+def line(counts: Iterable[list[int]]) -> str:
     """The sums of the counts, as the script of test_plain has them."""
     return kit.field(map(sum, zip(*counts))) + ","
 
@@ -64,15 +87,14 @@ def vectors(count: int, has_marks: bool = True) -> str:
                 for target in range(8))
 
 
-def main() -> None:
+if __name__ == "__main__":
     kit.parser(__doc__, None).parse_args()
+    for kind, name in (("maker-breaker", "maker and breaker"), ("maker-maker", "maker and maker")):
+        rows = [kit.field(depths(kit.LineGame(kind, *board))) + " 0;" for board in BOARDS]
+        print(f"{name}:", "".join(rows))
     for vertices, limit in ((2, 6), (3, 6), (4, 5)):
         counts = [connectivity(vertices, count) for count in range(limit)]
         print(vertices, "vertices:", "".join(counts))
     print("4 vertices, 5 edges, no marks:", connectivity(4, 5, False))
     print("vectors:", "".join(vectors(count) for count in range(5)))
     print("5 vectors, no marks:", vectors(5, False))
-
-
-if __name__ == "__main__":
-    main()
