@@ -19,10 +19,9 @@ import re
 import resource
 import subprocess
 import sys
-import tempfile
 import textwrap
 import time
-from typing import List, NamedTuple, Optional, Tuple
+from typing import NamedTuple, Optional
 
 import kit
 
@@ -35,7 +34,7 @@ class Bench(NamedTuple):
     """A bench: its script and arguments."""
 
     name: str
-    words: List[object]
+    words: list[object]
     is_long: bool = False
 
 
@@ -59,25 +58,23 @@ BENCHES = [
 ]
 
 
-def run(words: List[object]) -> Tuple[List[str], Optional[str]]:
+def run(words: list[object]) -> tuple[list[str], Optional[str]]:
     """The lines of a bench, and what is wrong with its end, if anything is."""
     command = [sys.executable, str(kit.TOP / "bench" / str(words[0])), *map(str, words[1:])]
-    with tempfile.TemporaryFile("w+") as output, tempfile.TemporaryFile("w+") as errors:
-        try:
-            status = subprocess.run(command, cwd=kit.TOP, stdin=subprocess.DEVNULL, stdout=output,
-                                    stderr=errors, timeout=LIMIT).returncode
-            end = f"ended with status {status}" if status else None
-        except subprocess.TimeoutExpired:
-            end = f"not done after {LIMIT} s"
-        for stream in output, errors:
-            stream.seek(0)
-        lines, complaints = output.read().splitlines(), errors.read().strip().splitlines()
+    try:
+        done = subprocess.run(command, cwd=kit.TOP, stdin=subprocess.DEVNULL, capture_output=True,
+                              text=True, timeout=LIMIT)
+        lines, complaints = done.stdout.splitlines(), done.stderr.strip().splitlines()
+        end = f"ended with status {done.returncode}" if done.returncode else None
+    except subprocess.TimeoutExpired as late:
+        lines, complaints = (late.stdout or b"").decode().splitlines(), []
+        end = f"not done after {LIMIT} s"
     return lines, ": ".join([end, *complaints[-1:]])[:240] if end else None
 
 
-def laid_out(lines: List[str]) -> List[str]:
+def laid_out(lines: list[str]) -> list[str]:
     """The lines as Markdown: rows of tables as they are, others as a paragraph each."""
-    text: List[str] = []
+    text: list[str] = []
     for line in filter(None, lines):
         is_row = line.startswith("|")
         if not (text and is_row and text[-1].startswith("|")):
@@ -86,7 +83,7 @@ def laid_out(lines: List[str]) -> List[str]:
     return text
 
 
-def section(bench: Bench) -> Tuple[str, bool]:
+def section(bench: Bench) -> tuple[str, bool]:
     """The text of a bench, and whether all went well."""
     for program in (it for it in bench.words if isinstance(it, pathlib.Path)):
         if not program.exists():
@@ -104,12 +101,9 @@ def section(bench: Bench) -> Tuple[str, bool]:
 
 def machine() -> str:
     """The processor and the system."""
-    model = platform.machine()
-    try:
-        text = pathlib.Path("/proc/cpuinfo").read_text(encoding="ascii", errors="replace")
-        model = re.search(r"^model name\s*: *(.*)$", text, re.MULTILINE).group(1)
-    except (OSError, AttributeError):
-        pass
+    text = pathlib.Path("/proc/cpuinfo").read_text(encoding="ascii", errors="replace")
+    found = re.search(r"^model name\s*: *(.*)$", text, re.MULTILINE)
+    model = found[1] if found else platform.machine()
     return f"{os.cpu_count()} processors ({model}), {platform.system()} {platform.release()}"
 
 
@@ -146,10 +140,7 @@ def main() -> int:
     if not given.long and not given.only:
         texts.append("\n".join(["## Not run here", "", *left, ""]))
     out = given.out or (None if given.only else kit.TOP / "docs" / "FIGURES.md")
-    if out:
-        out.write_text("\n".join(texts), encoding="utf-8")
-    else:
-        print("\n".join(texts))
+    kit.write_page("\n".join(texts), out)
     return kit.end(wrong)
 
 

@@ -17,7 +17,7 @@ import os
 import pathlib
 import re
 import textwrap
-from typing import Iterable, Iterator, List, NamedTuple, Optional, Set, Tuple
+from typing import Iterable, Iterator, NamedTuple, Optional
 
 import kit
 
@@ -49,9 +49,9 @@ class Solved(NamedTuple):
     number: Optional[int]
     seconds: float
     is_settled: bool
-    wrong: List[str]
+    wrong: list[str]
 
-    def cells(self) -> List[str]:
+    def cells(self) -> list[str]:
         """The cells of the table."""
         number = "" if self.number is None else f"{self.number:,}"
         return [self.winner, number, f"{self.seconds:.2f}"]
@@ -62,7 +62,7 @@ def solved(text: str, given: argparse.Namespace) -> Solved:
     family = ["span"] if text.startswith("posgame-span") else []
     with kit.files(game=text) as folder:
         paths = folder / "game", folder / "certificate"
-        words: List[object] = [given.program, *family, "solve", *paths]
+        words: list[object] = [given.program, *family, "solve", *paths]
         if not family and "kind switching" not in text:
             words += ["--positions", given.positions]
         done = kit.run(*words, most=given.seconds)
@@ -81,38 +81,39 @@ def solved(text: str, given: argparse.Namespace) -> Solved:
     return Solved(winner, number, done.processor, True, wrong)
 
 
-def rows_of(size: int) -> List[kit.Line]:
+def rows_of(size: int) -> list[kit.Line]:
     """The rows, columns and diagonals of a square."""
-    square = [[row * size + column for column in range(size)] for row in range(size)]
+    square = [list(range(row * size, (row + 1) * size)) for row in range(size)]
     diagonals = [[i * size + i for i in range(size)], [(i + 1) * (size - 1) for i in range(size)]]
     return square + [list(it) for it in zip(*square)] + diagonals
 
 
-def grown(animals: Iterable[kit.Cells]) -> Set[kit.Cells]:
-    """All animals with one cell more."""
-    found = set()
-    for cells in animals:
-        for row, column in cells:
-            for down, right in ((1, 0), (-1, 0), (0, 1), (0, -1)):
-                if (row + down, column + right) not in cells:
-                    found.add(min(kit.turned([*cells, (row + down, column + right)])))
-    return found
-
-
 def animals(most: int) -> Iterator[str]:
     """The words of all animals of up to so many cells, that with a name if an image has one."""
-    of_size: Set[kit.Cells] = {((0, 0),)}
+    of_size: set[kit.Cells] = {((0, 0),)}
     for _ in range(most):
         words = []
         for cells in of_size:
-            images = sorted(set(map(kit.word_of, kit.turned(cells))))
+            images = sorted(map(kit.word_of, kit.turned(cells)))
             words.append(next((word for word in images if word in NAMES), images[-1]))
         yield from sorted(words, key=lambda word: NAMES.get(word, word))
-        of_size = grown(of_size)
+        of_size = {min(kit.turned([*cells, cell])) for cells in of_size
+                   for cell in kit.beside(cells)}
 
 
 # The cells that begin a line of a table, and the files of its boards.
-Row = Tuple[List[str], List[str]]
+Row = tuple[list[str], list[str]]
+
+
+class Part(NamedTuple):
+    """A part of the page: its title, a sentence on it, the heads of the first columns and of the
+    boards, and its rows."""
+
+    title: str
+    said: str
+    first: list[str]
+    heads: list[str]
+    rows: Iterable[Row]
 
 
 def noughts() -> Iterator[Row]:
@@ -148,37 +149,36 @@ def connected() -> Iterator[Row]:
         yield [name, str(len(graph[1]))], [kit.span(graph)]
 
 
-def parts() -> Iterator[Tuple[str, str, List[str], List[str], Iterable[Row]]]:
-    """The title of each part, a sentence on it, the heads of the first columns and of the boards,
-    and its rows."""
-    yield ("Noughts and crosses", "The lines are rows, columns and both diagonals. X begins.",
-           ["board"], list(kit.KINDS.values()), noughts())
+def parts() -> Iterator[Part]:
+    """Yields the parts of the page."""
+    yield Part("Noughts and crosses", "The lines are rows, columns and both diagonals. X begins.",
+               ["board"], list(kit.KINDS.values()), noughts())
     for kind, goal in ANIMALS.items():
-        yield (f"Animals, {kit.KINDS[kind]}", "All animals of up to five cells, in each "
-               f"position, turned and reflected: {goal}", ["animal"],
-               [f"{it} by {it}" for it in SIDES], animals_of(kind))
+        yield Part(f"Animals, {kit.KINDS[kind]}", "All animals of up to five cells, in each "
+                   f"position, turned and reflected: {goal}", ["animal"],
+                   [f"{it} by {it}" for it in SIDES], animals_of(kind))
     bridges = [([str(rows), str(len(kit.bridge(rows)[1]))], [kit.switching(kit.bridge(rows))])
                for rows in range(1, 23)]
-    yield ("Bridg-it", "Whoever begins wins, by two trees and two cuts.", ["rows", "edges"],
-           ["class"], bridges)
+    yield Part("Bridg-it", "Whoever begins wins, by two trees and two cuts.", ["rows", "edges"],
+               ["class"], bridges)
     for title, kind, turn, first, other in (
             ("Maker-Breaker", "maker-breaker", "x", "Maker", "Breaker"),
             ("Avoider-Enforcer, Avoider begins", "avoider-enforcer", "x", "Avoider", "Enforcer"),
             ("Avoider-Enforcer, Enforcer begins", "avoider-enforcer", "y", "Enforcer", "Enforcer")):
-        yield (f"Boxes, {title}", f"Boxes without common points; {first} begins, and {other} claims"
-               " one to three points in a turn.", ["boxes", "points of each"],
-               ["1 a turn", "2 a turn", "3 a turn"], boxes(kind, turn))
-    yield ("Connectivity games", "Maker wants to join all vertices. The proof has a claim with "
-           "either side to move.", ["graph", "edges"], ["class"], connected())
+        yield Part(f"Boxes, {title}", f"Boxes without common points; {first} begins, and {other} "
+                   "claims one to three points in a turn.", ["boxes", "points of each"],
+                   ["1 a turn", "2 a turn", "3 a turn"], boxes(kind, turn))
+    yield Part("Connectivity games", "Maker wants to join all vertices. The proof has a claim with "
+               "either side to move.", ["graph", "edges"], ["class"], connected())
 
 
-def summary(boards: List[Solved]) -> str:
+def summary(boards: list[Solved]) -> str:
     """How many boards are settled, and in what time."""
     settled, seconds = sum(it.is_settled for it in boards), sum(it.seconds for it in boards)
     return f"{settled} of {len(boards)} settled, in {seconds:.0f} s of a processor."
 
 
-def head(boards: List[Solved], given: argparse.Namespace) -> str:
+def head(boards: list[Solved], given: argparse.Namespace) -> str:
     """The lines that begin the page."""
     settled, day = sum(it.is_settled for it in boards), datetime.date.today()
     return f"""# Boards
@@ -197,20 +197,18 @@ In Maker-Maker `first` is the side that begins. The class `who begins` is what `
 """
 
 
-def section(part: Tuple[str, str, List[str], List[str], Iterable[Row]],
-            pool: concurrent.futures.Executor,
-            given: argparse.Namespace) -> Tuple[List[str], List[Solved]]:
+def section(part: Part, pool: concurrent.futures.Executor,
+            given: argparse.Namespace) -> tuple[list[str], list[Solved]]:
     """Solves the boards of a part; returns its lines of the page, and what came of each board."""
-    title, said, first, heads, rows = part
-    rows = list(rows)
+    rows = list(part.rows)
     boards = list(pool.map(lambda it: solved(it, given), (it for _, texts in rows for it in texts)))
-    print(f"{title}: {summary(boards)}", flush=True)
-    number, left = "claims" if title.startswith("Connectivity") else "nodes", iter(boards)
+    print(f"{part.title}: {summary(boards)}", flush=True)
+    number, left = "claims" if part.title.startswith("Connectivity") else "nodes", iter(boards)
     lines = [[*names, *(cell for _ in texts for cell in next(left).cells())]
              for names, texts in rows]
-    columns = first + [cell for it in heads for cell in (it, number, "s")]
-    prose = textwrap.wrap(f"{said} {summary(boards)}", 100)
-    return [f"## {title}", "", *prose, "", *kit.table(columns, lines), ""], boards
+    columns = part.first + [cell for it in part.heads for cell in (it, number, "s")]
+    prose = textwrap.wrap(f"{part.said} {summary(boards)}", 100)
+    return [f"## {part.title}", "", *prose, "", *kit.table(columns, lines), ""], boards
 
 
 def main() -> int:
@@ -223,14 +221,10 @@ def main() -> int:
                        " printed, unless --out names a file")
     given = words.parse_args()
     with concurrent.futures.ThreadPoolExecutor(given.jobs) as pool:
-        sections = [section(it, pool, given) for it in parts() if given.only in it[0]]
+        sections = [section(it, pool, given) for it in parts() if given.only in it.title]
     boards = [it for _, of_part in sections for it in of_part]
     whole = "\n".join([head(boards, given), *(line for lines, _ in sections for line in lines)])
-    out = given.out or ("" if given.only else kit.TOP / "docs" / "BOARDS.md")
-    if out:
-        pathlib.Path(out).write_text(whole, encoding="utf-8")
-    else:
-        print(whole)
+    kit.write_page(whole, given.out or ("" if given.only else kit.TOP / "docs" / "BOARDS.md"))
     return kit.end(fault for it in boards for fault in it.wrong)
 
 

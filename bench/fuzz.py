@@ -35,12 +35,12 @@ import re
 import resource
 import shutil
 import signal
-from typing import Any, Dict, List, Optional, Tuple
+from typing import Any, Callable, Optional
 
 import kit
 
 Draw = random.Random
-Pairs = Dict[Optional[str], List[Tuple[bytes, bytes]]]
+Pairs = dict[Optional[str], list[tuple[bytes, bytes]]]
 
 SECONDS = 2
 BY_THE_CLOCK = 30
@@ -61,8 +61,8 @@ REFUSED = r"refused: (not a number|no such point|taken)\n"
 TURNS = rf"claim [xy] (win|draw)\n(move \d+\n|{REFUSED})*"
 
 
-def dues(prefix: str, flaw: str, goals: str, solved: Dict[int, str],
-         played: str) -> Dict[Optional[str], Dict[int, str]]:
+def dues(prefix: str, flaw: str, goals: str, solved: dict[int, str],
+         played: str) -> dict[Optional[str], dict[int, str]]:
     """What the commands on a kind of game may print at each status."""
     reading = {3: r"game G([1-9]|1[0-3]) line \d+\n", 4: rf"{FORM_FAULT}|{flaw}", 5: ""}
     play = {0: TURNS + played, 2: r"words: no claim for side [xy]\n", **reading, 8: TURNS, 9: TURNS}
@@ -104,7 +104,7 @@ class Program:
         self.most, self.slowest = 0, 0.0
         self.streams = [f"{folder}.{it}" for it in ("in", "out", "err")]
 
-    def run(self, words: List[str], typed: bytes = b"") -> Tuple[int, str, bytes, int, float]:
+    def run(self, words: list[str], typed: bytes = b"") -> tuple[int, str, bytes, int, float]:
         """The status (or the signal below 0), the output, the errors, megabytes, seconds."""
         pathlib.Path(self.streams[0]).write_bytes(typed)
         new = os.O_WRONLY | os.O_CREAT | os.O_TRUNC
@@ -126,29 +126,26 @@ class Program:
         return status, said.decode("utf-8", "replace"), errors, megabytes, seconds
 
 
-def held(folder: pathlib.Path) -> Dict[str, Optional[bytes]]:
+def held(folder: pathlib.Path) -> dict[str, Optional[bytes]]:
     """What each name in the folder holds."""
     return {str(it.relative_to(folder)): it.read_bytes() if it.is_file() else None
             for it in folder.rglob("*")}
 
 
-def is_within(word: str, least: int, most: int, digits: int = 9) -> bool:
-    """Whether a word is a number within these limits, of so many digits at most."""
-    form = rf"0|[1-9][0-9]{{0,{digits - 1}}}"
-    return re.fullmatch(form, word) is not None and least <= int(word) <= most
+def is_within(word: str, least: int, most: int) -> bool:
+    """Whether a word is a number within these limits."""
+    return re.fullmatch("0|[1-9][0-9]{0,9}", word) is not None and least <= int(word) <= most
 
 
-def taken(words: List[str]) -> Optional[Tuple[List[Tuple[str, str]], List[str]]]:
+def taken(words: list[str]) -> Optional[tuple[list[tuple[str, str]], list[str]]]:
     """The options and the other words of a list, or None where it has no meaning."""
     options, others, rest = [], [], list(words)
     while rest:
         word = rest.pop(0)
+        name, sign, value = word.partition("=")
         if word == "--":
             return options, others + rest
-        name, sign, value = word.partition("=")
-        if word in ("--positions", "--side"):
-            if not rest or rest[0].startswith("-"):
-                return None
+        if word in ("--positions", "--side") and rest and not rest[0].startswith("-"):
             options.append((word, rest.pop(0)))
         elif name in ("--positions", "--side") and sign:
             options.append((name, value))
@@ -159,51 +156,49 @@ def taken(words: List[str]) -> Optional[Tuple[List[Tuple[str, str]], List[str]]]
     return options, others
 
 
-def made(kind: str, others: List[str]) -> Optional[List[str]]:
+# The limits of the numbers of each kind of game that is made.
+LIMITS = {"rows": [(2, 16)], "bridge": [(1, 22)],
+          "scatter": [(0, 2**31 - 1), (1, 256), (0, 20_000), (1, 100)]}
+
+
+def made(kind: str, *others: str) -> Optional[list[str]]:
     """What `gen` writes, or None where its words have no meaning."""
-    numbers = {"rows": 1, "bridge": 1, "scatter": 4}.get(kind)
-    if numbers is None or len(others) - numbers not in (1, 2):
-        return None
-    given, names = others[:numbers], others[numbers:]
-    if kind != "scatter":
-        limits = {"rows": (2, 16), "bridge": (1, 22)}[kind]
-        return names if is_within(given[0], *limits) else None
-    seed, points, lines, size = given
-    is_board = is_within(points, 1, 256) and is_within(lines, 0, 20_000)
-    if not is_within(seed, 0, 2**31 - 1, 10) or not is_board:
-        return None
-    is_size = is_within(size, 1, min(int(points), 100)) and int(lines) * int(size) <= 400_000
-    return names if is_size else None
+    limits = LIMITS.get(kind, [])
+    numbers, names = others[:len(limits)], list(others[len(limits):])
+    is_meant = bool(limits) and len(names) in (1, 2) and all(map(
+        is_within, numbers, *zip(*limits)))
+    if is_meant and kind == "scatter":
+        _, points, lines, size = map(int, numbers)
+        is_meant = size <= points and lines * size <= 400_000
+    return names if is_meant else None
 
 
-def meaning(words: List[str]) -> Tuple[Optional[str], List[str]]:
+def meaning(words: list[str]) -> tuple[Optional[str], list[str]]:
     """The command and what it writes; None and nothing if the words have no meaning."""
-    none: Tuple[Optional[str], List[str]] = (None, [])
-    split = taken(words)
-    if split is None or not split[1]:
-        return none
-    options, (command, *others) = split
+    none: tuple[Optional[str], list[str]] = (None, [])
+    options, others = taken(words) or ([], [])
     values = dict(options)
-    if len(values) < len(options):
+    if not others or len(values) < len(options):
         return none
+    command, *others = others
     if command == "gen" and not options:
-        names = made(others[0], others[1:]) if others else None
+        names = made(*others) if others else None
         return none if names is None else ("gen", names)
     family = f"{command} " if command in ("span", "vec") and others else ""
     if family:
         command, *others = others
-    known = ["solve", "check", "play"] + ["report"] * (not family)
-    if command not in known or len(others) != 2:
+    known = {"solve": {"--positions"}, "check": set(), "play": {"--side"}, "report": set()}
+    if family:
+        known = {"solve": set(), "check": set(), "play": {"--side"}}
+    if command not in known or len(others) != 2 or not values.keys() <= known[command]:
         return none
-    allowed = {"solve": [] if family else ["--positions"], "play": ["--side"]}.get(command, [])
-    if not set(values) <= set(allowed) or not is_within(values.get("--positions", "1"), 1, 100_000):
-        return none
-    if command == "play" and values.get("--side") not in ("x", "y"):
+    is_side = command != "play" or values.get("--side") in ("x", "y")
+    if not is_side or not is_within(values.get("--positions", "1"), 1, 100_000):
         return none
     return family + command, others[1:] if command == "solve" else []
 
 
-def wrongs(program: Program, words: List[str], typed: bytes = b"") -> Tuple[List[str], int, str]:
+def wrongs(program: Program, words: list[str], typed: bytes = b"") -> tuple[list[str], int, str]:
     """Runs the program; what is wrong with the run, with its status and what it said."""
     before = held(program.folder)
     status, said, errors, megabytes, seconds = program.run(words, typed)
@@ -228,7 +223,7 @@ def wrongs(program: Program, words: List[str], typed: bytes = b"") -> Tuple[List
     return found, status, said
 
 
-def stored(program: Program, names: List[str], words: List[str], *prefix: str) -> List[str]:
+def stored(program: Program, names: list[str], words: list[str], *prefix: str) -> list[str]:
     """Runs the program, and checks what it stored; what is wrong with the two."""
     found, status, _ = wrongs(program, [*prefix, *words])
     if status == 0 and len(names) == 2:
@@ -237,20 +232,20 @@ def stored(program: Program, names: List[str], words: List[str], *prefix: str) -
     return found
 
 
-def cut(draw: Draw, data: bytes, _: List[str]) -> bytes:
+def cut(draw: Draw, data: bytes, _: list[str]) -> bytes:
     """A part from the start."""
     return data[: draw.randrange(len(data) + 1)]
 
 
-def one_byte(draw: Draw, data: bytes, _: List[str]) -> bytes:
+def one_byte(draw: Draw, data: bytes, _: list[str]) -> bytes:
     """One byte put in, or in place of another."""
     place = draw.randrange(len(data) + 1)
     byte = bytes([draw.choice((draw.randrange(256), 32, 10, 13, 0, 124, 48, 45))])
     return data[:place] + byte + data[place + draw.randrange(2) :]
 
 
-def lines_moved(draw: Draw, data: bytes, _: List[str]) -> bytes:
-    """A line dropped, repeated or moved, or some lines repeated."""
+def lines_moved(draw: Draw, data: bytes, _: list[str]) -> bytes:
+    """A line dropped, repeated or exchanged, or some lines repeated."""
     lines = data.split(b"\n")
     first, second = draw.randrange(len(lines)), draw.randrange(len(lines))
     how = draw.randrange(4)
@@ -266,31 +261,29 @@ def lines_moved(draw: Draw, data: bytes, _: List[str]) -> bytes:
     return b"\n".join(lines)
 
 
-def words_changed(draw: Draw, data: bytes, pool: List[str]) -> bytes:
+def words_changed(draw: Draw, data: bytes, pool: list[str]) -> bytes:
     """One word changed."""
     parts = re.split(rb"([ \n|:-])", data)
     place = draw.randrange(len(parts))
     how = draw.randrange(4)
     if how == 0 and parts[place].isdigit():
-        parts[place] = str(max(0, int(parts[place]) + draw.choice((-1, 1, 1, 7, 100)))).encode()
-    elif how == 1:
-        parts[place] = parts[draw.randrange(len(parts))]
+        parts[place] = b"%d" % max(0, int(parts[place]) + draw.choice((-1, 1, 1, 7, 100)))
     else:
-        parts[place] = draw.choice(pool + NUMBERS).encode()
+        parts[place] = draw.choice(parts) if how == 1 else draw.choice(pool + NUMBERS).encode()
     return b"".join(parts)
 
 
-def numbers_changed(draw: Draw, data: bytes, _: List[str]) -> bytes:
+def numbers_changed(draw: Draw, data: bytes, _: list[str]) -> bytes:
     """One number a little higher or lower: what is most often still a file in form."""
     found = list(re.finditer(rb"\d+", data))
     if not found:
         return data
     at = draw.choice(found)
-    number = max(0, int(at.group()) + draw.choice((-1, 1)))
-    return data[: at.start()] + str(number).encode() + data[at.end() :]
+    number = max(0, int(at[0]) + draw.choice((-1, 1)))
+    return data[: at.start()] + b"%d" % number + data[at.end() :]
 
 
-def long_file(draw: Draw, data: bytes, _: List[str]) -> bytes:
+def long_file(draw: Draw, data: bytes, _: list[str]) -> bytes:
     """A line repeated many times."""
     part = draw.choice(data.split(b"\n")) + draw.choice((b"\n", b" ", b""))
     most = 2_000_000 // (len(part) + 1)
@@ -302,7 +295,7 @@ CHANGES = {numbers_changed: 40, words_changed: 20, lines_moved: 18, one_byte: 14
            long_file: 1}
 
 
-def mutated(draw: Draw, data: bytes, pool: List[str]) -> bytes:
+def mutated(draw: Draw, data: bytes, pool: list[str]) -> bytes:
     """Some changes one after the other."""
     for _ in range(draw.choice((0, 1, 1, 1, 2, 3, 8))):
         # A long file stays as long as it is: a run counts the memory of this script.
@@ -329,8 +322,8 @@ def write(folder: pathlib.Path, **files: bytes) -> None:
         (folder / name).write_bytes(data)
 
 
-def disagreements(check: Tuple[int, str], report: Optional[Tuple[int, str]],
-                  play: Tuple[int, str]) -> List[str]:
+def disagreements(check: tuple[int, str], report: Optional[tuple[int, str]],
+                  play: tuple[int, str]) -> list[str]:
     """What is wrong with the three commands' statuses and texts. A family has no report."""
     (checked, text), (reported, told), (played, log) = check, report or (check[0], ""), play
     found, is_right = [], reported == 0 and played in (0, 2, 8, 9)
@@ -347,7 +340,7 @@ def disagreements(check: Tuple[int, str], report: Optional[Tuple[int, str]],
 
 
 def certificate_case(draw: Draw, program: Program, pairs: Pairs,
-                     family: Optional[str] = None) -> List[str]:
+                     family: Optional[str] = None) -> list[str]:
     """Check, report and play of one pair of files, which must agree."""
     game, certificate = draw.choice(pairs[family])
     keys, signs = (FAMILY_KEYS, FAMILY_SIGNS) if family else (KEYS, SIGNS)
@@ -364,14 +357,14 @@ def certificate_case(draw: Draw, program: Program, pairs: Pairs,
     return found + disagreements(ends[0], None if family else ends[1], ends[-1])
 
 
-def family_case(draw: Draw, program: Program, pairs: Pairs) -> List[str]:
+def family_case(draw: Draw, program: Program, pairs: Pairs) -> list[str]:
     """Check and play of one pair of files of a family, which must agree; and the game solved."""
     family = draw.choice(("span", "vec"))
     found = certificate_case(draw, program, pairs, family)
     return found + stored(program, ["G", "O"], ["solve", "G", "O"], family)
 
 
-def solve_case(draw: Draw, program: Program, pairs: Pairs) -> List[str]:
+def solve_case(draw: Draw, program: Program, pairs: Pairs) -> list[str]:
     """A game that is solved, and what was stored then."""
     game = mutated(draw, draw.choice(pairs[None])[0], KEYS)
     write(program.folder, G=game, C=b"old")
@@ -379,7 +372,7 @@ def solve_case(draw: Draw, program: Program, pairs: Pairs) -> List[str]:
     return stored(program, ["G", "C"], words if draw.randrange(3) else words[:3])
 
 
-def gen_case(draw: Draw, program: Program, _: Pairs) -> List[str]:
+def gen_case(draw: Draw, program: Program, _: Pairs) -> list[str]:
     """A game that is made, and what was stored then."""
     write(program.folder, G=b"old game", C=b"old")
     rows, bridge = f"rows {draw.choice((2, 3, 4, 5, 16, 17))}", f"bridge {draw.randrange(24)}"
@@ -389,7 +382,7 @@ def gen_case(draw: Draw, program: Program, _: Pairs) -> List[str]:
     return stored(program, names, words)
 
 
-def words_case(draw: Draw, program: Program, pairs: Pairs) -> List[str]:
+def words_case(draw: Draw, program: Program, pairs: Pairs) -> list[str]:
     """Words of any kind."""
     game, certificate = draw.choice(pairs[draw.choice((None, None, "span", "vec"))])
     write(program.folder, **{"G": game, "C": certificate, "-G": game, "ä": certificate})
@@ -435,10 +428,10 @@ def pairs_of_examples(program: Program) -> Pairs:
     return {family: pairs * 6 + rejected[family] for family, pairs in accepted.items()}
 
 
-def try_cases(program: Program, given: argparse.Namespace) -> Tuple[int, int, List[str]]:
+def try_cases(program: Program, given: argparse.Namespace) -> tuple[int, int, list[str]]:
     """Runs cases, and returns how many runs and cases there were and what was wrong."""
     pairs = pairs_of_examples(program)
-    begun, number, wrong = program.runs, given.first, []  # type: int, int, List[str]
+    begun, number, wrong = program.runs, given.first, []  # type: int, int, list[str]
     while program.runs - begun < given.runs:
         draw = random.Random(f"{given.seed} {number}")
         case: Any = draw.choice(CASES)

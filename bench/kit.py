@@ -221,6 +221,14 @@ def end(wrong: Iterable[str]) -> int:
     return 1 if lines else 0
 
 
+def write_page(text: str, out: object) -> None:
+    """Writes a page to the file `out`, or prints it if that is empty."""
+    if out:
+        pathlib.Path(str(out)).write_text(text, encoding="utf-8")
+    else:
+        print(text)
+
+
 # Texts of files.
 
 
