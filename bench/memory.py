@@ -14,43 +14,17 @@ is due before the next position is decided. Unproved.
 from __future__ import annotations
 
 import collections
+import itertools
 import os
 import pathlib
 import subprocess
 import sys
-from typing import Dict, Iterator, List, NamedTuple
+from typing import Iterator, NamedTuple
 
 import kit
 
 # The status of a run that has no memory, and those of a failed call that reads or writes.
 NO_MEMORY, FAILED_CALLS = 7, (5, 6)
-
-REFUSING = """
-#include <stdlib.h>
-#include <unistd.h>
-
-extern void *__libc_malloc(size_t size);
-extern void *__libc_realloc(void *old, size_t size);
-
-static long left;
-
-__attribute__((constructor)) static void begin(void) {
-    const char *word = getenv("REFUSED");
-    left = word ? atol(word) : 0;
-}
-
-static int is_refused(void) {
-    return left > 0 && --left == 0 && write(2, "refused", 7) == 7;
-}
-
-void *malloc(size_t size) {
-    return is_refused() ? NULL : __libc_malloc(size);
-}
-
-void *realloc(void *old, size_t size) {
-    return is_refused() ? NULL : __libc_realloc(old, size);
-}
-"""
 
 ROWS = kit.line_rows([[0, 1, 2], [3, 4, 5], [6, 7, 8], [0, 3, 6], [1, 4, 7], [2, 5, 8],
                       [0, 4, 8], [2, 4, 6]])
@@ -79,7 +53,7 @@ class Row(NamedTuple):
     game: str
     other: str
     typed: str
-    due: List[str]
+    due: list[str]
 
 
 RUNS = [
@@ -115,8 +89,8 @@ class Left(NamedTuple):
     an allocation was refused."""
 
     status: int
-    lines: List[str]
-    files: Dict[str, str]
+    lines: list[str]
+    files: dict[str, str]
     refused: bool
 
 
@@ -133,17 +107,17 @@ def leave(program: str, library: pathlib.Path, row: Row, number: int) -> Left:
 def ending(row: Row, whole: Left, left: Left) -> str:
     """Says how a run ended, beside the run in which nothing was refused; after a refusal also
     after how many lines."""
-    before = {"G": row.game, "C": row.other}
-    if any(text not in (before.get(name), whole.files.get(name))
-           for name, text in left.files.items()) or left.files.keys() != whole.files.keys():
+    before, count = {"G": row.game, "C": row.other}, len(left.lines)
+    if left.files.keys() != whole.files.keys() or any(
+            text not in (before.get(name), whole.files[name]) for name, text in left.files.items()):
         return "broken files"
     if left.status == whole.status and left.lines == row.due:
         return "as due" if left.files == whole.files else "broken files"
-    is_cut = left.lines == row.due[:len(left.lines)] and len(left.lines) < len(row.due)
-    is_claimed = bool(left.lines) and row.due[0].startswith("claim")
-    if left.status == NO_MEMORY and is_cut and not is_claimed:
-        return f"status 7 after {len(left.lines)}"
-    return "status 5 or 6" if left.status in FAILED_CALLS and is_cut else "broken"
+    if left.lines != row.due[:count] or count == len(row.due):
+        return "broken"
+    if left.status == NO_MEMORY and not (count and row.due[0].startswith("claim")):
+        return f"status 7 after {count}"
+    return "status 5 or 6" if left.status in FAILED_CALLS else "broken"
 
 
 def endings(program: str, library: pathlib.Path, row: Row) -> Iterator[str]:
@@ -152,20 +126,19 @@ def endings(program: str, library: pathlib.Path, row: Row) -> Iterator[str]:
     if whole.status or whole.lines != row.due:
         yield "broken without a refusal"
         return
-    number, left = 1, leave(program, library, row, 1)
-    while left.refused:
-        yield ending(row, whole, left)
-        number += 1
+    for number in itertools.count(1):
         left = leave(program, library, row, number)
+        if not left.refused:
+            return
+        yield ending(row, whole, left)
 
 
 def main() -> int:
     """Prints a line for each row, and returns 1 if a run ended as none may."""
     program, table = kit.program(__doc__), kit.Table("run", "how it ended, by refusals")
-    with kit.files(**{"refusing.c": REFUSING}) as folder:
-        library = folder / "refusing.so"
-        subprocess.run(["cc", "-shared", "-fPIC", "-o", str(library), str(folder / "refusing.c")],
-                       check=True)
+    with kit.files() as folder:
+        library, source = folder / "refusing.so", kit.TOP / "bench" / "refusing.c"
+        subprocess.run(["cc", "-shared", "-fPIC", "-o", str(library), str(source)], check=True)
         for number, row in enumerate(RUNS, 1):
             counts = collections.Counter(endings(program, library, row))
             faults = [it.upper() for it in counts if it.startswith("broken")]
