@@ -11,30 +11,20 @@ from __future__ import annotations
 
 import functools
 import itertools
-from typing import Any, Callable, Iterator, List, Set, Tuple
+from typing import Any, Callable, Iterator
 
 import kit
 from kit import Edge, Points
 
 POINTS = 5
-BOARDS: List[List[Tuple[int, ...]]] = [
-    [],
-    [(0, 1), (0, 2)],
-    [(0, 1), (0, 2), (0, 3)],
-    [(0, 1), (2, 3)],
-    [(0, 1, 2), (2, 3, 4)],
-    [(0, 1), (1, 2), (2, 3), (3, 4), (0, 4)],
-    [(0,), (1, 2, 3)],
+BOARDS: list[list[tuple[int, ...]]] = [
+    [], [(0, 1), (0, 2)], [(0, 1), (0, 2), (0, 3)], [(0, 1), (2, 3)], [(0, 1, 2), (2, 3, 4)],
+    [(0, 1), (1, 2), (2, 3), (3, 4), (0, 4)], [(0,), (1, 2, 3)],
     [(0, 1, 2), (0, 1, 2), (0, 1, 3), (0, 2, 4), (3, 4)],
 ]
-GRAPHS: List[List[Edge]] = [
-    [],
-    [(0, 1)],
-    [(0, 1), (0, 1)],
-    [(0, 2), (2, 1)],
-    [(0, 2), (2, 1), (0, 1), (2, 2)],
-    [(0, 2), (0, 2), (2, 1), (2, 1)],
-    [(0, 2), (0, 3), (2, 3), (2, 1), (3, 1)],
+GRAPHS: list[list[Edge]] = [
+    [], [(0, 1)], [(0, 1), (0, 1)], [(0, 2), (2, 1)], [(0, 2), (2, 1), (0, 1), (2, 2)],
+    [(0, 2), (0, 2), (2, 1), (2, 1)], [(0, 2), (0, 3), (2, 3), (2, 1), (3, 1)],
     [(0, 2), (2, 3), (3, 2), (3, 1), (0, 1)],
 ]
 GOOD = {("x", "win"): (1,), ("x", "draw"): (0, 1), ("y", "win"): (-1,), ("y", "draw"): (-1, 0)}
@@ -84,8 +74,8 @@ class Game(kit.LineGame):
         return attacks and self.score(x, y) is None and self.attack(mine, theirs, depth)
 
 
-def counts(criterion: Callable[..., bool], sets: List[Any], kind: str, side: str, goal: str,
-           bias: int) -> List[int]:
+def counts(criterion: Callable[..., bool], sets: list[Any], kind: str, side: str, goal: str,
+           bias: int) -> list[int]:
     """On each board, how often a criterion holds with one of the sets, and at how many positions
     the goal is reached."""
     found = []
@@ -109,7 +99,7 @@ potential_counts = functools.partial(counts, Game.potential, [()])
 pair_counts = functools.partial(counts, Game.pairing, PAIRS)
 
 
-def threat_counts(kind: str) -> List[Tuple[int, int, int]]:
+def threat_counts(kind: str) -> list[tuple[int, int, int]]:
     """Of each board how many positions are won at once, by attacks, and at all."""
     found = []
     for lines in BOARDS:
@@ -128,14 +118,14 @@ def threat_counts(kind: str) -> List[Tuple[int, int, int]]:
 class GraphGame:
     """A switching game between the vertices 0 and 1; the number of edges is the extra edge."""
 
-    def __init__(self, ends: List[Edge]) -> None:
+    def __init__(self, ends: list[Edge]) -> None:
         self.ends, self.count = ends + [(0, 1)], len(ends)
         self.tops = functools.lru_cache(None)(self.find_tops)
         every = range(self.count)
         self.x_wins = kit.set_game(self.count, lambda points: self.joins(
             {v for v in every if points >> v & 1}, self.count))
 
-    def find_tops(self, edges: Points) -> List[int]:
+    def find_tops(self, edges: Points) -> list[int]:
         """For each vertex, a vertex of its part by these edges."""
         top = list(range(4))
         for edge in edges:
@@ -143,7 +133,7 @@ class GraphGame:
             top = [b if t == a else t for t in top]
         return top
 
-    def joins(self, edges: Set[int] | Points, edge: int) -> bool:
+    def joins(self, edges: set[int] | Points, edge: int) -> bool:
         """Whether the edges join the ends of the edge."""
         top = self.tops(frozenset(edges))
         return top[self.ends[edge][0]] == top[self.ends[edge][1]]
@@ -159,13 +149,13 @@ class GraphGame:
         return all(not self.joins(rest - mine - {f}, f)
                    for mine, other in ((a, b | (extra - a)), (b, a | extra)) for f in other)
 
-    def pairs_of_sets(self, x: Points, y: Points) -> Iterator[Tuple[Points, Points]]:
+    def pairs_of_sets(self, x: Points, y: Points) -> Iterator[tuple[Points, Points]]:
         """Two disjoint sets of free edges, in every way."""
         free = [v for v in range(self.count) if v not in x | y]
         for a, b in kit.marked(len(free)):
             yield frozenset(free[k] for k in a), frozenset(free[k] for k in b)
 
-    def counts(self) -> Tuple[int, int, int]:
+    def counts(self) -> tuple[int, int, int]:
         """How many positions X wins, and how many pairs of sets are trees and cuts."""
         won = trees = cuts = 0
         for x, y in kit.marked(self.count):

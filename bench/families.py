@@ -15,12 +15,12 @@ from __future__ import annotations
 import pathlib
 import random
 import re
-from typing import Any, Iterable, Iterator, List, Optional, Tuple
+from typing import Any, Iterable, Iterator, Optional
 
 import kit
 
 # The number of rows, the target and the vectors, each a number of so many bits.
-Vectors = Tuple[int, int, List[int]]
+Vectors = tuple[int, int, list[int]]
 # Time is limited, and as many million instructions as 3,000 million a second make of it.
 COLUMNS = ("game", "class", kit.Column("solved, million instructions", ".4g", 600),
            kit.Column("ms", ".4g", 200), kit.Column("checked, million", ".4g", 150),
@@ -32,22 +32,16 @@ def scattered(vertices: int, edges: int) -> kit.Graph:
     """A tree and edges between vertices drawn at random, always the same, in a random order."""
     draw = random.Random(22)
     ends = [(v, draw.randrange(v)) for v in range(1, vertices)]
-    for _ in range(edges - len(ends)):
-        ends.append((draw.randrange(vertices), draw.randrange(vertices)))
+    ends += [(draw.randrange(vertices), draw.randrange(vertices)) for _ in range(edges - len(ends))]
     draw.shuffle(ends)
     return vertices, ends
-
-
-def ones(points: Iterable[int]) -> int:
-    """The vector with a one at each of these rows."""
-    return sum(1 << k for k in points)
 
 
 def drawn_vectors(seed: int, count: int, weight: Optional[int]) -> Vectors:
     """Vectors of 128 rows drawn at random, with so many ones or, without a weight, bit by bit."""
     draw = random.Random(seed)
-    target, *vectors = [ones(draw.sample(range(128), weight)) if weight else draw.getrandbits(128)
-                        for _ in range(count + 1)]
+    target, *vectors = [kit.bits(draw.sample(range(128), weight)) if weight
+                        else draw.getrandbits(128) for _ in range(count + 1)]
     return 128, target, vectors
 
 
@@ -56,26 +50,25 @@ def parted(seed: int, many: int, few: int) -> Vectors:
     others, as the target is."""
     draw = random.Random(seed)
     vectors = [draw.getrandbits(60) for _ in range(many)]
-    vectors += [ones(draw.sample(range(60, 128), 2)) for _ in range(few)]
+    vectors += [kit.bits(draw.sample(range(60, 128), 2)) for _ in range(few)]
     draw.shuffle(vectors)
-    return 128, ones(draw.sample(range(60, 128), 2)), vectors
+    return 128, kit.bits(draw.sample(range(60, 128), 2)), vectors
 
 
 def graphic(graph: kit.Graph) -> Vectors:
     """The edges of a graph as vectors: the ones are at the two ends, except for vertex 0."""
-    target, *vectors = [ones(w - 1 for w in {u} ^ {v} if w > 0) for u, v in [(0, 1), *graph[1]]]
+    target, *vectors = [kit.bits(w - 1 for w in {u} ^ {v} if w > 0) for u, v in [(0, 1), *graph[1]]]
     return graph[0] - 1, target, vectors
 
 
 def vector_text(game: Vectors, turn: str) -> str:
     """The file of a game on vectors."""
-    rows, *vectors = game[0], game[1], *game[2]
-    target, *signs = [f"{vector:0{rows}b}"[::-1] for vector in vectors]
-    heads = "posgame-vectors 1", f"rows {rows}", f"target {target}"
-    return "\n".join([*heads, *(f"vector {it}" for it in signs), f"turn {turn}", ""])
+    target, *signs = [f"{vector:0{game[0]}b}"[::-1] for vector in [game[1], *game[2]]]
+    heads = "posgame-vectors 1", f"rows {game[0]}", f"target {target}"
+    return "\n".join([*heads, *map("vector {}".format, signs), f"turn {turn}", ""])
 
 
-def games() -> Iterator[Tuple[str, str]]:
+def games() -> Iterator[tuple[str, str]]:
     """Yields the name of each game, and its file."""
     yield "complete graph, 45 vertices", kit.span(kit.complete(45), "y")
     yield "complete graph, 25 vertices, tripled", kit.span(kit.complete(25, 3), "y")
@@ -84,11 +77,11 @@ def games() -> Iterator[Tuple[str, str]]:
         text = kit.span(scattered(vertices, 1000), turn)
         yield f"1,000 random edges on {vertices} vertices", text
     yield "doubled path of 500 vertices, two edges", kit.span(kit.doubled_path(500, 1000), "y")
-    for seed, count, turn in (23, 1000, "y"), (24, 250, "x"), (25, 256, "y"):
-        yield f"{count:,} random vectors", vector_text(drawn_vectors(seed, count, None), turn)
-    for seed, count, weight, turn in (26, 1000, 2, "y"), (27, 220, 2, "x"), (28, 1000, 3, "y"):
-        text = vector_text(drawn_vectors(seed, count, weight), turn)
-        yield f"{count:,} vectors of {weight} ones", text
+    for seed, count, weight, turn in (
+            (23, 1000, None, "y"), (24, 250, None, "x"), (25, 256, None, "y"),
+            (26, 1000, 2, "y"), (27, 220, 2, "x"), (28, 1000, 3, "y")):
+        name = f"vectors of {weight} ones" if weight else "random vectors"
+        yield f"{count:,} {name}", vector_text(drawn_vectors(seed, count, weight), turn)
     units = 128, (1 << 128) - 1, [1 << k % 128 for k in range(1000)]
     yield "1,000 unit vectors", vector_text(units, "y")
     yield "890 random vectors of 60 rows, 110 of two ones", vector_text(parted(29, 890, 110), "x")
@@ -97,7 +90,7 @@ def games() -> Iterator[Tuple[str, str]]:
         yield f"Bridg-it of 11 rows as vectors, {turn.upper()} to move", text
 
 
-def dearest(folder: pathlib.Path, words: Iterable[object], typed: str) -> Tuple[int, int]:
+def dearest(folder: pathlib.Path, words: Iterable[object], typed: str) -> tuple[int, int]:
     """How many moves a player makes, and the instructions of the dearest, with its reply."""
     flags = ["--dump-before=*Player::make_move*"]
     kit.count(*words, counts=folder / "counts", typed=typed, flags=flags)
@@ -110,7 +103,7 @@ def dearest(folder: pathlib.Path, words: Iterable[object], typed: str) -> Tuple[
     return len(moves), max(moves, default=0)
 
 
-def measured(program: str, text: str, folder: pathlib.Path) -> Tuple[List[Any], List[str]]:
+def measured(program: str, text: str, folder: pathlib.Path) -> tuple[list[Any], list[str]]:
     """The cells of a game, and what is wrong with them."""
     paths = folder / "game", folder / "certificate"
     family = "span" if text.startswith("posgame-span") else "vec"

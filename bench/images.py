@@ -13,7 +13,7 @@ from __future__ import annotations
 
 import itertools
 import pathlib
-from typing import Any, Iterator, List, Tuple
+from typing import Any, Iterator
 
 import kit
 
@@ -43,23 +43,17 @@ plain with `--images`; and what the flag costs, in instructions by callgrind.
 """
 
 
-def game(kind: str, height: int, width: int, *rows: str) -> str:
-    """The file of a game on a grid."""
-    return kit.game(kind, f"grid {width} {height}", *rows)
-
-
-def boards() -> Iterator[Tuple[str, str]]:
+def boards() -> Iterator[tuple[str, str]]:
     """The name of each board, and its file."""
     for kind, name in kit.KINDS.items():
         lines = kit.line_rows(kit.in_row(3, 3, 3))
-        yield f"noughts and crosses, {name}", game(kind, 3, 3, *lines)
-    for height in (4, 5):
-        text = game("maker-breaker", height, 4, *kit.line_rows(kit.in_row(height, 4, 4)))
-        yield f"four in a row, 4 by {height}, Maker-Breaker", text
-    for name, cells, sizes in ANIMALS:
-        for height, width in sizes:
-            text = game("maker-breaker", height, width, f"shape {cells}")
-            yield f"{name}, {width} by {height}, Maker-Breaker", text
+        yield f"noughts and crosses, {name}", kit.game(kind, "grid 3 3", *lines)
+    shapes = [(f"four in a row, 4 by {height}", f"grid 4 {height}",
+               kit.line_rows(kit.in_row(height, 4, 4))) for height in (4, 5)]
+    shapes += [(f"{name}, {width} by {height}", f"grid {width} {height}", [f"shape {cells}"])
+               for name, cells, sizes in ANIMALS for height, width in sizes]
+    for name, grid, rows in shapes:
+        yield f"{name}, Maker-Breaker", kit.game("maker-breaker", grid, *rows)
 
 
 def heavy_board() -> str:
@@ -74,10 +68,10 @@ def heavy_board() -> str:
             image = [(c, r) if turned else (r, c) for r, c in cells]
             image = [(side - 1 - r if down else r, side - 1 - c if right else c) for r, c in image]
             lines.add(tuple(sorted(r * side + c for r, c in image)))
-    return game("maker-breaker", side, side, *kit.line_rows(sorted(lines)))
+    return kit.game("maker-breaker", "grid 16 16", *kit.line_rows(sorted(lines)))
 
 
-def measured(program: str, folder: pathlib.Path) -> Tuple[List[Any], List[str]]:
+def measured(program: str, folder: pathlib.Path) -> tuple[list[Any], list[str]]:
     """The cells of a board, and what is wrong with them."""
     path, said, costs, wrong, nodes = folder / "game", [], [], [], []
     for name, flags in ("plain", []), ("folded", ["--images"]):

@@ -25,7 +25,7 @@ import pathlib
 import re
 import shlex
 import subprocess
-from typing import List, NamedTuple, Optional, Tuple
+from typing import NamedTuple, Optional
 
 import kit
 import width
@@ -47,26 +47,21 @@ ENTRY = re.compile(r"^(\d+)\. \[([^]]+)\]\(tutorial/([^)]+)\)", re.MULTILINE)
 class Block(NamedTuple):
     """Indented lines of a lesson, with the line of text before them and the one after them."""
 
-    lines: List[str]
     before: str
+    inside: str
     after: str
 
+    @property
+    def lines(self) -> list[str]:
+        """The lines, without the four blanks before each."""
+        return re.findall("^    (.*)$", self.inside, re.MULTILINE)
 
-def blocks(text: str) -> List[Block]:
-    """Returns the indented blocks of a text in order."""
-    return [Block(re.findall("^    (.*)$", inside, re.MULTILINE), before, after)
-            for before, inside, after in BLOCK.findall(text)]
 
-
-def commands(lines: List[str]) -> List[Tuple[str, List[str]]]:
+def commands(lines: list[str]) -> list[tuple[str, list[str]]]:
     """Returns the commands of a block, each with the lines below it."""
-    found: List[Tuple[str, List[str]]] = []
-    for line in re.sub(r" \\\n +", " ", "\n".join(lines)).splitlines():
-        if line.startswith("$ "):
-            found.append((line[2:], []))
-        else:
-            found[-1][1].append(line)
-    return found
+    text = re.sub(r" \\\n +", " ", "\n".join(lines))
+    parts = [it.splitlines() for it in re.split(r"^\$ ", text, flags=re.MULTILINE)[1:]]
+    return [(first, below) for first, *below in parts]
 
 
 class Walk:
@@ -75,14 +70,14 @@ class Walk:
     def __init__(self, program: str, draw: Optional[str], folder: pathlib.Path) -> None:
         self.program, self.picture, self.folder = program, draw, folder
         self.status = self.shown = self.not_drawn = 0
-        self.problems: List[str] = []
+        self.problems: list[str] = []
 
     def compare(self, what: str, is_same: bool) -> None:
         """Counts a thing that is shown, and notes it if it differs."""
         self.shown += 1
         self.problems += [] if is_same else [f"differs: {what}"]
 
-    def run(self, command: str, below: List[str]) -> None:
+    def run(self, command: str, below: list[str]) -> None:
         """Runs posgame with the lines that are not its texts as input, and compares the others."""
         words = shlex.split(command)[1:]
         if words[0] == "report":
@@ -134,7 +129,7 @@ class Walk:
             self.compare(path.name, [it for it in lines if it[:1] != "#"] == block.lines)
 
 
-def form_problems(path: pathlib.Path) -> List[str]:
+def form_problems(path: pathlib.Path) -> list[str]:
     """Returns what is wrong with the length, the widths and the links of a page."""
     text, name = path.read_text(encoding="utf-8"), path.relative_to(kit.TOP).as_posix()
     count = len(text.splitlines())
@@ -145,17 +140,16 @@ def form_problems(path: pathlib.Path) -> List[str]:
     return problems + [f"{name}: there is no {it}" for it in dead]
 
 
-def contents_problems(paths: List[pathlib.Path]) -> List[str]:
+def contents_problems(paths: list[pathlib.Path]) -> list[str]:
     """Returns what is wrong with the table of contents."""
     found = []
     for path in paths:
         title = re.match(r"# (\d+)\. (.+)\n", path.read_text(encoding="utf-8"))
-        number, name = title.groups() if title else ("", "")
-        found.append((number, name, path.name))
-        if path.name[:2] != number.zfill(2):
-            return [f"{path.name}: another number in its title"]
-    is_same = ENTRY.findall(CONTENTS.read_text(encoding="utf-8")) == found
-    return [] if is_same else ["docs/TUTORIAL.md lists other lessons"]
+        found.append((*(title.groups() if title else ("", "")), path.name))
+    other = [name for number, _, name in found if name[:2] != number.zfill(2)]
+    if not other and ENTRY.findall(CONTENTS.read_text(encoding="utf-8")) != found:
+        return ["docs/TUTORIAL.md lists other lessons"]
+    return [f"{name}: another number in its title" for name in other]
 
 
 def try_lesson(path: pathlib.Path, program: str, picture: Optional[str]) -> Walk:
@@ -163,8 +157,8 @@ def try_lesson(path: pathlib.Path, program: str, picture: Optional[str]) -> Walk
     with kit.files() as folder:
         walk = Walk(program, picture, folder)
         (folder / "examples").symlink_to(kit.EXAMPLES)
-        for block in blocks(path.read_text(encoding="utf-8")):
-            walk.try_block(block)
+        for found in BLOCK.findall(path.read_text(encoding="utf-8")):
+            walk.try_block(Block(*found))
     return walk
 
 
