@@ -11,74 +11,60 @@ from __future__ import annotations
 
 import itertools
 import random
-from typing import Any, Callable, Iterable, Iterator, List, Optional, Tuple
+from typing import Any, Callable, Iterable, Iterator, Optional
 
 import kit
 
 POINTS = 16
-Files = Tuple[str, str]
+Files = tuple[str, str]
 
 
 def node(x: Iterable[int], y: Iterable[int], turn: str, body: str) -> str:
     """Returns the line of a node."""
-    return f"{kit.field(x)}|{kit.field(y)}|{turn}|{body}\n"
+    return f"{kit.field(sorted(x))}|{kit.field(sorted(y))}|{turn}|{body}\n"
 
 
-class Tree:
-    """Nodes of a game without lines on 16 points, in which Y claims a draw, behind others."""
+def put_tree(nodes: list[str], count: int) -> tuple[kit.Points, kit.Points]:
+    """Adds nodes up to `count` of a game without lines on 16 points, in which Y claims a draw, and
+    returns the position of the last: full boards, then nodes at which Y takes the last point, then
+    nodes before a move of X after each of which there is a node."""
+    most, half, every = (count + len(nodes)) // 2 + 1, POINTS // 2, frozenset(range(POINTS))
+    place: dict[tuple[kit.Points, kit.Points], int] = {}
 
-    def __init__(self, before: List[str]) -> None:
-        self.nodes, self.place = before, {}  # type: List[str], dict[Tuple[kit.Line, ...], int]
+    def put(x: kit.Points, y: kit.Points, turn: str, body: str) -> None:
+        place[x, y] = len(nodes)
+        nodes.append(node(x, y, turn, body))
 
-    def put(self, x: Iterable[int], y: Iterable[int], turn: str, body: str) -> None:
-        """Adds a node at the position."""
-        x, y = tuple(sorted(x)), tuple(sorted(y))
-        self.place[x, y] = len(self.nodes)
-        self.nodes.append(node(x, y, turn, body))
-
-    def put_moves(self, count: int) -> None:
-        """Adds the full boards, and nodes at which Y takes the last point, up to `count`."""
-        half, every = POINTS // 2, set(range(POINTS))
-        for x in itertools.combinations(range(POINTS), half):
-            self.put(x, every.difference(x), "x", "over")
-        for y in itertools.combinations(range(POINTS), half - 1):
-            for free in sorted(every.difference(y))[: max(count - len(self.nodes), 0)]:
-                x = tuple(sorted(every.difference(y, {free})))
-                child = self.place[x, tuple(sorted(y + (free,)))]
-                self.put(x, y, "y", f"move {free} {child}")
-
-    def put_all(self, x: Tuple[int, ...], y: Tuple[int, ...]) -> None:
-        """Adds a node before X's move, if those after each move are there."""
-        free = [v for v in range(POINTS) if v not in x and v not in y]
-        children = [self.place.get((tuple(sorted(x + (v,))), y)) for v in free]
-        if None not in children and (x, y) not in self.place:
-            self.put(x, y, "x", kit.field(["all", *map("{}:{}".format, free, children)]))
-
-    def fill(self, count: int) -> Tuple[kit.Line, ...]:
-        """Adds nodes up to `count`, and returns the position of the last."""
-        self.put_moves((count + len(self.nodes)) // 2 + 1)
-        moves = [(x, y) for x, y in self.place if len(y) == POINTS // 2 - 1]
-        for x, y in ((tuple(v for v in x if v != back), y) for x, y in moves for back in x):
-            if len(self.nodes) < count:
-                self.put_all(x, y)
-        assert len(self.nodes) == count
-        return list(self.place)[-1]
+    for x in map(frozenset, itertools.combinations(range(POINTS), half)):
+        put(x, every - x, "x", "over")
+    for y in map(frozenset, itertools.combinations(range(POINTS), half - 1)):
+        for v in sorted(every - y)[: max(most - len(nodes), 0)]:
+            x = every - y - {v}
+            put(x, y, "y", f"move {v} {place[x, y | {v}]}")
+    moves = [it for it in place if len(it[1]) == half - 1]
+    for x, y in ((x - {back}, y) for x, y in moves for back in sorted(x)):
+        free = sorted(every - x - y)
+        children = [place.get((x | {v}, y)) for v in free]
+        if len(nodes) < count and None not in children and (x, y) not in place:
+            put(x, y, "x", kit.field(["all", *map("{}:{}".format, free, children)]))
+    assert len(nodes) == count
+    return list(place)[-1]
 
 
 def mixed_leaf(draw: random.Random, is_potential: bool) -> Optional[str]:
     """Returns a node of a potential or of pairs at a random position of two lines of nine points,
     or None if there are too few pairs."""
     marks = draw.sample(range(POINTS), draw.choice((4, 6, 8)))
-    x, y, pairs, used = sorted(marks[::2]), sorted(marks[1::2]), ["pairs"], set(marks)
+    pairs, used = ["pairs"], set(marks)
     for line in set(range(0, 9)), set(range(7, 16)):
         own = sorted(line - used)
-        if line & set(y):
-            continue
-        if len(own) < 2:
-            return None
-        pairs.append(f"{own[0]}-{own[1]}")
-        used.update(own[:2])
-    return node(x, y, "x", "potential" if is_potential else kit.field(pairs))
+        if not line & set(marks[1::2]):
+            if len(own) < 2:
+                return None
+            pairs.append(f"{own[0]}-{own[1]}")
+            used.update(own[:2])
+    body = "potential" if is_potential else kit.field(pairs)
+    return node(marks[::2], marks[1::2], "x", body)
 
 
 def maker_maker(*rows: str, points: int = 256) -> str:
@@ -93,14 +79,13 @@ def draws(nodes: str, times: int = 1, copies: int = 1) -> str:
 
 def mixed_files(count: int = 100_000) -> Files:
     """Two claims of nodes of over, move, all, potential and pairs."""
-    draw, leaves = random.Random(1), []  # type: random.Random, List[str]
-    while len(leaves) < 2 * count // 5:
-        leaves += filter(None, [mixed_leaf(draw, len(leaves) % 2 > 0)])
-    tree = Tree(leaves)
-    marks = map(kit.field, tree.fill(count))
+    draw, nodes = random.Random(1), []  # type: random.Random, list[str]
+    while len(nodes) < 2 * count // 5:
+        nodes += filter(None, [mixed_leaf(draw, len(nodes) % 2 > 0)])
+    marks = map(kit.field, map(sorted, put_tree(nodes, count)))
     lines = kit.line_rows([range(0, 9), range(7, 16)])
     game = maker_maker(*lines, *map("{} {}".format, "xy", marks), points=POINTS)
-    return game, draws("".join(tree.nodes), copies=2)
+    return game, draws("".join(nodes), copies=2)
 
 
 def all_files(size: int = 100_000_000) -> Files:
@@ -153,7 +138,7 @@ def foreign_files(nodes: str, times: int, *turns: str) -> Files:
     return (kit.EXAMPLES / "noughts-and-crosses.game").read_text(), kit.certificate(*claims)
 
 
-def parts() -> Iterator[Tuple[str, Callable[..., Files], Optional[int]]]:
+def parts() -> Iterator[tuple[str, Callable[..., Files], Optional[int]]]:
     """Yields the name of each pair of files, its function, and the size at which to count."""
     yield "200,000 nodes of five kinds, 16 points", mixed_files, 100_000
     yield "100 MB of pairs, 256 points", pair_files, 3_000_000
@@ -167,7 +152,7 @@ def parts() -> Iterator[Tuple[str, Callable[..., Files], Optional[int]]]:
     yield "100 MB of pairs, foreign", lambda: foreign_files(long, 1_000, "x"), None
 
 
-def checked(call: Callable[..., Any], program: str, files: Files) -> Tuple[Any, int]:
+def checked(call: Callable[..., Any], program: str, files: Files) -> tuple[Any, int]:
     """Has `call` run or count a check of these files; returns what it returns, and the bytes."""
     with kit.files(game=files[0], certificate=files[1]) as folder:
         done = call(program, "check", folder / "game", folder / "certificate")
