@@ -39,11 +39,11 @@ class Bench(NamedTuple):
 
 
 BENCHES = [
-    Bench("Switching games classed and solved", ["classes.py", POSGAME]),
-    Bench("Searches", ["solving.py", POSGAME]),
+    Bench("Switching games classed and solved", ["games.py", POSGAME, "classes"]),
+    Bench("Searches", ["games.py", POSGAME, "searches"]),
     Bench("Connectivity games and games on vectors", ["families.py", POSGAME]),
     Bench("Large certificates checked", ["checking.py", POSGAME]),
-    Bench("Large game files", ["files.py", POSGAME]),
+    Bench("Large game files", ["games.py", POSGAME, "files"]),
     Bench("Plays with their undo on a board", ["parts.py", PARTS, "board"]),
     Bench("Searches for threat lines", ["parts.py", PARTS, "threat"]),
     Bench("Searches for private pairs", ["parts.py", PARTS, "match"]),
