@@ -15,7 +15,6 @@ import pathlib
 import re
 import shutil
 import subprocess
-from typing import List
 
 import kit
 
@@ -32,7 +31,7 @@ def copy_tracked(copy: pathlib.Path) -> None:
     subprocess.run(["git", "init", "-q"], cwd=copy, check=True)
 
 
-def tried(copy: pathlib.Path, names: List[str]) -> int:
+def tried(copy: pathlib.Path, names: list[str]) -> int:
     """Tries the edits of these crates in the copy, and returns 1 if one isn't refused."""
     done = subprocess.run(["rt", "ci", *names], cwd=copy, stdout=subprocess.PIPE,
                           stderr=subprocess.STDOUT, text=True, errors="replace")

@@ -23,19 +23,19 @@ import subprocess
 import sys
 import tempfile
 import time
-from typing import Any, Callable, FrozenSet, Iterable, Iterator, List, NamedTuple, Optional, Tuple
+from typing import Any, Callable, Iterable, Iterator, NamedTuple, Optional
 
 TOP = pathlib.Path(__file__).resolve().parent.parent
 EXAMPLES = TOP / "examples"
 KINDS = {"maker-breaker": "Maker-Breaker", "maker-maker": "Maker-Maker",
          "avoider-enforcer": "Avoider-Enforcer"}
 
-Line = List[int]
-Edge = Tuple[int, int]
-Graph = Tuple[int, List[Edge]]
-Cells = Iterable[Tuple[int, int]]
-Points = FrozenSet[int]
-Position = Tuple[Points, Points, str, int]
+Line = list[int]
+Edge = tuple[int, int]
+Graph = tuple[int, list[Edge]]
+Cells = Iterable[tuple[int, int]]
+Points = frozenset[int]
+Position = tuple[Points, Points, str, int]
 
 
 # Options.
@@ -164,7 +164,7 @@ def table_row(cells: Iterable[str]) -> str:
     return f"| {' | '.join(cell.replace('|', chr(92) + '|') for cell in cells)} |"
 
 
-def table(heads: List[str], rows: Iterable[Iterable[str]]) -> List[str]:
+def table(heads: list[str], rows: Iterable[Iterable[str]]) -> list[str]:
     """Returns the lines of a table in Markdown."""
     return [table_row(heads), "|---" * len(heads) + "|", *map(table_row, rows)]
 
@@ -183,8 +183,8 @@ class Table:
 
     def __init__(self, *columns: str | Column) -> None:
         self.columns = [it if isinstance(it, Column) else Column(it) for it in columns]
-        self.lines: List[str] = []
-        self.wrong: List[str] = []
+        self.lines: list[str] = []
+        self.wrong: list[str] = []
         limits = ["" if it.limit == math.inf else format(it.limit, it.form) for it in self.columns]
         rows = [["limit", *limits[1:]]] if any(limits) else []
         self.put(*table([it.head for it in self.columns], rows))
@@ -247,7 +247,7 @@ def data(name: str) -> str:
     return re.sub("^# .*\n", "", text, flags=re.MULTILINE)
 
 
-def stanzas(name: str) -> List[List[str]]:
+def stanzas(name: str) -> list[list[str]]:
     """Returns the lines of each part of a file of bench/; empty lines divide."""
     return [it.split("\n") for it in re.findall(r"(?:.+\n)*.+", data(name))]
 
@@ -257,7 +257,7 @@ def field(numbers: Iterable[object]) -> str:
     return " ".join(map(str, numbers))
 
 
-def line_rows(lines: Iterable[Iterable[int]]) -> List[str]:
+def line_rows(lines: Iterable[Iterable[int]]) -> list[str]:
     """Returns a row of a game file for each line."""
     return [f"line {field(line)}" for line in lines]
 
@@ -267,7 +267,7 @@ def game(kind: str, *rows: str, turn: str = "x") -> str:
     return "\n".join(["posgame 1", f"kind {kind}", *rows, f"turn {turn}", ""])
 
 
-def edge_rows(graph: Graph) -> List[str]:
+def edge_rows(graph: Graph) -> list[str]:
     """Returns the rows of a game file on the edges of a graph."""
     return [f"edge {u} {v}" for u, v in graph[1]]
 
@@ -314,7 +314,7 @@ class Draws:
         return self.state // 65536 % limit
 
 
-def scatter(seed: int, points: int, lines: int, size: int) -> List[Line]:
+def scatter(seed: int, points: int, lines: int, size: int) -> list[Line]:
     """Draws lines of `size` points each, as `posgame gen scatter` does."""
     draws, drawn = Draws(seed), []
     for _ in range(lines):
@@ -326,7 +326,7 @@ def scatter(seed: int, points: int, lines: int, size: int) -> List[Line]:
     return drawn
 
 
-def in_row(rows: int, columns: int, length: int) -> List[Line]:
+def in_row(rows: int, columns: int, length: int) -> list[Line]:
     """Returns the lines of `length` cells in a row, by their first cell, then by direction: along,
     down, and both diagonals."""
     lines = []
@@ -338,7 +338,7 @@ def in_row(rows: int, columns: int, length: int) -> List[Line]:
     return lines
 
 
-def turned(cells: Cells) -> List[Tuple[Tuple[int, int], ...]]:
+def turned(cells: Cells) -> list[tuple[tuple[int, int], ...]]:
     """Returns the eight images of a set of cells, each moved to the corner and sorted."""
     images, image = [], list(cells)
     for _ in range(2):
@@ -350,7 +350,7 @@ def turned(cells: Cells) -> List[Tuple[Tuple[int, int], ...]]:
     return images
 
 
-def beside(cells: Cells) -> set[Tuple[int, int]]:
+def beside(cells: Cells) -> set[tuple[int, int]]:
     """Returns the cells that have a side in common with one of these, and aren't among them."""
     steps = (0, 1), (1, 0), (0, -1), (-1, 0)
     return {(row + i, column + j) for row, column in cells for i, j in steps} - set(cells)
@@ -364,7 +364,7 @@ def word_of(cells: Cells) -> str:
     return "/".join(rows)
 
 
-def placements(rows: int, columns: int, word: str) -> List[Line]:
+def placements(rows: int, columns: int, word: str) -> list[Line]:
     """Returns the sets of cells of a grid that a shape covers, turned and reflected in each way."""
     marks = [(i, j, mark) for i, row in enumerate(word.split("/")) for j, mark in enumerate(row)]
     images = turned((i, j) for i, j, mark in marks if mark == "1")
@@ -480,7 +480,7 @@ class LineGame:
         return False
 
 
-def marked(points: int) -> Iterator[Tuple[Points, Points]]:
+def marked(points: int) -> Iterator[tuple[Points, Points]]:
     """Yields each choice of points for X and of others for Y."""
     for owners in itertools.product("-xy", repeat=points):
         x, y = (frozenset(v for v in range(points) if owners[v] == side) for side in "xy")

@@ -9,7 +9,6 @@ from __future__ import annotations
 
 import pathlib
 import xml.etree.ElementTree as ElementTree
-from typing import Dict, List
 
 import kit
 
@@ -22,7 +21,7 @@ LARGE = ["lines.game", "ring.game", "lines.game lines.cert", "ring.game lines.ce
          "graph.game graph.cert", "span.game", "span.game trees.cert", "span.game parts.cert"]
 
 
-def faults_of(text: str) -> List[str]:
+def faults_of(text: str) -> list[str]:
     """What is wrong with a picture."""
     try:
         root = ElementTree.fromstring(text)
@@ -41,7 +40,7 @@ def faults_of(text: str) -> List[str]:
     return faults + ([f"{len(text)} bytes"] if len(text) > BYTES else [])
 
 
-def large_files() -> Dict[str, str]:
+def large_files() -> dict[str, str]:
     """The largest boards: 256 points and 20,000 lines of 20 points each, in a grid and in a ring,
     with pairs of all points; and a path of 500 vertices with doubled edges and two more between its
     ends, with two trees and, for the connectivity game, each vertex as a part, which is faulty."""
@@ -62,7 +61,7 @@ def large_files() -> Dict[str, str]:
     }
 
 
-def small(program: str, row: str, out: pathlib.Path) -> List[str]:
+def small(program: str, row: str, out: pathlib.Path) -> list[str]:
     """Writes the picture of an example; returns what is wrong with it."""
     row, _, status = row.partition(" !")
     name, _, words = row.partition(": ")
@@ -74,7 +73,7 @@ def small(program: str, row: str, out: pathlib.Path) -> List[str]:
     return [f"{name}: {it}" for it in faults + faults_of(done.output)]
 
 
-def refused(program: str, row: str) -> List[str]:
+def refused(program: str, row: str) -> list[str]:
     """Runs arguments without a picture; returns what is wrong with the answer."""
     row, _, status = row.partition("!")
     words, _, text = row.partition(":")

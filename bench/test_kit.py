@@ -9,12 +9,12 @@ import itertools
 import os
 import sys
 import unittest
-from typing import Callable, List, Tuple
+from typing import Callable
 
 import kit
 
 
-def printed(call: Callable[[], object]) -> Tuple[object, List[str]]:
+def printed(call: Callable[[], object]) -> tuple[object, list[str]]:
     """Returns what a call returns, and the lines that it prints."""
     output = io.StringIO()
     with contextlib.redirect_stdout(output):
