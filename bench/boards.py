@@ -14,7 +14,6 @@ import argparse
 import concurrent.futures
 import datetime
 import os
-import pathlib
 import re
 import textwrap
 from typing import Iterable, Iterator, NamedTuple, Optional

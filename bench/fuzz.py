@@ -35,7 +35,7 @@ import re
 import resource
 import shutil
 import signal
-from typing import Any, Callable, Optional
+from typing import Any, Optional
 
 import kit
 
@@ -165,8 +165,8 @@ def made(kind: str, *others: str) -> Optional[list[str]]:
     """What `gen` writes, or None where its words have no meaning."""
     limits = LIMITS.get(kind, [])
     numbers, names = others[:len(limits)], list(others[len(limits):])
-    is_meant = bool(limits) and len(names) in (1, 2) and all(map(
-        is_within, numbers, *zip(*limits)))
+    is_meant = bool(limits) and len(names) in (1, 2) and all(
+        is_within(number, *limit) for number, limit in zip(numbers, limits))
     if is_meant and kind == "scatter":
         _, points, lines, size = map(int, numbers)
         is_meant = size <= points and lines * size <= 400_000
@@ -187,9 +187,9 @@ def meaning(words: list[str]) -> tuple[Optional[str], list[str]]:
     family = f"{command} " if command in ("span", "vec") and others else ""
     if family:
         command, *others = others
-    known = {"solve": {"--positions"}, "check": set(), "play": {"--side"}, "report": set()}
-    if family:
-        known = {"solve": set(), "check": set(), "play": {"--side"}}
+    known: dict[str, set[str]] = {"solve": set(), "check": set(), "play": {"--side"}}
+    if not family:
+        known.update({"solve": {"--positions"}, "report": set()})
     if command not in known or len(others) != 2 or not values.keys() <= known[command]:
         return none
     is_side = command != "play" or values.get("--side") in ("x", "y")

@@ -85,8 +85,8 @@ def print_counts() -> None:
     for size in (4, 5):
         counts: dict[kit.Cells, list[int]] = {}
         for place, (width, height) in enumerate(BOARDS):
-            sets = {frozenset([cell]) for cell in itertools.product(range(height), range(width))}
-            cells = frozenset().union(*sets)
+            cells = set(itertools.product(range(height), range(width)))
+            sets = {frozenset([cell]) for cell in cells}
             for _ in range(size - 1):
                 sets = {it | {cell} for it in sets for cell in kit.beside(it) & cells}
             for shape in sets:
