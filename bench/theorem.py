@@ -127,18 +127,31 @@ def quoted(quote: Quote) -> list[list[str]]:
     return [[part for line in block for part in laid_out(line)] for block in blocks]
 
 
-def imports(text: str) -> dict[str, str]:
-    """The names that a file takes from the repository's crates, each with its module.
-
-    >>> imports("use Rattle.pg_game.specs.Field.{field_points, field_lines as lines}")
-    {'field_points': 'pg_game/specs/Field', 'lines': 'pg_game/specs/Field'}
-    """
+def taken_names(text: str) -> dict[str, str]:
+    """The names that a file takes from others, each with the module that it names."""
     taken = {}
-    pattern = r"^(?:pub )?use Rattle\.(pg_[\w.]+)\.\{(.*)\}"
+    pattern = r"^(?:unfoldable )?(?:pub )?use Rattle\.([\w.]+)\.\{(.*)\}"
     for path, names in re.findall(pattern, text, re.MULTILINE):
         for name in names.split(","):
             taken[name.split(" as ")[-1].strip()] = path.replace(".", "/")
     return taken
+
+
+def imports(text: str) -> dict[str, str]:
+    """The names that a file takes from the repository's crates, each with its module. A prelude
+    passes names on: theirs is the module from which it takes them.
+
+    >>> imports("use Rattle.pg_game.specs.Field.{field_points, field_lines as lines}")
+    {'field_points': 'pg_game/specs/Field', 'lines': 'pg_game/specs/Field'}
+    >>> imports("use Rattle.pg_cert.specs.Prelude.{Game, Kind}")["Game"]
+    'pg_game/specs/declared/game/Game'
+    """
+    taken = taken_names(text)
+    for name, module in taken.items():
+        if re.fullmatch(r"pg_\w+/specs/Prelude", module):
+            crate, _, prelude = module.split("/")
+            taken[name] = taken_names(specs(crate, prelude).read_text())[name]
+    return {name: module for name, module in taken.items() if module.startswith("pg_")}
 
 
 def own_names(text: str) -> set[str]:
