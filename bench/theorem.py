@@ -20,7 +20,7 @@ TOP = pathlib.Path(__file__).resolve().parent.parent
 PAGE = TOP / "docs" / "THEOREM.md"
 DEFINED = TOP / "docs" / "DEFINED.md"
 COLUMNS = 100
-MOST_LINES = 220
+MOST_LINES = 200
 
 
 class Quote(NamedTuple):
@@ -37,7 +37,7 @@ QUOTES = [
     Quote("Games", "pg_game", "Game", "point_count lines_of bias_of with_turn start"),
     Quote("Positions and moves", "pg_game", "Position",
           "is_free points_of claims_in_turn x_after y_after turn_after left_after after_with"),
-    Quote("Positions and moves", "pg_game", "Game", "IsPosition after free_points"),
+    Quote("Positions and moves", "pg_game", "Game", "IsPosition after"),
     Quote("Over, and outcome", "pg_game", "Game",
           "is_filled is_touched has_filled all_touched is_full short_joins can_join is_over_by"
           " is_over outcome_by outcome"),
