@@ -12,6 +12,7 @@ mutated files and arguments and kills it 200 times. Unproved.
 from __future__ import annotations
 
 import datetime
+import itertools
 import os
 import pathlib
 import platform
@@ -21,7 +22,7 @@ import subprocess
 import sys
 import textwrap
 import time
-from typing import NamedTuple, Optional
+from typing import Any, NamedTuple
 
 import kit
 
@@ -34,7 +35,7 @@ class Bench(NamedTuple):
     """A bench: its script and arguments."""
 
     name: str
-    words: list[object]
+    words: list[Any]
     is_long: bool = False
 
 
@@ -58,64 +59,48 @@ BENCHES = [
 ]
 
 
-def run(words: list[object]) -> tuple[list[str], Optional[str]]:
-    """The lines of a bench, and what is wrong with its end, if anything is."""
-    command = [sys.executable, str(kit.TOP / "bench" / str(words[0])), *map(str, words[1:])]
-    try:
-        done = subprocess.run(command, cwd=kit.TOP, stdin=subprocess.DEVNULL, capture_output=True,
-                              text=True, timeout=LIMIT)
-        lines, complaints = done.stdout.splitlines(), done.stderr.strip().splitlines()
-        end = f"ended with status {done.returncode}" if done.returncode else None
-    except subprocess.TimeoutExpired as late:
-        lines, complaints = (late.stdout or b"").decode().splitlines(), []
-        end = f"not done after {LIMIT} s"
-    return lines, ": ".join([end, *complaints[-1:]])[:240] if end else None
-
-
 def laid_out(lines: list[str]) -> list[str]:
     """The lines as Markdown: rows of tables as they are, others as a paragraph each."""
     text: list[str] = []
-    for line in filter(None, lines):
+    for before, line in itertools.pairwise(["", *filter(None, lines)]):
         is_row = line.startswith("|")
-        if not (text and is_row and text[-1].startswith("|")):
-            text.append("")
+        text += [] if is_row and before.startswith("|") else [""]
         text += [line] if is_row else textwrap.wrap(line, 100, break_on_hyphens=False)
     return text
 
 
 def section(bench: Bench) -> tuple[str, bool]:
     """The text of a bench, and whether all went well."""
-    for program in (it for it in bench.words if isinstance(it, pathlib.Path)):
-        if not program.exists():
-            missing = program.relative_to(kit.TOP)
-            return f"## {bench.name}\n\nNot measured: there is no `{missing}`.\n", False
+    for program in (it for it in bench.words if isinstance(it, pathlib.Path) and not it.exists()):
+        missing = program.relative_to(kit.TOP)
+        return f"## {bench.name}\n\nNot measured: there is no `{missing}`.\n", False
+    command = [sys.executable, str(kit.TOP / "bench" / bench.words[0]), *map(str, bench.words[1:])]
     begin = time.monotonic()
-    lines, why = run(bench.words)
+    try:
+        done = subprocess.run(command, cwd=kit.TOP, stdin=subprocess.DEVNULL, capture_output=True,
+                              text=True, timeout=LIMIT)
+        lines, end = done.stdout.splitlines(), f"ended with status {done.returncode}"
+        why = ": ".join([end, *done.stderr.strip().splitlines()[-1:]]) if done.returncode else ""
+    except subprocess.TimeoutExpired as late:
+        lines, why = (late.stdout or b"").decode().splitlines(), f"not done after {LIMIT} s"
     seconds = time.monotonic() - begin
     used = resource.getrusage(resource.RUSAGE_CHILDREN).ru_maxrss // 1024
     tail = [f"`bench/{bench.words[0]}`, {seconds:.0f} s. The greatest process of the benches so far"
-            f" took {used} MB, those of valgrind among them."] + ([f"**{why}**"] if why else [])
+            f" took {used} MB, those of valgrind among them."] + [f"**{why[:240]}**"] * bool(why)
     text = [f"## {bench.name}", *laid_out(lines or ["Nothing was printed."]), *laid_out(tail), ""]
-    return "\n".join(text), why is None
-
-
-def machine() -> str:
-    """The processor and the system."""
-    text = pathlib.Path("/proc/cpuinfo").read_text(encoding="ascii", errors="replace")
-    found = re.search(r"^model name\s*: *(.*)$", text, re.MULTILINE)
-    model = found[1] if found else platform.machine()
-    return f"{os.cpu_count()} processors ({model}), {platform.system()} {platform.release()}"
+    return "\n".join(text), not why
 
 
 def head() -> str:
-    """The text above all benches."""
+    """The text above all benches: the commit, the processor and the system."""
     done = subprocess.run(["git", "rev-parse", "--short", "HEAD"], cwd=kit.TOP, capture_output=True,
                           text=True)
-    commit, day = done.stdout.strip() or "unknown", datetime.date.today().isoformat()
+    text = pathlib.Path("/proc/cpuinfo").read_text(encoding="ascii", errors="replace")
+    models = [*re.findall(r"^model name\s*: *(.*)$", text, re.MULTILINE), platform.machine()]
     return f"""# Figures
 
-Measured by `bench/all.py` on {day} at {commit}:
-{machine()}.
+Measured by `bench/all.py` on {datetime.date.today()} at {done.stdout.strip() or "unknown"}:
+{os.cpu_count()} processors ({models[0]}), {platform.system()} {platform.release()}.
 Instructions are counted by callgrind, whatever else the machine does; seconds are by the clock. A
 row `limit` has the greatest figure that is allowed; a figure above its limit is in bold type.
 """
@@ -128,17 +113,16 @@ def main() -> int:
     words.add_argument("--long", action="store_true", help="the long ones too")
     words.add_argument("--out", type=pathlib.Path, help="the file written")
     given, texts, wrong = words.parse_args(), [head()], []
-    for bench in BENCHES:
+    for bench in (it for it in BENCHES if given.long or not it.is_long):
         names = f"{bench.name} {bench.words[0]}"
-        is_named = not given.only or any(word in names for word in given.only)
-        if is_named and (given.long or not bench.is_long):
+        if not given.only or any(word in names for word in given.only):
             print(bench.name, flush=True)
             text, is_well = section(bench)
             texts.append(text)
             wrong += [] if is_well else [bench.name]
-    left = [f"- {it.name} (`bench/{it.words[0]}`)" for it in BENCHES if it.is_long]
+    left = [f"- {it.name} (`bench/{it.words[0]}`)\n" for it in BENCHES if it.is_long]
     if not given.long and not given.only:
-        texts.append("\n".join(["## Not run here", "", *left, ""]))
+        texts.append("## Not run here\n\n" + "".join(left))
     out = given.out or (None if given.only else kit.TOP / "docs" / "FIGURES.md")
     kit.write_page("\n".join(texts), out)
     return kit.end(wrong)

@@ -13,10 +13,11 @@ from __future__ import annotations
 import argparse
 import concurrent.futures
 import datetime
+import itertools
 import os
 import re
 import textwrap
-from typing import Iterable, Iterator, NamedTuple, Optional
+from typing import Iterable, Iterator, NamedTuple
 
 import kit
 
@@ -41,19 +42,13 @@ ANIMALS = {"maker-breaker": "Maker, who begins, wants all cells of one.",
 
 
 class Solved(NamedTuple):
-    """What came of solving a board: `number` is that of nodes, of claims of a connectivity game, or
-    of positions that were expanded and leave the question open."""
+    """What came of a board. `number` counts nodes, claims of a connectivity game, or positions."""
 
     winner: str
-    number: Optional[int]
+    number: str
     seconds: float
-    is_settled: bool
-    wrong: list[str]
-
-    def cells(self) -> list[str]:
-        """The cells of the table."""
-        number = "" if self.number is None else f"{self.number:,}"
-        return [self.winner, number, f"{self.seconds:.2f}"]
+    is_settled: bool = False
+    wrong: Iterable[str] = ()
 
 
 def solved(text: str, given: argparse.Namespace) -> Solved:
@@ -68,16 +63,16 @@ def solved(text: str, given: argparse.Namespace) -> Solved:
         said, wrong = done.output.strip(), []
         if said not in RESULTS:
             count = re.fullmatch(r"unknown after (\d+) positions", said)
+            if count:
+                return Solved("unknown", f"{int(count[1]):,}", done.processor)
             end = "stopped" if done.status < 0 else f"status {done.status}"
-            number = int(count[1]) if count else None
-            return Solved("unknown" if count else end, number, done.processor, False, [])
+            return Solved(end, "", done.processor)
         stored = paths[1].read_text(encoding="ascii")
         counts = [int(it) for it in re.findall(r"^nodes (\d+)$", stored, re.MULTILINE)]
-        number = sum(counts) if counts else len(re.findall(r"^claim ", stored, re.MULTILINE))
-        winner = RESULTS[said]
+        number, winner = sum(counts) or stored.count("\nclaim "), RESULTS[said]
         if not kit.run(given.program, *family, "check", *paths, most=given.seconds).is_accepted:
             winner, wrong = f"{winner}, not accepted", [f"{said} is not accepted: {text!r:.300}"]
-    return Solved(winner, number, done.processor, True, wrong)
+    return Solved(winner, f"{number:,}", done.processor, True, wrong)
 
 
 def rows_of(size: int) -> list[kit.Line]:
@@ -100,75 +95,67 @@ def animals(most: int) -> Iterator[str]:
                    for cell in kit.beside(cells)}
 
 
-# The cells that begin a line of a table, and the files of its boards.
-Row = tuple[list[str], list[str]]
-
-
 class Part(NamedTuple):
     """A part of the page: its title, a sentence on it, the heads of the first columns and of the
-    boards, and its rows."""
+    boards, and for each line of its table the first cells and the files of its boards."""
 
     title: str
     said: str
     first: list[str]
     heads: list[str]
-    rows: Iterable[Row]
+    rows: list[tuple[list[str], list[str]]]
 
 
-def noughts() -> Iterator[Row]:
+def noughts() -> Part:
     """Noughts and crosses, with a line of the table for each size."""
-    for size in range(2, 6):
-        rows = f"grid {size} {size}", *kit.line_rows(rows_of(size))
-        yield [f"{size} by {size}"], [kit.game(kind, *rows) for kind in kit.KINDS]
+    heads = {size: (f"grid {size} {size}", *kit.line_rows(rows_of(size))) for size in range(2, 6)}
+    rows = [([f"{size} by {size}"], [kit.game(kind, *head) for kind in kit.KINDS])
+            for size, head in heads.items()]
+    return Part("Noughts and crosses", "The lines are rows, columns and both diagonals. X begins.",
+                ["board"], list(kit.KINDS.values()), rows)
 
 
-def animals_of(kind: str) -> Iterator[Row]:
+def animals_of(kind: str, goal: str) -> Part:
     """All animals on squares of several sizes."""
-    for word in animals(5):
-        texts = [kit.game(kind, f"grid {side} {side}", f"shape {word}") for side in SIDES]
-        yield [f"{NAMES.get(word, '')} `{word}`"], texts
+    rows = [([f"{NAMES.get(word, '')} `{word}`"],
+             [kit.game(kind, f"grid {side} {side}", f"shape {word}") for side in SIDES])
+            for word in animals(5)]
+    said = f"All animals of up to five cells, in each position, turned and reflected: {goal}"
+    return Part(f"Animals, {kit.KINDS[kind]}", said, ["animal"],
+                [f"{it} by {it}" for it in SIDES], rows)
 
 
-def boxes(kind: str, turn: str) -> Iterator[Row]:
+def boxes(kind: str, turn: str, first: str, other: str, title: str = "") -> Part:
     """Boxes without a common point, with one to three points for Y a turn."""
-    for count in range(2, 8):
-        for size in range(2, 6):
-            lines = kit.line_rows(range(size * k, size * (k + 1)) for k in range(count))
-            heads = [[f"points {count * size}"] + [f"bias {it}"] * (it > 1) for it in (1, 2, 3)]
-            texts = [kit.game(kind, *head, *lines, turn=turn) for head in heads]
-            yield [str(count), str(size)], texts
-
-
-def connected() -> Iterator[Row]:
-    """Connectivity games on complete graphs and grids."""
-    graphs = [(f"complete graph on {many}", kit.complete(many)) for many in range(2, 13)]
-    graphs += [(f"grid of {rows} by {columns}", kit.grid(rows, columns))
-               for rows in range(2, 7) for columns in range(rows, 7)]
-    for name, graph in graphs:
-        yield [name, str(len(graph[1]))], [kit.span(graph)]
+    rows = []
+    for count, size in itertools.product(range(2, 8), range(2, 6)):
+        lines = kit.line_rows(range(size * k, size * (k + 1)) for k in range(count))
+        heads = [[f"points {count * size}"] + [f"bias {it}"] * (it > 1) for it in (1, 2, 3)]
+        texts = [kit.game(kind, *head, *lines, turn=turn) for head in heads]
+        rows.append(([str(count), str(size)], texts))
+    said = (f"Boxes without common points; {first} begins, and {other} claims one to three points "
+            "in a turn.")
+    return Part(f"Boxes, {kit.KINDS[kind]}{title}", said, ["boxes", "points of each"],
+                ["1 a turn", "2 a turn", "3 a turn"], rows)
 
 
 def parts() -> Iterator[Part]:
     """Yields the parts of the page."""
-    yield Part("Noughts and crosses", "The lines are rows, columns and both diagonals. X begins.",
-               ["board"], list(kit.KINDS.values()), noughts())
-    for kind, goal in ANIMALS.items():
-        yield Part(f"Animals, {kit.KINDS[kind]}", "All animals of up to five cells, in each "
-                   f"position, turned and reflected: {goal}", ["animal"],
-                   [f"{it} by {it}" for it in SIDES], animals_of(kind))
-    bridges = [([str(rows), str(len(kit.bridge(rows)[1]))], [kit.switching(kit.bridge(rows))])
-               for rows in range(1, 23)]
+    yield noughts()
+    yield from itertools.starmap(animals_of, ANIMALS.items())
+    bridges = {rows: kit.bridge(rows) for rows in range(1, 23)}
     yield Part("Bridg-it", "Whoever begins wins, by two trees and two cuts.", ["rows", "edges"],
-               ["class"], bridges)
-    for title, kind, turn, first, other in (
-            ("Maker-Breaker", "maker-breaker", "x", "Maker", "Breaker"),
-            ("Avoider-Enforcer, Avoider begins", "avoider-enforcer", "x", "Avoider", "Enforcer"),
-            ("Avoider-Enforcer, Enforcer begins", "avoider-enforcer", "y", "Enforcer", "Enforcer")):
-        yield Part(f"Boxes, {title}", f"Boxes without common points; {first} begins, and {other} "
-                   "claims one to three points in a turn.", ["boxes", "points of each"],
-                   ["1 a turn", "2 a turn", "3 a turn"], boxes(kind, turn))
+               ["class"], [([str(rows), str(len(graph[1]))], [kit.switching(graph)])
+                           for rows, graph in bridges.items()])
+    yield boxes("maker-breaker", "x", "Maker", "Breaker")
+    for turn, first in ("x", "Avoider"), ("y", "Enforcer"):
+        yield boxes("avoider-enforcer", turn, first, "Enforcer", f", {first} begins")
+    graphs = {f"complete graph on {many}": kit.complete(many) for many in range(2, 13)}
+    graphs |= {f"grid of {rows} by {columns}": kit.grid(rows, columns)
+               for rows in range(2, 7) for columns in range(rows, 7)}
     yield Part("Connectivity games", "Maker wants to join all vertices. The proof has a claim with "
-               "either side to move.", ["graph", "edges"], ["class"], connected())
+               "either side to move.", ["graph", "edges"], ["class"],
+               [([name, str(len(graph[1]))], [kit.span(graph)]) for name, graph in graphs.items()])
 
 
 def summary(boards: list[Solved]) -> str:
@@ -199,12 +186,13 @@ In Maker-Maker `first` is the side that begins. The class `who begins` is what `
 def section(part: Part, pool: concurrent.futures.Executor,
             given: argparse.Namespace) -> tuple[list[str], list[Solved]]:
     """Solves the boards of a part; returns its lines of the page, and what came of each board."""
-    rows = list(part.rows)
-    boards = list(pool.map(lambda it: solved(it, given), (it for _, texts in rows for it in texts)))
+    texts = [text for _, of_row in part.rows for text in of_row]
+    boards = list(pool.map(solved, texts, itertools.repeat(given)))
     print(f"{part.title}: {summary(boards)}", flush=True)
     number, left = "claims" if part.title.startswith("Connectivity") else "nodes", iter(boards)
-    lines = [[*names, *(cell for _ in texts for cell in next(left).cells())]
-             for names, texts in rows]
+    lines = [[*names, *(cell for it in itertools.islice(left, len(of_row))
+                        for cell in (it.winner, it.number, f"{it.seconds:.2f}"))]
+             for names, of_row in part.rows]
     columns = part.first + [cell for it in part.heads for cell in (it, number, "s")]
     prose = textwrap.wrap(f"{part.said} {summary(boards)}", 100)
     return [f"## {part.title}", "", *prose, "", *kit.table(columns, lines), ""], boards

@@ -11,11 +11,12 @@ from __future__ import annotations
 
 import itertools
 import random
-from typing import Any, Callable, Iterable, Iterator, Optional
+from typing import Any, Callable, Iterable, Optional
 
 import kit
 
 POINTS = 16
+LINES = range(0, 9), range(7, 16)
 Files = tuple[str, str]
 
 
@@ -25,9 +26,8 @@ def node(x: Iterable[int], y: Iterable[int], turn: str, body: str) -> str:
 
 
 def put_tree(nodes: list[str], count: int) -> tuple[kit.Points, kit.Points]:
-    """Adds nodes up to `count` of a game without lines on 16 points, in which Y claims a draw, and
-    returns the position of the last: full boards, then nodes at which Y takes the last point, then
-    nodes before a move of X after each of which there is a node."""
+    """Adds nodes up to `count` of a game without lines on 16 points, in which Y claims a draw: full
+    boards, then Y's last moves, then moves of X before these. Returns the position of the last."""
     most, half, every = (count + len(nodes)) // 2 + 1, POINTS // 2, frozenset(range(POINTS))
     place: dict[tuple[kit.Points, kit.Points], int] = {}
 
@@ -52,17 +52,15 @@ def put_tree(nodes: list[str], count: int) -> tuple[kit.Points, kit.Points]:
 
 
 def mixed_leaf(draw: random.Random, is_potential: bool) -> Optional[str]:
-    """Returns a node of a potential or of pairs at a random position of two lines of nine points,
-    or None if there are too few pairs."""
+    """Returns a node at a random position of two lines, or None if there are too few pairs."""
     marks = draw.sample(range(POINTS), draw.choice((4, 6, 8)))
     pairs, used = ["pairs"], set(marks)
-    for line in set(range(0, 9)), set(range(7, 16)):
-        own = sorted(line - used)
-        if not line & set(marks[1::2]):
-            if len(own) < 2:
-                return None
-            pairs.append(f"{own[0]}-{own[1]}")
-            used.update(own[:2])
+    for line in (it for it in LINES if not set(it) & set(marks[1::2])):
+        own = sorted(set(line) - used)[:2]
+        if len(own) < 2:
+            return None
+        pairs.append("{}-{}".format(*own))
+        used.update(own)
     body = "potential" if is_potential else kit.field(pairs)
     return node(marks[::2], marks[1::2], "x", body)
 
@@ -83,8 +81,7 @@ def mixed_files(count: int = 100_000) -> Files:
     while len(nodes) < 2 * count // 5:
         nodes += filter(None, [mixed_leaf(draw, len(nodes) % 2 > 0)])
     marks = map(kit.field, map(sorted, put_tree(nodes, count)))
-    lines = kit.line_rows([range(0, 9), range(7, 16)])
-    game = maker_maker(*lines, *map("{} {}".format, "xy", marks), points=POINTS)
+    game = maker_maker(*kit.line_rows(LINES), *map("{} {}".format, "xy", marks), points=POINTS)
     return game, draws("".join(nodes), copies=2)
 
 
@@ -120,9 +117,8 @@ def potential_files(count: int = 100) -> Files:
 
 
 def tree_files(rows: int = 21) -> Files:
-    """Bridg-it with the two trees into which it falls with the extra edge: trees for X with X to
-    move, cuts for Y with Y to move. A first tree goes along each row up to the diagonal, and down
-    to it; the second has the other edges."""
+    """Bridg-it with its two trees, as trees for X and as cuts for Y. The first goes along each row
+    up to the diagonal, and down to it; the second has the other edges."""
     along = [j < i for i in range(rows) for j in range(rows)]
     down = [j > i for i in range(rows - 1) for j in range(1, rows)]
     first, second = (kit.field(k for k, it in enumerate(along + down) if it == own)
@@ -138,25 +134,25 @@ def foreign_files(nodes: str, times: int, *turns: str) -> Files:
     return (kit.EXAMPLES / "noughts-and-crosses.game").read_text(), kit.certificate(*claims)
 
 
-def parts() -> Iterator[tuple[str, Callable[..., Files], Optional[int]]]:
-    """Yields the name of each pair of files, its function, and the size at which to count."""
-    yield "200,000 nodes of five kinds, 16 points", mixed_files, 100_000
-    yield "100 MB of pairs, 256 points", pair_files, 3_000_000
-    yield "100 MB of `all` with 250 replies, 256 points", all_files, 3_000_000
-    yield "100 potentials of 20,000 lines, 400,000 points", potential_files, None
-    yield "268,435,456 bytes, refused at the end", long_files, None
-    yield "a byte more", lambda: long_files(268_435_457), None
-    yield "trees and cuts, 422 vertices, 841 edges", tree_files, None
-    yield "200,000 small nodes, foreign", lambda: foreign_files("||x|pairs\n", 100_000, *"xy"), None
-    long = "||x|pairs" + " 101-203" * 12_500 + "\n"
-    yield "100 MB of pairs, foreign", lambda: foreign_files(long, 1_000, "x"), None
+LONG_PAIRS = "||x|pairs" + " 101-203" * 12_500 + "\n"
+# Of each pair of files the name, its function, and the size at which instructions are counted.
+PARTS: list[tuple[str, Callable[..., Files], Optional[int]]] = [
+    ("200,000 nodes of five kinds, 16 points", mixed_files, 100_000),
+    ("100 MB of pairs, 256 points", pair_files, 3_000_000),
+    ("100 MB of `all` with 250 replies, 256 points", all_files, 3_000_000),
+    ("100 potentials of 20,000 lines, 400,000 points", potential_files, None),
+    ("268,435,456 bytes, refused at the end", long_files, None),
+    ("a byte more", lambda: long_files(268_435_457), None),
+    ("trees and cuts, 422 vertices, 841 edges", tree_files, None),
+    ("200,000 small nodes, foreign", lambda: foreign_files("||x|pairs\n", 100_000, *"xy"), None),
+    ("100 MB of pairs, foreign", lambda: foreign_files(LONG_PAIRS, 1_000, "x"), None),
+]
 
 
-def checked(call: Callable[..., Any], program: str, files: Files) -> tuple[Any, int]:
+def checked(call: Callable[..., Any], program: str, game: str, stored: str) -> tuple[Any, int]:
     """Has `call` run or count a check of these files; returns what it returns, and the bytes."""
-    with kit.files(game=files[0], certificate=files[1]) as folder:
-        done = call(program, "check", folder / "game", folder / "certificate")
-    return done, len(files[1])
+    with kit.files(game=game, certificate=stored) as folder:
+        return call(program, "check", folder / "game", folder / "certificate"), len(stored)
 
 
 def main() -> int:
@@ -165,11 +161,11 @@ def main() -> int:
     given = words.parse_args()
     table = kit.Table("certificate", "bytes", kit.Column("s", ".2f"), kit.Column("MB", limit=24),
                       kit.Column("instructions a byte", ".0f", 80), "printed")
-    for name, make, small in parts():
+    for name, make, small in PARTS:
         if given.part in name:
-            (done, size), each = checked(kit.run, given.program, make()), None
+            (done, size), each = checked(kit.run, given.program, *make()), None
             if small and kit.has_valgrind():
-                counted, part = checked(kit.count, given.program, make(small))
+                counted, part = checked(kit.count, given.program, *make(small))
                 each = counted.instructions / part
             printed = ", ".join(dict.fromkeys(done.output.splitlines()))
             table.row(name, size, done.seconds, done.megabytes, each, printed)

@@ -11,7 +11,7 @@ from __future__ import annotations
 
 import functools
 import itertools
-from typing import Any, Callable, Iterator
+from typing import Any, Callable
 
 import kit
 from kit import Edge, Points
@@ -46,7 +46,7 @@ class Game(kit.LineGame):
             base, last = 2, None
             for _ in free:
                 last = turn
-                turn, left = self.after(frozenset(), frozenset(), turn, left, 0)[2:]
+                *_, turn, left = self.after(x, y, turn, left, 0)
             total = (2 if last == "x" else 1) * self.weight(2, y, x, y)
         else:
             harmless = x if side == "x" else y
@@ -67,26 +67,18 @@ class Game(kit.LineGame):
         return all(line & harmless or any(set(pair) <= line for pair in pairs)
                    for line in self.lines)
 
-    def threat_line(self, x: Points, y: Points, turn: str, depth: int) -> bool:
-        """Whether the side to move has a threat line of so many replies at most."""
-        attacks = self.kind == "maker-maker" or self.kind == "maker-breaker" and turn == "x"
-        mine, theirs = (x, y) if turn == "x" else (y, x)
-        return attacks and self.score(x, y) is None and self.attack(mine, theirs, depth)
-
 
 def counts(criterion: Callable[..., bool], sets: list[Any], kind: str, side: str, goal: str,
            bias: int) -> list[int]:
-    """On each board, how often a criterion holds with one of the sets, and at how many positions
-    the goal is reached."""
+    """On each board, how often a criterion holds, and at how many positions the goal is reached."""
     found = []
-    for lines in BOARDS:
-        game, held, forced = Game(kind, POINTS, lines, bias), 0, 0
+    for game in (Game(kind, POINTS, lines, bias) for lines in BOARDS):
+        held = forced = 0
         for position in game.positions():
             reached = game.value(*position) in GOOD[side, goal]
-            forced += reached
             holding = sum(criterion(game, side, *it, *position) for it in sets)
-            assert reached or not holding, (kind, lines, position)
-            held += holding
+            assert reached or not holding, (kind, game.lines, position)
+            held, forced = held + holding, forced + reached
         found += held, forced
     return found
 
@@ -102,16 +94,16 @@ pair_counts = functools.partial(counts, Game.pairing, PAIRS)
 def threat_counts(kind: str) -> list[tuple[int, int, int]]:
     """Of each board how many positions are won at once, by attacks, and at all."""
     found = []
-    for lines in BOARDS:
-        game = Game(kind, POINTS, lines)
-        at_once = attacks = won = 0
+    for game in (Game(kind, POINTS, lines) for lines in BOARDS):
+        rows = []
         for x, y, turn, left in game.positions():
             wins = game.value(x, y, turn, left) == (1 if turn == "x" else -1)
-            attack = game.threat_line(x, y, turn, 3)
-            assert wins or not attack, (kind, lines, x, y, turn)
-            at_once += game.threat_line(x, y, turn, 0)
-            attacks, won = attacks + attack, won + wins
-        found.append((at_once, attacks, won))
+            may, both = game.score(x, y) is None, (x, y) if turn == "x" else (y, x)
+            may = may and (turn == "x" or kind == "maker-maker")
+            at_once, attacks = (may and game.attack(*both, depth) for depth in (0, 3))
+            assert wins or not attacks, (kind, game.lines, x, y, turn)
+            rows.append((at_once, attacks, wins))
+        found.append(tuple(map(sum, zip(*rows))))
     return found
 
 
@@ -120,18 +112,11 @@ class GraphGame:
 
     def __init__(self, ends: list[Edge]) -> None:
         self.ends, self.count = ends + [(0, 1)], len(ends)
-        self.tops = functools.lru_cache(None)(self.find_tops)
+        self.tops = functools.lru_cache(None)(
+            lambda edges: kit.tops(4, map(self.ends.__getitem__, edges)))
         every = range(self.count)
         self.x_wins = kit.set_game(self.count, lambda points: self.joins(
             {v for v in every if points >> v & 1}, self.count))
-
-    def find_tops(self, edges: Points) -> list[int]:
-        """For each vertex, a vertex of its part by these edges."""
-        top = list(range(4))
-        for edge in edges:
-            a, b = (top[v] for v in self.ends[edge])
-            top = [b if t == a else t for t in top]
-        return top
 
     def joins(self, edges: set[int] | Points, edge: int) -> bool:
         """Whether the edges join the ends of the edge."""
@@ -149,17 +134,11 @@ class GraphGame:
         return all(not self.joins(rest - mine - {f}, f)
                    for mine, other in ((a, b | (extra - a)), (b, a | extra)) for f in other)
 
-    def pairs_of_sets(self, x: Points, y: Points) -> Iterator[tuple[Points, Points]]:
-        """Two disjoint sets of free edges, in every way."""
-        free = [v for v in range(self.count) if v not in x | y]
-        for a, b in kit.marked(len(free)):
-            yield frozenset(free[k] for k in a), frozenset(free[k] for k in b)
-
     def counts(self) -> tuple[int, int, int]:
         """How many positions X wins, and how many pairs of sets are trees and cuts."""
         won = trees = cuts = 0
         for x, y in kit.marked(self.count):
-            pairs = list(self.pairs_of_sets(x, y))
+            pairs = [(a, b) for a, b in kit.marked(self.count) if not (a | b) & (x | y)]
             more = [(a | {self.count}, b) for a, b in pairs]
             for turn in "xy":
                 of_x, of_y = (sum(test(x, y, a, b) for a, b in pairs + more * (turn == side))

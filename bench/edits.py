@@ -23,11 +23,11 @@ EDITS = kit.TOP / "bench" / "edits"
 
 def copy_tracked(copy: pathlib.Path) -> None:
     """Copies the checkout's files that git knows."""
-    listed = subprocess.run(["git", "ls-files", "-z"], cwd=kit.TOP, capture_output=True, check=True)
-    for name in listed.stdout.decode().split("\0"):
-        if name and (kit.TOP / name).is_file():
-            (copy / name).parent.mkdir(parents=True, exist_ok=True)
-            shutil.copy2(kit.TOP / name, copy / name)
+    listed = subprocess.run(["git", "ls-files", "-z"], cwd=kit.TOP, capture_output=True, check=True,
+                            text=True)
+    for name in filter(lambda name: (kit.TOP / name).is_file(), listed.stdout.split("\0")):
+        (copy / name).parent.mkdir(parents=True, exist_ok=True)
+        shutil.copy2(kit.TOP / name, copy / name)
     subprocess.run(["git", "init", "-q"], cwd=copy, check=True)
 
 
@@ -36,8 +36,8 @@ def tried(copy: pathlib.Path, names: list[str]) -> int:
     done = subprocess.run(["rt", "ci", *names], cwd=copy, stdout=subprocess.PIPE,
                           stderr=subprocess.STDOUT, text=True, errors="replace")
     lines = [line.strip() for line in re.split("[\r\n]", done.stdout) if line.strip()]
-    wrong = [line for line in lines if re.search("BAD EDIT|NOT TRIED|NOT REFUSED", line)]
     print(*lines[-3:], sep="\n")
+    wrong = filter(re.compile("BAD EDIT|NOT TRIED|NOT REFUSED").search, lines)
     return kit.end(wrong) or int(done.returncode != 0)
 
 
@@ -50,13 +50,12 @@ def main() -> int:
     if unknown:
         words.error(f"no edits of {', '.join(unknown)}")
     with kit.files() as folder:
-        copy = folder / "posgame"
-        copy_tracked(copy)
+        copy_tracked(folder / "posgame")
         for name in names:
-            must_fail = copy / "crates" / name / "must-fail"
+            must_fail = folder / "posgame" / "crates" / name / "must-fail"
             shutil.rmtree(must_fail, ignore_errors=True)
             shutil.copytree(EDITS / name, must_fail)
-        return tried(copy, names)
+        return tried(folder / "posgame", names)
 
 
 if __name__ == "__main__":

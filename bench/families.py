@@ -73,16 +73,15 @@ def games() -> Iterator[tuple[str, str]]:
     yield "complete graph, 45 vertices", kit.span(kit.complete(45), "y")
     yield "complete graph, 25 vertices, tripled", kit.span(kit.complete(25, 3), "y")
     yield "grid, 22 by 22", kit.span(kit.grid(22, 22), "x")
-    for vertices, turn in (500, "x"), (400, "x"), (200, "y"):
-        text = kit.span(scattered(vertices, 1000), turn)
-        yield f"1,000 random edges on {vertices} vertices", text
+    for many, turn in (500, "x"), (400, "x"), (200, "y"):
+        yield f"1,000 random edges on {many} vertices", kit.span(scattered(many, 1000), turn)
     yield "doubled path of 500 vertices, two edges", kit.span(kit.doubled_path(500, 1000), "y")
     for seed, count, weight, turn in (
             (23, 1000, None, "y"), (24, 250, None, "x"), (25, 256, None, "y"),
             (26, 1000, 2, "y"), (27, 220, 2, "x"), (28, 1000, 3, "y")):
         name = f"vectors of {weight} ones" if weight else "random vectors"
         yield f"{count:,} {name}", vector_text(drawn_vectors(seed, count, weight), turn)
-    units = 128, (1 << 128) - 1, [1 << k % 128 for k in range(1000)]
+    units = 128, 2**128 - 1, [1 << k % 128 for k in range(1000)]
     yield "1,000 unit vectors", vector_text(units, "y")
     yield "890 random vectors of 60 rows, 110 of two ones", vector_text(parted(29, 890, 110), "x")
     for turn in "xy":
@@ -94,12 +93,9 @@ def dearest(folder: pathlib.Path, words: Iterable[object], typed: str) -> tuple[
     """How many moves a player makes, and the instructions of the dearest, with its reply."""
     flags = ["--dump-before=*Player::make_move*"]
     kit.count(*words, counts=folder / "counts", typed=typed, flags=flags)
-    moves = []
-    for path in folder.glob("counts*"):
-        text = path.read_text(encoding="ascii", errors="replace")
-        part = re.search(r"^part: (\d+)(?:\n.*)*?\nsummary: (\d+)", text, re.MULTILINE)
-        if part and int(part[1]) > 1:
-            moves.append(int(part[2]))
+    pattern = re.compile(r"^part: (\d+)(?:\n.*)*?\nsummary: (\d+)", re.MULTILINE)
+    texts = (it.read_text(encoding="ascii", errors="replace") for it in folder.glob("counts*"))
+    moves = [int(it[2]) for it in map(pattern.search, texts) if it and int(it[1]) > 1]
     return len(moves), max(moves, default=0)
 
 
@@ -110,17 +106,16 @@ def measured(program: str, text: str, folder: pathlib.Path) -> tuple[list[Any], 
     solve, check, play = ((program, family, it, *paths) for it in ("solve", "check", "play"))
     read = program, family, "check", paths[0], "/dev/null"
     solved, checked, least = (kit.quickest(5, *it) for it in (solve, check, read))
-    solving, reading, checking = (kit.count(*it).instructions for it in (solve, read, check))
+    solving, checking, reading = (kit.count(*it).instructions for it in (solve, check, read))
     said, turn = solved.output.strip().removeprefix("class "), text.split()[-1]
     points = len(re.findall("^(?:edge|vector) ", text, re.MULTILINE))
     side = {"maker": "x", "short": "x", "first-mover": turn}.get(said, "y")
     replies = "".join(f"{step * 617 % points}\n" for step in range(200))
     moves, dear = dearest(folder, (*play, "--side", side), replies)
-    cells = [said]
-    for done, instructions in (solved, solving), (checked, checking):
-        cells += (instructions - reading) / 1e6, max(done.seconds - least.seconds, 0) * 1000
-    cells += moves, dear / 1e6, solved.kilobytes
-    return cells, [] if checked.is_accepted else ["not accepted"]
+    costs = [cost for done, instructions in ((solved, solving), (checked, checking)) for cost in (
+        (instructions - reading) / 1e6, max(done.seconds - least.seconds, 0) * 1000)]
+    wrong = [] if checked.is_accepted else ["not accepted"]
+    return [said, *costs, moves, dear / 1e6, solved.kilobytes], wrong
 
 
 def main() -> int:

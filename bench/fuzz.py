@@ -4,30 +4,26 @@ that none may give.
 
     bench/fuzz.py [PROGRAM] [--runs N] [--seed N] [--first N]
 
-It shares nothing with the crates. Each case is drawn from the seed and its number alone, and is one
-to four runs of the program in a folder of its own: files are made from those of examples/ and from
-what the program solves of them, by changes of bytes, words (of bench/fuzz.txt), numbers and lines.
-It looks for
+Each case is drawn from the seed and its number alone, and is one to four runs of the program in a
+folder of its own: files are made from those of examples/ and from what the program solves of them,
+by changes of bytes, words (of bench/fuzz.txt), numbers and lines. It looks for
 
-- an end by a signal, and a status that the command can't have there;
-- a text that the status doesn't have, more lines than expected, anything on standard error;
-- a run of more than two processor seconds, or thirty by the clock, and memory above 200 MB;
-- a file that was changed, made or removed and isn't what the command writes, or at a status that
-  leaves it;
+- an end by a signal, a status that the command can't have there, and a text that it doesn't have;
+- anything on standard error, more than two processor seconds, or thirty by the clock, or 200 MB;
+- a file that was changed and isn't what the command writes, or at a status that leaves it;
 - arguments that have a meaning and are refused, or the other way round, by a reading of its own;
 - check, report and play that answer otherwise on the same files, and a certificate that is stored
   and not accepted.
 
-Connectivity games and games on vectors are tried so too, by their own commands.
-
 What it finds is printed with the number of its case: `--seed S --first K --runs 1` repeats that
-case and shows its arguments and files. The status is 1 if it finds something. Unproved.
+case and shows its files. The status is 1 if it finds something. Unproved.
 """
 from __future__ import annotations
 
 import argparse
 import collections
 import contextlib
+import getopt
 import os
 import pathlib
 import random
@@ -40,7 +36,8 @@ from typing import Any, Optional
 import kit
 
 Draw = random.Random
-Pairs = dict[Optional[str], list[tuple[bytes, bytes]]]
+# Games and certificates by their family: `span`, `vec`, or none.
+Pairs = dict[str, list[tuple[bytes, bytes]]]
 
 SECONDS = 2
 BY_THE_CLOCK = 30
@@ -62,7 +59,7 @@ TURNS = rf"claim [xy] (win|draw)\n(move \d+\n|{REFUSED})*"
 
 
 def dues(prefix: str, flaw: str, goals: str, solved: dict[int, str],
-         played: str) -> dict[Optional[str], dict[int, str]]:
+         played: str) -> dict[str, dict[int, str]]:
     """What the commands on a kind of game may print at each status."""
     reading = {3: r"game G([1-9]|1[0-3]) line \d+\n", 4: rf"{FORM_FAULT}|{flaw}", 5: ""}
     play = {0: TURNS + played, 2: r"words: no claim for side [xy]\n", **reading, 8: TURNS, 9: TURNS}
@@ -83,7 +80,7 @@ DUE = {
            {0: rf"{RESULT}|{CLASS}", 1: UNKNOWN}, PLAYED),
     "gen": {0: rf"{MADE}(({RESULT}|{CLASS})expanded \d+ nodes \d+\n)?", 1: MADE + UNKNOWN,
             6: rf"({MADE})?"},
-    None: {2: r"words: no meaning\n"},
+    "": {2: r"words: no meaning\n"},
 }
 # Words that are put into files, and arguments.
 KEYS, SIGNS, FAMILY_KEYS, FAMILY_SIGNS, NUMBERS, NAMES, WORDS = (
@@ -99,14 +96,13 @@ class Program:
     """The program, run in one folder. `folder` has the files of the case that is tried."""
 
     def __init__(self, path: str, folder: pathlib.Path) -> None:
-        self.path, self.folder = path, folder
-        self.runs, self.statuses = 0, collections.Counter()  # type: int, collections.Counter[int]
-        self.most, self.slowest = 0, 0.0
-        self.streams = [f"{folder}.{it}" for it in ("in", "out", "err")]
+        self.path, self.folder, self.most, self.slowest = path, folder, 0, 0.0
+        self.statuses: collections.Counter[int] = collections.Counter()
+        self.streams = [folder.with_suffix(f".{it}") for it in ("in", "out", "err")]
 
     def run(self, words: list[str], typed: bytes = b"") -> tuple[int, str, bytes, int, float]:
         """The status (or the signal below 0), the output, the errors, megabytes, seconds."""
-        pathlib.Path(self.streams[0]).write_bytes(typed)
+        self.streams[0].write_bytes(typed)
         new = os.O_WRONLY | os.O_CREAT | os.O_TRUNC
         opened = [(os.POSIX_SPAWN_OPEN, number, path, new if number else os.O_RDONLY, 0o600)
                   for number, path in enumerate(self.streams)]
@@ -115,14 +111,13 @@ class Program:
             resource.prlimit(child, resource.RLIMIT_CPU, (SECONDS + 1, SECONDS + 2))
         signal.signal(signal.SIGALRM, lambda *_: os.kill(child, signal.SIGKILL))
         signal.alarm(BY_THE_CLOCK)
-        _, status, used = os.wait4(child, 0)
+        _, ended, used = os.wait4(child, 0)
         signal.alarm(0)
-        status, seconds = os.waitstatus_to_exitcode(status), used.ru_utime + used.ru_stime
+        status, seconds = os.waitstatus_to_exitcode(ended), used.ru_utime + used.ru_stime
         megabytes = used.ru_maxrss // 1024
-        self.runs += 1
         self.statuses[status] += 1
         self.most, self.slowest = max(self.most, megabytes), max(self.slowest, seconds)
-        said, errors = (pathlib.Path(it).read_bytes() for it in self.streams[1:])
+        said, errors = (it.read_bytes() for it in self.streams[1:])
         return status, said.decode("utf-8", "replace"), errors, megabytes, seconds
 
 
@@ -134,34 +129,19 @@ def held(folder: pathlib.Path) -> dict[str, Optional[bytes]]:
 
 def is_within(word: str, least: int, most: int) -> bool:
     """Whether a word is a number within these limits."""
-    return re.fullmatch("0|[1-9][0-9]{0,9}", word) is not None and least <= int(word) <= most
+    return bool(re.fullmatch("0|[1-9][0-9]{0,9}", word)) and least <= int(word) <= most
 
 
-def taken(words: list[str]) -> Optional[tuple[list[tuple[str, str]], list[str]]]:
-    """The options and the other words of a list, or None where it has no meaning."""
-    options, others, rest = [], [], list(words)
-    while rest:
-        word = rest.pop(0)
-        name, sign, value = word.partition("=")
-        if word == "--":
-            return options, others + rest
-        if word in ("--positions", "--side") and rest and not rest[0].startswith("-"):
-            options.append((word, rest.pop(0)))
-        elif name in ("--positions", "--side") and sign:
-            options.append((name, value))
-        elif len(word.encode()) > 1 and word.startswith("-"):
-            return None
-        else:
-            others.append(word)
-    return options, others
-
-
-# The limits of the numbers of each kind of game that is made.
+# The limits of the numbers of each kind of game that is made, and the options of each command on
+# a game and a certificate.
 LIMITS = {"rows": [(2, 16)], "bridge": [(1, 22)],
           "scatter": [(0, 2**31 - 1), (1, 256), (0, 20_000), (1, 100)]}
+OPTIONS = {"solve": {"--positions"}, "check": set(), "play": {"--side"}, "report": set(),
+           "span solve": set(), "span check": set(), "span play": {"--side"},
+           "vec solve": set(), "vec check": set(), "vec play": {"--side"}}
 
 
-def made(kind: str, *others: str) -> Optional[list[str]]:
+def made(kind: str = "", *others: str) -> Optional[list[str]]:
     """What `gen` writes, or None where its words have no meaning."""
     limits = LIMITS.get(kind, [])
     numbers, names = others[:len(limits)], list(others[len(limits):])
@@ -173,29 +153,23 @@ def made(kind: str, *others: str) -> Optional[list[str]]:
     return names if is_meant else None
 
 
-def meaning(words: list[str]) -> tuple[Optional[str], list[str]]:
-    """The command and what it writes; None and nothing if the words have no meaning."""
-    none: tuple[Optional[str], list[str]] = (None, [])
-    options, others = taken(words) or ([], [])
-    values = dict(options)
-    if not others or len(values) < len(options):
-        return none
-    command, *others = others
+def meaning(words: list[str]) -> tuple[str, list[str]]:
+    """The command and what it writes; nothing if the words have no meaning. (None of those drawn
+    is an option cut short, which getopt would take.)"""
+    try:
+        options, others = getopt.gnu_getopt(words, "", ["positions=", "side="])
+    except getopt.GetoptError:
+        return "", []
+    count = 2 if others[:1] in (["span"], ["vec"]) else 1
+    command, others, values = " ".join(others[:count]), others[count:], dict(options)
     if command == "gen" and not options:
-        names = made(*others) if others else None
-        return none if names is None else ("gen", names)
-    family = f"{command} " if command in ("span", "vec") and others else ""
-    if family:
-        command, *others = others
-    known: dict[str, set[str]] = {"solve": set(), "check": set(), "play": {"--side"}}
-    if not family:
-        known.update({"solve": {"--positions"}, "report": set()})
-    if command not in known or len(others) != 2 or not values.keys() <= known[command]:
-        return none
-    is_side = command != "play" or values.get("--side") in ("x", "y")
-    if not is_side or not is_within(values.get("--positions", "1"), 1, 100_000):
-        return none
-    return family + command, others[1:] if command == "solve" else []
+        names = made(*others)
+        return ("", []) if names is None else ("gen", names)
+    is_meant = (command in OPTIONS and len(others) == 2 and len(values) == len(options)
+                and values.keys() <= OPTIONS[command]
+                and is_within(values.get("--positions", "1"), 1, 100_000)
+                and (not command.endswith("play") or values.get("--side") in ("x", "y")))
+    return (command, others[1:] * command.endswith("solve")) if is_meant else ("", [])
 
 
 def wrongs(program: Program, words: list[str], typed: bytes = b"") -> tuple[list[str], int, str]:
@@ -203,31 +177,29 @@ def wrongs(program: Program, words: list[str], typed: bytes = b"") -> tuple[list
     before = held(program.folder)
     status, said, errors, megabytes, seconds = program.run(words, typed)
     after, (command, writes) = held(program.folder), meaning(words)
-    found = []
-    if status < 0:
-        found.append(f"signal {-status} after {seconds:.2f} s")
-    elif status not in DUE[command]:
-        found.append(f"status {status}")
-    elif not re.fullmatch(DUE[command][status], said):
-        found.append(f"status {status} with {said[:200]!r}")
-    if status == 9 and not re.search(rf"({REFUSED})\Z", said):
-        found.append("status 9 without a refusal at its end")
-    for is_wrong, text in ((seconds > SECONDS, f"{seconds:.2f} s of a processor"),
-                           (errors, f"standard error {errors[:200]!r}"),
-                           (megabytes > MEGABYTES, f"{megabytes} MB")):
-        found += [text] if is_wrong else []
+    due = DUE[command].get(status)
+    faults = {
+        f"signal {-status} after {seconds:.2f} s": status < 0,
+        f"status {status}": status >= 0 and due is None,
+        f"status {status} with {said[:200]!r}": due is not None and not re.fullmatch(due, said),
+        "status 9 without a refusal at its end":
+            status == 9 and not re.search(rf"({REFUSED})\Z", said),
+        f"{seconds:.2f} s of a processor": seconds > SECONDS,
+        f"standard error {errors[:200]!r}": errors,
+        f"{megabytes} MB": megabytes > MEGABYTES,
+    }
     keeps = status in (2, 3, 4) or status == 1 and command == "solve"
     may_change = set() if keeps else {os.path.normpath(name) for name in writes}
-    found += [f"{name} changed" for name in sorted(before.keys() | after.keys())
-              if before.get(name, 0) != after.get(name, 0) and name not in may_change]
-    return found, status, said
+    changed = [f"{name} changed" for name in sorted(before.keys() | after.keys())
+               if before.get(name, 0) != after.get(name, 0) and name not in may_change]
+    return [text for text, is_wrong in faults.items() if is_wrong] + changed, status, said
 
 
-def stored(program: Program, names: list[str], words: list[str], *prefix: str) -> list[str]:
+def stored(program: Program, names: list[str], words: list[str], family: str = "") -> list[str]:
     """Runs the program, and checks what it stored; what is wrong with the two."""
-    found, status, _ = wrongs(program, [*prefix, *words])
+    found, status, _ = wrongs(program, [*family.split(), *words])
     if status == 0 and len(names) == 2:
-        wrong, checked, said = wrongs(program, [*prefix, "check", *names])
+        wrong, checked, said = wrongs(program, [*family.split(), "check", *names])
         found += wrong + ([f"stored, and then {said!r}"] if checked else [])
     return found
 
@@ -322,39 +294,36 @@ def write(folder: pathlib.Path, **files: bytes) -> None:
         (folder / name).write_bytes(data)
 
 
-def disagreements(check: tuple[int, str], report: Optional[tuple[int, str]],
-                  play: tuple[int, str]) -> list[str]:
-    """What is wrong with the three commands' statuses and texts. A family has no report."""
-    (checked, text), (reported, told), (played, log) = check, report or (check[0], ""), play
+def disagreements(ends: dict[str, tuple[int, str]]) -> list[str]:
+    """What is wrong with the commands' statuses and texts. A family has no report."""
+    (checked, text), (played, log) = ends["check"], ends["play"]
+    reported, told = ends.get("report", (checked, '"goal"' * text.count("\n")))
     found, is_right = [], reported == 0 and played in (0, 2, 8, 9)
-    if checked == 0 and not (is_right and (not report or told.count('"goal"') == text.count("\n"))):
+    if checked == 0 and not (is_right and told.count('"goal"') == text.count("\n")):
         found.append(f"accepted, but {reported}, {played}")
-    if checked != 0 and ((reported, played) != (checked, checked) or log != text):
+    if checked != 0 and (reported, played, log) != (checked, checked, text):
         found.append(f"refused by {checked}, but {reported}, {played}")
-    if report and text.startswith("rejected"):
-        names = ("reject", "claim", "node")
-        shown = [re.findall(rf'"{name}":"?J?(\d+)', told)[:1] for name in names]
+    if "report" in ends and text.startswith("rejected"):
+        shown = [re.findall(rf'"{it}":"?J?(\d+)', told)[:1] for it in ("reject", "claim", "node")]
         if [[it] for it in re.findall(r"\d+", text)] != shown:
             found.append(f"{text!r}, but {told!r}")
     return found
 
 
-def certificate_case(draw: Draw, program: Program, pairs: Pairs,
-                     family: Optional[str] = None) -> list[str]:
+def certificate_case(draw: Draw, program: Program, pairs: Pairs, family: str = "") -> list[str]:
     """Check, report and play of one pair of files, which must agree."""
     game, certificate = draw.choice(pairs[family])
     keys, signs = (FAMILY_KEYS, FAMILY_SIGNS) if family else (KEYS, SIGNS)
     if draw.randrange(3 if family else 4) == 0:
         game = mutated(draw, game, keys)
     write(program.folder, G=game, C=mutated(draw, certificate, signs))
-    found, ends, prefix = [], [], [family] if family else []
-    for command in ["check"] + ["report"] * (not family) + ["play"]:
+    found, ends = [], {}
+    for command in ("check", "play") if family else ("check", "report", "play"):
         side = ["--side", draw.choice("xy")] if command == "play" else []
         typed = typed_lines(draw) if command == "play" else b""
-        wrong, *end = wrongs(program, [*prefix, command, "G", "C", *side], typed)
+        wrong, *ends[command] = wrongs(program, [*family.split(), command, "G", "C", *side], typed)
         found += [f"{command}: {it}" for it in wrong]
-        ends.append(tuple(end))
-    return found + disagreements(ends[0], None if family else ends[1], ends[-1])
+    return found + disagreements(ends)
 
 
 def family_case(draw: Draw, program: Program, pairs: Pairs) -> list[str]:
@@ -366,7 +335,7 @@ def family_case(draw: Draw, program: Program, pairs: Pairs) -> list[str]:
 
 def solve_case(draw: Draw, program: Program, pairs: Pairs) -> list[str]:
     """A game that is solved, and what was stored then."""
-    game = mutated(draw, draw.choice(pairs[None])[0], KEYS)
+    game = mutated(draw, draw.choice(pairs[""])[0], KEYS)
     write(program.folder, G=game, C=b"old")
     words = ["solve", "G", "C", "--positions", str(draw.choice((1, 2, 10, 100, 1_000)))]
     return stored(program, ["G", "C"], words if draw.randrange(3) else words[:3])
@@ -375,16 +344,15 @@ def solve_case(draw: Draw, program: Program, pairs: Pairs) -> list[str]:
 def gen_case(draw: Draw, program: Program, _: Pairs) -> list[str]:
     """A game that is made, and what was stored then."""
     write(program.folder, G=b"old game", C=b"old")
-    rows, bridge = f"rows {draw.choice((2, 3, 4, 5, 16, 17))}", f"bridge {draw.randrange(24)}"
-    scatter = f"scatter {kit.field(map(draw.randrange, (2**32, 30, 60, 8)))}"
+    games = (f"rows {draw.choice((2, 3, 4, 5, 16, 17))}", f"bridge {draw.randrange(24)}",
+             f"scatter {kit.field(map(draw.randrange, (2**32, 30, 60, 8)))}")
     names = ["G", "C"][: 1 + draw.randrange(2)]
-    words = ["gen", *draw.choice((rows, bridge, scatter)).split(), *names]
-    return stored(program, names, words)
+    return stored(program, names, ["gen", *draw.choice(games).split(), *names])
 
 
 def words_case(draw: Draw, program: Program, pairs: Pairs) -> list[str]:
     """Words of any kind."""
-    game, certificate = draw.choice(pairs[draw.choice((None, None, "span", "vec"))])
+    game, certificate = draw.choice(pairs[draw.choice(("", "", "span", "vec"))])
     write(program.folder, **{"G": game, "C": certificate, "-G": game, "ä": certificate})
     words = draw.choice(COMMANDS).split()
     for _ in range(draw.choice((0, 1, 1, 2, 4))):
@@ -400,12 +368,6 @@ def words_case(draw: Draw, program: Program, pairs: Pairs) -> list[str]:
 CASES = [certificate_case] * 6 + [solve_case, gen_case] + [words_case, family_case] * 2
 
 
-def family_of(game: bytes) -> Optional[str]:
-    """The further family of which the file is a game, or None."""
-    lines = [it for it in game.split(b"\n") if it.strip() and not it.startswith(b"#")]
-    return {b"posgame-span 1": "span", b"posgame-vectors 1": "vec"}.get(lines[0])
-
-
 def pairs_of_examples(program: Program) -> Pairs:
     """By family, the games of examples/ with each certificate there that is valid or rejected for
     them, and with what the program solves of them."""
@@ -413,14 +375,14 @@ def pairs_of_examples(program: Program) -> Pairs:
                            for it in ("*.game", "*.cert"))
     accepted, rejected = collections.defaultdict(list), collections.defaultdict(list)
     for game in games:
-        family = family_of(game)
-        prefix = [family] if family else []
+        head = re.search(b"^posgame.*", game, re.MULTILINE)
+        family = {b"posgame-span 1": "span", b"posgame-vectors 1": "vec"}.get(head[0], "")
         write(program.folder, G=game)
-        if program.run([*prefix, "solve", "G", "S"])[0] == 0:
+        if program.run([*family.split(), "solve", "G", "S"])[0] == 0:
             accepted[family].append((game, (program.folder / "S").read_bytes()))
         for certificate in certificates:
             (program.folder / "C").write_bytes(certificate)
-            status, said, *_ = program.run([*prefix, "check", "G", "C"])
+            status, said, *_ = program.run([*family.split(), "check", "G", "C"])
             if status == 0:
                 accepted[family].append((game, certificate))
             elif said.startswith("rejected") and not re.match("rejected J(11|12|2 )", said):
@@ -430,9 +392,9 @@ def pairs_of_examples(program: Program) -> Pairs:
 
 def try_cases(program: Program, given: argparse.Namespace) -> tuple[int, int, list[str]]:
     """Runs cases, and returns how many runs and cases there were and what was wrong."""
-    pairs = pairs_of_examples(program)
-    begun, number, wrong = program.runs, given.first, []  # type: int, int, list[str]
-    while program.runs - begun < given.runs:
+    pairs, wrong = pairs_of_examples(program), []
+    begun, number = program.statuses.total(), given.first
+    while program.statuses.total() - begun < given.runs:
         draw = random.Random(f"{given.seed} {number}")
         case: Any = draw.choice(CASES)
         found = case(draw, program, pairs)
@@ -441,7 +403,7 @@ def try_cases(program: Program, given: argparse.Namespace) -> tuple[int, int, li
         for name, data in sorted(held(program.folder).items()) if found and given.runs == 1 else ():
             print(f"{name}: {data if data is None or len(data) < 2_000 else data[:2_000] + b'..'}")
         number += 1
-    return program.runs - begun, number - given.first, wrong
+    return program.statuses.total() - begun, number - given.first, wrong
 
 
 def main() -> int:
@@ -456,13 +418,12 @@ def main() -> int:
         program = Program(given.program, top / "case")
         runs, cases, wrong = try_cases(program, given)
         os.chdir(top)
-    table = kit.Table("what", "number")
-    for what, number in (("runs", runs), ("cases", cases), ("findings", len(wrong)),
-                         ("greatest memory, MB", program.most),
-                         ("longest run, s of a processor", f"{program.slowest:.2f}")):
-        table.row(what, number)
-    for status, many in sorted(program.statuses.items()):
-        table.row(f"runs ended with status {status}", many)
+    table, statuses = kit.Table("what", "number"), sorted(program.statuses.items())
+    for row in (("runs", runs), ("cases", cases), ("findings", len(wrong)),
+                ("greatest memory, MB", program.most),
+                ("longest run, s of a processor", f"{program.slowest:.2f}"),
+                *((f"runs ended with status {status}", many) for status, many in statuses)):
+        table.row(*row)
     return kit.end(wrong)
 
 

@@ -3,17 +3,16 @@
 
     bench/games.py [PROGRAM] classes | searches | files
 
-classes: what it takes to class large switching games. posgame solves each once under callgrind,
-which counts the instructions of `classify` and of the whole run, and once by itself; the
-certificate that it stores must be accepted.
+classes: what it takes to class large switching games. Each is solved once under callgrind, which
+counts the instructions of `classify` and of the whole run, and once by itself; the certificate that
+is stored must be accepted.
 
-searches: posgame solves each of five boards once under callgrind, where that is installed, and once
-by itself; of each one question is asked, whether X wins. What reading takes is counted by a check
-of an empty certificate. The functions that take most of a count above its limit are printed.
+searches: five boards are solved once under callgrind, where that is installed, and once by itself.
+What reading takes is counted by a check of an empty certificate. The functions that take most of a
+count above its limit are printed.
 
-files: how long it takes to read and print the largest game files. A file is read by a check, which
-ends at the certificate, since that is empty. Other games of as many lines and points are made and
-printed by posgame itself, and then read in the same way. Unproved.
+files: how long it takes to read the largest game files, by a check of an empty certificate. Others
+of as many lines and points are made by posgame itself, and then read in the same way. Unproved.
 """
 from __future__ import annotations
 
@@ -80,8 +79,7 @@ EDGES = 500, [(number % 500, number * 7 % 500) for number in range(1_000)]
 
 
 def classes(program: str) -> int:
-    """Measures classing, in which `classify` is counted with all that it calls, unless it is
-    inlined."""
+    """Measures classing, in which `classify` is counted with all that it calls."""
     table = kit.Table("board", "edges", "class",
                       kit.Column("`classify`, instructions", ",.0f", 1e8), "whole run",
                       kit.Column("s", ".3f"), "KB")
@@ -133,21 +131,17 @@ def files(program: str) -> int:
                                   ("edges", "1,000 edges", ""),
                                   ("scatter", "256 points, 20000 lines", "scatter 1 256 20000 20"),
                                   ("bridge", "464 vertices, 925 edges", "bridge 22")):
-            path, runs = folder / file, []
-            if words:
-                due = f"game {name.replace(',', '')}\n"
-                runs.append((f"made by `gen {words}`", ["gen", *words.split(), path], due))
-            runs.append(("read", ["check", path, "/dev/null"], "certificate C2 line 1\n"))
-            for how, command, due in runs:
+            path = folder / file
+            due = f"game {name.replace(',', '')}\n"
+            made = f"made by `gen {words}`", ["gen", *words.split(), path], due
+            read = "read", ["check", path, "/dev/null"], "certificate C2 line 1\n"
+            for how, command, due in [made] * bool(words) + [read]:
                 done = kit.run(program, *command)
-                table.row(name, how, path.stat().st_size, done.seconds, done.megabytes,
-                          wrong=[] if done.output == due else [done.output])
+                wrong = [] if done.output == due else [done.output]
+                table.row(name, how, path.stat().st_size, done.seconds, done.megabytes, wrong=wrong)
     return table.end()
 
 
 if __name__ == "__main__":
-    options = kit.parser(__doc__)
-    options.add_argument("part", choices=["classes", "searches", "files"])
-    given = options.parse_args()
-    parts = {"classes": classes, "searches": searches, "files": files}
-    raise SystemExit(parts[given.part](given.program))
+    raise SystemExit(kit.call_part(__doc__, "posgame", classes=classes, searches=searches,
+                                   files=files))

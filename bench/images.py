@@ -48,37 +48,36 @@ def boards() -> Iterator[tuple[str, str]]:
     for kind, name in kit.KINDS.items():
         lines = kit.line_rows(kit.in_row(3, 3, 3))
         yield f"noughts and crosses, {name}", kit.game(kind, "grid 3 3", *lines)
-    shapes = [(f"four in a row, 4 by {height}", f"grid 4 {height}",
-               kit.line_rows(kit.in_row(height, 4, 4))) for height in (4, 5)]
-    shapes += [(f"{name}, {width} by {height}", f"grid {width} {height}", [f"shape {cells}"])
-               for name, cells, sizes in ANIMALS for height, width in sizes]
-    for name, grid, rows in shapes:
-        yield f"{name}, Maker-Breaker", kit.game("maker-breaker", grid, *rows)
+    shapes = [("four in a row", kit.line_rows(kit.in_row(height, 4, 4)), height, 4)
+              for height in (4, 5)]
+    shapes += [(name, [f"shape {it}"], *size) for name, it, sizes in ANIMALS for size in sizes]
+    for name, rows, height, width in shapes:
+        text = kit.game("maker-breaker", f"grid {width} {height}", *rows)
+        yield f"{name}, {width} by {height}, Maker-Breaker", text
 
 
 def heavy_board() -> str:
     """16 by 16 cells with some 20,000 lines of 20 points, which every map takes onto its lines."""
-    side, lines, seed = 16, set(), 1
+    lines, seed = set(), 1
     while len(lines) <= 20_000 - 8:
         cells = set()
         while len(cells) < 20:
             seed = seed * 6364136223846793005 + 1442695040888963407 & (1 << 64) - 1
-            cells.add(divmod((seed >> 33) % (side * side), side))
+            cells.add(divmod((seed >> 33) % 256, 16))
         for turned, down, right in itertools.product((False, True), repeat=3):
-            image = [(c, r) if turned else (r, c) for r, c in cells]
-            image = [(side - 1 - r if down else r, side - 1 - c if right else c) for r, c in image]
-            lines.add(tuple(sorted(r * side + c for r, c in image)))
+            image = [(15 - r if down else r, 15 - c if right else c) for r, c in cells]
+            lines.add(tuple(sorted(c * 16 + r if turned else r * 16 + c for r, c in image)))
     return kit.game("maker-breaker", "grid 16 16", *kit.line_rows(sorted(lines)))
 
 
 def measured(program: str, folder: pathlib.Path) -> tuple[list[Any], list[str]]:
     """The cells of a board, and what is wrong with them."""
     path, said, costs, wrong, nodes = folder / "game", [], [], [], []
-    for name, flags in ("plain", []), ("folded", ["--images"]):
-        said.append(kit.run(program, "solve", path, folder / name, *flags).output.strip())
+    for name, *flags in ("plain",), ("folded", "--images"):
+        words = program, "solve", path, folder / name, *flags
+        said.append(kit.run(*words).output.strip())
         if not kit.run(program, "check", path, folder / name).is_accepted:
             wrong.append(f"the {name} one is not accepted")
-        words = program, "solve", path, folder / "again", *flags
         costs.append(kit.count(*words).instructions if kit.has_valgrind() else None)
         text = (folder / name).read_text() if (folder / name).exists() else ""
         nodes.append(sum("|" in row and "|image " not in row for row in text.splitlines()))
@@ -90,14 +89,13 @@ def measured(program: str, folder: pathlib.Path) -> tuple[list[Any], list[str]]:
 
 
 def fitting_seconds(program: str) -> float:
-    """How long one map takes: a board that is settled at its root is solved with the flag and
-    without. With it map 1 is tried, which fits; a claim of one node needs no more."""
+    """How long one map takes: what the flag costs on a board that is settled at its root."""
     with kit.files(heavy=heavy_board()) as folder:
         words = program, "solve", folder / "heavy", folder / "certificate"
-        runs = [kit.quickest(3, *words, *flags) for flags in ([], ["--images"])]
-    if any(not run.output.startswith("result ") for run in runs):
-        raise SystemExit(f"the heavy board: {runs[0].output}")
-    return runs[1].processor - runs[0].processor
+        plain, folded = (kit.quickest(3, *words, *flags) for flags in ([], ["--images"]))
+    if not plain.output.startswith("result ") or not folded.output.startswith("result "):
+        raise SystemExit(f"the heavy board: {plain.output}")
+    return folded.processor - plain.processor
 
 
 def main() -> int:
@@ -121,8 +119,8 @@ def main() -> int:
             f"{seconds:.3f} s of a processor."]
     print("", *tail, sep="\n")
     if not given.only:
-        text = "\n".join([HEAD, *table.lines, "", *tail, "", "Written by `bench/images.py`.", ""])
-        pathlib.Path(given.out).write_text(text, encoding="utf-8")
+        page = [HEAD, *table.lines, "", *tail, "", "Written by `bench/images.py`.", ""]
+        kit.write_page("\n".join(page), given.out)
     return table.end()
 
 

@@ -70,6 +70,15 @@ def program(text: Optional[str], name: str = "posgame") -> str:
     return str(parser(text, name).parse_args().program)
 
 
+def call_part(text: Optional[str], name: Optional[str], **parts: Callable[..., Any]) -> int:
+    """Calls the part of a script that its last argument names, on the program `name` if that isn't
+    None; returns the status of the script."""
+    options = parser(text, name)
+    options.add_argument("part", choices=list(parts))
+    given = options.parse_args()
+    return parts[given.part](*[given.program] if name else []) or 0
+
+
 # Runs and their figures.
 
 
@@ -393,6 +402,14 @@ def bridge(rows: int) -> Graph:
 def complete(vertices: int, copies: int = 1) -> Graph:
     """Joins each two vertices by so many edges."""
     return vertices, [(u, v) for u in range(vertices) for v in range(u) for _ in range(copies)]
+
+
+def tops(vertices: int, edges: Iterable[Edge]) -> Line:
+    """Returns for each vertex one of those that the edges join it to, the same for all of these."""
+    top = list(range(vertices))
+    for u, v in edges:
+        top = [top[v] if it == top[u] else it for it in top]
+    return top
 
 
 def grid(rows: int, columns: int) -> Graph:

@@ -3,13 +3,12 @@
 
     bench/memory.py [PROGRAM]
 
-Every command is run, on real files. `cc` compiles a library that stands before the program's calls
-of malloc and realloc and refuses the one with a given number, from 1 on until a run makes no such
-call. Each run has to end as it should without that, or with what it prints cut short: with status
-7, or with 5 or 6 if the allocation was inside a call on files or the console. A claim that is
-played is never followed by 7. A file has to contain what it did before or all that is due, and no
-other file may be left. In a review memory has to run out after the first loss too, since each loss
-is due before the next position is decided. Unproved.
+Every command is run, on real files, with a library that refuses the call of malloc or realloc of a
+given number, from 1 on until a run makes no such call. Each run has to end as it should without
+that, or with what it prints cut short: with status 7, or with 5 or 6 if the allocation was inside a
+call on files or the console. A claim that is played is never followed by 7. A file has to contain
+what it did before or all that is due, and no other file may be left. In a review memory has to run
+out after the first loss too, since each loss is due before the next position is decided. Unproved.
 """
 from __future__ import annotations
 
@@ -23,11 +22,7 @@ from typing import Iterator, NamedTuple
 
 import kit
 
-# The status of a run that has no memory, and those of a failed call that reads or writes.
-NO_MEMORY, FAILED_CALLS = 7, (5, 6)
-
-ROWS = kit.line_rows([[0, 1, 2], [3, 4, 5], [6, 7, 8], [0, 3, 6], [1, 4, 7], [2, 5, 8],
-                      [0, 4, 8], [2, 4, 6]])
+ROWS = kit.line_rows(map(int, it) for it in "012 345 678 036 147 258 048 246".split())
 SQUARE = kit.game("maker-breaker", "grid 3 3", *ROWS)
 MARKED = kit.game("maker-breaker", "points 9", *ROWS, "y 4")
 DIAMOND = kit.switching((4, [(0, 2), (0, 3), (2, 3), (2, 1), (3, 1)]))
@@ -37,11 +32,11 @@ AVOIDED = kit.game("avoider-enforcer", "points 3", "line 0 1", "line 0 2", "line
 ROUND = kit.span((3, [(0, 1), (1, 2), (0, 2)]))
 VECTORS = "posgame-vectors 1\nrows 2\ntarget 11\nvector 10\nvector 01\nturn x\n"
 MOVES = "posgame-record 1\nmove 1\nmove 2\nmove 0\n"
-PAIRS = "posgame-cert 1\n" + kit.claim("x y win", "|4|x|pairs 0-1 2-5 8-7 6-3\n")
-SETS = ("posgame-cert 1\n" + kit.claim("x x win", "||x|trees e 0 4 / 1 2 3\n")
-        + kit.claim("y y win", "||y|cuts e 0 4 / 1 2 3\n"))
+PAIRS = kit.certificate(kit.claim("x y win", "|4|x|pairs 0-1 2-5 8-7 6-3\n"))
+SETS = kit.certificate(kit.claim("x x win", "||x|trees e 0 4 / 1 2 3\n"),
+                       kit.claim("y y win", "||y|cuts e 0 4 / 1 2 3\n"))
 PARTS = "posgame-span-cert 1\nclaim x x\ntrees first 0 1 / 2\nclaim y y\nparts 0 1 2\n"
-CUTS = "posgame-cert 1\n" + kit.claim("x y win", "||x|cuts 0 / 1\n")
+CUTS = kit.certificate(kit.claim("x y win", "||x|cuts 0 / 1\n"))
 REPORT = ('{"claims":[{"goal":"win","nodes":1,"side":"y","turn":"x"}],'
           '"kind":"maker-breaker","lines":8,"points":9}')
 
@@ -85,8 +80,7 @@ RUNS = [
 
 
 class Left(NamedTuple):
-    """What a run leaves: its status, the lines that it printed, the text of each file, and whether
-    an allocation was refused."""
+    """What a run leaves, with the text of each file, and whether an allocation was refused."""
 
     status: int
     lines: list[str]
@@ -105,40 +99,35 @@ def leave(program: str, library: pathlib.Path, row: Row, number: int) -> Left:
 
 
 def ending(row: Row, whole: Left, left: Left) -> str:
-    """Says how a run ended, beside the run in which nothing was refused; after a refusal also
-    after how many lines."""
+    """Says how a run ended, beside the run in which nothing was refused."""
     before, count = {"G": row.game, "C": row.other}, len(left.lines)
-    if left.files.keys() != whole.files.keys() or any(
+    is_whole = left.status == whole.status and left.lines == row.due
+    if left.files.keys() != whole.files.keys() or is_whole and left.files != whole.files or any(
             text not in (before.get(name), whole.files[name]) for name, text in left.files.items()):
         return "broken files"
-    if left.status == whole.status and left.lines == row.due:
-        return "as due" if left.files == whole.files else "broken files"
+    if is_whole:
+        return "as due"
     if left.lines != row.due[:count] or count == len(row.due):
         return "broken"
-    if left.status == NO_MEMORY and not (count and row.due[0].startswith("claim")):
+    if left.status == 7 and not (count and row.due[0].startswith("claim")):
         return f"status 7 after {count}"
-    return "status 5 or 6" if left.status in FAILED_CALLS else "broken"
+    return "status 5 or 6" if left.status in (5, 6) else "broken"
 
 
 def endings(program: str, library: pathlib.Path, row: Row) -> Iterator[str]:
-    """Yields how a row ended, for each allocation that is refused."""
+    """Returns how a row ended, for each allocation that is refused."""
     whole = leave(program, library, row, 0)
+    runs = (leave(program, library, row, number) for number in itertools.count(1))
     if whole.status or whole.lines != row.due:
-        yield "broken without a refusal"
-        return
-    for number in itertools.count(1):
-        left = leave(program, library, row, number)
-        if not left.refused:
-            return
-        yield ending(row, whole, left)
+        return iter(["broken without a refusal"])
+    return (ending(row, whole, it) for it in itertools.takewhile(lambda it: it.refused, runs))
 
 
 def main() -> int:
-    """Prints a line for each row, and returns 1 if a run ended as none may."""
     program, table = kit.program(__doc__), kit.Table("run", "how it ended, by refusals")
     with kit.files() as folder:
         library, source = folder / "refusing.so", kit.TOP / "bench" / "refusing.c"
-        subprocess.run(["cc", "-shared", "-fPIC", "-o", str(library), str(source)], check=True)
+        subprocess.run(["cc", "-shared", "-fPIC", "-o", library, source], check=True)
         for number, row in enumerate(RUNS, 1):
             counts = collections.Counter(endings(program, library, row))
             faults = [it.upper() for it in counts if it.startswith("broken")]

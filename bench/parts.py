@@ -5,23 +5,22 @@
 
 PROGRAM is bench_parts.
 
-board: what a play with its undo costs on a board of 256 points, and how long opening it takes. Full
-games in mixed orders are played and taken back; the instructions of a run without a game are
-subtracted. Each line has ten points, so that 204, 2,048 and 20,000 lines are about 8, 80 and 800
-through a point.
+board: a play with its undo on 256 points, and opening the board. Full games in mixed orders are
+played and taken back; the instructions of a run without a game are subtracted. Each line has ten
+points, so that 204, 2,048 and 20,000 lines are about 8, 80 and 800 through a point.
 
-threat: the search for threat lines on 16 by 16 points with five points in a row as lines. The
-program is run twice for each row, asking and only counting the same positions; the difference,
-shared among the positions, is what one question takes. Then how many positions have a threat line
-of no reply, one, two and three.
+threat: the search for threat lines, five in a row on 16 by 16 points. What one question takes is
+the difference of two runs, asking and only counting the same positions, shared among these. Then
+how many positions have a threat line of no reply, one, two and three.
 
-match: what a search for private pairs costs on 256 points with 60 to 120 lines of ten points.
-Families are drawn with lines near their own pair of points, far from it, or anywhere, and some are
-short at their last line. Of each kind the one is taken for which a matcher of this script goes over
-the most points; the worst of all is then made harder by small changes. Unproved.
+match: the search for private pairs on 256 points with 60 to 120 lines of ten points, near their own
+pair of points, far from it, anywhere, or short at the last line. Of each kind the one is taken for
+which a matcher of this script goes over the most points; the worst of all is then made harder by
+small changes. Unproved.
 """
 from __future__ import annotations
 
+import collections
 import itertools
 import random
 import re
@@ -70,7 +69,8 @@ def threat(program: str) -> None:
 def search(lines: Lines, holder: dict[int, int], start: int) -> tuple[int, Step, dict[int, Step]]:
     """A search by breadth for a point without a holder, from a line: how many points it goes over,
     the line and point that it finds, and how each line was reached."""
-    queue, came, count = [start], {start: None}, 0  # type: list[int], dict[int, Step], int
+    came: dict[int, Step] = {start: None}
+    queue, count = [start], 0
     for line in queue:
         for v in lines[line]:
             count += 1
@@ -137,18 +137,16 @@ def climb(draw: random.Random, lines: Lines) -> Lines:
 
 def families() -> dict[str, Lines]:
     """The worst family of each kind, by its name."""
-    draw, kinds = random.Random(1963), {}  # type: random.Random, dict[str, list[Lines]]
+    draw, kinds = random.Random(1963), collections.defaultdict(list)
     for count in (60, 90, 120):
-        for width in (5, 7, 10, 20, 60):
-            for name, make in (("near", near), ("short", short_at_last)):
-                kinds.setdefault(f"{name} {width}", []).extend(
-                    make(draw, count, width) for _ in range(20))
+        for width, (name, make) in itertools.product(
+                (5, 7, 10, 20, 60), (("near", near), ("short", short_at_last))):
+            kinds[f"{name} {width}"] += [make(draw, count, width) for _ in range(20)]
         for points in (2 * count, POINTS):
             kinds[f"{count} on {points}"] = [anywhere(draw, count, points) for _ in range(20)]
     greatest = {kind: max(tries, key=passes) for kind, tries in kinds.items()}
     kind, lines = max(greatest.items(), key=lambda entry: passes(entry[1]))
-    greatest[f"{kind}, made harder"] = climb(draw, lines)
-    return greatest
+    return {**greatest, f"{kind}, made harder": climb(draw, lines)}
 
 
 def match(program: str) -> None:
@@ -167,7 +165,4 @@ def match(program: str) -> None:
 
 
 if __name__ == "__main__":
-    options = kit.parser(__doc__, "bench_parts")
-    options.add_argument("part", choices=["board", "threat", "match"])
-    given = options.parse_args()
-    {"board": board, "threat": threat, "match": match}[given.part](given.program)
+    raise SystemExit(kit.call_part(__doc__, "bench_parts", board=board, threat=threat, match=match))

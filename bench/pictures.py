@@ -15,8 +15,8 @@ import kit
 BYTES = 2_000_000
 SPACE = "{http://www.w3.org/2000/svg}"
 TAGS = {"title", "style", "rect", "circle", "line", "path", "text"}
-ACROSS = ("x", "cx", "x1", "x2")
-DOWN = ("y", "cy", "y1", "y2")
+# Attributes that are places across, and down.
+ENDS = {**dict.fromkeys(("x", "cx", "x1", "x2"), 0), **dict.fromkeys(("y", "cy", "y1", "y2"), 1)}
 LARGE = ["lines.game", "ring.game", "lines.game lines.cert", "ring.game lines.cert", "graph.game",
          "graph.game graph.cert", "span.game", "span.game trees.cert", "span.game parts.cert"]
 
@@ -28,22 +28,19 @@ def faults_of(text: str) -> list[str]:
     except ElementTree.ParseError as error:
         return [f"no XML: {error}"]
     faults = [] if root.tag == SPACE + "svg" else [f"its tag is {root.tag}"]
-    left, top, width, height = map(int, root.get("viewBox", "0 0 0 0").split())
-    if (left, top) != (0, 0) or width == 0 or height == 0:
-        faults.append("the view box is empty")
+    left, top, *size = map(int, root.get("viewBox", "0 0 0 0").split())
+    faults += ["the view box is empty"] if left or top or 0 in size else []
     for child in root:
         tag = child.tag.removeprefix(SPACE)
         faults += [] if tag in TAGS else [f"a tag {tag}"]
-        faults += [f"{tag} lies outside, {name} {child.get(name)}"
-                   for names, most in ((ACROSS, width), (DOWN, height)) for name in names
-                   if int(child.get(name, "0")) > most]
+        faults += [f"{tag} lies outside, {name} {place}" for name, place in child.items()
+                   if name in ENDS and int(place) > size[ENDS[name]]]
     return faults + ([f"{len(text)} bytes"] if len(text) > BYTES else [])
 
 
 def large_files() -> dict[str, str]:
-    """The largest boards: 256 points and 20,000 lines of 20 points each, in a grid and in a ring,
-    with pairs of all points; and a path of 500 vertices with doubled edges and two more between its
-    ends, with two trees and, for the connectivity game, each vertex as a part, which is faulty."""
+    """The largest boards, 20,000 lines in a grid and in a ring, with pairs of all points; and a
+    path of doubled edges with two trees and, for its connectivity game, parts that are faulty."""
     lines = kit.line_rows(sorted({(k * (k + 3) // 2 + 13 * i) % 256 for i in range(20)})
                           for k in range(20_000))
     pairs = kit.field(f"{v}-{v + 1}" for v in range(0, 256, 2))
@@ -78,9 +75,8 @@ def refused(program: str, row: str) -> list[str]:
     row, _, status = row.partition("!")
     words, _, text = row.partition(":")
     done = kit.run(program, *words.split(), folder=kit.EXAMPLES)
-    due = f"{text.strip()}\n" if text.strip() else "", int(status)
-    found = done.output, done.status
-    return [] if found == due else [f"{words or 'no words'}: {found!r:.80}"]
+    found = done.output.strip(), done.status
+    return [] if found == (text.strip(), int(status)) else [f"{words or 'no words'}: {found!r:.80}"]
 
 
 def main() -> int:

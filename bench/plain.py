@@ -1,16 +1,16 @@
 #!/usr/bin/env python3
 """Finds the numbers of crates/test_plain again, by brute force without anything of that crate.
 
-First those of src/threat_rows.rt: at how many positions of small games the side to move may attack
-and its shortest threat line forces none, one, two or three replies, and at how many there is none,
-as docs/DEFINITIONS.md says what one is.
+First those of src/threat_rows.rt: at how many positions of small games the shortest threat line of
+the side to move forces none, one, two or three replies, and at how many there is none.
 
-Then, for connectivity games on two to four vertices and games on vectors of three signs, for each
-number of points, how many games X wins whoever moves, Y does, and the side to move does, over all
-choices of points in order and all marks; and the same for five points without marks. Unproved.
+Then, for connectivity games on two to four vertices and games on vectors of three signs, how many
+games X wins whoever moves, Y does, and the side to move does, over all choices of points in order
+and all marks; and the same for five points without marks. Unproved.
 """
 from __future__ import annotations
 
+import collections
 import functools
 import itertools
 from typing import Callable, Iterable, Sequence
@@ -41,12 +41,8 @@ def depths(game: kit.LineGame) -> list[int]:
 
 def joins(vertices: int, ends: Sequence[kit.Edge], points: int) -> bool:
     """Whether the edges of the set join every two vertices."""
-    reached = {0}
-    for _ in range(vertices):
-        for k, (u, v) in enumerate(ends):
-            if points >> k & 1 and (u in reached or v in reached):
-                reached |= {u, v}
-    return len(reached) == vertices
+    edges = (edge for k, edge in enumerate(ends) if points >> k & 1)
+    return len(set(kit.tops(vertices, edges))) == 1
 
 
 def sums(target: int, vectors: Sequence[int], points: int) -> bool:
@@ -60,12 +56,12 @@ def sums(target: int, vectors: Sequence[int], points: int) -> bool:
 
 def classes(count: int, passes: Callable[[int], bool], has_marks: bool) -> list[int]:
     """Who wins at all marks, or at none: how many of X, of Y, of the mover, of the other."""
-    x_wins, found = kit.set_game(count, passes), [0] * 4
-    for marks in kit.marked(count) if has_marks else [((), ())]:
-        wins = tuple(x_wins(*map(kit.bits, marks), x_moves) for x_moves in (True, False))
-        found[[(True, True), (False, False), (True, False), (False, True)].index(wins)] += 1
-    assert found[3] == 0
-    return found
+    x_wins = kit.set_game(count, passes)
+    wins = collections.Counter(
+        tuple(x_wins(*map(kit.bits, marks), x_moves) for x_moves in (True, False))
+        for marks in (kit.marked(count) if has_marks else [((), ())]))
+    assert not wins[False, True]
+    return [wins[who] for who in ((True, True), (False, False), (True, False), (False, True))]
 
 
 def line(counts: Iterable[list[int]]) -> str:
@@ -90,11 +86,10 @@ def vectors(count: int, has_marks: bool = True) -> str:
 if __name__ == "__main__":
     kit.parser(__doc__, None).parse_args()
     for kind, name in (("maker-breaker", "maker and breaker"), ("maker-maker", "maker and maker")):
-        rows = [kit.field(depths(kit.LineGame(kind, *board))) + " 0;" for board in BOARDS]
+        rows = (kit.field(depths(kit.LineGame(kind, *board))) + " 0;" for board in BOARDS)
         print(f"{name}:", "".join(rows))
     for vertices, limit in ((2, 6), (3, 6), (4, 5)):
-        counts = [connectivity(vertices, count) for count in range(limit)]
-        print(vertices, "vertices:", "".join(counts))
+        print(vertices, "vertices:", "".join(connectivity(vertices, it) for it in range(limit)))
     print("4 vertices, 5 edges, no marks:", connectivity(4, 5, False))
     print("vectors:", "".join(vectors(count) for count in range(5)))
     print("5 vectors, no marks:", vectors(5, False))

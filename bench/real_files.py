@@ -6,13 +6,11 @@ it writes. It shares nothing with the crates.
 
 Each row, of bench/real_files.txt or of a function here, says what is in a folder of its own, the
 arguments, and what must come of it: the status, what is printed, and what files contain then.
-Nothing may be on standard error, and no run may take more than twenty seconds. Names are folders,
-devices, pipes, links, too long, and files without permission to read or write (as nobody, if it is
-run as root). Disks are full (a small tmpfs), files are mounted, folders can't be written (if there
-is permission to mount), and folders vanish before and while the program runs. Standard input,
-output and errors are closed. A link that is swapped all the time must harm no file, two runs at
-once must leave a game and a certificate that fit, and runs that are killed must leave the old bytes
-or the new ones, whole. Unproved.
+Nothing may be on standard error, and no run may take more than twenty seconds. Files without
+permission are tried as nobody, if it is run as root; full disks and mounted files, if there is
+permission to mount. A link that is swapped all the time must harm no file, two runs at once must
+leave a game and a certificate that fit, and runs that are killed must leave the old bytes or the
+new ones, whole. Unproved.
 """
 from __future__ import annotations
 
@@ -36,12 +34,12 @@ from typing import Any, Iterator, Optional
 import kit
 
 ROW = re.compile(r"^(\S.*?)(?:: (USER|ROOT)?(.*))?\n  (.*) => (\d+) ?(.*)$", re.MULTILINE)
-PAIRS = "posgame-cert 1\nclaim x y win\nnodes 1\n||x|pairs 0-1 2-3 4-5\n"
+GAME = kit.game("maker-breaker", "points 6", *kit.line_rows([(0, 1), (2, 3), (4, 5)]))
+PAIRS = kit.certificate(kit.claim("x y win", "||x|pairs 0-1 2-3 4-5\n"))
 OLD, RESULT = "old\n", "result breaker\n"
 TEXTS: dict[str, Any] = {
-    "GAME": kit.game("maker-breaker", "points 6", *kit.line_rows([(0, 1), (2, 3), (4, 5)])),
-    "PAIRS": PAIRS, "OLD": OLD, "RESULT": RESULT, "ACCEPTED": "accepted x y win\n",
-    "POTENTIAL": "posgame-cert 1\nclaim x y win\nnodes 1\n||x|potential\n",
+    "GAME": GAME, "PAIRS": PAIRS, "OLD": OLD, "RESULT": RESULT, "ACCEPTED": "accepted x y win\n",
+    "POTENTIAL": kit.certificate(kit.claim("x y win", "||x|potential\n")),
     "MADE": f"game 16 points 10 lines\n{RESULT}expanded 0 nodes 1\n",
     "RECORD": "posgame-record 1\n", "nothing": None, "PAIRS RESULT": PAIRS + RESULT,
 }
@@ -60,21 +58,23 @@ def held(path: pathlib.Path) -> Optional[str]:
 
 def parts(folder: pathlib.Path) -> set[str]:
     """Returns the files that a run which was killed leaves."""
-    return {it for it in os.listdir(folder) if ".posgame-part" in it} if folder.is_dir() else set()
+    return {it.name for it in folder.glob("*.posgame-part*")}
 
 
 class Rows:
     """The rows that were run, what came out otherwise, and the table of all counts."""
 
     def __init__(self, program: str, top: str) -> None:
-        self.program, self.top = program, top
-        self.rows, self.wrong, self.skipped = 0, [], 0  # type: int, list[str], int
+        self.program, self.top, self.rows, self.skipped = program, top, 0, 0
+        self.wrong: list[str] = []
         self.table = kit.Table("what", "ended", "times")
 
-    def folder(self) -> pathlib.Path:
-        """Makes a new folder, in which everybody may write."""
+    def folder(self, **texts: str) -> pathlib.Path:
+        """Makes a new folder with files of these texts, in which everybody may write."""
         folder = pathlib.Path(tempfile.mkdtemp(dir=self.top))
         folder.chmod(0o777)
+        for name, text in texts.items():
+            (folder / name).write_text(text)
         return folder
 
     def row(self, name: str, words: str, status: int, printed: str = "", holds: Any = (),
@@ -82,17 +82,14 @@ class Rows:
         """Runs one row, and returns its folder. A shell does `before` there, beside the game G, the
         certificate C and the file O; `holds` says what files contain then (None: missing)."""
         self.rows += 1
-        folder, due = self.folder(), {"G": TEXTS["GAME"], **dict(holds)}
-        for file, text in ("G", "GAME"), ("C", "PAIRS"), ("O", "OLD"):
-            (folder / file).write_text(TEXTS[text])
+        folder, due = self.folder(G=GAME, C=PAIRS, O=OLD), {"G": GAME, **dict(holds)}
         subprocess.run(["sh", "-c", before], cwd=folder, stdout=subprocess.DEVNULL, check=True)
         ended = self.ended(words, folder, user)
         if ended != (status, printed, ""):
             self.wrong.append(f"{name}: {words}: {ended} in place of {(status, printed)}")
-        for file, text in due.items():
-            found = held(folder / file)
-            if found != text:
-                self.wrong.append(f"{name}: {file[:60]} is {found!r:.200}, not {text!r:.200}")
+        found = {file: held(folder / file) for file in due}
+        self.wrong += [f"{name}: {file[:60]} is {found[file]!r:.200}, not {text!r:.200}"
+                       for file, text in due.items() if found[file] != text]
         self.wrong += [f"{name}: {part[:60]} is left" for part in parts(folder) - set(due)]
         return folder
 
@@ -159,28 +156,26 @@ def stale_parts(rows: Rows) -> None:
 
 
 @contextlib.contextmanager
-def mount(rows: Rows, place: pathlib.Path, *words: object) -> Iterator[bool]:
+def mount(rows: Rows, place: pathlib.Path, *words: str | pathlib.Path) -> Iterator[bool]:
     """Mounts a file or a disk, and tells whether that is permitted."""
-    command = ["mount", *map(str, words), str(place)]
-    is_mounted = subprocess.run(command, stderr=subprocess.DEVNULL).returncode == 0
+    is_mounted = not subprocess.run(["mount", *words, place], stderr=subprocess.DEVNULL).returncode
     rows.skipped += not is_mounted
     try:
         yield is_mounted
     finally:
         if is_mounted:
-            subprocess.run(["umount", str(place)], check=True)
+            subprocess.run(["umount", place], check=True)
 
 
 def mounted(rows: Rows) -> None:
     """A name on which another file is mounted: that file gets the bytes."""
-    other, name = rows.folder() / "other", "a mounted file"
-    other.write_text(OLD)
+    other, name = rows.folder(other=OLD) / "other", "a mounted file"
     with mount(rows, other, "--bind", other) as is_permitted:
         pass
     for text in ("", OLD, "old" * 1000) if is_permitted else ():
         other.write_text(text)
         folder = rows.row(name, "solve G O", 0, RESULT, {"O": PAIRS}, f"mount --bind {other} O")
-        subprocess.run(["umount", str(folder / "O")], check=True)
+        subprocess.run(["umount", folder / "O"], check=True)
         if (other.read_text(), held(folder / "O")) != (PAIRS, OLD):
             rows.wrong.append(f"{name}: {held(other)!r:.60} and {held(folder / 'O')!r:.60}")
 
@@ -203,44 +198,36 @@ def disks(rows: Rows) -> None:
 
 def swap(folder: pathlib.Path, targets: Any, stop: threading.Event) -> None:
     """Makes L lead to one target after the other, until it is stopped; None: L is a plain file."""
+    new = folder / "new"
     for target in itertools.takewhile(lambda _: not stop.is_set(), itertools.cycle(targets)):
-        if target is None:
-            (folder / "new").write_text("plain\n")
+        if target:
+            new.symlink_to(target)
         else:
-            (folder / "new").symlink_to(target)
-        (folder / "new").rename(folder / "L")
+            new.write_text("plain\n")
+        new.rename(folder / "L")
 
 
 def race(rows: Rows, count: int, targets: Any) -> None:
     """Stores under the name L, which is swapped all the time. No file may be harmed."""
-    folder, stop, counts = rows.folder(), threading.Event(), collections.Counter()
-    (folder / "G").write_text(TEXTS["GAME"])
+    folder, stop, counts = rows.folder(G=GAME), threading.Event(), collections.Counter()
     (folder / "L").symlink_to("V")
     swapping = threading.Thread(target=swap, args=(folder, targets, stop))
     swapping.start()
     for number in range(count):
         (folder / "V").write_text("victim\n")
-        status = rows.ended("solve G L", folder)[0]
-        found = held(folder / "V")
+        status, found = rows.ended("solve G L", folder)[0], held(folder / "V")
         counts[f"status {status}, the {'new' if found == PAIRS else 'old'} bytes"] += 1
         is_whole = os.path.islink("/proc/self") and not os.path.isfile("/dev/null")
         if found not in ("victim\n", PAIRS) or status not in (0, 6):
             rows.wrong.append(f"race {number}: status {status}, the victim holds {found!r:.60}")
-        if held(folder / "G") != TEXTS["GAME"] or not is_whole:
+        if held(folder / "G") != GAME or not is_whole:
             rows.wrong.append(f"race {number}: another file was harmed")
     stop.set()
     swapping.join()
     rows.wrong += [f"race: {part} is left" for part in parts(folder)]
+    names = ", ".join(it or "a plain file" for it in targets)
     for what, many in sorted(counts.items()):
-        names = ", ".join(it or "a plain file" for it in targets)
         rows.table.row(f"store at a link to {names}", what, many)
-
-
-def races(rows: Rows, given: argparse.Namespace) -> None:
-    """Races with several targets."""
-    race(rows, given.races, ("/dev/null", "V"))
-    race(rows, given.races // 2, (None, "V"))
-    race(rows, given.races // 2, ("/dev/null", None, "V", "/proc/self/fd/1"))
 
 
 def pairs(rows: Rows, given: argparse.Namespace) -> None:
@@ -263,23 +250,22 @@ def pairs(rows: Rows, given: argparse.Namespace) -> None:
 
 def when_made(path: pathlib.Path) -> Any:
     """Says which file has this name, or None."""
-    try:
+    with contextlib.suppress(FileNotFoundError):
         found = path.lstat()
-    except FileNotFoundError:
-        return None
-    return found.st_ino, found.st_ctime_ns
+        return found.st_ino, found.st_ctime_ns
+    return None
 
 
 def one_kill(program: str, folder: pathlib.Path, draw: random.Random, whole: float) -> int:
     """Kills a run at a random moment, or soon after it began to write the certificate."""
-    stale, began = when_made(folder / "C.posgame-part0"), time.monotonic()
+    part, began = folder / "C.posgame-part0", time.monotonic()
+    stale = when_made(part)
     run = subprocess.Popen([program, *MANY], cwd=folder, stdout=subprocess.DEVNULL)
     if draw.randrange(2):
-        while run.poll() is None and when_made(folder / "C.posgame-part0") in (None, stale):
+        while run.poll() is None and when_made(part) in (None, stale):
             pass
-        moment = time.monotonic() + draw.random() * draw.choice((0.0002, 0.002, 0.01))
-    else:
-        moment = began + draw.random() * whole
+        began, whole = time.monotonic(), draw.choice((0.0002, 0.002, 0.01))
+    moment = began + draw.random() * whole
     while run.poll() is None and time.monotonic() < moment:
         pass
     run.send_signal(draw.choice((signal.SIGKILL, signal.SIGTERM, signal.SIGINT)))
@@ -287,12 +273,11 @@ def one_kill(program: str, folder: pathlib.Path, draw: random.Random, whole: flo
 
 
 def faults_of_kill(folder: pathlib.Path, due: tuple[str, str]) -> Iterator[str]:
-    """Yields what is wrong with the files after a kill, when the game and the certificate of a
-    whole run are due, or the old ones."""
-    found = (folder / "G").read_text(), (folder / "C").read_text()
-    if found[1] not in (OLD, due[1]) or found[0] not in ("old game\n", due[0]):
-        yield f"C holds {len(found[1])} bytes, G {len(found[0])}"
-    if found[1] == due[1] and found[0] != due[0]:
+    """Yields what is wrong with the files after a kill: not old, and not due after a whole run."""
+    game, stored = (folder / "G").read_text(), (folder / "C").read_text()
+    if stored not in (OLD, due[1]) or game not in ("old game\n", due[0]):
+        yield f"C holds {len(stored)} bytes, G {len(game)}"
+    if stored == due[1] and game != due[0]:
         yield "the certificate is new, and the game old"
     if held(folder / "O") != "other\n":
         yield "O holds something else"
@@ -302,8 +287,8 @@ def faults_of_kill(folder: pathlib.Path, due: tuple[str, str]) -> Iterator[str]:
 
 def kills(rows: Rows, given: argparse.Namespace) -> None:
     """Kills runs in one folder, looks at what each name holds then, and at last lets one end."""
-    draw, folder, counts = random.Random(given.seed), rows.folder(), collections.Counter()
-    (folder / "O").write_text("other\n")
+    draw, counts = random.Random(given.seed), collections.Counter()
+    folder = rows.folder(O="other\n")
     whole = kit.run(rows.program, *MANY, folder=folder).seconds
     due = (folder / "G").read_text(), (folder / "C").read_text()
     for number in range(given.kills):
@@ -333,13 +318,15 @@ def main() -> int:
         os.chmod(rows.program, 0o755)
         for part in listed, closed_streams, modes, stale_parts, mounted, disks:
             part(rows)
-        wrong = len(rows.wrong)
         rows.table.row("rows of files, names and streams", "", rows.rows)
-        rows.table.row("rows of files, names and streams", "otherwise", wrong)
+        rows.table.row("rows of files, names and streams", "otherwise", len(rows.wrong))
         rows.table.row("parts of the rows", "not permitted", rows.skipped)
-        for part, count in (races, given.races), (pairs, given.pairs), (kills, given.kills):
-            if count:
-                part(rows, given)
+        for count, *targets in ((given.races, "/dev/null", "V"), (given.races // 2, None, "V"),
+                                (given.races // 2, "/dev/null", None, "V", "/proc/self/fd/1")):
+            race(rows, count, targets)
+        pairs(rows, given)
+        if given.kills:
+            kills(rows, given)
         return kit.end(rows.wrong)
 
 

@@ -5,17 +5,17 @@
 
 families: whether disjoint pairs exist, found by trying all choices. A row is a position of
 Maker-Breaker: `maker-breaker POINTS x 1:LINES:X:Y:ANSWER`. Lines with a point of Y need no pair.
-There are 2 to 7 lines on 4 to 12 points. Half of the rows have no pairs, and most of these pass
-both counts (enough free points for all, two for each line); half of the others block a matcher that
-keeps its first choices.
+Half of the rows have no pairs, and most of these pass both counts (enough free points for all, two
+for each line); half of the others block a matcher that keeps its first choices.
 
 counts: in how many ways a polyomino lies on a board. No shape is moved: on each board all connected
-sets of four or of five cells, grown cell by cell, are counted for the free polyomino that each is,
-the least of its eight images. A row is WORD:COUNTS, a tetromino or a pentomino and its counts on
-the boards 4 by 4, 4 by 5, 4 by 6, 5 by 4 and so on to 6 by 6 (width by height). Unproved.
+sets of four or of five cells are counted for the least of the eight images of each. A row is
+WORD:COUNTS, with the counts on the boards 4 by 4, 4 by 5, 4 by 6, 5 by 4 and so on to 6 by 6 (width
+by height). Unproved.
 """
 from __future__ import annotations
 
+import collections
 import itertools
 import random
 from typing import Optional
@@ -23,15 +23,12 @@ from typing import Optional
 import kit
 
 ROWS = 52
-BOARDS = list(itertools.product(range(4, 7), repeat=2))
 
 
 def exist(lines: list[kit.Line], free: set[int]) -> bool:
     """Whether each line can have two of the points of its own."""
-    if not lines:
-        return True
-    pairs = itertools.combinations(sorted(set(lines[0]) & free), 2)
-    return any(exist(lines[1:], free - set(pair)) for pair in pairs)
+    return not lines or any(exist(lines[1:], free - set(pair)) for pair in
+                            itertools.combinations(sorted(set(lines[0]) & free), 2))
 
 
 def blocks(lines: list[kit.Line], free: set[int]) -> bool:
@@ -55,8 +52,7 @@ def family(draw: random.Random) -> tuple[int, list[kit.Line], set[int], set[int]
 
 
 def kind_of(points: int, lines: list[kit.Line], taken: set[int], own: set[int]) -> Optional[str]:
-    """What a family shows, if it has two lines or more that need a pair: whether there are pairs,
-    and else whether there are points enough for all lines, and for each by itself."""
+    """What a family shows, or None if it has less than two lines that need a pair."""
     wanted, free = [line for line in lines if not own & set(line)], set(range(points)) - taken - own
     if len(wanted) < 2:
         return None
@@ -83,19 +79,16 @@ def print_families() -> None:
 def print_counts() -> None:
     """Prints how often each polyomino is among the connected sets of each board."""
     for size in (4, 5):
-        counts: dict[kit.Cells, list[int]] = {}
-        for place, (width, height) in enumerate(BOARDS):
+        boards = []
+        for width, height in itertools.product(range(4, 7), repeat=2):
             cells = set(itertools.product(range(height), range(width)))
             sets = {frozenset([cell]) for cell in cells}
             for _ in range(size - 1):
                 sets = {it | {cell} for it in sets for cell in kit.beside(it) & cells}
-            for shape in sets:
-                counts.setdefault(min(kit.turned(shape)), [0] * len(BOARDS))[place] += 1
-        for shape, row in sorted(counts.items()):
-            print(f"{kit.word_of(shape)}:{','.join(map(str, row))}")
+            boards.append(collections.Counter(min(kit.turned(shape)) for shape in sets))
+        for shape in sorted(set().union(*boards)):
+            print(f"{kit.word_of(shape)}:{','.join(str(counts[shape]) for counts in boards)}")
 
 
 if __name__ == "__main__":
-    words = kit.parser(__doc__, None)
-    words.add_argument("what", choices=["families", "counts"])
-    {"families": print_families, "counts": print_counts}[words.parse_args().what]()
+    raise SystemExit(kit.call_part(__doc__, None, families=print_families, counts=print_counts))

@@ -5,19 +5,17 @@
 
 lines: the lines `value` and `pair`. There are 300 games with a point a turn, the first 120 of them
 with two points for Y except in Maker-Maker, 200 with two or three points for Y and without marks,
-and 200 pairs of positions. Each is drawn by the generator that the standard of C prints, from its
-number as the seed. Letters: m and b for Maker and Breaker, a and e for Avoider and Enforcer, x, y
-and d for Maker-Maker and its draw. A pair is m or b if the first position is no worse for the
-winner of the second, and else that winner, x or y.
+and 200 pairs of positions, drawn from their numbers as seeds. Letters: m and b for Maker and
+Breaker, a and e for Avoider and Enforcer, x, y and d for Maker-Maker and its draw. A pair is m or b
+if the first position is no worse for the winner of the second, and else that winner, x or y.
 
 reviews: 200 rows of reviews of noughts and crosses, and names: what test_stories says of them. In
 each kind with lines the board begins empty or with some marks, with either side to move; moves are
-taken back now and then. Records are drawn by a generator with a fixed seed.
-
-Values are found by trying all plays; nothing is shared with the crates. Unproved.
+taken back now and then. Values are found by trying all plays. Unproved.
 """
 from __future__ import annotations
 
+import itertools
 import random
 from typing import Iterator, NamedTuple, Optional
 
@@ -97,39 +95,29 @@ def drawn_pair(number: int) -> tuple[Game, Game]:
     points = draws.below(3) + 4
     lines = drawn_lines(draws, points, 6)
     turn, worse = "xy"[draws.below(2)], "xy"[draws.below(2)]
-    first, second = drawn_marks(draws, points, 8), []
-    for mark in first:
-        drawn = draws.below(24)
-        side = worse if drawn < 8 else OTHER[worse] if drawn == 23 else None
-        second.append(mark if side is None else None if mark == side else OTHER[side])
-    other_turn = OTHER[turn] if draws.below(12) == 0 else turn
-    one = Game("mb", lines, first, turn, 1 + number % 3)
-    return one, one._replace(marks=second, turn=other_turn)
+    one = Game("mb", lines, drawn_marks(draws, points, 8), turn, 1 + number % 3)
+    sides = [{**dict.fromkeys(range(8), worse), 23: OTHER[worse]}.get(draws.below(24))
+             for _ in range(points)]
+    marks = [mark if side is None else None if mark == side else OTHER[side]
+             for mark, side in zip(one.marks, sides)]
+    return one, one._replace(marks=marks, turn=turn if draws.below(12) else OTHER[turn])
 
 
 def pair(first: Game, second: Game) -> str:
     """The letter of a pair of positions."""
-    winner = "xy"["mb".index(second.value())]
+    letter = second.value()
+    winner = {"m": "x", "b": "y"}[letter]
     is_no_worse = first.turn == second.turn and all(
         mark in (other, winner) or other == OTHER[winner] and mark is None
         for mark, other in zip(first.marks, second.marks))
-    if not is_no_worse:
-        return winner
-    letter = first.value()
-    assert letter == "mb"["xy".index(winner)]
-    return letter
-
-
-def value_line(it: Game) -> str:
-    """The line of a game."""
-    return f"value {WORDS[it.value()]}=kind {KINDS[it.kind]};{it.board()};{it.position()};"
+    assert not is_no_worse or first.value() == letter
+    return letter if is_no_worse else winner
 
 
 def pair_line(first: Game, second: Game) -> str:
     """The line of a pair of positions."""
     letter = pair(first, second)
-    word = {"m": "maker", "b": "breaker"}.get(letter, "rejected")
-    side = {"m": "x", "b": "y"}.get(letter, letter)
+    word, side = WORDS[letter].split() if letter in "mb" else ("rejected", letter)
     x, y = (kit.field(sorted(first.taken(it))) for it in "xy")
     left = f"y{first.bias}" if first.turn == "y" and first.bias > 1 else first.turn
     positions = f"{first.position()}={second.position()}"
@@ -141,19 +129,18 @@ def drawn_record(chance: random.Random) -> tuple[kit.LineGame, list[str], list[k
     board = SQUARE[chance.choice(sorted(SQUARE))]
     points = chance.sample(range(9), chance.choice([0, 0, 0, 2, 3]))
     half = (len(points) + 1) // 2
-    start = frozenset(points[:half]), frozenset(points[half:]), chance.choice("xy"), 1
-    events, trail = [], [start]
+    events = []
+    trail = [(frozenset(points[:half]), frozenset(points[half:]), chance.choice("xy"), 1)]
     for _ in range(chance.randint(1, 14)):
         if len(trail) > 1 and chance.random() < 0.25:
             trail.pop()
             events.append("back")
-            continue
-        x, y, *_ = trail[-1]
-        if board.score(x, y) is not None:
+        elif board.score(*trail[-1][:2]) is None:
+            v = chance.choice(board.free(*trail[-1][:2]))
+            trail.append(board.after(*trail[-1], v))
+            events.append(f"move {v}")
+        else:
             break
-        v = chance.choice(board.free(x, y))
-        trail.append(board.after(*trail[-1], v))
-        events.append(f"move {v}")
     return board, events, trail
 
 
@@ -186,15 +173,18 @@ def print_reviews(has_rows: bool) -> None:
 
 def print_values(has_lines: bool) -> None:
     """Prints the lines of games and of pairs, or how many have each value."""
-    games = [game(number, 1) for number in range(300)] + [game(number, 2) for number in range(120)]
+    games = [game(number, bias) for bias, count in ((1, 300), (2, 120)) for number in range(count)]
     games += map(biased_game, range(200))
     pairs = list(map(drawn_pair, range(200)))
     if has_lines:
-        print(*map(value_line, games), *(pair_line(*it) for it in pairs), sep="\n")
+        for it in games:
+            rows = f"kind {KINDS[it.kind]};{it.board()};{it.position()};"
+            print(f"value {WORDS[it.value()]}={rows}")
+        print(*itertools.starmap(pair_line, pairs), sep="\n")
         return
     for name, letters, found in (("games", "mbaexyd", [it.value() for it in games]),
                                  ("pairs", "mbxy", [pair(*it) for it in pairs])):
-        print(f"{name}:", " ".join(f"{letter} {found.count(letter)}" for letter in letters))
+        print(f"{name}:", *(f"{letter} {found.count(letter)}" for letter in letters))
 
 
 if __name__ == "__main__":
@@ -202,7 +192,5 @@ if __name__ == "__main__":
     words.add_argument("what", nargs="?", choices=["lines", "counts", "reviews", "names"],
                        default="lines")
     what = words.parse_args().what
-    if what in ("lines", "counts"):
-        print_values(what == "lines")
-    else:
-        print_reviews(what == "reviews")
+    show = print_values if what in ("lines", "counts") else print_reviews
+    show(what in ("lines", "reviews"))

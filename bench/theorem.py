@@ -9,18 +9,20 @@ where something is proved.
 
 Its examples are tried by `python3 -m doctest bench/theorem.py`. Nothing is proved of this script.
 """
-import argparse
-import pathlib
+import itertools
 import re
 import sys
 import textwrap
 from typing import NamedTuple
 
-TOP = pathlib.Path(__file__).resolve().parent.parent
-PAGE = TOP / "docs" / "THEOREM.md"
-DEFINED = TOP / "docs" / "DEFINED.md"
+import kit
+
+PAGE = kit.TOP / "docs" / "THEOREM.md"
+DEFINED = kit.TOP / "docs" / "DEFINED.md"
 COLUMNS = 100
 MOST_LINES = 200
+# What stands before the name of a definition.
+HEAD_OF = r"^(?:abbrev |unfoldable )?pub (?:record |data )?"
 
 
 class Quote(NamedTuple):
@@ -30,6 +32,15 @@ class Quote(NamedTuple):
     crate: str
     module: str
     names: str
+
+    def text(self) -> str:
+        """The file of definitions."""
+        return (kit.TOP / "crates" / self.crate / "specs" / f"{self.module}.antt").read_text()
+
+    def blocks(self) -> list[list[str]]:
+        """The definitions, each as its lines."""
+        blocks = [definition(self.text(), name) for name in self.names.split()]
+        return [[part for line in block for part in laid_out(line)] for block in blocks]
 
 
 QUOTES = [
@@ -64,11 +75,6 @@ finite set of numbers, `contains s v` says whether `v` is in `s`; `list_all`, `l
 and `map` are the usual ones on lists, and `range_with_len 0 n` is the list of the numbers below n.
 """
 
-TAIL = """## Not quoted
-
-The definitions above cite these besides:
-"""
-
 TYPES = """Types (`Game`, `Position`, `Kind`, `Side`, `Score`, `Goal`, `Cert` and others) stand in
 `crates/*/src` under the same names.
 """
@@ -90,22 +96,14 @@ NOTES = {
 }
 
 
-def specs(crate: str, module: str) -> pathlib.Path:
-    """The file of definitions of a module."""
-    return TOP / "crates" / crate / "specs" / f"{module}.antt"
-
-
 def definition(text: str, name: str) -> list[str]:
     """The lines of a definition, with the remark above it.
 
     >>> definition("-- one\\nabbrev pub one : ℕ\\none = 1\\n\\nabbrev pub two : ℕ\\n", "one")
     ['-- one', 'abbrev pub one : ℕ', 'one = 1']
     """
-    head = rf"^(?:abbrev |unfoldable )?pub (?:record |data )?{name}\b.*\n(?:.+\n)*"
-    found = re.search(rf"(?:^--.*\n)*{head}", text, re.MULTILINE)
-    if found is None:
-        sys.exit(f"no definition of {name}")
-    return found.group(0).splitlines()
+    found = re.search(rf"(?:^--.*\n)*{HEAD_OF}{name}\b.*\n(?:.+\n)*", text, re.MULTILINE)
+    return found[0].splitlines() if found else sys.exit(f"no definition of {name}")
 
 
 def laid_out(line: str) -> list[str]:
@@ -120,21 +118,12 @@ def laid_out(line: str) -> list[str]:
                          break_on_hyphens=False)
 
 
-def quoted(quote: Quote) -> list[list[str]]:
-    """The definitions of a quote, each as its lines."""
-    text = specs(quote.crate, quote.module).read_text()
-    blocks = [definition(text, name) for name in quote.names.split()]
-    return [[part for line in block for part in laid_out(line)] for block in blocks]
-
-
 def taken_names(text: str) -> dict[str, str]:
     """The names that a file takes from others, each with the module that it names."""
-    taken = {}
     pattern = r"^(?:unfoldable )?(?:pub )?use Rattle\.([\w.]+)\.\{(.*)\}"
-    for path, names in re.findall(pattern, text, re.MULTILINE):
-        for name in names.split(","):
-            taken[name.split(" as ")[-1].strip()] = path.replace(".", "/")
-    return taken
+    found = re.findall(pattern, text, re.MULTILINE)
+    return {name.split(" as ")[-1].strip(): path.replace(".", "/")
+            for path, names in found for name in names.split(",")}
 
 
 def imports(text: str) -> dict[str, str]:
@@ -149,60 +138,41 @@ def imports(text: str) -> dict[str, str]:
     taken = taken_names(text)
     for name, module in taken.items():
         if re.fullmatch(r"pg_\w+/specs/Prelude", module):
-            crate, _, prelude = module.split("/")
-            taken[name] = taken_names(specs(crate, prelude).read_text())[name]
+            passed = (kit.TOP / "crates" / f"{module}.antt").read_text()
+            taken[name] = taken_names(passed)[name]
     return {name: module for name, module in taken.items() if module.startswith("pg_")}
 
 
-def own_names(text: str) -> set[str]:
-    """The names that a file defines."""
-    pattern = r"^(?:abbrev |unfoldable )?pub (?:record |data )?(\w+)"
-    return set(re.findall(pattern, text, re.MULTILINE))
-
-
-def cited(quote: Quote) -> dict[str, str]:
-    """The words of the repository's specs that a quote cites, each with its module."""
-    text = specs(quote.crate, quote.module).read_text()
-    taken = imports(text)
-    taken.update({name: f"{quote.crate}/specs/{quote.module}" for name in own_names(text)})
-    code = " ".join(line for block in quoted(quote) for line in block if not line.startswith("--"))
-    words = set(re.findall(r"(?<![\w.])\w+", code))
-    return {name: module for name, module in taken.items() if name in words}
-
-
 def others() -> list[str]:
-    """Where the words stand that the quotes cite and that aren't quoted."""
+    """Where the words of the repository's specs stand that the quotes cite, but don't quote."""
     known = {name for quote in QUOTES for name in quote.names.split()}
     places: dict[str, set[str]] = {}
     for quote in QUOTES:
-        for name, module in cited(quote).items():
-            if name not in known and "/declared/" not in module:
-                places.setdefault(module, set()).add(name)
-    lines = []
-    for module, names in sorted(places.items()):
-        listed = ", ".join(f"`{name}`" for name in sorted(names))
-        item = f"- {listed}: `crates/{module}.antt`"
-        lines += textwrap.wrap(item, COLUMNS, subsequent_indent="  ")
-    return lines
+        own = re.findall(rf"{HEAD_OF}(\w+)", quote.text(), re.MULTILINE)
+        modules = imports(quote.text()) | dict.fromkeys(own, f"{quote.crate}/specs/{quote.module}")
+        lines = itertools.chain.from_iterable(quote.blocks())
+        code = " ".join(line for line in lines if not line.startswith("--"))
+        for name in modules.keys() & set(re.findall(r"(?<![\w.])\w+", code)) - known:
+            places.setdefault(modules[name], set()).add(name)
+    items = [f"- {', '.join(f'`{name}`' for name in sorted(names))}: `crates/{module}.antt`"
+             for module, names in sorted(places.items()) if "/declared/" not in module]
+    return [line for it in items for line in textwrap.wrap(it, COLUMNS, subsequent_indent="  ")]
 
 
 def defined() -> str:
     """The text of docs/DEFINED.md."""
-    page, count, last = [HEAD], 0, ""
-    for quote in QUOTES:
-        if quote.heading != last:
-            note = textwrap.fill(NOTES.get(quote.heading, ""), COLUMNS, break_on_hyphens=False)
-            page.append(f"## {quote.heading}\n" + (f"\n{note}\n" if note else ""))
-        last = quote.heading
-        blocks = quoted(quote)
-        count += sum(len(block) for block in blocks)
-        text = "\n\n".join("\n".join(block) for block in blocks)
-        page.append(f"`crates/{quote.crate}/specs/{quote.module}.antt`:\n\n```\n{text}\n```\n")
+    page, count = [HEAD], 0
+    for heading, quotes in itertools.groupby(QUOTES, lambda quote: quote.heading):
+        note = textwrap.fill(NOTES.get(heading, ""), COLUMNS, break_on_hyphens=False)
+        page.append(f"## {heading}\n" + (f"\n{note}\n" if note else ""))
+        for quote in quotes:
+            text = "\n\n".join(map("\n".join, quote.blocks()))
+            count += sum(map(bool, text.split("\n")))
+            page.append(f"`crates/{quote.crate}/specs/{quote.module}.antt`:\n\n```\n{text}\n```\n")
     if count > MOST_LINES:
         sys.exit(f"{count} lines are quoted, and {MOST_LINES} are the limit")
-    listed = "\n".join(others())
-    page.append(f"{TAIL}\n{listed}\n\n{TYPES}")
-    return "\n".join(page)
+    page.append("## Not quoted\n\nThe definitions above cite these besides:\n")
+    return "\n".join([*page, *others(), "", TYPES])
 
 
 def contract(text: str, name: str) -> str | None:
@@ -211,10 +181,9 @@ def contract(text: str, name: str) -> str | None:
     >>> contract("fn one() -> u8\\n    ensures exact { result ≡ 1 }\\n{\\n    1\\n}\\n", "one")
     '() -> u8\\n    ensures exact { result ≡ 1 }'
     """
-    found = re.search(rf"\bfn {name}\b(.*?)\n *\{{", text, re.DOTALL)
-    if found is None:
-        found = re.search(rf"^pub record {name}\b((?:.*\n)(?:.+\n)*)", text, re.MULTILINE)
-    return found.group(1) if found else None
+    found = (re.search(rf"\bfn {name}\b((?s:.*?))\n *\{{", text)
+             or re.search(rf"^pub record {name}\b((?:.*\n)(?:.+\n)*)", text, re.MULTILINE))
+    return found[1] if found else None
 
 
 def has_clause(found: str, clause: str) -> bool:
@@ -227,14 +196,12 @@ def has_clause(found: str, clause: str) -> bool:
 
 
 def is_there(crate: str, path: str, clauses: list[str]) -> bool:
-    """Whether the crate has the function or record, with these clauses or fields.
-
-    The name may stand behind its module (`laws::f`) or its type (`Player::f`).
-    """
+    """Whether the crate has the function or record, with these clauses or fields. The name may
+    stand behind its module (`laws::f`) or its type (`Player::f`)."""
     *owner, name = path.split("::")
     module = owner[0] if owner and owner[0].islower() else "*"
     head = rf"^impl(?:<[^>]*>)? {owner[0]}\b" if owner and module == "*" else ""
-    folder = TOP / "crates" / crate
+    folder = kit.TOP / "crates" / crate
     for file in [*folder.glob(f"src/{module}.rt"), *folder.glob(f"specs/{module}.antt")]:
         text = file.read_text()
         start = re.search(head, text, re.MULTILINE)
@@ -247,22 +214,21 @@ def is_there(crate: str, path: str, clauses: list[str]) -> bool:
 def lost(text: str) -> list[str]:
     """The names on the page that aren't in the sources: functions, clauses, and must-fail edits."""
     flat = " ".join(text.split())
-    wrong = []
-    for crate, path, clauses in re.findall(r"`(pg_\w+)::([\w:]+)(?: \(([\w, ]+)\))?`", flat):
-        if not is_there(crate, path, clauses.split(", ") if clauses else []):
-            wrong.append(f"{crate}::{path} ({clauses})")
+    named = re.findall(r"`(pg_\w+)::([\w:]+)(?: \(([\w, ]+)\))?`", flat)
+    wrong = [f"{crate}::{path} ({clauses})" for crate, path, clauses in named
+             if not is_there(crate, path, re.findall(r"\w+", clauses))]
     for names, crate in re.findall(r"((?:`[a-z0-9-]+`(?:, | and )?)+) of `(pg_\w+)`", flat):
         for name in re.findall(r"`([a-z0-9]+(?:-[a-z0-9]+)+)`", names):
-            if not (TOP / "crates" / crate / "must-fail" / f"{name}.edit").is_file():
+            if not (kit.TOP / "crates" / crate / "must-fail" / f"{name}.edit").is_file():
                 wrong.append(f"edit {name} of {crate}")
     return wrong
 
 
 def main() -> int:
     """Writes the page, or checks both."""
-    parser = argparse.ArgumentParser(description=__doc__.split("\n\n")[0])
-    parser.add_argument("--check", action="store_true", help="write nothing, and compare")
-    is_check = parser.parse_args().check
+    words = kit.parser(__doc__, None)
+    words.add_argument("--check", action="store_true", help="write nothing, and compare")
+    is_check = words.parse_args().check
     text = defined()
     wrong = [f"not in the sources: {name}" for name in lost(PAGE.read_text())]
     if not is_check:

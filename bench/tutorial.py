@@ -16,8 +16,7 @@ indented blocks of a lesson:
 - "$ ./posgame-draw ARGUMENTS > FILE" is run if --draw names that program. If an image follows
   the block, FILE must equal it, to the byte.
 
-It also checks the length of each lesson, the width of its lines, its links, and that
-docs/TUTORIAL.md lists all lessons in order. Unproved.
+It also checks the form of each lesson, and that docs/TUTORIAL.md lists all in order. Unproved.
 """
 from __future__ import annotations
 
@@ -25,7 +24,7 @@ import pathlib
 import re
 import shlex
 import subprocess
-from typing import NamedTuple, Optional
+from typing import Optional
 
 import kit
 import width
@@ -44,28 +43,8 @@ LINK = re.compile(r"\]\(([^)#:]+)\)")
 ENTRY = re.compile(r"^(\d+)\. \[([^]]+)\]\(tutorial/([^)]+)\)", re.MULTILINE)
 
 
-class Block(NamedTuple):
-    """Indented lines of a lesson, with the line of text before them and the one after them."""
-
-    before: str
-    inside: str
-    after: str
-
-    @property
-    def lines(self) -> list[str]:
-        """The lines, without the four blanks before each."""
-        return re.findall("^    (.*)$", self.inside, re.MULTILINE)
-
-
-def commands(lines: list[str]) -> list[tuple[str, list[str]]]:
-    """Returns the commands of a block, each with the lines below it."""
-    text = re.sub(r" \\\n +", " ", "\n".join(lines))
-    parts = [it.splitlines() for it in re.split(r"^\$ ", text, flags=re.MULTILINE)[1:]]
-    return [(first, below) for first, *below in parts]
-
-
 class Walk:
-    """A lesson that is run in a folder with the programs, and what was found so far."""
+    """A lesson that is run in a folder with the programs, and what was found in it."""
 
     def __init__(self, program: str, draw: Optional[str], folder: pathlib.Path) -> None:
         self.program, self.picture, self.folder = program, draw, folder
@@ -80,8 +59,7 @@ class Walk:
     def run(self, command: str, below: list[str]) -> None:
         """Runs posgame with the lines that are not its texts as input, and compares the others."""
         words = shlex.split(command)[1:]
-        if words[0] == "report":
-            below = ["".join(below)]
+        below = ["".join(below)] if words[0] == "report" else below
         expected = [line for line in below if line.startswith(TEXTS)]
         typed = "".join(f"{line}\n" for line in below if not line.startswith(TEXTS))
         ended = subprocess.run([self.program, *words], cwd=self.folder, input=typed,
@@ -102,64 +80,55 @@ class Walk:
         is_same = not image or (LESSONS / image).read_bytes() == ended.stdout
         self.compare(command, words[-2] == ">" and is_picture and is_same)
 
-    def try_commands(self, block: Block) -> None:
+    def try_commands(self, text: str, image: str) -> None:
         """Runs the commands of a block."""
-        image = IMAGE.match(block.after)
-        for command, below in commands(block.lines):
+        for part in re.split(r"^\$ ", re.sub(r" \\\n +", " ", text), flags=re.MULTILINE)[1:]:
+            command, *below = part.splitlines()
             if command.startswith("./posgame "):
                 self.run(command, below)
             elif command.startswith("./posgame-draw "):
-                self.draw(command, image.group(1) if image else "")
+                self.draw(command, image)
             elif command == "echo $?":
                 self.compare(command, below == [str(self.status)])
             else:
                 self.problems.append(f"no such command: {command}")
 
-    def try_block(self, block: Block) -> None:
-        """Runs a block, writes it to a file, or compares it with a file."""
-        named = NAMED.search(block.before)
-        path = self.folder / named.group(2) if named else self.folder
-        if block.lines[0].startswith("$ "):
-            self.try_commands(block)
-        elif named and named.group(1):
-            path.write_text("".join(f"{line}\n" for line in block.lines), encoding="ascii")
+    def try_block(self, before: str, inside: str, after: str) -> None:
+        """Runs indented lines, writes them to a file, or compares them with a file, as the line of
+        text before them says; the one after them may be an image."""
+        named, image = NAMED.search(before), IMAGE.match(after)
+        text = re.sub("^    ", "", inside, flags=re.MULTILINE)
+        if text.startswith("$ "):
+            self.try_commands(text, image[1] if image else "")
+        elif named and named[1]:
+            (self.folder / named[2]).write_text(text, encoding="ascii")
             self.shown += 1
         elif named:
-            lines = path.read_text(encoding="ascii").splitlines() if path.is_file() else []
-            self.compare(path.name, [it for it in lines if it[:1] != "#"] == block.lines)
+            path = self.folder / named[2]
+            found = path.read_text(encoding="ascii") if path.is_file() else ""
+            self.compare(named[2], re.sub("^#.*\n", "", found, flags=re.MULTILINE) == text)
 
 
 def form_problems(path: pathlib.Path) -> list[str]:
     """Returns what is wrong with the length, the widths and the links of a page."""
     text, name = path.read_text(encoding="utf-8"), path.relative_to(kit.TOP).as_posix()
     count = len(text.splitlines())
-    problems = [f"{name}: {count} lines"] if count > LENGTH else []
-    problems += [f"{name}: line {at} has {columns} characters"
+    problems = [f"{count} lines"] if count > LENGTH else []
+    problems += [f"line {at} has {columns} characters"
                  for at, columns in width.too_long(name, "docs")]
     dead = [it for it in LINK.findall(text) if not (path.parent / it).exists()]
-    return problems + [f"{name}: there is no {it}" for it in dead]
+    problems += [f"there is no {it}" for it in dead]
+    return [f"{name}: {it}" for it in problems]
 
 
 def contents_problems(paths: list[pathlib.Path]) -> list[str]:
     """Returns what is wrong with the table of contents."""
-    found = []
-    for path in paths:
-        title = re.match(r"# (\d+)\. (.+)\n", path.read_text(encoding="utf-8"))
-        found.append((*(title.groups() if title else ("", "")), path.name))
+    titles = [re.match(r"(?:# (\d+)\. (.+)\n)?", it.read_text(encoding="utf-8")) for it in paths]
+    found = [(*title.groups(""), path.name) for title, path in zip(titles, paths) if title]
     other = [name for number, _, name in found if name[:2] != number.zfill(2)]
     if not other and ENTRY.findall(CONTENTS.read_text(encoding="utf-8")) != found:
         return ["docs/TUTORIAL.md lists other lessons"]
     return [f"{name}: another number in its title" for name in other]
-
-
-def try_lesson(path: pathlib.Path, program: str, picture: Optional[str]) -> Walk:
-    """Runs a lesson in a folder of its own."""
-    with kit.files() as folder:
-        walk = Walk(program, picture, folder)
-        (folder / "examples").symlink_to(kit.EXAMPLES)
-        for found in BLOCK.findall(path.read_text(encoding="utf-8")):
-            walk.try_block(Block(*found))
-    return walk
 
 
 def main() -> int:
@@ -172,7 +141,13 @@ def main() -> int:
     form = [it for path in [CONTENTS, *paths] for it in form_problems(path)]
     form += contents_problems(paths)
     chosen = [it for it in paths if not given.lesson or int(it.name[:2]) in given.lesson]
-    walks = [try_lesson(path, given.program, given.draw) for path in chosen]
+    walks = []
+    for path in chosen:
+        with kit.files() as folder:
+            walks.append(Walk(given.program, given.draw, folder))
+            (folder / "examples").symlink_to(kit.EXAMPLES)
+            for block in BLOCK.findall(path.read_text(encoding="utf-8")):
+                walks[-1].try_block(*block)
     shown, not_drawn = sum(it.shown for it in walks), sum(it.not_drawn for it in walks)
     wrong = [f"{path.name}: {it}" for path, walk in zip(chosen, walks) for it in walk.problems]
     table = kit.Table("lessons", "shown", "differ", "faults of form", "pictures not drawn")
