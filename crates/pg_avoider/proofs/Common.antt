@@ -1,4 +1,4 @@
--- What the proofs of this crate name of crates below.
+-- What the proofs of this crate name of std and of the crates below.
 pub use Rattle.pg_avoider.specs.Prelude.{AvoiderEnforcer, AvoiderHolds, Contains, Forces, Game, IsPosition, Position, Switching, Win, X, XWins, Y, after, avoider_ends, avoider_limit, avoider_total, avoider_weight, bias_of, find, free_points, has_filled, is_empty, is_filled, is_free, is_full, is_over, least, lines_of, list_any, outcome_by, point_count, reaches, short_joins, x_takes_last}
 unfoldable pub use Rattle.pg_avoider.specs.Prelude.{avoider_answer, outcome}
 pub use Rattle.pg_game.proofs.FreePoints.{first_free, length-free_points-after}

@@ -1,4 +1,4 @@
--- The definitions of crates below that this crate names.
+-- What the definitions of this crate name of std and of the crates below.
 pub use Rattle.pg_base.specs.declared.goal.Goal.TheVariants.{Win}
 pub use Rattle.pg_base.specs.declared.kind.Kind.TheVariants.{AvoiderEnforcer, Switching}
 pub use Rattle.pg_base.specs.declared.score.Score.TheVariants.{XWins}

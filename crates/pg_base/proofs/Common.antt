@@ -1,4 +1,4 @@
--- What the proofs of this crate name of crates below.
+-- What the proofs of this crate name of std and of the crates below.
 pub use Rattle.pg_base.specs.Prelude.{All, AllAdjacentBelow, AllByRecursion, AllPairs, Contains, FinSet, IsAllAdjacentAnswer, IsEquivalence, IsPartialEquivalence, IsPermutation, IsSorted, IsStrictlyIncreasing, bit_at, bit_not, contains, contains-difference, contains-empty, contains-from_list_nat, contains-insert, contains-remove, contains-union, count_by, decided, difference, empty, flat_map, from_list, from_list_push, insert, is_lt, len, len-empty, len-insert, list_all, list_any, nat_cmp, nat_cmp-IsAntisymmetric, nat_cmp_total, partial_equiv_from_equiv, range_with_len, remove, same_set, trailing_zeros, union, unsigned_Decides, unsigned_tied}
 pub use Rattle.std.proofs.Math.Nat.{div-div-eq-div-mul, div-le_self}
 pub use Rattle.std.proofs.Math.Path.{fun_ext}

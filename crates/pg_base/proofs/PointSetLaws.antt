@@ -118,8 +118,6 @@ AreBelow-insert s v n below fit q here = elim (insert-cases s v q here) [
   | inr old ↦ below q old
 ]
 
--- ---- sets without a common point
-
 -- ---- how many points a set has
 
 -- a set's points are the numbers below its limit that pass its test

@@ -1,4 +1,4 @@
--- What the proofs of this crate name of crates below.
+-- What the proofs of this crate name of std and of the crates below.
 pub use Rattle.pg_board.specs.Prelude.{All, Cells, Contains, Extends, FinSet, Game, IsPosition, IsStrictlyIncreasing, MAX_LINES, MAX_LINE_POINTS, MAX_POINTS, Position, ShareNone, Side, Switching, X, Y, after, after_with, all_touched, avoider_total, avoider_weight, back_to, can_join, claims_in_turn, contains, contains-empty, count_by, empty, filter, find, greatest, greatest_length, greatest_weight, has_filled, in_insert, insert, is_empty, is_filled, is_free, is_full, is_near, is_on, is_over_by, is_same_side, is_touched, left_after, lines_of, list_all, list_any, nat_cmp, one_if, other, outcome_by, point_count, points_of, present, range_with_len, same_points, short_joins, slice_get, sum_by, total, turn_after, vec_capacity, vec_len, weight, without, x_after, x_takes_last, y_after}
 unfoldable pub use Rattle.pg_board.specs.Prelude.{avoider_holds, free_points, full_weight, is_over, line_weight, outcome, point_weight, potential_holds, settled, total_weight, with_set}
 pub use Rattle.pg_game.proofs.LineSums.{full_weight-is, length-le-greatest, points-le}

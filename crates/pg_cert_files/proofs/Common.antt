@@ -1,4 +1,4 @@
--- What the proofs of this crate name of crates below.
+-- What the proofs of this crate name of std and of the crates below.
 pub use Rattle.pg_cert_files.specs.Prelude.{All, AllByRecursion, ArePoints, BAR, BeginCert, Body, Bor, Bytes, Cert, Claim, Fails, FileError, FinSet, Four, Gives, Goal, IsBody, IsClaim, IsNode, IsOfVersion, IsPair, IsReply, IsTurn, IsWithinLimits, LINE_FEED, Lacks, LineError, MAX_CLAIMS, MAX_CLAIM_NODES, MAX_DIGITS, MAX_MEMBERS, MAX_NODES, Node, One, Pair, Part, Reply, SPACE, Side, Two, Vec, Version, X, Y, all_parts, and_then, ascend_from, behind_spaces, body_name, body_text, body_words, bytes_eq, claim_parts, claim_words, contains, contains-empty, contains-from_list_nat, count_words, decimal, digits_value, each_of, edge_words, empty, flat_map, following, from_list, from_list_push, goal_of, goal_word, has_body, has_point, header, insert, is_ascii_digit, is_paired, is_touched, join_with_byte, least, list_all, list_any, nat_cmp, nat_cmp-IsAntisymmetric, node_count, onto, onto_first, pair_of, pair_word, parts, parts_of, reply_word, set_words, side_of, side_word, slice_split, spaced, two_parts, without_empty_end, words_of}
 unfoldable pub use Rattle.pg_cert_files.specs.Prelude.{claim_text, four_parts, lines, node_text, number, printed_certificate, turn_word}
 pub use Rattle.pg_text.proofs.Cuts.{first_and_others, four_none, four_three, four_two, just_two, only_word, some_part, too_many}

@@ -1,4 +1,4 @@
--- The definitions of crates below that this crate names.
+-- What the definitions of this crate name of std and of the crates below.
 pub use Rattle.pg_base.specs.Points.{AreBelow, AreWithin, ShareNone}
 pub use Rattle.pg_base.specs.Side.{is_same_side, other}
 pub use Rattle.pg_base.specs.WordLemmas.{has_bit-at, in_members_below, members-of_words, members-same, word_below-lt, word_of-members}

@@ -9,8 +9,6 @@ use Rattle.pg_cli.specs.Solving.{SolvesGame, result_and_counts}
 use Rattle.pg_cli.specs.declared.solving.TheConstants.{DEFAULT_POSITIONS}
 use Rattle.pg_cli.proofs.Solves.{leaves_search}
 
--- ---- files
-
 -- ---- counts
 
 pub counted_more : (claims : List Claim) (k : ℕ) (claim : Claim)

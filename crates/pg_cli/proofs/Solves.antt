@@ -131,8 +131,6 @@ halted_solve images g c positions work files files' console halt same opens = ca
       against held refusal is this = subst (λ (k : Halt). OpensGame (Some held) g (Err k)) this
           (subst (λ (b : Option Holding). OpensGame b g (Err halt)) is opens)
 
--- ---- files and causes
-
 -- ---- counts
 
 within : (free n : ℕ) → budget_for free n ≤ n

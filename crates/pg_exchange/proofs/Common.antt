@@ -1,4 +1,4 @@
--- What the proofs of this crate name of crates below.
+-- What the proofs of this crate name of std and of the crates below.
 pub use Rattle.pg_exchange.specs.Prelude.{AreEdges, AreLabels, FinSet, Graph, IsBase, IsBelow, IsGraph, IsJoined, IsJoinedIn, IsMadeFor, IsReached, IsSpan, IsWalk, IsWithin, below, circuit, contains, contains-empty, difference, edge_count, either, empty, first_end_of, insert, minus, nat_cmp, one_if, outside, remove, second_end_of, spans_in, union}
 unfoldable pub use Rattle.pg_exchange.specs.Prelude.{both, count, plus, swapped}
 pub use Rattle.pg_base.proofs.BelowLemmas.{below_from, below_in, below_none, below_out, below_parts, cuts, same_sets}

@@ -1,4 +1,4 @@
--- The definitions of crates below that this crate names.
+-- What the definitions of this crate name of std and of the crates below.
 pub use Rattle.pg_base.specs.Points.{AreBelow, ShareNone}
 pub use Rattle.pg_base.specs.Sets.{IsBelow, IsWithin, below, either, minus, one_if, outside}
 unfoldable pub use Rattle.pg_base.specs.Sets.{both, count, plus}

@@ -1,4 +1,4 @@
--- What the proofs of this crate name of crates below.
+-- What the proofs of this crate name of std and of the crates below.
 pub use Rattle.pg_files.specs.Prelude.{All, AllByRecursion, AreBelow, AreLinesOf, Becomes, Bytes, Cell, Field, FinSet, Game, Graph, Grid, IsBoard, IsFit, IsLeast, IsLineOf, Kind, Lacks, LineField, MAX_BIAS, MAX_EDGES, MAX_LINES, MAX_LINE_POINTS, MAX_MEMBERS, MAX_POINTS, MAX_SUMMED_POINTS, MAX_VERTICES, ShareNone, Side, bytes_eq, cells_of, contains, contains-empty, contains-from_list_nat, count_by, decimal, empty, field_points, flat_map, from_list, from_list_push, go_on, greatest_bias, insert, is_shape, is_switching, kind_of, kind_word, least, list_all, list_any, longest, members, nat_cmp, number, ones, placements_of, side_of, side_word, spaced, spelled, then_numbers, unless}
 unfoldable pub use Rattle.pg_files.specs.Prelude.{IsDistinct, lines, numbers, reading, words}
 pub use Rattle.pg_base.proofs.MemberLemmas.{from_list-points_below, has-points_below, points_below-ascend}

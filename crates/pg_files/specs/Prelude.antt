@@ -1,4 +1,4 @@
--- The definitions of crates below that this crate names.
+-- What the definitions of this crate name of std and of the crates below.
 pub use Rattle.pg_base.specs.Kind.{kind_of, kind_word}
 pub use Rattle.pg_base.specs.Points.{members}
 pub use Rattle.pg_base.specs.Side.{side_of, side_word}

@@ -1,4 +1,4 @@
--- What the proofs of this crate name of crates below.
+-- What the proofs of this crate name of std and of the crates below.
 pub use Rattle.pg_game.specs.Prelude.{All, AllPairs, AllZip, Any, AreBelow, AreWithin, AvoiderEnforcer, Contains, Decides, Draw, FinSet, Goal, Graph, Grid, IsBelow, IsBridge, IsGraph, IsJoined, IsJoinedIn, IsMadeFor, IsStrictlyIncreasing, JoinsEndsOf, Kind, MAX_EDGES, MakerBreaker, MakerMaker, Room, Score, ShareNone, Side, Switching, Win, X, XWins, Y, YWins, below, contains, count_by, edge_count, either, filter, find, first_end, first_end_of, in_insert, insert, is_none, is_same_side, joins_in, len, list_all, list_any, minus, nat_cmp, one_if, option_or, other, outside, range_with_len, remove, second_end, second_end_of, sum_by}
 unfoldable pub use Rattle.pg_game.specs.Prelude.{count, joins}
 pub use Rattle.pg_base.proofs.SetLemmas.{count_same, find_below}

@@ -61,8 +61,6 @@ pub terminals-same : (h : Graph) (x y : ℕ → Bool)
 terminals-same h x y same =
     joins_same (first_end h.ends) (second_end h.ends) x y (edge_count h) h.s h.t same
 
--- ---- the points outside a set, collected in ascending order
-
 -- ---- walks
 
 -- the terminals are joined exactly where a walk of edges of the set leads from one to the other

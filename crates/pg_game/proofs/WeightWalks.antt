@@ -10,8 +10,6 @@ use Rattle.pg_game.specs.Weights.{AreWeights}
 use Rattle.pg_game.proofs.LineSums.{weight_on, total-all, point-all}
 use Rattle.pg_game.proofs.Members.{list_any-none}
 
--- ---- the greatest length
-
 -- ---- the weights of the points of a line
 
 -- a later point of an ascending line isn't among the earlier ones

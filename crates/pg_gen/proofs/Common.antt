@@ -1,4 +1,4 @@
--- What the proofs of this crate name of crates below.
+-- What the proofs of this crate name of std and of the crates below.
 pub use Rattle.pg_gen.specs.Prelude.{All, AllPairs, AllZip, AreLinesOf, Field, FinSet, Game, Graph, IsBoard, IsFit, IsGameOf, IsLineOf, IsLineOfRow, IsPermutation, IsStrictlyIncreasing, LineField, Lines, MakerBreaker, StandsTwice, Switching, X, contains-empty, count_by, empty, flat_map, range_with_len, swap}
 pub use Rattle.pg_base.proofs.LineLemmas.{count-ascending, not_twice}
 pub use Rattle.std.proofs.Math.Nat.{mul-le-mul_right, mul-suc, suc-mul}

@@ -1,4 +1,4 @@
--- The definitions of crates below that this crate names.
+-- What the definitions of this crate name of std and of the crates below.
 pub use Rattle.pg_base.specs.Line.{StandsTwice}
 pub use Rattle.pg_base.specs.declared.kind.Kind.TheVariants.{MakerBreaker, Switching}
 pub use Rattle.pg_base.specs.declared.side.Side.TheVariants.{X}

@@ -1,4 +1,4 @@
--- What the proofs of this crate name of crates below.
+-- What the proofs of this crate name of std and of the crates below.
 pub use Rattle.pg_graph.specs.Prelude.{FinSet, IsBelow, IsWithin, contains, minus, one_if, plus}
 unfoldable pub use Rattle.pg_graph.specs.Prelude.{below, both, count, cut_below, either, outside}
 pub use Rattle.pg_base.proofs.BelowLemmas.{below_from, below_in, below_out, below_parts, same_sets}

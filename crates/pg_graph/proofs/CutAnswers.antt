@@ -10,8 +10,6 @@ use Rattle.pg_graph.proofs.GraphLemmas.{IsSpan-graph, spans_in-sound, spans_in-c
 use Rattle.pg_graph.proofs.Swap.{spans_less}
 use Rattle.pg_graph.proofs.Cuts.{IsCuts-other, IsCuts-dropped, IsCuts-claimed, IsCuts-answered, find_parting}
 
--- ---- the sets of a graph
-
 -- ---- whoever moves
 
 -- two sets of free elements that bridge each other; e isn't free

@@ -1,4 +1,4 @@
--- What the proofs of this crate name of crates below.
+-- What the proofs of this crate name of std and of the crates below.
 pub use Rattle.pg_image.specs.Prelude.{All, AllByRecursion, ArePoints, BAR, Body, Bytes, Claim, Due, Fault, FileError, FinSet, Four, Gathered, Gives, GridMap, Head, IsBody, IsClaim, IsLeast, IsLeastFrom, IsNode, IsReadAs, IsTurn, IsWithinLimits, LINE_FEED, Lacks, MAP_COUNT, MAX_CERT_BYTES, Move, Node, One, Part, Progress, SPACE, Shape, Side, Step, Turn, Two, Version, and_then, behind, body_name, body_text, body_words, bytes_eq, contains, count_words, decimal, end_fault, flat_map, formed, four_parts, go_on, has_body, least, lines, listed, members, nat_cmp, node_count, node_of, node_text, number_of, numbered, one_where, parts, separated, set_words, spaced, start, step, turn_of, with_form}
 unfoldable pub use Rattle.pg_image.specs.Prelude.{points_below, reading, turn_word}
 pub use Rattle.pg_cert.proofs.Printed.{begun_grows, field_grows, is_begun}

@@ -1,4 +1,4 @@
--- The definitions of crates below that this crate names.
+-- What the definitions of this crate name of std and of the crates below.
 pub use Rattle.pg_base.specs.Points.{IsLeastFrom, members, one_where}
 unfoldable pub use Rattle.pg_base.specs.Points.{points_below}
 pub use Rattle.pg_base.specs.declared.side.Side.{Side}

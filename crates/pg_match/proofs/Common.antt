@@ -1,4 +1,4 @@
--- What the proofs of this crate name of crates below.
+-- What the proofs of this crate name of std and of the crates below.
 pub use Rattle.pg_match.specs.Prelude.{All, AllPairs, AllZip, Any, AvoiderEnforcer, Contains, FinSet, Game, HoldsPair, IsEquivalence, IsInGame, IsPartialEquivalence, IsSafe, LruCache, MAX_MEMBERS, MakerBreaker, MakerMaker, OnErr, OnOk, Pair, PairsHold, PairsLeaveNone, Position, SharesNone, Side, Switching, avoider_can_pair, breaker_of, contains, contains-empty, decided, empty, filter, flat_map, has_lines, has_point, insert, is_free, is_graph, is_open, is_pairable, is_paired, is_switching, is_touched, len, len-insert, lines_meant, lines_of, list_any, lookup, lookup_entry, lru_cache, nat_cmp, nat_cmp_total, one_if, partial_equiv_from_equiv, point_count, points_of, promoted, put_entries, range_with_len, remove, remove_entry, unpaired, unpaired_due}
 unfoldable pub use Rattle.pg_match.specs.Prelude.{count, free_points, has_private_pairs, minus, pairs_exist, plus}
 pub use Rattle.pg_base.proofs.PointSetLaws.{contains-insert_plus, insert-cases, insert-old, insert-other, insert-remove, insert-self, len-count, remove-other, remove-self}

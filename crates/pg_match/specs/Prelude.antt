@@ -1,4 +1,4 @@
--- The definitions of crates below that this crate names.
+-- What the definitions of this crate name of std and of the crates below.
 pub use Rattle.lru.specs.LruCache.{LruCache, lru_cache, promoted, put_entries}
 pub use Rattle.pg_base.specs.Sets.{one_if}
 unfoldable pub use Rattle.pg_base.specs.Sets.{count, minus, plus}

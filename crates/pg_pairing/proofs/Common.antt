@@ -1,4 +1,4 @@
--- What the proofs of this crate name of crates below.
+-- What the proofs of this crate name of std and of the crates below.
 pub use Rattle.pg_pairing.specs.Prelude.{All, AllPairs, Any, AreOpenPairs, AvoiderEnforcer, Contains, Draw, FinSet, Forces, Game, HoldLines, HoldsPair, IsInGame, IsPosition, IsSafe, Kind, MAX_MEMBERS, MakerBreaker, MakerMaker, Pair, PairsHold, PairsLeaveNone, Position, ShareNone, SharesNone, Side, Switching, Win, X, Y, after, bias_of, breaker_of, claims_in_turn, contains, contains-empty, filter, find, free_partner, has_filled, has_point, if_free, in_insert, insert, is_filled, is_free, is_full, is_loose, is_open, is_over, is_paired, is_touched, lines_of, list_any, lowest_free, nat_cmp, other, outcome, partner, point_count, points_of, range_with_len, reaches, unpaired, unpaired_due}
 unfoldable pub use Rattle.pg_pairing.specs.Prelude.{free_points, pairs_answer}
 pub use Rattle.pg_game.proofs.FreeCounts.{passed, passed-both, passed-more, passed-none, passed-same}

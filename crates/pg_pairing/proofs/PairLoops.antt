@@ -178,8 +178,6 @@ PairsHold-from g p side pairs open_pairs lines leaves = record {
   avoider = leaves;
 }
 
--- ---- the count of the points left out
-
 -- ---- the points of open pairs
 
 -- after both points of an open pair are put into a set

@@ -1,4 +1,4 @@
--- The definitions of crates below that this crate names.
+-- What the definitions of this crate name of std and of the crates below.
 pub use Rattle.pg_base.specs.Points.{ShareNone}
 pub use Rattle.pg_base.specs.Side.{other}
 pub use Rattle.pg_base.specs.WordLemmas.{in_insert}

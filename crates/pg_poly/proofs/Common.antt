@@ -1,4 +1,4 @@
--- What the proofs of this crate name of crates below.
+-- What the proofs of this crate name of std and of the crates below.
 pub use Rattle.pg_poly.specs.Prelude.{All, AllPairs, AllZip, Bytes, Contains, Grid, IsPermutation, IsSortedBy, IsStrictlyIncreasing, IsStrictlySortedBy, count_by, dedup, is_lt, list_all, list_any, nat_cmp, ordering_then, parts, position, range_with_len, remove, same_text, slice_cmp, texts_ties}
 pub use Rattle.std.proofs.lemmas.Bool.{and_parts, cases_Bool, cases_eq, or_cases}
 pub use Rattle.std.proofs.lemmas.Cmp.{by_ranked, nat_list_cmp_total, nat_list_eq_equiv, ranked}

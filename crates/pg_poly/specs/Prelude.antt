@@ -1,4 +1,4 @@
--- The definitions of crates below that this crate names.
+-- What the definitions of this crate name of std and of the crates below.
 pub use Rattle.pg_base.specs.declared.grid.Grid.{Grid}
 pub use Rattle.pg_text.specs.Text.{Bytes, parts}
 pub use Rattle.std.specs.Cmp.Lexicographic.{same_text, slice_cmp, texts_ties}

@@ -1,4 +1,4 @@
--- The definitions of crates below that this crate names.
+-- What the definitions of this crate name of std and of the crates below.
 pub use Rattle.pg_base.specs.Side.{is_same_side, other}
 pub use Rattle.pg_base.specs.declared.goal.Goal.TheVariants.{Draw, Win}
 pub use Rattle.pg_base.specs.declared.kind.Kind.TheVariants.{MakerBreaker, MakerMaker, Switching}

@@ -1,4 +1,4 @@
--- The definitions of crates below that this crate names.
+-- What the definitions of this crate name of std and of the crates below.
 pub use Rattle.pg_base.specs.Points.{ShareNone}
 pub use Rattle.pg_base.specs.Sets.{IsBelow, IsWithin, below, both, either, one_if, plus}
 unfoldable pub use Rattle.pg_base.specs.Sets.{count, minus, outside}

@@ -1,4 +1,4 @@
--- What the proofs of this crate name of crates below.
+-- What the proofs of this crate name of std and of the crates below.
 pub use Rattle.pg_text.specs.Prelude.{All, AllByRecursion, AllDigits, IsAllAdjacentAnswer, LINE_FEED, SPACE, YieldsFirstRef, after_first, before_first, decimal, digit_value, digits_value, flat_map, is_ascii_digit, item_count, list_all, list_any, position, position_or_len, slice_split}
 pub use Rattle.std.proofs.lemmas.Bool.{and_parts, cases_Bool, cases_lt, eqb-true}
 pub use Rattle.std.proofs.lemmas.Bool.Decides.{nat_tests}

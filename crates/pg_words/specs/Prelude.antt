@@ -1,4 +1,4 @@
--- The definitions of crates below that this crate names.
+-- What the definitions of this crate name of std and of the crates below.
 pub use Rattle.clap.specs.Faults.{check_fault, default_fault, entered_fault, fault_of, given_default_fault, is_simple_and_free, settle_fault, turn_fault}
 unfoldable pub use Rattle.clap.specs.Faults.{defaults_fault, walk_fault}
 pub use Rattle.clap.specs.Kinds.{HasKind, IsAmong, Kinds, or_else}
