@@ -54,7 +54,7 @@ fn cached(alloc: Global, g: &Game, asks: u32) -> Result<u64, Memory> {
     Ok(cache.hits())
 }
 
-/// What is told of so many asks, through a cache where a word says so.
+/// What so many queries give, through a cache where a word says so.
 pub(crate) fn told(alloc: Global, g: &Game, asks: &str, word: &str) -> Result<String, AllocError> {
     let asks = asks.parse::<u32>().unwrap_or(0);
     if word.is_empty() {

@@ -1,4 +1,4 @@
-//! Nodes that are told one by one.
+//! Nodes that come one by one.
 ghost use Rattle.std.specs.Prelude.{◌≡◌, IfOk};
 
 use crate::node::Node;

@@ -12,7 +12,7 @@ use pg_base::{MAX_MEMBERS, Memory, Pair, PointSet, Side};
 use std::alloc::{AllocError, Global};
 use std::fmt::Write;
 
-/// Puts a point where it is in the set, behind a space unless it is the first; tells whether a
+/// Puts a point where it is in the set, after a space unless it is the first; tells whether a
 /// point was put.
 fn put_next(out: &mut String, set: &PointSet, p: u16, begun: bool) -> Result<bool, AllocError>
     requires { p < MAX_MEMBERS }
@@ -44,7 +44,7 @@ fn put_field(out: &mut String, set: &PointSet) -> Result<(), AllocError>
     Ok(())
 }
 
-/// Puts a point behind a space where it is in the set.
+/// Puts a point after a space where it is in the set.
 fn put_member(out: &mut String, set: &PointSet, p: u16) -> Result<(), AllocError>
     requires { p < MAX_MEMBERS }
     ensures { OnOk result
@@ -58,7 +58,7 @@ fn put_member(out: &mut String, set: &PointSet, p: u16) -> Result<(), AllocError
     Ok(())
 }
 
-/// Puts the points of a set, each behind a space.
+/// Puts the points of a set, each after a space.
 fn put_set(out: &mut String, set: &PointSet) -> Result<(), AllocError>
     ensures { OnOk result
         (string_bytes out.new ≡ string_bytes out.old ++ behind_spaces (set_words set.now)) }
@@ -69,7 +69,7 @@ fn put_set(out: &mut String, set: &PointSet) -> Result<(), AllocError>
     Ok(())
 }
 
-/// Puts points, each behind a space.
+/// Puts points, each after a space.
 fn put_points(out: &mut String, points: &[u16]) -> Result<(), AllocError>
     ensures { OnOk result
         (string_bytes out.new ≡ string_bytes out.old ++ behind_spaces (map decimal points.now)) }
@@ -80,7 +80,7 @@ fn put_points(out: &mut String, points: &[u16]) -> Result<(), AllocError>
     Ok(())
 }
 
-/// Puts replies, each behind a space.
+/// Puts replies, each after a space.
 fn put_replies(out: &mut String, replies: &[Reply]) -> Result<(), AllocError>
     ensures { OnOk result
         (string_bytes out.new
@@ -94,7 +94,7 @@ fn put_replies(out: &mut String, replies: &[Reply]) -> Result<(), AllocError>
     Ok(())
 }
 
-/// Puts pairs, each behind a space.
+/// Puts pairs, each after a space.
 fn put_pairs(out: &mut String, pairs: &[Pair]) -> Result<(), AllocError>
     ensures { OnOk result
         (string_bytes out.new ≡ string_bytes out.old ++ behind_spaces (map pair_word pairs.now)) }
@@ -152,7 +152,7 @@ fn body_name(body: &Body) -> &'static str
     }
 }
 
-/// Puts the words of a body behind the first.
+/// Puts the words of a body after the first.
 fn put_words(out: &mut String, body: &Body) -> Result<(), AllocError>
     ensures { OnOk result
         (string_bytes out.new ≡ string_bytes out.old ++ behind_spaces (body_words body.now)) }
@@ -177,7 +177,7 @@ fn put_words(out: &mut String, body: &Body) -> Result<(), AllocError>
     }
 }
 
-/// Puts a child behind a space.
+/// Puts a child after a space.
 fn put_child(out: &mut String, child: u32) -> Result<(), AllocError>
     ensures { OnOk result
         (string_bytes out.new ≡ string_bytes out.old ++ behind_spaces (decimal child ∷ [])) }
@@ -186,7 +186,7 @@ fn put_child(out: &mut String, child: u32) -> Result<(), AllocError>
     Ok(())
 }
 
-/// Puts a point and a child, each behind a space.
+/// Puts a point and a child, each after a space.
 fn put_move(out: &mut String, point: u16, child: u32) -> Result<(), AllocError>
     ensures { OnOk result
         (string_bytes out.new

@@ -49,9 +49,9 @@ impl CertReader {
         Ok(fed)
     }
 
-    /// Uses bytes of the piece until a part is whole, and none behind it, or else all of them.
+    /// Uses bytes of the piece until a part is whole, and none after it, or else all of them.
     ///
-    /// No part is given of a file's bytes behind its limit, nor of those behind its first fault of
+    /// No part is given of a file's bytes after its limit, nor of those after its first fault of
     /// form. The parts that have been given begin those of a certificate within the limits, also
     /// where a fault comes later. After want of memory the reader can only be dropped.
     pub fn feed(&mut self, alloc: Global, piece: &[u8]) -> Result<Fed, Memory>

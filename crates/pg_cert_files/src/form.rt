@@ -43,7 +43,7 @@ pub struct Outline<'a> {
     pub turn: Turn,
     /// Which body it has.
     pub form: Form,
-    /// The text of the words behind the first of the body, if there are any.
+    /// The text of the words after the first of the body, if there are any.
     pub words: Option<&'a [u8]>,
 }
 

@@ -59,7 +59,7 @@ fn leading(text: &[u8]) -> Option<Digits>
     Some(found)
 }
 
-/// The number of the first word, where it is one digit with a space behind it, and the text of the
+/// The number of the first word, where it is one digit with a space after it, and the text of the
 /// other words.
 fn first_digit(text: &[u8]) -> Option<(u32, &[u8])>
     ensures { IfSome result (λ p. IsFirstNumber text.now p.0 (Some p.1.now)) }
@@ -89,7 +89,7 @@ pub(crate) fn first_number(text: &[u8]) -> Option<(u32, Option<&[u8]>)>
     Some((found.value, Some(&text[found.count + 1..])))
 }
 
-/// The number that stands before the sign, and what stands behind the sign.
+/// The number that stands before the sign, and what stands after the sign.
 #[tactic(auto, using(crate::proofs::DigitRuns::number_sign))]
 fn number_before(sign: u8, text: &[u8]) -> Option<(u32, &[u8])>
     ensures { IfSome result (λ p. IsNumberBefore sign text.now p.0 p.1.now) }

@@ -20,11 +20,11 @@ pub enum Due {
     Claim,
     /// The `nodes` line of a claim.
     Count(Head),
-    /// A node, behind which so many others stand.
+    /// A node, after which so many others stand.
     Node(u32),
 }
 
-/// Which line is due, the version, and how many claims and nodes have been told.
+/// Which line is due, the version, and how many claims and nodes have come.
 #[derive(Clone, Copy, Debug)]
 pub struct Progress {
     /// The line that is due.
@@ -107,7 +107,7 @@ impl Progress {
         }))
     }
 
-    /// Reads a node line, behind which so many others stand.
+    /// Reads a node line, after which so many others stand.
     #[tactic(auto, using(crate::proofs::Outlines::node_steps))]
     fn node(
         &mut self,

@@ -29,7 +29,7 @@ struct Ends<'a> {
     rest: &'a [u8],
 }
 
-/// The pair that the first word says, and what stands behind the word and a space.
+/// The pair that the first word says, and what stands after the word and a space.
 #[tactic(auto, using(crate::proofs::PairWords::pair_first, crate::proofs::PairWords::pair_shorter))]
 fn next_pair(text: &[u8]) -> Option<(Pair, &[u8])>
     ensures says { IfSome result (λ p. ArePairs text.now (p.0 ∷ []) p.1.now) }
@@ -49,7 +49,7 @@ fn has_either(points: &PointSet, pair: Pair) -> bool
     points.has(pair.a) || points.has(pair.b)
 }
 
-/// What stands behind the first words where these are pairs of which two share a point.
+/// What stands after the first words where these are pairs of which two share a point.
 #[tactic(auto, using(crate::proofs::PairWords::met_none, crate::proofs::PairWords::met_more, crate::proofs::PairWords::clash_met))]
 fn behind_clash(text: &[u8]) -> Option<&[u8]>
     ensures { IfSome result (λ others. EndsInClash text.now others.now) }
@@ -67,7 +67,7 @@ fn behind_clash(text: &[u8]) -> Option<&[u8]>
     None
 }
 
-/// What stands behind the first words that are pairs.
+/// What stands after the first words that are pairs.
 #[tactic(auto, using(crate::proofs::PairWords::pairs_none, crate::proofs::PairWords::pairs_more))]
 fn behind_pairs(text: &[u8]) -> &[u8]
     ensures { EndsInPairs text.now result.now }
@@ -151,7 +151,7 @@ impl CertReader {
     }
 
     /// Cuts the line in hand short, if it is long and has pairs that no certificate needs: those
-    /// behind two that share a point. The reader is then as if it had been fed a text that is like
+    /// after two that share a point. The reader is then as if it had been fed a text that is like
     /// this one.
     ///
     /// A line that stayed long is looked at again when it has twice that length.

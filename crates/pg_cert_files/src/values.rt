@@ -266,7 +266,7 @@ pub(crate) fn replies(alloc: Global, text: Option<&[u8]>) -> Result<Vec<Reply>, 
     }
 }
 
-/// Whether the first word is that one, and the words behind it.
+/// Whether the first word is that one, and the words after it.
 fn after_e<'a>(words: Words<'a>) -> (bool, Words<'a>)
     ensures begins { result.0 ≡ begins_with_e words.entry }
     ensures behind { result.1 ≡ after_e words.entry }
@@ -278,7 +278,7 @@ fn after_e<'a>(words: Words<'a>) -> (bool, Words<'a>)
     }
 }
 
-/// The points that the words before the slash name, and the words behind it.
+/// The points that the words before the slash name, and the words after it.
 fn points_before_slash<'a>(
     alloc: Global,
     words: Words<'a>,

@@ -65,7 +65,7 @@ pub(crate) fn is_allowed(kind: Kind, bias: u8, side: Side, goal: Goal, body: &Bo
     }
 }
 
-/// Whether the marks are points of the game, which are all told.
+/// Whether the marks are points of the game, all given.
 fn are_points(points: &PointSet, marks: &PointSet) -> bool
     ensures { (g : Game) → ArePointsOf points.now g
         → IsTrue result ↔ AreBelow marks.now (point_count g) }
@@ -73,7 +73,7 @@ fn are_points(points: &PointSet, marks: &PointSet) -> bool
     marks.is_subset(points)
 }
 
-/// Whether the node's marks are points of the game, which are all told, and its side claims no more
+/// Whether the node's marks are points of the game, all given, and its side claims no more
 /// than in a whole turn.
 pub(crate) fn is_in_game(points: &PointSet, g: &Game, node: &Node) -> bool
     requires { ArePointsOf points.now g.now }

@@ -93,7 +93,7 @@ fn deliver_game<F: Files, C: Console>(
     deliver(name, &text, size_message(game), None, files, console)
 }
 
-/// Solves a game that was made, and says behind the result how many positions were expanded and how
+/// Solves a game that was made, and says after the result how many positions were expanded and how
 /// many nodes the certificate has.
 fn solve_made<F: Files, C: Console>(
     alloc: Global,

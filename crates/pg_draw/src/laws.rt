@@ -6,7 +6,7 @@ ghost use Rattle.pg_draw.specs.Pictures.{picture_of};
 ghost use Rattle.pg_draw.specs.Shapes.{courses_of, place_of};
 ghost use Rattle.pg_draw.specs.Places.{place_on_bridge, place_on_circle, place_on_grid, place_on_ring};
 
-/// Each item has its shapes once, behind those of the items before it.
+/// Each item has its shapes once, after those of the items before it.
 pub fn items_are_drawn_in_order()
     ensures { (scene : Scene) → (before after : List Item) → (item : Item)
         → scene.items ≡ before ++ item ∷ after

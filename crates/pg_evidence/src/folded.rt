@@ -114,7 +114,7 @@ fn origin_of(sources: &[Origins], claim: u32, place: u32) -> u32
 }
 
 /// The verdict on the unfolding of a certificate with images that has no fault of these. A fault is
-/// told at the node from which the faulty one came.
+/// reported at the node from which the faulty one came.
 pub(crate) fn check_folded(
     alloc: Global,
     game: &Game,

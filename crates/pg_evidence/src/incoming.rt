@@ -22,7 +22,7 @@ pub(crate) struct Incoming<'a> {
     pub(crate) kept: Option<Vec<u8>>,
 }
 
-/// The bytes with this piece behind them, unless they have no images.
+/// The bytes with this piece after them, unless they have no images.
 pub(crate) fn keep(kept: Option<Vec<u8>>, piece: &[u8]) -> Result<Option<Vec<u8>>, Memory>
     ensures { IfOk result
         (λ now. (text : List ℕ) → IsKept (option_map (λ bytes. bytes.items) kept) text

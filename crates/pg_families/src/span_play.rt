@@ -35,8 +35,9 @@ impl<'a> Contestant for SpanContestant<'a> {
         Goal::Win
     }
 
+    /// Maker-Breaker, whose words say the outcome.
     fn kind(&self) -> Kind {
-        self.player.kind()
+        Kind::MakerBreaker
     }
 
     fn outcome(&self) -> Option<Score> {

@@ -37,8 +37,9 @@ impl<'a> Contestant for VecContestant<'a> {
         Goal::Win
     }
 
+    /// The switching game, whose words say the outcome.
     fn kind(&self) -> Kind {
-        self.player.kind()
+        Kind::Switching
     }
 
     fn outcome(&self) -> Option<Score> {

@@ -16,7 +16,7 @@ use std::alloc::Global;
 pub(crate) enum Due {
     /// The first line.
     Header,
-    /// A claim line, or the end behind a whole claim.
+    /// A claim line, or the end after a whole claim.
     Claim,
     /// The body of a claim.
     Body(Head),

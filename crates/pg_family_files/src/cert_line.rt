@@ -82,7 +82,7 @@ fn has_one_slash(words: Words) -> bool
     false
 }
 
-/// The word behind `first`, where the words begin so, and the words of the two sets.
+/// The word after `first`, where the words begin so, and the words of the two sets.
 fn cut_first<'a>(words: Words<'a>) -> (Option<&'a [u8]>, Words<'a>)
     ensures first { option_map (λ w. w.now) result.0 ≡ (cut_first words.entry).first }
     ensures sets { result.1 ≡ (cut_first words.entry).sets }
@@ -97,7 +97,7 @@ fn cut_first<'a>(words: Words<'a>) -> (Option<&'a [u8]>, Words<'a>)
     }
 }
 
-/// The edge that the word behind `first` names, where there is one.
+/// The edge that the word after `first` names, where there is one.
 fn first_edge(word: Option<&[u8]>) -> Result<Option<u16>, LineError<Fault>>
     ensures { Gives (λ v. v) result (first_edge (option_map (λ w. w.now) word.entry)) }
 {
@@ -107,7 +107,7 @@ fn first_edge(word: Option<&[u8]>) -> Result<Option<u16>, LineError<Fault>>
     }
 }
 
-/// The numbers of the words before the slash, and the words behind it.
+/// The numbers of the words before the slash, and the words after it.
 fn numbers_before_slash<'a>(
     alloc: Global,
     words: Words<'a>,
@@ -148,7 +148,7 @@ fn ascending(edges: &[u16]) -> Result<PointSet, LineError<Fault>>
     }
 }
 
-/// The trees that the words behind the first say: their form comes before their numbers.
+/// The trees that the words after the first say: their form comes before their numbers.
 fn trees_of(alloc: Global, words: Words) -> Result<SpanBody, LineError<Fault>>
     ensures { Gives (λ b. b) result (trees_of (cut_first words.entry)) }
 {
@@ -164,7 +164,7 @@ fn trees_of(alloc: Global, words: Words) -> Result<SpanBody, LineError<Fault>>
     Ok(SpanBody::Trees { first, a1, a2 })
 }
 
-/// The parts that the words behind the first say.
+/// The parts that the words after the first say.
 fn parts_of(alloc: Global, words: Words) -> Result<SpanBody, LineError<Fault>>
     ensures { Gives (λ b. b) result (parts_of words.entry) }
 {

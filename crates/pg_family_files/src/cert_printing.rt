@@ -8,7 +8,7 @@ use pg_span::{SpanBody, SpanCert, SpanClaim};
 use std::alloc::{AllocError, Global};
 use std::fmt::Write;
 
-/// Puts an edge behind a space where it is in the set.
+/// Puts an edge after a space where it is in the set.
 fn put_member(out: &mut String, set: &PointSet, p: u16) -> Result<(), AllocError>
     requires { p < MAX_MEMBERS }
     ensures { OnOk result
@@ -21,7 +21,7 @@ fn put_member(out: &mut String, set: &PointSet, p: u16) -> Result<(), AllocError
     Ok(())
 }
 
-/// Puts the edges of a set, each behind a space.
+/// Puts the edges of a set, each after a space.
 fn put_set(out: &mut String, set: &PointSet) -> Result<(), AllocError>
     ensures { OnOk result
         (string_bytes out.new ≡ string_bytes out.old ++ behind_spaces (set_words set.now)) }
@@ -32,7 +32,7 @@ fn put_set(out: &mut String, set: &PointSet) -> Result<(), AllocError>
     Ok(())
 }
 
-/// Puts numbers, each behind a space.
+/// Puts numbers, each after a space.
 fn put_numbers(out: &mut String, numbers: &[u16]) -> Result<(), AllocError>
     ensures { OnOk result
         (string_bytes out.new ≡ string_bytes out.old ++ behind_spaces (map decimal numbers.now)) }

@@ -13,8 +13,8 @@ use std::alloc::Global;
 
 /// The certificate that the text says, or the first fault with the number of its line.
 ///
-/// The text is strict: words stand behind single spaces, and no line is skipped. Where a line has
-/// several faults, the one with the least number is told. A fault of the end has the number of
+/// The text is strict: words stand after single spaces, and no line is skipped. Where a line has
+/// several faults, the one with the least number is given. A fault of the end has the number of
 /// lines plus 1, and a file that is too large has line 0.
 ///
 /// # Errors

@@ -3,7 +3,7 @@ ghost use Rattle.pg_files.specs.Views.{number_of};
 
 use pg_text::Numbered;
 
-/// What is wrong with a line or a file. Of several faults of a line the first one here is told.
+/// What is wrong with a line or a file. Of several faults of a line the first one here is given.
 #[derive(Clone, Copy, Debug, PartialEq, Eq)]
 pub enum Fault {
     /// G1: the file is too large.

@@ -95,7 +95,7 @@ fn fold_nodes(alloc: Global, tables: &[MapTable], nodes: &[Node]) -> Result<Vec<
     Ok(folded)
 }
 
-/// Adds what the node becomes, behind those that the nodes before it have become.
+/// Adds what the node becomes, after those that the nodes before it have become.
 fn fold_node(
     alloc: Global,
     tables: &[MapTable],

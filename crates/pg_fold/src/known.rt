@@ -71,8 +71,8 @@ impl Known {
         })
     }
 
-    /// The number of the node with the position. Most positions that aren't known are told by their
-    /// code alone.
+    /// The number of the node with the position. Most positions that aren't known are ruled out by
+    /// their code alone.
     pub(crate) fn find(&self, p: &Position) -> Option<u32>
         requires { IsKnown self.now }
         ensures { result ≡ get equal_positions self.now.places p.now }

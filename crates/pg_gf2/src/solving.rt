@@ -24,7 +24,7 @@ fn at_turn(game: &VecGame, turn: Side) -> Position
     }
 }
 
-/// The class of a game on vectors by the values with X and with Y to move, told by the sets that
+/// The class of a game on vectors by the values with X and with Y to move, shown by the sets that
 /// show it, with a certificate of two claims that stand on these sets: one with X and one with Y to
 /// move.
 ///

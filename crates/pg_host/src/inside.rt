@@ -61,7 +61,7 @@ impl<A: Allocator> Inside<A> {
 
 /// Gives the file these bytes in place of those that it has.
 ///
-/// What goes behind the old bytes is written first. If there is no room for it, the old bytes stay.
+/// What goes after the old bytes is written first. If there is no room for it, the old bytes stay.
 fn replace_bytes(file: &File, bytes: &[u8]) -> io::Result<()> {
     let old = file.metadata()?.len();
     let both = usize::try_from(old).unwrap_or(usize::MAX).min(bytes.len());

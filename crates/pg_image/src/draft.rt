@@ -15,7 +15,7 @@ use std::alloc::{AllocError, Global};
 /// What the lines so far have said.
 #[derive(Debug, Drop)]
 pub(crate) struct ImageDraft {
-    /// Which line is due, and how many claims and nodes have been told.
+    /// Which line is due, and how many claims and nodes have come.
     pub(crate) progress: Progress,
     /// The claims that are whole.
     pub(crate) claims: Vec<ImageClaim>,
@@ -109,7 +109,7 @@ impl ImageDraft {
         Ok(draft)
     }
 
-    /// Reads the line of an image, behind which so many other nodes stand.
+    /// Reads the line of an image, after which so many other nodes stand.
     fn image(
         self,
         alloc: Global,

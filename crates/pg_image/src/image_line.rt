@@ -20,7 +20,7 @@ pub(crate) struct ImageWords<'a> {
     pub(crate) y: &'a [u8],
     /// The field of the turn.
     pub(crate) turn: &'a [u8],
-    /// The text of the words behind `image`, if there are any.
+    /// The text of the words after `image`, if there are any.
     pub(crate) words: Option<&'a [u8]>,
 }
 

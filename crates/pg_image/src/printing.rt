@@ -12,7 +12,7 @@ use pg_maps::GridMap;
 use std::alloc::{AllocError, Global};
 use std::fmt::Write;
 
-/// Puts a point, behind a space unless it is the first.
+/// Puts a point, after a space unless it is the first.
 fn put_point(out: &mut String, p: u16, begun: bool) -> Result<(), AllocError>
     ensures { OnOk result
         (string_bytes out.new ≡ string_bytes out.old ++ separated begun (p ∷ [])) }
@@ -48,7 +48,7 @@ fn put_turn(out: &mut String, turn: Side, left: u8) -> Result<(), AllocError>
     Ok(())
 }
 
-/// Puts the three fields of a position, each with a bar behind it.
+/// Puts the three fields of a position, each with a bar after it.
 #[tactic(auto, unfolding(crate::specs::Print::position_fields))]
 fn put_fields(
     out: &mut String,

@@ -16,7 +16,7 @@ use std::alloc::Global;
 ///
 /// `Bad` with the number of the fault: 1 for a file of more than `MAX_CERT_BYTES` bytes, with line
 /// 0; 2 where the first line isn't `posgame-cert 3`; 3 for a line that isn't of the form that is
-/// due, also for `image` without exactly two words behind it, and for an end where a first claim
+/// due, also for `image` without exactly two words after it, and for an end where a first claim
 /// line or a `nodes` line is due; 4 for a number's place that holds none or one out of range, also
 /// for a map above 7; 5 for a node where none is due, or none where one is; 6 for too many claims
 /// or nodes. `Memory` where no memory is left.

@@ -9,10 +9,10 @@ use crate::files::Failed;
 /// A console with a log of what was said to it and heard from it.
 ///
 /// An implementation tells its unread input and its log, or neither, as the console of the system
-/// does; which of both never changes. Two numbers of faults are always told: how many calls of
+/// does; which of both never changes. Two numbers of faults are always known: how many calls of
 /// `hear` have failed, and how many of `say`. A call that answers Ok leaves both as they were.
 pub trait Console {
-    /// All that is told of the console.
+    /// All that is known of the console.
     ghost told: { Self → ConsoleTold };
 
     /// Says all the bytes, and adds them to the log.

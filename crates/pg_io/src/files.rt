@@ -13,11 +13,11 @@ pub struct Failed;
 ///
 /// An implementation tells which bytes stand under which names, what is unread and what is being
 /// made, or it tells nothing of bytes, as the files of the system do; which of both never changes.
-/// Whether a file is being made and two numbers of faults are always told: how many calls of `open`
-/// and `next` have failed, and how many of `create`, `append` and `finish`. A call that answers Ok
-/// leaves both as they were.
+/// Whether a file is being made and two numbers of faults are always known: how many calls of
+/// `open` and `next` have failed, and how many of `create`, `append` and `finish`. A call that
+/// answers Ok leaves both as they were.
 pub trait Files {
-    /// All that is told of the files.
+    /// All that is known of the files.
     ghost told: { Self → FilesTold };
 
     /// Opens the file of this name for reading from its first byte.

@@ -12,7 +12,7 @@ use std::alloc::{AllocError, Global};
 /// The most bytes that are asked for at a time.
 pub const MAX_PIECE_BYTES: usize = 65_536;
 
-/// Room for a piece of a file. The length is told by a limit alone, so that no proof unfolds the
+/// Room for a piece of a file. The length is given by a limit alone, so that no proof unfolds the
 /// list.
 fn piece(alloc: Global) -> Result<Vec<u8>, AllocError>
     ensures { IfOk result (λ buf. 0 < length buf.items) }

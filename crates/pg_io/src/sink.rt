@@ -16,7 +16,7 @@ pub trait Sink {
     /// From its first state to the second, it took these bytes.
     ghost took: { Self → Self → Bytes → Type 0 };
 
-    /// Takes a piece behind the bytes that were taken before it.
+    /// Takes a piece after the bytes that were taken before it.
     ///
     /// `Memory` means that memory was refused; then the sink can only be dropped.
     fn take(&mut self, alloc: Global, piece: &[u8]) -> Result<(), Memory>

@@ -44,7 +44,7 @@ fn size_with(size: usize, more: usize) -> usize
     size + more
 }
 
-/// What the claims say where all parts of a valid certificate were told, and else its first fault,
+/// What the claims say where all parts of a valid certificate have come, and else its first fault,
 /// or the text's fault of form.
 fn conclude(alloc: Global, reader: CertReader, told: Told<'_>) -> Result<Vec<ClaimHead>, JudgeFault>
     requires { HaveBeenFed reader told }

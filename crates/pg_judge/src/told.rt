@@ -21,7 +21,7 @@ pub struct Told<'a> {
 }
 
 impl<'a> Told<'a> {
-    /// No part was told yet.
+    /// No part has come yet.
     pub(crate) fn new(alloc: Global, game: &'a Game) -> Result<Told<'a>, Memory>
         ensures game { IfOk result (λ told. told.checking.game.now ≡ game.now) }
         ensures told { IfOk result (λ told. HasTold told []) }
@@ -79,7 +79,7 @@ impl<'a> Told<'a> {
         }
     }
 
-    /// What the claims say where all parts of a valid certificate were told, and else its first
+    /// What the claims say where all parts of a valid certificate have come, and else its first
     /// fault.
     pub(crate) fn finish(self) -> Result<Vec<ClaimHead>, Rejected>
         requires { IsComplete self }

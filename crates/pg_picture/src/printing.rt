@@ -154,7 +154,7 @@ fn put_stroke(out: &mut String, from: Place, to: Place, paint: Paint) -> Result<
     Ok(())
 }
 
-/// A place in a path, behind a sign.
+/// A place in a path, after a sign.
 fn put_step(out: &mut String, sign: &str, place: Place) -> Result<(), AllocError>
     ensures { OnOk result
         (string_bytes out.new ≡ string_bytes out.old ++ (sign.now ++ place_text place)) }

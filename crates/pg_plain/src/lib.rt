@@ -3,9 +3,10 @@
 //! and what a list of positions settles, each computed as it is defined), and readers of small
 //! games that tests tell as text.
 //!
-//! A game is told as `KIND COUNT TURN BIAS:LINES:X:Y`, with commas between lines and spaces between
-//! points; a text that goes on behind a further `:` says what else the test needs. On a graph COUNT
-//! is the number of vertices, the terminals are 0 and 1, and the edges stand in place of the lines.
+//! A game is written as `KIND COUNT TURN BIAS:LINES:X:Y`, with commas between lines and spaces
+//! between points; a text that goes on after a further `:` says what else the test needs. On a
+//! graph COUNT is the number of vertices, the terminals are 0 and 1, and the edges stand in place
+//! of the lines.
 #![tactic(auto)]
 
 mod best_play;

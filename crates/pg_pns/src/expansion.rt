@@ -119,7 +119,7 @@ fn expand(
     Ok(())
 }
 
-/// Keeps the position that is expanded, behind the others, with its place.
+/// Keeps the position that is expanded, after the others, with its place.
 fn keep(expanded: &mut IndexMap<Position, u32>, p: Position, place: u32) -> Result<(), Memory>
     requires fresh { Contains (keys_of expanded.old.entries) p → ⊥ }
     ensures kept { OnOk result

@@ -7,7 +7,7 @@ ghost use Rattle.pg_poly.specs.Listed.{placements_of};
 ghost use Rattle.pg_poly.specs.Placements.{ArePlacements};
 ghost use Rattle.pg_poly.specs.Shapes.{IsShape};
 
-/// The test by which a game file's shapes are told finds exactly the shapes.
+/// The test by which a game file's shapes are recognised finds exactly the shapes.
 pub fn shapes_are_told()
     ensures sound { (word : Bytes) → is_shape word ≡ true → IsShape word }
     ensures complete { (word : Bytes) → IsShape word → is_shape word ≡ true }

@@ -15,7 +15,7 @@ pub enum Fault {
     Header,
     /// F3: the line is neither `move` with one word nor `back`.
     Form,
-    /// F4: the word behind `move` is no number.
+    /// F4: the word after `move` is no number.
     Number,
     /// F5: the move can't be played there.
     Move,

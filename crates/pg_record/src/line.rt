@@ -15,7 +15,7 @@ pub(crate) enum Said {
     Back,
 }
 
-/// What a line says: words stand behind single spaces.
+/// What a line says: words stand after single spaces.
 #[tactic(auto, unfolding(crate::specs::RecordFile::event_of))]
 pub(crate) fn said_by(line: &[u8]) -> Result<Said, LineError<Fault>>
     ensures { Gives event_said result (event_of line.now) }

@@ -97,7 +97,7 @@ fn read_line(
     add(g, session, said)
 }
 
-/// What the lines behind the first say.
+/// What the lines after the first say.
 fn read_events<'a>(alloc: Global, g: &'a Game, lines: Lines) -> Result<Session<'a>, FileError>
     requires { length lines ≤ MAX_RECORD_BYTES }
     ensures read { IsReadAs number_of (λ s. s.events) result
@@ -118,8 +118,8 @@ fn read_events<'a>(alloc: Global, g: &'a Game, lines: Lines) -> Result<Session<'
 /// The session that a record file tells of the game, or the first fault with the number of its
 /// line.
 ///
-/// The file is strict: words stand behind single spaces, no line is skipped, and the last line may
-/// lack its line feed. Where a line has several faults, the one with the least number is told.
+/// The file is strict: words stand after single spaces, no line is skipped, and the last line may
+/// lack its line feed. Where a line has several faults, the one with the least number is given.
 ///
 /// # Errors
 ///

@@ -11,7 +11,7 @@ use std::alloc::{AllocError, AllocFailed};
 pub trait Numbered: Copy {
     ghost number_of: { Self → ℕ };
 
-    /// The number that the fault is told by.
+    /// The number of the fault.
     fn number(self) -> u8
         ensures { result ≡ number_of self };
 }

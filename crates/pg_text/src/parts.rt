@@ -13,7 +13,7 @@ pub fn has_sign(sign: u8, text: &[u8]) -> bool
     text.iter().any(|b| *b == sign)
 }
 
-/// What stands before the first sign, and what behind it. The search looks at many bytes at a time.
+/// What stands before the first sign, and what after it. The search looks at many bytes at a time.
 pub fn cut_at(sign: u8, text: &[u8]) -> Option<(&[u8], &[u8])>
     ensures found { IfSome result
         (λ p. (text.now ≡ p.0.now ++ sign ∷ p.1.now) × Lacks sign p.0.now) }

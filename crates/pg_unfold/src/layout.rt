@@ -67,7 +67,7 @@ impl Layout {
     }
 
     /// The next node of the unfolded claim, where the copy with this number gives one: it comes
-    /// behind those that the copies with lower numbers give.
+    /// after those that the copies with lower numbers give.
     pub fn copied(
         &self,
         alloc: Global,

@@ -11,7 +11,7 @@ use std::env;
 use std::io::ErrorKind;
 use std::process::ExitCode;
 
-/// Returns the words of the command line behind the program's name, or the status without them.
+/// Returns the words of the command line after the program's name, or the status without them.
 fn words_given(rt: &HostRuntime) -> Result<Vec<String>, u8> {
     let arguments = env::args(rt).map_err(|error| {
         if error.kind() == ErrorKind::OutOfMemory {

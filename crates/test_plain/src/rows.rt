@@ -85,7 +85,7 @@ fn tally_of(alloc: Global, asked: &str) -> Option<Tally> {
     Some(tally)
 }
 
-/// Whether a row is so, and no game is told otherwise than plain search finds it.
+/// Whether a row is so, and no game has another value than plain search finds it.
 fn is_so(alloc: Global, row: &str) -> Option<bool> {
     let (asked, due) = row.split_once(':')?;
     let tally = tally_of(alloc, asked)?;

@@ -6,9 +6,9 @@ use pg_pns::Work;
 use std::alloc::Global;
 use std::test::Fail;
 
-/// Rows with `;` between them, of games as `KIND COUNT TURN BIAS:LINES:X:Y`, behind a word:
+/// Rows with `;` between them, of games as `KIND COUNT TURN BIAS:LINES:X:Y`, after a word:
 ///
-/// - `order`, with the number of positions behind BIAS and a last part: those that are expanded,
+/// - `order`, with the number of positions after BIAS and a last part: those that are expanded,
 ///   each as `X|Y|TURN`. The first move of least number is followed, those to points of live lines
 ///   before the others.
 /// - `settled`: with each number of positions up to a limit the search leaves open whether X wins

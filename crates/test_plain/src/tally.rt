@@ -7,7 +7,7 @@ use pg_base::Memory;
 use pg_plain::Class;
 use std::alloc::Global;
 
-/// How many games there are of each class by plain search, and how many are told otherwise, or have
+/// How many games there are of each class by plain search, and how many get another answer, or have
 /// a certificate that isn't accepted, or aren't read.
 #[derive(Drop)]
 pub(crate) struct Tally {
@@ -17,12 +17,12 @@ pub(crate) struct Tally {
     pub(crate) y: u32,
     /// The mover's.
     pub(crate) first: u32,
-    /// How many are told otherwise.
+    /// How many get another answer.
     pub(crate) faults: u32,
 }
 
 impl Tally {
-    /// Adds a game by its class as plain search finds it, and by what was told of it.
+    /// Adds a game by its class as plain search finds it, and by the answer that it got.
     pub(crate) fn add(&mut self, plain: Option<Class>, told: Option<Class>) {
         match plain {
             Some(Class::Short) => self.x = self.x.saturating_add(1),

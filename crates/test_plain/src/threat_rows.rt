@@ -8,7 +8,7 @@ use pg_threat::ThreatLine;
 use std::alloc::Global;
 use std::test::Fail;
 
-/// Rows with `;` between them, behind a word:
+/// Rows with `;` between them, after a word:
 ///
 /// - `positions KIND COUNT:LINES:FOUND`: at how many of all positions at which the side to move may
 ///   attack the shortest threat line forces no reply, one, two and three, and at how many there is

@@ -9,7 +9,7 @@ use pg_span::{SpanClass, span_check, span_solve};
 use std::alloc::{AllocError, Global};
 use std::fmt::Write;
 
-/// Adds three signs, of which the first is the lowest digit, behind a key.
+/// Adds three signs, of which the first is the lowest digit, after a key.
 fn push_vector(text: &mut String, key: &str, vector: u32) -> Result<(), AllocError> {
     let (first, second, third) = (vector & 1, vector >> 1 & 1, vector >> 2 & 1);
     write!(text, "{key} {first}{second}{third}\n")

@@ -18,7 +18,7 @@ fn has_outcome(alloc: Global, row: &str) -> Option<bool> {
     Some(told == part(row, 4))
 }
 
-/// Whether an answer to a move is the one that a text tells behind the number of the point.
+/// Whether an answer to a move is the one that a text tells after the number of the point.
 fn is_answer(answer: &Result<Position, Illegal>, text: &str) -> bool {
     match answer {
         Ok(next) => {

@@ -101,7 +101,7 @@ fn are_so(alloc: Global, row: &str) -> Option<bool> {
     Some(true)
 }
 
-/// Whether the edge has the ends that a text tells behind its number.
+/// Whether the edge has the ends that a text tells after its number.
 fn has_ends(alloc: Global, graph: &Graph, text: &str) -> Option<bool>
     requires { IsGraph graph.now }
 {

@@ -20,7 +20,7 @@ claim x y win;nodes 1;||x|image 0 0;\
 claim x y win;nodes 1;||x|image 0 0;\
 claim x y win;nodes 1;||x|image 0 0;";
 
-/// The bytes of the text behind the head.
+/// The bytes of the text after the head.
 fn bytes_of(alloc: Global, head: &str, text: &str) -> Result<Vec<u8>, Memory> {
     let whole = format!(in alloc; "{head}{text}")?;
     let mut bytes = whole.as_bytes().to_vec(alloc)?;
@@ -43,7 +43,7 @@ fn answer(alloc: Global, text: &[u8]) -> Result<String, Memory> {
     }
 }
 
-/// Whether the text of the row, behind this head, has the row's fault. A row is the fault, then
+/// Whether the text of the row, after this head, has the row's fault. A row is the fault, then
 /// `=`, then the text.
 fn has_fault(alloc: Global, head: &str, row: &str) -> Option<bool> {
     let (fault, text) = row.split_once('=')?;
@@ -59,7 +59,7 @@ fn prints_back(alloc: Global, text: &[u8]) -> Result<bool, Memory> {
     }
 }
 
-/// Whether the file of the row, behind its first line, is printed as it is read.
+/// Whether the file of the row, after its first line, is printed as it is read.
 fn is_printed_back(alloc: Global, row: &str) -> Option<bool> {
     let text = bytes_of(alloc, "posgame-cert 3;", row).ok()?;
     prints_back(alloc, &text).ok()
@@ -121,7 +121,7 @@ pub(crate) fn is_so(alloc: Global, question: &str, row: &str) -> Option<bool> {
         "files" => has_fault(alloc, "", row),
         // the faults of a node.
         "nodes" => has_fault(alloc, ONE_NODE, row),
-        // the faults of what stands behind eight claims.
+        // the faults of what stands after eight claims.
         "ninth-claims" => has_fault(alloc, EIGHT_CLAIMS, row),
         // files that are printed as they are read.
         "printed" => is_printed_back(alloc, row),

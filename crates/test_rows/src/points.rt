@@ -134,7 +134,7 @@ fn has_just(set: &PointSet, points: &[u16]) -> bool {
     set.len() as usize == points.len()
 }
 
-/// Whether the set has its points, and those that the row tells behind the one that is taken out.
+/// Whether the set has its points, and those that the row tells after the one that is taken out.
 fn is_set_so(alloc: Global, row: &str) -> Option<bool> {
     let mut points = set(alloc, part(row, 0))?;
     let taken = part(row, 1).parse::<u16>().ok()?;

@@ -21,7 +21,7 @@ enum Kind {
 }
 
 /// Whether a check of a text tells this fault at the line with this number; `none`: it has no fault
-/// of form. A game has a faulty certificate behind it.
+/// of form. A game has a faulty certificate after it.
 fn is_told(
     alloc: Global,
     kind: Kind,
@@ -98,7 +98,7 @@ struct Faulty<'a> {
     line: &'a str,
 }
 
-/// Whether the fault is told at this place, where this stands behind the line.
+/// Whether the fault is told at this place, where this stands after the line.
 fn is_told_before(
     alloc: Global,
     faulty: Faulty,
@@ -143,7 +143,7 @@ fn is_told_first(
 }
 
 /// Whether a line with a fault is as is told, `FAULT FILE PLACES=LINE`: at each of the places, and
-/// at the first of them before each line that stands behind in the text of other lines.
+/// at the first of them before each line that stands after in the text of other lines.
 pub(crate) fn is_fault_so(alloc: Global, texts: &[Named], told: &str) -> Result<bool, AllocError> {
     let (head, line) = told.split_once('=').unwrap_or((told, ""));
     let (fault, rest) = cut(head);

@@ -70,7 +70,7 @@ fn is_told(
 }
 
 /// Whether the fault of the node is told at each of these places in the first, a middle and the
-/// last claim, with nothing wrong behind it.
+/// last claim, with nothing wrong after it.
 fn is_told_at_all(alloc: Global, faulty: Faulty, places: &str) -> Result<bool, AllocError> {
     let sound = faulty.sound;
     for place in places.split(' ') {

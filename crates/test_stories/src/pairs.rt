@@ -6,7 +6,7 @@ use crate::values::is_won;
 use pg_base::Side;
 use std::alloc::{AllocError, Global};
 
-/// A certificate with this claim, whose root stands behind the nodes of a certificate of one claim
+/// A certificate with this claim, whose root stands after the nodes of a certificate of one claim
 /// and rests on the last of them, and the root's number.
 fn resting(alloc: Global, solved: &[u8], claim: &str, root: &str) -> Option<(String, u32)> {
     let solved = str::from_utf8(solved).ok()?;

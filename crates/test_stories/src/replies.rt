@@ -47,7 +47,7 @@ fn play(
     }
 }
 
-/// Goes on to the next list of replies behind all that begin so; false where there is none.
+/// Goes on to the next list of replies after all that begin so; false where there is none.
 fn raise(replies: &mut Vec<u16>, points: u16) -> Result<bool, AllocError> {
     for _reply in 0..replies.len() {
         let Some(last) = replies.pop() else {

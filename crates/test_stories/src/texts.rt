@@ -10,7 +10,7 @@ pub(crate) struct Named {
     text: String,
 }
 
-/// The script with a line for each entry, behind a line feed. A line that begins with two spaces
+/// The script with a line for each entry, after a line feed. A line that begins with two spaces
 /// goes on the entry above it, with `;` at its end. Empty lines and those that begin with `#` are
 /// left out.
 pub(crate) fn folded(alloc: Global, script: &str) -> Result<String, AllocError> {

@@ -64,7 +64,7 @@ fn family_text(
     }
 }
 
-/// The words behind a command's names: how many positions a search may expand, and whether it may
+/// The words after a command's names: how many positions a search may expand, and whether it may
 /// store images.
 fn options_text(alloc: Global, positions: Option<u32>, images: bool) -> Result<String, AllocError> {
     let images = if images { " images" } else { "" };
