@@ -44,12 +44,14 @@ PLAY = ["play", BOARD, PAIRS, "--side", "y"]
 
 # Limits: milliseconds of a script beside its program, installed and in a checkout; seconds to the
 # first answer of a clean clone on a quiet machine; minutes of ./prove from nothing on four quiet
-# processors; lines of the usage.
+# processors; lines of the usage. The two of a clock are for the machine on which `rt try` takes
+# UNIT_SECONDS to play by the tree UNIT; a slower one has as many times more (`slowness`).
 INSTALLED_COST = 5.0
 CHECKOUT_COST = 60.0
 FIRST_ANSWER = 90.0
 PROVE_MINUTES = 25.0
 USAGE_LINES = 30
+UNIT, UNIT_SECONDS = "02ccea1", 53.0
 
 Words = collections.abc.Sequence[str]
 
@@ -499,8 +501,11 @@ def freshness() -> str:
 
 
 @functools.lru_cache(maxsize=None)
-def tried_clone() -> tuple[tempfile.TemporaryDirectory[str], pathlib.Path, str]:
-    """A clean clone in which a first call was made, and what that took. It goes with the folder."""
+def tried_clone() -> tuple[tempfile.TemporaryDirectory[str], pathlib.Path, float, str]:
+    """A clean clone in which a first call was made, its seconds, and what else it took.
+
+    The clone goes with the folder.
+    """
     held = tempfile.TemporaryDirectory(prefix="first-minutes-")
     there = clean_clone(pathlib.Path(held.name))
     before, begun = os.times(), time.perf_counter()
@@ -510,15 +515,36 @@ def tried_clone() -> tuple[tempfile.TemporaryDirectory[str], pathlib.Path, str]:
     expect((first.returncode, first.stdout) == (0, "accepted x y win\n"), f"{first}")
     expect(first.stderr.count("\n") == 1 and "not proved here" in first.stderr, first.stderr)
     expect("prove does it" in first.stderr, first.stderr)
-    told = f"first answer after {seconds:.0f} s"
-    if seconds > FIRST_ANSWER:
-        told += f", more than {FIRST_ANSWER:.0f}"
-    return held, there, f"{told}, of the processor {used:.0f} s, {load()}"
+    return held, there, seconds, f"of the processor {used:.0f} s, {load()}"
 
 
 def load() -> str:
     """How busy the machine is."""
     return f"load {os.getloadavg()[0]:.1f} on {len(os.sched_getaffinity(0))} processors"
+
+
+@functools.lru_cache(maxsize=None)
+def slowness() -> float:
+    """How many times slower than the limits' machine this one is: `rt try` of an old tree tells."""
+    with folder() as room:
+        there = clean_clone(room)
+        subprocess.run(["git", "checkout", "-q", UNIT], cwd=there, check=True)
+        words = ["rt", "try", "--", "solve", str(TOP / BOARD), str(room / "none")]
+        begun = time.perf_counter()
+        tried = subprocess.run(words, cwd=there / "crates" / "posgame",
+                               stdin=subprocess.DEVNULL, capture_output=True)
+        expect(tried.returncode == 0, f"{UNIT} can't be tried: {tried.stderr!r}")
+        return max(1.0, (time.perf_counter() - begun) / UNIT_SECONDS)
+
+
+def limited(found: float, limit: float, unit: str) -> str:
+    """What a clock showed beside its limit, and on a slower machine beside as many times more."""
+    if found <= limit:
+        return f"{found:.0f} {unit}, limit {limit:.0f}"
+    most = limit * slowness()
+    told = f"{found:.0f} {unit}, limit {limit:.0f} times {slowness():.2f} of this machine"
+    expect(found <= most, f"{told}: more than {most:.0f}")
+    return told
 
 
 def clean_clone(room: pathlib.Path) -> pathlib.Path:
@@ -530,9 +556,8 @@ def clean_clone(room: pathlib.Path) -> pathlib.Path:
 
 def first_answer() -> str:
     """A clean clone before any proof: how long the first answer takes."""
-    told = tried_clone()[2]
-    expect("more than" not in told, told)
-    return told
+    seconds, told = tried_clone()[2:]
+    return f"{limited(seconds, FIRST_ANSWER, 's')}, {told}"
 
 
 def before_proof() -> str:
@@ -583,7 +608,7 @@ def prove_from_nothing() -> str:
         there, begun = clean_clone(room), time.perf_counter()
         ended = subprocess.run([there / "prove"], stdin=subprocess.DEVNULL).returncode
         minutes = (time.perf_counter() - begun) / 60
-        told = f"{minutes:.1f} min, {load()}"
+        told = f"after {minutes:.1f} min, {load()}"
         expect(ended == 0, f"status {ended}, {told}")
         for program in (PROGRAM, DRAWS):
             made = there / program.relative_to(TOP)
@@ -593,8 +618,8 @@ def prove_from_nothing() -> str:
                 told += f"; {made.name} is {'that' if same else 'not that'} of this folder"
         said = run(there / "posgame", ["check", BOARD, PAIRS], cwd=there)
     expect((said.stdout, said.stderr) == ("accepted x y win\n", ""), f"{said}")
-    expect(minutes <= PROVE_MINUTES and "not that" not in told, told)
-    return told
+    expect("not that" not in told, told)
+    return f"{limited(minutes, PROVE_MINUTES, 'min')}, {told}"
 
 
 def board_has_cells() -> str:
