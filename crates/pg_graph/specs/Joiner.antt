@@ -18,6 +18,16 @@ pub record IsMadeFor (room : Room) (g : Graph) : Type 0 where
 abbrev pub AreEdges : Graph → (ℕ → Bool) → Type 0
 AreEdges g set = IsBelow set (suc (edge_count g))
 
+-- the same of two sets
+pub record AreBothEdges (g : Graph) (first second : ℕ → Bool) : Type 0 where
+  pub first_range : AreEdges g first
+  pub second_range : AreEdges g second
+
+-- u and v are vertices
+pub record AreVertices (g : Graph) (u v : ℕ) : Type 0 where
+  pub first_range : u < g.vertices
+  pub second_range : v < g.vertices
+
 -- exactly one end of edge k is joined to u
 abbrev pub Crosses : Graph → (ℕ → Bool) → ℕ → ℕ → Type 0
 Crosses g set u k =

@@ -2,7 +2,7 @@
 ghost use Rattle.std.specs.Prelude.{◌≡◌, ℕ, ◌<◌, ◌↔◌, true, IsTrue, IfOk, IfSome, IfNone};
 ghost use Rattle.std.specs.FinSet.{contains};
 ghost use Rattle.pg_graph.specs.Graph.{IsGraph, IsJoinedIn, JoinsEndsOf, IsBridge};
-ghost use Rattle.pg_graph.specs.Joiner.{IsMadeFor, AreEdges, Crosses, Parts, IsLowest};
+ghost use Rattle.pg_graph.specs.Joiner.{IsMadeFor, AreEdges, AreBothEdges, AreVertices, Crosses, Parts, IsLowest};
 
 use crate::graph::Graph;
 use crate::joins;
@@ -68,9 +68,8 @@ impl Joiner {
     ) -> Option<u16>
         requires graph { IsGraph g.now }
         requires made { IsMadeFor self.old g.now }
-        requires set { AreEdges g.now (contains set.now) }
+        requires sets { AreBothEdges g.now (contains set.now) (contains candidates.now) }
         requires u { u < g.now.vertices }
-        requires candidates { AreEdges g.now (contains candidates.now) }
         ensures lowest { IfSome result
             (λ k. IsLowest (contains candidates.now) (Crosses g.now (contains set.now) u) k) }
         ensures none { IfNone result
@@ -96,10 +95,8 @@ impl Joiner {
     ) -> Option<u16>
         requires graph { IsGraph g.now }
         requires made { IsMadeFor self.old g.now }
-        requires set { AreEdges g.now (contains set.now) }
-        requires u { u < g.now.vertices }
-        requires v { v < g.now.vertices }
-        requires candidates { AreEdges g.now (contains candidates.now) }
+        requires sets { AreBothEdges g.now (contains set.now) (contains candidates.now) }
+        requires vertices { AreVertices g.now u v }
         ensures lowest { IfSome result
             (λ k. IsLowest (contains candidates.now) (Parts g.now (contains set.now) u v) k) }
         ensures none { IfNone result

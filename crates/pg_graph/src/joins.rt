@@ -2,7 +2,7 @@
 ghost use Rattle.std.specs.Prelude.{◌≡◌, ℕ, ◌<◌, ◌≤◌, ◌↔◌, true, IsTrue, IfSome, IfNone, length};
 ghost use Rattle.pg_graph.specs.Prelude.{contains, minus};
 ghost use Rattle.pg_graph.specs.Graph.{IsGraph, IsJoinedIn, JoinsEndsOf, IsBridge, edge_count, first_end_of, second_end_of};
-ghost use Rattle.pg_graph.specs.Joiner.{AreEdges, Crosses, Parts, IsLowest};
+ghost use Rattle.pg_graph.specs.Joiner.{AreEdges, AreBothEdges, AreVertices, Crosses, Parts, IsLowest};
 ghost use Rattle.pg_graph.specs.Labels.{HaveOneRoot, IsSplit};
 ghost use Rattle.pg_graph.specs.Roots.{root_of, IsUpward, SameRoots};
 
@@ -48,9 +48,8 @@ pub(crate) fn crossing(
 ) -> Option<u16>
     requires graph { IsGraph g.now }
     requires size { length parents.old ≡ g.now.vertices }
-    requires set { AreEdges g.now (contains set.now) }
+    requires sets { AreBothEdges g.now (contains set.now) (contains candidates.now) }
     requires u { u < g.now.vertices }
-    requires candidates { AreEdges g.now (contains candidates.now) }
     ensures lowest { IfSome result
         (λ k. IsLowest (contains candidates.now) (Crosses g.now (contains set.now) u) k) }
     ensures none { IfNone result
@@ -97,10 +96,8 @@ pub(crate) fn parting(
 ) -> Option<u16>
     requires graph { IsGraph g.now }
     requires size { length parents.old ≡ g.now.vertices }
-    requires set { AreEdges g.now (contains set.now) }
-    requires u { u < g.now.vertices }
-    requires v { v < g.now.vertices }
-    requires candidates { AreEdges g.now (contains candidates.now) }
+    requires sets { AreBothEdges g.now (contains set.now) (contains candidates.now) }
+    requires vertices { AreVertices g.now u v }
     ensures lowest { IfSome result
         (λ k. IsLowest (contains candidates.now) (Parts g.now (contains set.now) u v) k) }
     ensures none { IfNone result
