@@ -1,5 +1,5 @@
 -- What the proofs of this crate name of std and of the crates below.
-pub use Rattle.pg_switch.specs.Prelude.{Answered, AreBelow, AreCuts, AreEdges, AreFreeEdges, AreFreeWithE, AreTrees, Crosses, CutsHold, CutsHoldOn, Field, FinSet, Forces, ForcesBy, Game, Graph, IsBase, IsBelow, IsBridge, IsCuts, IsEnding, IsFreeEdge, IsGraph, IsJoined, IsLowest, IsMadeFor, IsMadeForGame, IsPosition, IsReached, IsSpan, IsTrees, IsWalk, IsWithin, JoinsEndsOf, KeepsBy, Lines, Parts, Position, Rules, ShareNone, Side, Switching, TreesHold, TreesHoldOn, Win, X, XWins, Y, YWins, after, all_touched, answered_edge, below, both, can_join, circuit, claimed, claims_in_turn, contains, contains-empty, cut_edge, differ, difference, edge_count, either, empty, field_joins, field_points, find, first_end, first_end_of, greatest_bias, has_filled, insert, is_free, is_full, is_over_by, joins, joins_in, lowest_crossing, lowest_free_edge, lowest_parting, moved, nat_cmp, one_if, other, outcome_by, plus, point_count, range_with_len, reaches, remove, rules_of, second_end, second_end_of, short_edge, short_joins, spans_in, terminals_joined, union, with_set, without_set}
+pub use Rattle.pg_switch.specs.Prelude.{Answered, AreBelow, AreBothEdges, AreCuts, AreEdges, AreFreeEdges, AreFreeWithE, AreTrees, Crosses, CutsHold, CutsHoldOn, Field, FinSet, Forces, ForcesBy, Game, Graph, IsBase, IsBelow, IsBridge, IsCuts, IsEnding, IsFreeEdge, IsGraph, IsJoined, IsLowest, IsMadeFor, IsMadeForGame, IsPosition, IsReached, IsSpan, IsTrees, IsWalk, IsWithin, JoinsEndsOf, KeepsBy, Lines, Parts, Position, Rules, ShareNone, Side, Switching, TreesHold, TreesHoldOn, Win, X, XWins, Y, YWins, after, all_touched, answered_edge, below, both, can_join, circuit, claimed, claims_in_turn, contains, contains-empty, cut_edge, differ, difference, edge_count, either, empty, field_joins, field_points, find, first_end, first_end_of, greatest_bias, has_filled, insert, is_free, is_full, is_over_by, joins, joins_in, lowest_crossing, lowest_free_edge, lowest_parting, moved, nat_cmp, one_if, other, outcome_by, plus, point_count, range_with_len, reaches, remove, rules_of, second_end, second_end_of, short_edge, short_joins, spans_in, terminals_joined, union, with_set, without_set}
 unfoldable pub use Rattle.pg_switch.specs.Prelude.{count, crosses, cuts_answer, edge_spans, is_over, minus, outcome, outside, parts, trees_answer}
 pub use Rattle.pg_base.proofs.BelowLemmas.{below_from, below_in, below_none, below_out, below_parts, same_sets}
 pub use Rattle.pg_base.proofs.PointSetLaws.{contains-difference_outside, contains-insert_plus, contains-remove_minus, contains-union_either, insert-cases, insert-old, insert-self, remove-old, remove-other, remove-self}

@@ -1,8 +1,8 @@
 -- What the plans' answers keep.
-use Rattle.std.proofs.Common.{◌≡◌, ℕ, ◌<◌, true, false, Option, sym, ap, ◌∙◌, subst, subst₂, arith}
-use Rattle.pg_switch.proofs.Common.{FinSet, contains, remove, nat_cmp, X, Y, Graph, Field, Game, Position, field_points, point_count, is_over, after, IsPosition, is_free, Answered, claimed, IsFreeEdge, TreesHold, TreesHoldOn, CutsHold, CutsHoldOn, answered_edge, short_edge, cut_edge, trees_answer, cuts_answer}
+use Rattle.std.proofs.Common.{◌≡◌, ℕ, ◌<◌, true, Option, sym, ap, ◌∙◌, subst, subst₂, arith}
+use Rattle.pg_switch.proofs.Common.{FinSet, contains, remove, nat_cmp, X, Y, Graph, Field, Game, Position, field_points, point_count, after, is_free, Answered, claimed, IsFreeEdge, TreesHold, TreesHoldOn, CutsHold, CutsHoldOn, answered_edge, short_edge, cut_edge, trees_answer, cuts_answer}
 use Rattle.pg_game.specs.declared.field.Field.TheVariants.{Graph as OnGraph}
-use Rattle.pg_switch.specs.Replies.{HeldUntil, IsTreesAnswer, IsCutsAnswer}
+use Rattle.pg_switch.specs.Replies.{IsSwitchingTurn, HeldUntil, LeavesHeld, IsTreesAnswer, IsCutsAnswer}
 use Rattle.pg_switch.proofs.AnswerLaws.{TreesDue, CutsDue, IsShortEdge, short-kept, short-holds, trees-due, IsCutEdge, cut-kept, cut-holds, cuts-due, some_free, left-without_e}
 
 -- a plan's answer is a free edge
@@ -61,35 +61,40 @@ short-rule field h p a1 a2 f s last x y on is_x is_y is_f is_s =
     ∙ ap (λ (w : ℕ). claimed (short_edge h p a1 a2 w) w a1 a2) is_x)
 
 module _ (g : Game) (h : Graph) (p : Position) (a1 a2 : FinSet nat_cmp) (last : Option ℕ) (x y : ℕ)
-    (on : g.field ≡ OnGraph h) (position : IsPosition g p) (going : is_over g p ≡ false)
-    (mine : p.turn ≡ X) (held : HeldUntil g p (λ q. TreesHold g q a1 a2) last)
+    (on : g.field ≡ OnGraph h) (turn : IsSwitchingTurn g p X)
+    (held : HeldUntil g p (λ q. TreesHold g q a1 a2) last)
     (is_x : x ≡ answered_edge h last) (is_y : y ≡ short_edge h p a1 a2 x) where
   short-due : TreesDue h p a1 a2 x
   short-due = subst (λ (w : ℕ). TreesDue h p a1 a2 w) (sym is_x)
-      (trees-due g h p a1 a2 last on position mine held)
+      (trees-due g h p a1 a2 last on turn.position turn.turn held)
 
   short-edge : IsShortEdge h p a1 a2 x y
   short-edge =
-      let z = some_free g h p on going in
-      subst (λ (w : ℕ). IsShortEdge h p a1 a2 x w) (sym is_y)
-      (short-kept h p a1 a2 x z.0
-      (λ v k. subst (λ (n : ℕ). v < n) (ap field_points on) (position.x_range v k)) short-due z.1)
+      let z = some_free g h p on turn.going in
+      subst (λ (w : ℕ). IsShortEdge h p a1 a2 x w) (sym is_y) (short-kept h p a1 a2 x z.0 (λ v k.
+      subst (λ (n : ℕ). v < n) (ap field_points on) (turn.position.x_range v k)) short-due z.1)
 
   pub short-claim : IsClaim g p y
   short-claim = claim-from g h p y on short-edge.free
 
-  pub short-after : (f s : FinSet nat_cmp)
+  short-after : (f s : FinSet nat_cmp)
       → f ≡ remove (remove a1 x) y
       → s ≡ remove (remove a2 x) y
       → TreesHold g (after g p y) f s
   short-after f s is_f is_s = subst (λ (q : Field). TreesHoldOn q (after g p y) f s) (sym on)
       (subst₂ (λ (a b : FinSet nat_cmp). TreesHoldOn (OnGraph h) (after g p y) a b) (sym is_f)
-      (sym is_s) (short-holds g h p a1 a2 x y mine short-due short-edge))
+      (sym is_s) (short-holds g h p a1 a2 x y turn.turn short-due short-edge))
 
-  pub short-without : (f : FinSet nat_cmp)
+  pub short-leaves : (f s : FinSet nat_cmp)
       → f ≡ remove (remove a1 x) y
-      → contains f (point_count g) ≡ false
-  short-without f is_f = left-without_e g h p a1 a2 f x y on short-due.left is_f
+      → s ≡ remove (remove a2 x) y
+      → LeavesHeld g p (λ q. TreesHold g q f s) y f
+  short-leaves f s is_f is_s = record {
+    within = short-claim.within;
+    free = short-claim.free;
+    holds = short-after f s is_f is_s;
+    without_e = left-without_e g h p a1 a2 f x y on short-due.left is_f;
+  }
 
 -- ---- Cut
 
@@ -111,30 +116,36 @@ cut-rule field h p d1 d2 f s last x y on is_x is_y is_f is_s =
     ∙ ap (λ (w : ℕ). claimed (cut_edge h p d1 d2 w) w d1 d2) is_x)
 
 module _ (g : Game) (h : Graph) (p : Position) (d1 d2 : FinSet nat_cmp) (last : Option ℕ) (x y : ℕ)
-    (on : g.field ≡ OnGraph h) (position : IsPosition g p) (going : is_over g p ≡ false)
-    (mine : p.turn ≡ Y) (held : HeldUntil g p (λ q. CutsHold g q d1 d2) last)
+    (on : g.field ≡ OnGraph h) (turn : IsSwitchingTurn g p Y)
+    (held : HeldUntil g p (λ q. CutsHold g q d1 d2) last)
     (is_x : x ≡ answered_edge h last) (is_y : y ≡ cut_edge h p d1 d2 x) where
   cut-due : CutsDue h p d1 d2 x
   cut-due = subst (λ (w : ℕ). CutsDue h p d1 d2 w) (sym is_x)
-      (cuts-due g h p d1 d2 last on position mine held)
+      (cuts-due g h p d1 d2 last on turn.position turn.turn held)
 
   cut-edge : IsCutEdge h p d1 d2 x y
   cut-edge =
-      let z = some_free g h p on going in
+      let z = some_free g h p on turn.going in
       subst (λ (w : ℕ). IsCutEdge h p d1 d2 x w) (sym is_y) (cut-kept h p d1 d2 x z.0 cut-due z.1)
 
   pub cut-claim : IsClaim g p y
   cut-claim = claim-from g h p y on cut-edge.free
 
-  pub cut-after : (f s : FinSet nat_cmp)
+  cut-after : (f s : FinSet nat_cmp)
       → f ≡ remove (remove d1 x) y
       → s ≡ remove (remove d2 x) y
       → CutsHold g (after g p y) f s
   cut-after f s is_f is_s = subst (λ (q : Field). CutsHoldOn q (after g p y) f s) (sym on)
       (subst₂ (λ (a b : FinSet nat_cmp). CutsHoldOn (OnGraph h) (after g p y) a b) (sym is_f)
-      (sym is_s) (cut-holds g h p d1 d2 x y mine cut-due cut-edge))
+      (sym is_s) (cut-holds g h p d1 d2 x y turn.turn cut-due cut-edge))
 
-  pub cut-without : (f : FinSet nat_cmp)
+  pub cut-leaves : (f s : FinSet nat_cmp)
       → f ≡ remove (remove d1 x) y
-      → contains f (point_count g) ≡ false
-  cut-without f is_f = left-without_e g h p d1 d2 f x y on cut-due.left is_f
+      → s ≡ remove (remove d2 x) y
+      → LeavesHeld g p (λ q. CutsHold g q f s) y f
+  cut-leaves f s is_f is_s = record {
+    within = cut-claim.within;
+    free = cut-claim.free;
+    holds = cut-after f s is_f is_s;
+    without_e = left-without_e g h p d1 d2 f x y on cut-due.left is_f;
+  }

@@ -1,7 +1,7 @@
 -- The replies that the code finds are those of the definitions.
 use Rattle.std.proofs.Common.{◌≡◌, ℕ, Bool, true, Option, Some, None, refl, sym, ap, ap₂, ◌∙◌, subst}
 use Rattle.std.specs.Prelude.{IfSome, IfNone, unwrap_or}
-use Rattle.pg_switch.proofs.Common.{FinSet, contains, remove, union, nat_cmp, outside, contains-union_either, remove-old, Graph, edge_count, first_end_of, second_end_of, AreEdges, Crosses, Parts, IsLowest, Position, AreBelow, lowest_crossing, lowest_parting, with_set, without_set}
+use Rattle.pg_switch.proofs.Common.{FinSet, contains, remove, union, nat_cmp, outside, contains-union_either, remove-old, Graph, edge_count, first_end_of, second_end_of, AreBothEdges, AreEdges, Crosses, Parts, IsLowest, Position, AreBelow, lowest_crossing, lowest_parting, with_set, without_set}
 use Rattle.pg_switch.proofs.EdgeSets.{left_edges, with_set-edges, without-agree}
 use Rattle.pg_switch.proofs.Finding.{crossing-found, parting-found}
 
@@ -34,8 +34,7 @@ joined-edges h p one w joined x x_range small is_w is_joined =
 pub short-found : (h : Graph) (p : Position) (one another w joined others : FinSet nat_cmp)
     (x u : ℕ) (r : Option ℕ)
     → AreBelow p.x (edge_count h)
-    → AreEdges h (contains one)
-    → AreEdges h (contains another)
+    → AreBothEdges h (contains one) (contains another)
     → w ≡ remove one x
     → joined ≡ union p.x w
     → others ≡ remove another (edge_count h)
@@ -43,9 +42,10 @@ pub short-found : (h : Graph) (p : Position) (one another w joined others : FinS
     → IfSome r (λ k. IsLowest (contains others) (Crosses h (contains joined) u) k)
     → IfNone r ((k : ℕ) → contains others k ≡ true → Crosses h (contains joined) u k → ⊥)
     → r ≡ lowest_crossing h (with_set p (remove one x)) (first_end_of h x) another
-short-found h p one another w joined others x u r x_range small1 small2 is_w is_joined is_others
-    is_u lowest none = crossing-found h (contains joined) u another others r
-    (joined-edges h p one w joined x x_range small1 is_w is_joined) small2 is_others lowest none
+short-found h p one another w joined others x u r x_range small is_w is_joined is_others is_u lowest
+    none = crossing-found h (contains joined) u another others r
+    (joined-edges h p one w joined x x_range small.first_range is_w is_joined) small.second_range
+    is_others lowest none
     ∙ ap₂ (λ s v. lowest_crossing h s v another) (joined-is p one w joined x is_w is_joined) is_u
 
 pub cut-found : (h : Graph) (p : Position) (one another left others : FinSet nat_cmp) (x u v : ℕ)

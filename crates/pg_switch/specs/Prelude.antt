@@ -23,7 +23,7 @@ pub use Rattle.pg_game.specs.declared.field.Field.TheVariants.{Lines}
 pub use Rattle.pg_game.specs.declared.game.Game.{Game}
 pub use Rattle.pg_game.specs.declared.position.Position.{Position}
 pub use Rattle.pg_graph.specs.Graph.{IsBridge, IsGraph, JoinsEndsOf, edge_count, first_end_of, joins_in, second_end_of, spans_in}
-pub use Rattle.pg_graph.specs.Joiner.{AreEdges, Crosses, IsLowest, IsMadeFor, Parts}
+pub use Rattle.pg_graph.specs.Joiner.{AreBothEdges, AreEdges, Crosses, IsLowest, IsMadeFor, Parts}
 unfoldable pub use Rattle.pg_graph.specs.Joiner.{crosses, parts}
 pub use Rattle.pg_graph.specs.Span.{IsBase, IsCuts, IsReached, IsSpan, IsTrees, circuit}
 pub use Rattle.pg_graph.specs.Walks.{IsJoined, IsWalk, first_end, joins, second_end}

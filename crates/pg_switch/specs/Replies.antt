@@ -1,6 +1,6 @@
 -- Replies to the loss of an edge, and when a plan may be asked.
-use Rattle.std.specs.Prelude.{◌≡◌, ℕ, ◌<◌, true, Option, Some, None, unwrap_or}
-use Rattle.pg_switch.specs.Prelude.{FinSet, remove, nat_cmp, other, Graph, first_end_of, second_end_of, Field, Lines, Game, Position, point_count, after, is_free, Answered, lowest_free_edge, lowest_crossing, lowest_parting, with_set, without_set, trees_answer, cuts_answer}
+use Rattle.std.specs.Prelude.{◌≡◌, ℕ, ◌<◌, true, false, Option, Some, None, unwrap_or}
+use Rattle.pg_switch.specs.Prelude.{FinSet, contains, remove, nat_cmp, Switching, Side, other, Graph, first_end_of, second_end_of, Field, Lines, Game, Position, IsPosition, point_count, is_over, after, is_free, Answered, lowest_free_edge, lowest_crossing, lowest_parting, with_set, without_set, trees_answer, cuts_answer}
 use Rattle.pg_game.specs.declared.field.Field.TheVariants.{Graph as OnGraph}
 
 -- the lowest edge of the other set that crosses what is left of the one, else the lowest free edge
@@ -15,6 +15,13 @@ cut_reply h p one another x =
     unwrap_or (lowest_parting h (without_set p one) (first_end_of h x) (second_end_of h x) another)
     (lowest_free_edge h p)
 
+-- it is the side's turn in a switching game that goes on
+pub record IsSwitchingTurn (g : Game) (p : Position) (side : Side) : Type 0 where
+  pub switching : g.kind ≡ Switching
+  pub position : IsPosition g p
+  pub going : is_over g p ≡ false
+  pub turn : p.turn ≡ side
+
 -- the other side has just taken x, and before that the fact held
 pub record HeldBefore (g : Game) (p : Position) (Held : Position → Type 0) (x : ℕ) : Type 0 where
   pub before : Position
@@ -28,6 +35,14 @@ pub record HeldBefore (g : Game) (p : Position) (Held : Position → Type 0) (x 
 abbrev pub HeldUntil : Game → Position → (Position → Type 0) → Option ℕ → Type 0
 HeldUntil g p Held (Some x) = HeldBefore g p Held x
 HeldUntil g p Held None = Held p
+
+-- the edge is free, and after it the fact holds, with a first set that doesn't have e
+pub record LeavesHeld (g : Game) (p : Position) (Held : Position → Type 0) (edge : ℕ)
+    (first : FinSet nat_cmp) : Type 0 where
+  pub within : edge < point_count g
+  pub free : is_free p edge ≡ true
+  pub holds : Held (after g p edge)
+  pub without_e : contains first (point_count g) ≡ false
 
 -- on a graph, Short's answer by trees is this edge, and leaves these sets
 abbrev pub IsTreesAnswer : Field

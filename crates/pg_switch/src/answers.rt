@@ -1,6 +1,6 @@
 //! The edge that answers a reply.
 ghost use Rattle.std.specs.Prelude.{◌≡◌, ◌<◌, ◌≤◌};
-ghost use Rattle.pg_switch.specs.Prelude.{contains, remove, IsGraph, edge_count, IsMadeFor, AreEdges, short_edge, cut_edge, lowest_free_edge};
+ghost use Rattle.pg_switch.specs.Prelude.{contains, remove, IsGraph, edge_count, IsMadeFor, AreEdges, AreBothEdges, short_edge, cut_edge, lowest_free_edge};
 ghost use Rattle.pg_base.specs.Points.{AreBelow};
 ghost use Rattle.pg_switch.specs.Replies.{short_reply, cut_reply};
 
@@ -40,8 +40,7 @@ fn short_reply(
     requires graph { IsGraph graph.now }
     requires made { IsMadeFor j.old graph.now }
     requires x_range { AreBelow p.now.x (edge_count graph.now) }
-    requires one { AreEdges graph.now (contains one.now) }
-    requires other { AreEdges graph.now (contains other.now) }
+    requires sets { AreBothEdges graph.now (contains one.now) (contains other.now) }
     requires edge { x ≤ edge_count graph.now }
     ensures reply { result ≡ short_reply graph.now p.now one.now other.now x }
     ensures kept { j.new ≡ j.old }
@@ -96,8 +95,7 @@ pub fn short_edge(
     requires graph { IsGraph graph.now }
     requires made { IsMadeFor j.old graph.now }
     requires x_range { AreBelow p.now.x (edge_count graph.now) }
-    requires first { AreEdges graph.now (contains a1.now) }
-    requires second { AreEdges graph.now (contains a2.now) }
+    requires sets { AreBothEdges graph.now (contains a1.now) (contains a2.now) }
     requires edge { x ≤ edge_count graph.now }
     ensures edge { result ≡ short_edge graph.now p.now a1.now a2.now x }
     ensures kept { j.new ≡ j.old }
@@ -122,8 +120,7 @@ pub(crate) fn cut_edge(
 ) -> u16
     requires graph { IsGraph graph.now }
     requires made { IsMadeFor j.old graph.now }
-    requires first { AreEdges graph.now (contains d1.now) }
-    requires second { AreEdges graph.now (contains d2.now) }
+    requires sets { AreBothEdges graph.now (contains d1.now) (contains d2.now) }
     requires edge { x ≤ edge_count graph.now }
     ensures edge { result ≡ cut_edge graph.now p.now d1.now d2.now x }
     ensures kept { j.new ≡ j.old }

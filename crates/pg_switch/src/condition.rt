@@ -1,6 +1,6 @@
 //! Whether trees and cuts hold.
 ghost use Rattle.std.specs.Prelude.{◌≡◌, ℕ, ◌↔◌, ◌⊎◌, not, suc, true, IsTrue};
-ghost use Rattle.pg_switch.specs.Prelude.{contains, insert, below, Switching, IsGraph, edge_count, IsMadeFor, AreEdges, point_count, IsPosition, IsMadeForGame, IsFreeEdge, AreTrees, AreCuts, TreesHold, CutsHold};
+ghost use Rattle.pg_switch.specs.Prelude.{contains, insert, below, Switching, IsGraph, edge_count, IsMadeFor, AreEdges, AreBothEdges, point_count, IsPosition, IsMadeForGame, IsFreeEdge, AreTrees, AreCuts, TreesHold, CutsHold};
 ghost use Rattle.pg_base.specs.Points.{AreBelow};
 ghost use Rattle.pg_switch.specs.Parts.{AreFreePair, JoinsOther, BridgesOther};
 
@@ -59,8 +59,7 @@ fn are_free_pair(
     requires graph { IsGraph graph.now }
     requires x_range { AreBelow p.now.x (edge_count graph.now) }
     requires y_range { AreBelow p.now.y (edge_count graph.now) }
-    requires first { AreEdges graph.now (contains first.now) }
-    requires second { AreEdges graph.now (contains second.now) }
+    requires sets { AreBothEdges graph.now (contains first.now) (contains second.now) }
     ensures { IsTrue result ↔ AreFreePair graph.now p.now side first.now second.now }
 {
     are_free(graph, p, p.turn == side, first)
@@ -118,8 +117,7 @@ fn are_trees(graph: &Graph, j: &mut Joiner, p: &Position, a1: &PointSet, a2: &Po
     requires made { IsMadeFor j.old graph.now }
     requires x_range { AreBelow p.now.x (edge_count graph.now) }
     requires y_range { AreBelow p.now.y (edge_count graph.now) }
-    requires first { AreEdges graph.now (contains a1.now) }
-    requires second { AreEdges graph.now (contains a2.now) }
+    requires sets { AreBothEdges graph.now (contains a1.now) (contains a2.now) }
     ensures trees { IsTrue result ↔ AreTrees graph.now p.now a1.now a2.now }
     ensures kept { j.new ≡ j.old }
 {
@@ -134,8 +132,7 @@ fn are_cuts(graph: &Graph, j: &mut Joiner, p: &Position, d1: &PointSet, d2: &Poi
     requires made { IsMadeFor j.old graph.now }
     requires x_range { AreBelow p.now.x (edge_count graph.now) }
     requires y_range { AreBelow p.now.y (edge_count graph.now) }
-    requires first { AreEdges graph.now (contains d1.now) }
-    requires second { AreEdges graph.now (contains d2.now) }
+    requires sets { AreBothEdges graph.now (contains d1.now) (contains d2.now) }
     ensures cuts { IsTrue result ↔ AreCuts graph.now p.now d1.now d2.now }
     ensures kept { j.new ≡ j.old }
 {

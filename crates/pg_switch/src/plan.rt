@@ -1,7 +1,7 @@
 //! Plans by trees and by cuts.
-ghost use Rattle.std.specs.Prelude.{◌≡◌, ◌<◌, false, true};
-ghost use Rattle.pg_switch.specs.Prelude.{contains, remove, Switching, X, Y, IsGraph, edge_count, is_free, point_count, is_over, after, IsPosition, IsMadeForGame, short_edge, cut_edge, answered_edge, TreesHold, CutsHold};
-ghost use Rattle.pg_switch.specs.Replies.{HeldUntil, IsTreesAnswer, IsCutsAnswer};
+ghost use Rattle.std.specs.Prelude.{◌≡◌, ◌<◌};
+ghost use Rattle.pg_switch.specs.Prelude.{remove, X, Y, IsGraph, IsMadeForGame, short_edge, cut_edge, answered_edge, TreesHold, CutsHold};
+ghost use Rattle.pg_switch.specs.Replies.{IsSwitchingTurn, HeldUntil, LeavesHeld, IsTreesAnswer, IsCutsAnswer};
 
 use crate::answers::{cut_edge, short_edge};
 use pg_base::{MAX_MEMBERS, PointSet};
@@ -68,11 +68,8 @@ impl ShortPlan {
     /// trees again after the answer, without `e`. It takes no memory, and leaves the joiner as it
     /// was. The answer is Lehman's (A solution of the Shannon switching game, 1964).
     pub fn answer(&mut self, g: &Game, j: &mut Joiner, p: &Position, last: Option<u16>) -> u16
-        requires switching { g.now.kind ≡ Switching }
+        requires turn { IsSwitchingTurn g.now p.now X }
         requires made { IsMadeForGame j.old g.now }
-        requires position { IsPosition g.now p.now }
-        requires going { is_over g.now p.now ≡ false }
-        requires turn { p.now.turn ≡ X }
         requires held { HeldUntil g.now p.now
             (λ q. TreesHold g.now q self.old.first self.old.second) last }
         ensures rule { IsTreesAnswer g.now.field p.now self.old.first self.old.second last (record {
@@ -80,10 +77,8 @@ impl ShortPlan {
           first = self.new.first;
           second = self.new.second;
         }) }
-        ensures within { result < point_count g.now }
-        ensures free { is_free p.now result ≡ true }
-        ensures holds { TreesHold g.now (after g.now p.now result) self.new.first self.new.second }
-        ensures without_e { contains self.new.first (point_count g.now) ≡ false }
+        ensures leaves { LeavesHeld g.now p.now
+            (λ q. TreesHold g.now q self.new.first self.new.second) result self.new.first }
         ensures kept { j.new ≡ j.old }
     {
         match &g.field {
@@ -120,11 +115,8 @@ impl CutPlan {
     /// again after the answer, without `e`. It takes no memory, and leaves the joiner as it was.
     /// The answer is the dual of Lehman's.
     pub fn answer(&mut self, g: &Game, j: &mut Joiner, p: &Position, last: Option<u16>) -> u16
-        requires switching { g.now.kind ≡ Switching }
+        requires turn { IsSwitchingTurn g.now p.now Y }
         requires made { IsMadeForGame j.old g.now }
-        requires position { IsPosition g.now p.now }
-        requires going { is_over g.now p.now ≡ false }
-        requires turn { p.now.turn ≡ Y }
         requires held { HeldUntil g.now p.now
             (λ q. CutsHold g.now q self.old.first self.old.second) last }
         ensures rule { IsCutsAnswer g.now.field p.now self.old.first self.old.second last (record {
@@ -132,10 +124,8 @@ impl CutPlan {
           first = self.new.first;
           second = self.new.second;
         }) }
-        ensures within { result < point_count g.now }
-        ensures free { is_free p.now result ≡ true }
-        ensures holds { CutsHold g.now (after g.now p.now result) self.new.first self.new.second }
-        ensures without_e { contains self.new.first (point_count g.now) ≡ false }
+        ensures leaves { LeavesHeld g.now p.now
+            (λ q. CutsHold g.now q self.new.first self.new.second) result self.new.first }
         ensures kept { j.new ≡ j.old }
     {
         match &g.field {

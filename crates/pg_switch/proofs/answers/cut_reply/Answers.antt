@@ -4,16 +4,16 @@ use Rattle.pg_switch.proofs.Conditions.{left-without, left_set-edges}
 use Rattle.pg_switch.proofs.Replying.{remove_edges, cut-found, reply-some, reply-none}
 use Rattle.pg_switch.proofs.answers.cut_reply.Goals as goal
 
-pub parting-requires-clause-set : goal.parting-requires-clause-set
-parting-requires-clause-set c =
+pub parting-requires-clause-sets : goal.parting-requires-clause-sets
+parting-requires-clause-sets c =
     let h = c.args.graph.now in
-    left_set-edges h c.args.p.now c.args.one.now c.without-left.result
-    (left-without h c.args.p.now c.args.one.now c.edges_left.result c.without-left.result
-    c.edges_left.ensures c.without-left.ensures.difference)
-
-pub parting-requires-clause-candidates : goal.parting-requires-clause-candidates
-parting-requires-clause-candidates c = remove_edges c.args.graph.now c.args.other.now
-    c.without-candidates.result c.edge_count.result c.requires.other c.without-candidates.ensures
+    record {
+      first_range = left_set-edges h c.args.p.now c.args.one.now c.without-left.result
+          (left-without h c.args.p.now c.args.one.now c.edges_left.result c.without-left.result
+          c.edges_left.ensures c.without-left.ensures.difference);
+      second_range = remove_edges h c.args.other.now c.without-candidates.result
+          c.edge_count.result c.requires.other c.without-candidates.ensures;
+    }
 
 pub returns-in-Some-clause-reply : goal.returns-in-Some-clause-reply
 returns-in-Some-clause-reply c =

@@ -1,18 +1,18 @@
-use Rattle.pg_switch.proofs.PlanLaws.{short-claim, short-rule, short-after, short-without}
+use Rattle.pg_switch.proofs.PlanLaws.{short-claim, short-rule, short-leaves}
 use Rattle.pg_switch.proofs.plan.ShortPlan.answer.Goals as goal
 
 pub take_both-requires-clause-claimed : goal.take_both-requires-clause-claimed
 take_both-requires-clause-claimed c =
     (short-claim c.args.g.now c.in-Graph.graph c.args.p.now c.args.self.now.first
     c.args.self.now.second c.args.last c.answered_edge-x.result c.short_edge-edge.result
-    c.in-Graph.is c.requires.position c.requires.going c.requires.turn c.requires.held
+    c.in-Graph.is c.requires.turn c.requires.held
     c.answered_edge-x.ensures c.short_edge-edge.ensures.edge).few
 
 pub take_both-requires-in-Graph-clause-claimed : goal.take_both-requires-in-Graph-clause-claimed
 take_both-requires-in-Graph-clause-claimed c =
     (short-claim c.args.g.now c.in-Graph.graph c.args.p.now c.args.self.now.first
     c.args.self.now.second c.args.last c.answered_edge-x.result c.short_edge-edge.result
-    c.in-Graph.is c.requires.position c.requires.going c.requires.turn c.requires.held
+    c.in-Graph.is c.requires.turn c.requires.held
     c.answered_edge-x.ensures c.short_edge-edge.ensures.edge).few
 
 pub returns-clause-rule : goal.returns-clause-rule
@@ -22,30 +22,9 @@ returns-clause-rule c =
     c.answered_edge-x.result c.short_edge-edge.result c.in-Graph.is c.answered_edge-x.ensures
     c.short_edge-edge.ensures.edge c.take_both.ensures c.take_both-in-Graph.ensures
 
-pub returns-clause-within : goal.returns-clause-within
-returns-clause-within c =
-    (short-claim c.args.g.now c.in-Graph.graph c.args.p.now c.args.self.now.first
-    c.args.self.now.second c.args.last c.answered_edge-x.result c.short_edge-edge.result
-    c.in-Graph.is c.requires.position c.requires.going c.requires.turn c.requires.held
-    c.answered_edge-x.ensures c.short_edge-edge.ensures.edge).within
-
-pub returns-clause-free : goal.returns-clause-free
-returns-clause-free c =
-    (short-claim c.args.g.now c.in-Graph.graph c.args.p.now c.args.self.now.first
-    c.args.self.now.second c.args.last c.answered_edge-x.result c.short_edge-edge.result
-    c.in-Graph.is c.requires.position c.requires.going c.requires.turn c.requires.held
-    c.answered_edge-x.ensures c.short_edge-edge.ensures.edge).free
-
-pub returns-clause-holds : goal.returns-clause-holds
-returns-clause-holds c = short-after c.args.g.now c.in-Graph.graph c.args.p.now
+pub returns-clause-leaves : goal.returns-clause-leaves
+returns-clause-leaves c = short-leaves c.args.g.now c.in-Graph.graph c.args.p.now
     c.args.self.now.first c.args.self.now.second c.args.last c.answered_edge-x.result
-    c.short_edge-edge.result c.in-Graph.is c.requires.position c.requires.going c.requires.turn
-    c.requires.held c.answered_edge-x.ensures c.short_edge-edge.ensures.edge c.take_both.new.set
-    c.take_both-in-Graph.new.set c.take_both.ensures c.take_both-in-Graph.ensures
-
-pub returns-clause-without_e : goal.returns-clause-without_e
-returns-clause-without_e c =
-    short-without c.args.g.now c.in-Graph.graph c.args.p.now c.args.self.now.first
-    c.args.self.now.second c.args.last c.answered_edge-x.result c.short_edge-edge.result
-    c.in-Graph.is c.requires.position c.requires.going c.requires.turn c.requires.held
-    c.answered_edge-x.ensures c.short_edge-edge.ensures.edge c.take_both.new.set c.take_both.ensures
+    c.short_edge-edge.result c.in-Graph.is c.requires.turn c.requires.held c.answered_edge-x.ensures
+    c.short_edge-edge.ensures.edge c.take_both.new.set c.take_both-in-Graph.new.set
+    c.take_both.ensures c.take_both-in-Graph.ensures
