@@ -9,6 +9,16 @@ use Rattle.pg_exchange.specs.declared.search.Parent.{Parent}
 abbrev pub base_of : ℕ → (ℕ → Bool) → (ℕ → Bool) → ℕ → Bool
 base_of i b c = if i == 1 then b else c
 
+-- two bases are of the matroids that they were of
+pub record KeepsMatroid (m n m' n' : Matroid) : Type 0 where
+  pub first : m' ≡ m
+  pub second : n' ≡ n
+
+-- two bases are as they were
+pub record KeepsBases (b c b' c' : ℕ → Bool) : Type 0 where
+  pub first : b' ≡ b
+  pub second : c' ≡ c
+
 -- what f links to by one base: its circuit, where it isn't a member
 unfoldable pub links : Matroid → (ℕ → Bool) → ℕ → ℕ → Bool
 links m b f z = not (b f) && circuit m.spans b f z
@@ -176,11 +186,19 @@ abbrev pub IsMoved : (ℕ → Bool) → (ℕ → Bool) → (ℕ → Bool) → (�
 IsMoved b c b' c' x y = (z : ℕ) → one_if (b' z) + one_if (c' z) + one_if (y == z)
     ≡ one_if (b z) + one_if (c z) + one_if (x == z)
 
--- what a shift from x to y does to two bases
-pub record IsShift (b c b' c' from to : ℕ → Bool) (x y : ℕ) : Type 0 where
+-- what a shift from x to y does to two bases, where a shortest chain leads from x to y
+pub record IsShift (m : Matroid) (b c b' c' from to : ℕ → Bool) (x y : ℕ) : Type 0 where
   pub begins : from x ≡ true
   pub ends : to y ≡ true
   pub moved : IsMoved b c b' c' x y
+  pub leads : LeadsFrom m b c from y
+  pub shortest : IsShortest m b c from to x y
+
+-- no chain leads from a member of `from` to a member of `to`, and two bases are as they were
+pub record NoShift (m : Matroid) (b c b' c' from to : ℕ → Bool) : Type 0 where
+  pub none : (y : ℕ) → LeadsFrom m b c from y → to y ≡ false
+  pub closed : IsClosed m b c from to
+  pub unchanged : KeepsBases b c b' c'
 
 -- no chain leads from an element in neither base to one in both
 abbrev pub IsSettled : Matroid → (ℕ → Bool) → (ℕ → Bool) → Type 0

@@ -5,7 +5,7 @@
 //! to itself.
 ghost use Rattle.std.specs.Prelude.{◌≡◌, ◌<◌, ◌↔◌, ◌⊎◌, ◌==◌, ℕ, true, false, IfSome, IfNone, length};
 ghost use Rattle.pg_exchange.specs.Prelude.{contains, IsWithin, both, outside, IsReached, circuit, swapped};
-ghost use Rattle.pg_exchange.specs.Chain.{base_of, LeadsFrom, SomeTree, IsClosed, IsLeast, IsSettled, IsMoved, IsShift, IsNearest, IsShortest, up_of, second_of};
+ghost use Rattle.pg_exchange.specs.Chain.{base_of, KeepsMatroid, KeepsBases, LeadsFrom, SomeTree, IsLeast, IsSettled, IsMoved, IsShift, NoShift, IsNearest, up_of, second_of};
 
 use crate::ground::Ground;
 use crate::search::{Parent, explore, follow, members, shared, take_next};
@@ -47,10 +47,10 @@ impl<G: Ground> Exchange<G> {
         requires outside { base_of i (G.base self.old.first) (G.base self.old.second) f ≡ false }
         ensures value { contains result ≡ circuit (G.matroid self.old.first).spans
             (base_of i (G.base self.old.first) (G.base self.old.second)) f }
-        ensures kept { G.matroid self.new.first ≡ G.matroid self.old.first }
-        ensures kept_second { G.matroid self.new.second ≡ G.matroid self.old.second }
-        ensures kept_base { G.base self.new.first ≡ G.base self.old.first }
-        ensures kept_second_base { G.base self.new.second ≡ G.base self.old.second }
+        ensures kept { KeepsMatroid (G.matroid self.old.first) (G.matroid self.old.second)
+            (G.matroid self.new.first) (G.matroid self.new.second) }
+        ensures kept_bases { KeepsBases (G.base self.old.first) (G.base self.old.second)
+            (G.base self.new.first) (G.base self.new.second) }
     {
         if i == 1 {
             self.first.circuit(f)
@@ -70,8 +70,8 @@ impl<G: Ground> Exchange<G> {
             ≡ swapped (base_of i (G.base self.old.first) (G.base self.old.second)) out into }
         ensures other { base_of i (G.base self.new.second) (G.base self.new.first)
             ≡ base_of i (G.base self.old.second) (G.base self.old.first) }
-        ensures kept { G.matroid self.new.first ≡ G.matroid self.old.first }
-        ensures kept_second { G.matroid self.new.second ≡ G.matroid self.old.second }
+        ensures kept { KeepsMatroid (G.matroid self.old.first) (G.matroid self.old.second)
+            (G.matroid self.new.first) (G.matroid self.new.second) }
     {
         if i == 1 {
             self.first.swap(out, into);
@@ -105,10 +105,10 @@ impl<G: Ground> Exchange<G> {
         ensures value { (y : ℕ) → (contains result y ≡ true)
             ↔ LeadsFrom (G.matroid self.old.first) (G.base self.old.first) (G.base self.old.second)
             (contains from.now) y }
-        ensures kept { G.matroid self.new.first ≡ G.matroid self.old.first }
-        ensures kept_second { G.matroid self.new.second ≡ G.matroid self.old.second }
-        ensures kept_base { G.base self.new.first ≡ G.base self.old.first }
-        ensures kept_second_base { G.base self.new.second ≡ G.base self.old.second }
+        ensures kept { KeepsMatroid (G.matroid self.old.first) (G.matroid self.old.second)
+            (G.matroid self.new.first) (G.matroid self.new.second) }
+        ensures kept_bases { KeepsBases (G.base self.old.first) (G.base self.old.second)
+            (G.base self.new.first) (G.base self.new.second) }
     {
         let mut seen = *from;
         let mut todo = *from;
@@ -127,8 +127,8 @@ impl<G: Ground> Exchange<G> {
             (second_of parents.now) y }
         requires parents { length parents.now ≡ MAX_MEMBERS }
         ensures begins { contains from.now result ≡ true }
-        ensures kept { G.matroid self.new.first ≡ G.matroid self.old.first }
-        ensures kept_second { G.matroid self.new.second ≡ G.matroid self.old.second }
+        ensures kept { KeepsMatroid (G.matroid self.old.first) (G.matroid self.old.second)
+            (G.matroid self.new.first) (G.matroid self.new.second) }
         ensures nearest { IsNearest (G.matroid self.old.first) (G.base self.old.first)
             (G.base self.old.second) (contains from.now) result y }
         ensures members { IsMoved (G.base self.old.first) (G.base self.old.second)
@@ -159,25 +159,16 @@ impl<G: Ground> Exchange<G> {
     /// a matroid into independent subsets, 1965).
     pub fn shift(&mut self, from: &PointSet, to: &PointSet) -> Option<(u16, u16)>
         requires { IsWithin (contains from.now) (G.matroid self.old.first).elements }
-        ensures kept { G.matroid self.new.first ≡ G.matroid self.old.first }
-        ensures kept_second { G.matroid self.new.second ≡ G.matroid self.old.second }
+        ensures kept { KeepsMatroid (G.matroid self.old.first) (G.matroid self.old.second)
+            (G.matroid self.new.first) (G.matroid self.new.second) }
         ensures some { IfSome result
-            (λ p. IsShift (G.base self.old.first) (G.base self.old.second) (G.base self.new.first)
-            (G.base self.new.second) (contains from.now) (contains to.now) p.0 p.1) }
-        ensures leads { IfSome result (λ p. LeadsFrom (G.matroid self.old.first)
-            (G.base self.old.first) (G.base self.old.second) (contains from.now) p.1) }
-        ensures shortest { IfSome result
-            (λ p. IsShortest (G.matroid self.old.first) (G.base self.old.first)
-            (G.base self.old.second) (contains from.now) (contains to.now) p.0 p.1) }
+            (λ p. IsShift (G.matroid self.old.first) (G.base self.old.first)
+            (G.base self.old.second) (G.base self.new.first) (G.base self.new.second)
+            (contains from.now) (contains to.now) p.0 p.1) }
         ensures none { IfNone result
-            ((y : ℕ) → LeadsFrom (G.matroid self.old.first) (G.base self.old.first)
-            (G.base self.old.second) (contains from.now) y
-            → contains to.now y ≡ false) }
-        ensures closed { IfNone result
-            (IsClosed (G.matroid self.old.first) (G.base self.old.first) (G.base self.old.second)
+            (NoShift (G.matroid self.old.first) (G.base self.old.first) (G.base self.old.second)
+            (G.base self.new.first) (G.base self.new.second)
             (contains from.now) (contains to.now)) }
-        ensures unchanged { IfNone result ((G.base self.new.first ≡ G.base self.old.first)
-            × (G.base self.new.second ≡ G.base self.old.second)) }
     {
         let nowhere = Parent {
             up: 0,
@@ -242,10 +233,10 @@ impl<G: Ground> Exchange<G> {
             (G.base self.old.second)
             → IsReached (G.matroid self.old.first).spans (G.matroid self.old.first).elements
             (G.base self.old.first) (G.base self.old.second) (contains result) }
-        ensures kept { G.matroid self.new.first ≡ G.matroid self.old.first }
-        ensures kept_second { G.matroid self.new.second ≡ G.matroid self.old.second }
-        ensures kept_base { G.base self.new.first ≡ G.base self.old.first }
-        ensures kept_second_base { G.base self.new.second ≡ G.base self.old.second }
+        ensures kept { KeepsMatroid (G.matroid self.old.first) (G.matroid self.old.second)
+            (G.matroid self.new.first) (G.matroid self.new.second) }
+        ensures kept_bases { KeepsBases (G.base self.old.first) (G.base self.old.second)
+            (G.base self.new.first) (G.base self.new.second) }
     {
         let neither = self.neither();
         self.reach(&neither)
@@ -261,10 +252,10 @@ impl<G: Ground> Exchange<G> {
             (G.base self.new.second) }
         ensures idle { IsLeast (G.matroid self.old.first) (G.base self.old.first)
             (G.base self.old.second)
-            → (G.base self.new.first ≡ G.base self.old.first)
-            × (G.base self.new.second ≡ G.base self.old.second) }
-        ensures kept { G.matroid self.new.first ≡ G.matroid self.old.first }
-        ensures kept_second { G.matroid self.new.second ≡ G.matroid self.old.second }
+            → KeepsBases (G.base self.old.first) (G.base self.old.second)
+            (G.base self.new.first) (G.base self.new.second) }
+        ensures kept { KeepsMatroid (G.matroid self.old.first) (G.matroid self.old.second)
+            (G.matroid self.new.first) (G.matroid self.new.second) }
     {
         let mut neither = self.neither();
         let mut common = self.common();

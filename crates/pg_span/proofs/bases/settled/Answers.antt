@@ -10,8 +10,8 @@ returns-clause-settled g c =
     let d = g.G.Ground.base s.second in
     let base2 : IsBase m.spans m.elements d = subst (λ (q : Matroid). IsBase q.spans q.elements d)
     (sym s.same) (g.met.G.Ground.is_base s.second) in
-    let none : IsSettled m b d =
-    subst (λ (q : Matroid). IsSettled q b d) (sym c.settle.ensures.kept) c.settle.ensures.none in
+    let none : IsSettled m b d = subst (λ (q : Matroid). IsSettled q b d)
+    (sym c.settle.ensures.kept.first) c.settle.ensures.none in
     let all : AreBases m b d (contains c.reached.result) = record {
       first_base = g.met.G.Ground.is_base s.first;
       second_base = base2;
@@ -19,5 +19,6 @@ returns-clause-settled g c =
     } in
     subst₂ (λ (p q : ℕ → Bool).
     AreBases (g.G.Ground.matroid c.args.bases.now.first) p q (contains c.reached.result))
-    (sym c.reached.ensures.kept_base) (sym c.reached.ensures.kept_second_base)
-    (subst (λ (q : Matroid). AreBases q b d (contains c.reached.result)) c.settle.ensures.kept all)
+    (sym c.reached.ensures.kept_bases.first) (sym c.reached.ensures.kept_bases.second)
+    (subst (λ (q : Matroid). AreBases q b d (contains c.reached.result)) c.settle.ensures.kept.first
+    all)

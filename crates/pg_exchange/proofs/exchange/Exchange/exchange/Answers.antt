@@ -7,8 +7,7 @@ use Rattle.pg_exchange.proofs.exchange.Exchange.exchange.Goals.{then-parent, els
 
 pub loop-i-init : goal.loop-i-init
 loop-i-init g c = record {
-  kept = refl;
-  kept_second = refl;
+  kept = record { first = refl; second = refl };
   shift = SomeShift-begin _ _ _ _ _ _ _ c.requires.tree;
 }
 
@@ -23,7 +22,7 @@ swap-requires-clause-element g c =
     let k = link_second _ _ _ _ _ _ _ _ _ _ _ i.shift
     (cc (c.has.ensures, c.if-has.false)) c.if-parent.true in
     subst (λ q. q.elements (up_of c.args.parents.now c.loop-i.at) ≡ true)
-    (sym (i.kept_second ∙ sym c.args.self.now.same)) k.0
+    (sym (i.kept.second ∙ sym c.args.self.now.same)) k.0
 
 pub swap-requires-clause-outside : goal.swap-requires-clause-outside
 swap-requires-clause-outside g c =
@@ -39,14 +38,14 @@ swap-requires-clause-exchanges g c =
     subst
     (λ q. circuit q.spans (g.G.Ground.base c.loop-i.self.second)
     (up_of c.args.parents.now c.loop-i.at) c.loop-i.at ≡ true)
-    (sym (i.kept_second ∙ sym c.args.self.now.same)) k.2
+    (sym (i.kept.second ∙ sym c.args.self.now.same)) k.2
 
 pub swap-requires-else-parent-clause-element : goal.swap-requires-else-parent-clause-element
 swap-requires-else-parent-clause-element g c =
     let i = c.loop-i.invariant in
     let k = link_first _ _ _ _ _ _ _ _ _ _ _ i.shift
     (cc (c.has.ensures, c.if-has.false)) c.if-parent.false in
-    subst (λ q. q.elements (up_of c.args.parents.now c.loop-i.at) ≡ true) (sym i.kept) k.0
+    subst (λ q. q.elements (up_of c.args.parents.now c.loop-i.at) ≡ true) (sym i.kept.first) k.0
 
 pub swap-requires-else-parent-clause-outside : goal.swap-requires-else-parent-clause-outside
 swap-requires-else-parent-clause-outside g c =
@@ -62,7 +61,7 @@ swap-requires-else-parent-clause-exchanges g c =
     (cc (c.has.ensures, c.if-has.false)) c.if-parent.false in
     subst
     (λ q. circuit q.spans (g.G.Ground.base c.loop-i.self.first)
-    (up_of c.args.parents.now c.loop-i.at) c.loop-i.at ≡ true) (sym i.kept) k.2
+    (up_of c.args.parents.now c.loop-i.at) c.loop-i.at ≡ true) (sym i.kept.first) k.2
 
 pub loop-i-preserved : goal.loop-i-preserved
 loop-i-preserved g c =
@@ -82,16 +81,18 @@ loop-i-preserved g c =
     elim c.if-parent.branch [
       | then-parent w ↦
           let same : g.G.Ground.matroid c.loop-i.self.second ≡ m =
-          i.kept_second ∙ sym c.args.self.now.same in
+          i.kept.second ∙ sym c.args.self.now.same in
           let new = SomeShift-second m b d b2 d2 from up tests c.args.y c.loop-i.at left
           (g.met.G.Ground.spanning c.args.self.now.first)
           (g.met.G.Ground.small c.args.self.now.first)
           (subst (λ q. IsBase q.spans q.elements d2) same
           (g.met.G.Ground.is_base c.loop-i.self.second)) fa w.if-parent.true s in
           record {
-            kept = ap (λ q. g.G.Ground.matroid q.first) w.self-is ∙ i.kept;
-            kept_second = ap (λ q. g.G.Ground.matroid q.second) w.self-is
-                ∙ (w.swap.ensures.kept ∙ i.kept_second);
+            kept = record {
+              first = ap (λ q. g.G.Ground.matroid q.first) w.self-is ∙ i.kept.first;
+              second = ap (λ q. g.G.Ground.matroid q.second) w.self-is
+                  ∙ (w.swap.ensures.kept ∙ i.kept.second);
+            };
             shift = subst (λ q. SomeShift m b d (g.G.Ground.base q.first) (g.G.Ground.base q.second)
                 from up tests c.args.y (up c.loop-i.at) left) (sym w.self-is)
                 (subst (λ q. SomeShift m b d b2 q from up tests c.args.y (up c.loop-i.at) left)
@@ -101,12 +102,14 @@ loop-i-preserved g c =
           let new = SomeShift-first m b d b2 d2 from up tests c.args.y c.loop-i.at left
           (g.met.G.Ground.spanning c.args.self.now.first)
           (g.met.G.Ground.small c.args.self.now.first)
-          (subst (λ q. IsBase q.spans q.elements b2) i.kept
+          (subst (λ q. IsBase q.spans q.elements b2) i.kept.first
           (g.met.G.Ground.is_base c.loop-i.self.first)) fa w.if-parent.false s in
           record {
-            kept = ap (λ q. g.G.Ground.matroid q.first) w.self-is
-                ∙ (w.swap-else-parent.ensures.kept ∙ i.kept);
-            kept_second = ap (λ q. g.G.Ground.matroid q.second) w.self-is ∙ i.kept_second;
+            kept = record {
+              first = ap (λ q. g.G.Ground.matroid q.first) w.self-is
+                  ∙ (w.swap-else-parent.ensures.kept ∙ i.kept.first);
+              second = ap (λ q. g.G.Ground.matroid q.second) w.self-is ∙ i.kept.second;
+            };
             shift = subst (λ q. SomeShift m b d (g.G.Ground.base q.first) (g.G.Ground.base q.second)
                 from up tests c.args.y (up c.loop-i.at) left) (sym w.self-is)
                 (subst (λ q. SomeShift m b d q d2 from up tests c.args.y (up c.loop-i.at) left)

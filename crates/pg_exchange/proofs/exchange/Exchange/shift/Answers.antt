@@ -26,10 +26,8 @@ loop-f-init g c = record {
       let p = outside_parts (contains c.args.from.now)
       (either (contains c.args.from.now) (contains c.empty-later.result)) z h in
       absurd (both_ways _ p.1 (either_left _ _ z p.0));
-  kept = refl;
-  kept_second = refl;
-  kept_base = refl;
-  kept_second_base = refl;
+  kept = record { first = refl; second = refl };
+  kept_bases = record { first = refl; second = refl };
 }
 
 pub exchange-x-requires-clause-tree : goal.exchange-x-requires-clause-tree
@@ -59,13 +57,14 @@ exchange-x-requires-clause-tree g c =
     } in
     subst
     (λ q. SomeTree q (g.G.Ground.base c.loop-f.self.first) (g.G.Ground.base c.loop-f.self.second)
-    (contains c.args.from.now) (up_of c.loop-f.parents) (second_of c.loop-f.parents) y) (sym i.kept)
+    (contains c.args.from.now) (up_of c.loop-f.parents) (second_of c.loop-f.parents) y)
+    (sym i.kept.first)
     (subst (λ q. SomeTree (g.G.Ground.matroid c.args.self.now.first) q
     (g.G.Ground.base c.loop-f.self.second) (contains c.args.from.now) (up_of c.loop-f.parents)
-    (second_of c.loop-f.parents) y) (sym i.kept_base)
+    (second_of c.loop-f.parents) y) (sym i.kept_bases.first)
     (subst (λ q. SomeTree (g.G.Ground.matroid c.args.self.now.first)
     (g.G.Ground.base c.args.self.now.first) q (contains c.args.from.now) (up_of c.loop-f.parents)
-    (second_of c.loop-f.parents) y) (sym i.kept_second_base) t))
+    (second_of c.loop-f.parents) y) (sym i.kept_bases.second) t))
 
 pub loop-f-preserved : goal.loop-f-preserved
 loop-f-preserved g c =
@@ -139,10 +138,8 @@ loop-f-preserved g c =
                 (subst (λ (k : ℕ → Bool). k f ≡ true) (sym c.shared.ensures)
                 (both_from _ _ f (i.search.waiting f c.in-Some.ensures.found) h))))
           ];
-      kept = cc;
-      kept_second = cc;
-      kept_base = cc;
-      kept_second_base = cc;
+      kept = record { first = cc; second = cc };
+      kept_bases = record { first = cc; second = cc };
     }
 
 pub loop-f-smaller : goal.loop-f-smaller
@@ -170,68 +167,49 @@ loop-f-smaller g c =
     todo2 f 1024 (g.met.G.Ground.small c.args.self.now.first) i.search c.in-Some.ensures.found es et
 
 pub returns-clause-none : goal.returns-clause-none
-returns-clause-none g c = λ y r.
-    let i = c.loop-f.invariant in
-    i.missed y
-    (outside_from _ _ y
-    (Leads-seen _ _ _ _ _ _ i.search c.in_default.ensures.none r.chain
-    (i.search.begun r.start r.starts)) (c.in_default.ensures.none y))
-
-pub returns-clause-closed : goal.returns-clause-closed
-returns-clause-closed g c =
+returns-clause-none g c =
     let i = c.loop-f.invariant in
     record {
-      seen = contains c.loop-f.seen;
-      begun = i.search.begun;
-      only = i.search.only;
-      followed = λ f h. i.search.followed f h (c.in_default.ensures.none f);
-      missed = λ f h. i.missed f (outside_from _ _ f h (c.in_default.ensures.none f));
+      none = λ y r. i.missed y
+          (outside_from _ _ y
+          (Leads-seen _ _ _ _ _ _ i.search c.in_default.ensures.none r.chain
+          (i.search.begun r.start r.starts)) (c.in_default.ensures.none y));
+      closed = record {
+        seen = contains c.loop-f.seen;
+        begun = i.search.begun;
+        only = i.search.only;
+        followed = λ f h. i.search.followed f h (c.in_default.ensures.none f);
+        missed = λ f h. i.missed f (outside_from _ _ f h (c.in_default.ensures.none f));
+      };
+      unchanged = i.kept_bases;
     }
 
 pub returns-in-Some-first_from-clause-some : goal.returns-in-Some-first_from-clause-some
 returns-in-Some-first_from-clause-some g c =
     let i = c.loop-f.invariant in
-    let s = c.args.self.now in
-    let b2 = g.G.Ground.base c.exchange-x.new.self.first in
-    let d2 = g.G.Ground.base c.exchange-x.new.self.second in
-    let y = c.in-Some-first_from.y in
-    let hit = both_parts (contains c.loop-f.seen) (contains c.args.to.now) y
-    (subst (λ (k : ℕ → Bool). k y ≡ true) c.shared.ensures
-    c.in-Some-first_from.ensures.found.member) in
-    record {
-      begins = c.exchange-x.ensures.begins;
-      ends = hit.1;
-      moved =
-          subst (λ (k : ℕ → Bool). IsMoved k (g.G.Ground.base s.second) b2 d2 c.exchange-x.result y)
-          i.kept_base
-          (subst (λ (k : ℕ → Bool). IsMoved (g.G.Ground.base c.loop-f.self.first) k b2 d2
-          c.exchange-x.result y) i.kept_second_base c.exchange-x.ensures.members);
-    }
-
-pub returns-in-Some-first_from-clause-leads : goal.returns-in-Some-first_from-clause-leads
-returns-in-Some-first_from-clause-leads g c =
-    let y = c.in-Some-first_from.y in
-    let hit = both_parts (contains c.loop-f.seen) (contains c.args.to.now) y
-    (subst (λ (k : ℕ → Bool). k y ≡ true) c.shared.ensures
-    c.in-Some-first_from.ensures.found.member) in
-    c.loop-f.invariant.search.reached y hit.0
-
-pub returns-in-Some-first_from-clause-shortest : goal.returns-in-Some-first_from-clause-shortest
-returns-in-Some-first_from-clause-shortest g c =
-    let i = c.loop-f.invariant in
     let m = g.G.Ground.matroid c.args.self.now.first in
     let b = g.G.Ground.base c.args.self.now.first in
     let d = g.G.Ground.base c.args.self.now.second in
+    let b2 = g.G.Ground.base c.exchange-x.new.self.first in
+    let d2 = g.G.Ground.base c.exchange-x.new.self.second in
     let from = contains c.args.from.now in
     let x = c.exchange-x.result in
     let y = c.in-Some-first_from.y in
     let hit = both_parts (contains c.loop-f.seen) (contains c.args.to.now) y
     (subst (λ (k : ℕ → Bool). k y ≡ true) c.shared.ensures
     c.in-Some-first_from.ensures.found.member) in
-    let near : IsNearest m b d from x y = subst (λ q. IsNearest q b d from x y) i.kept
-    (subst (λ q. IsNearest (g.G.Ground.matroid c.loop-f.self.first) q d from x y) i.kept_base (subst
+    let near : IsNearest m b d from x y = subst (λ q. IsNearest q b d from x y) i.kept.first (subst
+    (λ q. IsNearest (g.G.Ground.matroid c.loop-f.self.first) q d from x y) i.kept_bases.first (subst
     (λ q. IsNearest (g.G.Ground.matroid c.loop-f.self.first) (g.G.Ground.base c.loop-f.self.first) q
-    from x y) i.kept_second_base c.exchange-x.ensures.nearest)) in
-    IsShortest-level m b d from (contains c.args.to.now) (contains c.loop-f.seen)
-    (contains c.loop-f.level) (contains c.loop-f.later)
-    (up_of c.loop-f.parents) i.levels x y hit.0 hit.1 near
+    from x y) i.kept_bases.second c.exchange-x.ensures.nearest)) in
+    record {
+      begins = c.exchange-x.ensures.begins;
+      ends = hit.1;
+      moved = subst (λ (k : ℕ → Bool). IsMoved k d b2 d2 x y) i.kept_bases.first
+          (subst (λ (k : ℕ → Bool). IsMoved (g.G.Ground.base c.loop-f.self.first) k b2 d2 x y)
+          i.kept_bases.second c.exchange-x.ensures.members);
+      leads = i.search.reached y hit.0;
+      shortest = IsShortest-level m b d from (contains c.args.to.now) (contains c.loop-f.seen)
+          (contains c.loop-f.level) (contains c.loop-f.later) (up_of c.loop-f.parents) i.levels x y
+          hit.0 hit.1 near;
+    }

@@ -1,6 +1,6 @@
 use Rattle.std.proofs.Common.{◌≡◌, ℕ, length, true, false}
 use Rattle.pg_exchange.proofs.Common.{either, outside, count, contains}
-use Rattle.pg_exchange.specs.Chain.{IsSearch, IsTree, IsLevelled, up_of, second_of}
+use Rattle.pg_exchange.specs.Chain.{KeepsMatroid, KeepsBases, IsSearch, IsTree, IsLevelled, up_of, second_of}
 use Rattle.pg_exchange.proofs.exchange.Exchange.shift.Given as goal
 
 abbrev pub invariant-loop-f : goal.invariant-loop-f
@@ -20,10 +20,12 @@ invariant-loop-f g l = record {
   missed : (z : ℕ)
       → outside (contains l.seen) (either (contains l.level) (contains l.later)) z ≡ true
       → contains l.to z ≡ false;
-  kept : g.G.Ground.matroid l.self.first ≡ g.G.Ground.matroid l.initial.self.first;
-  kept_second : g.G.Ground.matroid l.self.second ≡ g.G.Ground.matroid l.initial.self.second;
-  kept_base : g.G.Ground.base l.self.first ≡ g.G.Ground.base l.initial.self.first;
-  kept_second_base : g.G.Ground.base l.self.second ≡ g.G.Ground.base l.initial.self.second;
+  kept : KeepsMatroid (g.G.Ground.matroid l.initial.self.first)
+      (g.G.Ground.matroid l.initial.self.second) (g.G.Ground.matroid l.self.first)
+      (g.G.Ground.matroid l.self.second);
+  kept_bases : KeepsBases (g.G.Ground.base l.initial.self.first)
+      (g.G.Ground.base l.initial.self.second) (g.G.Ground.base l.self.first)
+      (g.G.Ground.base l.self.second);
 }
 
 abbrev pub decreases-loop-f : goal.decreases-loop-f
