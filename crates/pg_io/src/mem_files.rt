@@ -2,10 +2,11 @@
 ghost use Rattle.std.specs.Prelude.{◌≡◌, ◌⊎◌, ◌<◌, ◌≤◌, ◌+◌, ◌^◌, Option, Some, None, true, false, [], length, take, IfOk, IsErr, OnOk, OnErr, IsTrue, is_some};
 ghost use Rattle.std.specs.List.{position};
 ghost use Rattle.std.specs.Option.{option_map};
+ghost use Rattle.std.specs.Result.{is_ok};
 ghost use Rattle.pg_io.specs.Causes.{faults, BlamesOpen, BlamesReads, BlamesWrites};
 ghost use Rattle.pg_io.specs.Files.{ReadsOnly, Opens, IsAbsent, Takes, Begins, Adds, Finishes};
 ghost use Rattle.pg_io.specs.Memory.{has_name, held_by, contents, held_in, left_in, making_of, told_by};
-ghost use Rattle.pg_io.specs.Failing.{FailsNext, CountsOne};
+ghost use Rattle.pg_io.specs.Failing.{FailsNext, FailsAsListed, FailsJustAsListed};
 
 use crate::failing::Failing;
 use crate::files::{Failed, Files};
@@ -120,10 +121,9 @@ impl Files for MemFiles {
             (told_by self.old).faults (told_by self.new).faults result }
         ensures kept { ReadsOnly (told_by self.old) (told_by self.new) }
         ensures left { OnErr result (left_in self.new ≡ left_in self.old) }
-        ensures listed { FailsNext self.old.failing → IsErr result }
+        ensures listed { FailsAsListed self.old.failing self.new.failing result }
         ensures unlisted { OnErr result
             (FailsNext self.old.failing ⊎ IsAbsent (told_by self.old).held name.now) }
-        ensures counted { CountsOne self.old.failing self.new.failing }
     {
         let is_listed = self.failing.is_next();
         match self.place(name) {
@@ -148,9 +148,7 @@ impl Files for MemFiles {
         ensures cause { BlamesReads (told_by self.old).faults (told_by self.new).faults result }
         ensures kept { ReadsOnly (told_by self.old) (told_by self.new) }
         ensures left { OnErr result (left_in self.new ≡ left_in self.old) }
-        ensures listed { FailsNext self.old.failing → IsErr result }
-        ensures unlisted { OnErr result (FailsNext self.old.failing) }
-        ensures counted { CountsOne self.old.failing self.new.failing }
+        ensures listed { FailsJustAsListed self.old.failing self.new.failing result }
     {
         if self.failing.is_next() {
             self.reads = self.reads.saturating_add(1);
@@ -172,8 +170,7 @@ impl Files for MemFiles {
         ensures held { (told_by self.new).held ≡ (told_by self.old).held }
         ensures busy { OnOk result ((told_by self.new).busy ≡ true) }
         ensures idle { OnErr result ((told_by self.new).busy ≡ false) }
-        ensures listed { FailsNext self.old.failing → IsErr result }
-        ensures counted { CountsOne self.old.failing self.new.failing }
+        ensures listed { FailsAsListed self.old.failing self.new.failing result }
     {
         self.draft = None;
         if !self.failing.is_next() {
@@ -198,10 +195,8 @@ impl Files for MemFiles {
         ensures dropped { OnErr result ((told_by self.new).making ≡ None) }
         ensures cause { BlamesWrites (told_by self.old).faults (told_by self.new).faults result }
         ensures held { (told_by self.new).held ≡ (told_by self.old).held }
-        ensures busy { OnOk result ((told_by self.new).busy ≡ true) }
-        ensures idle { OnErr result ((told_by self.new).busy ≡ false) }
-        ensures listed { FailsNext self.old.failing → IsErr result }
-        ensures counted { CountsOne self.old.failing self.new.failing }
+        ensures busy { (told_by self.new).busy ≡ is_ok result }
+        ensures listed { FailsAsListed self.old.failing self.new.failing result }
     {
         if !self.failing.is_next() {
             if let Some(draft) = &mut self.draft {
@@ -223,8 +218,7 @@ impl Files for MemFiles {
         ensures dropped { (told_by self.new).making ≡ None }
         ensures cause { BlamesWrites (told_by self.old).faults (told_by self.new).faults result }
         ensures idle { (told_by self.new).busy ≡ false }
-        ensures listed { FailsNext self.old.failing → IsErr result }
-        ensures counted { CountsOne self.old.failing self.new.failing }
+        ensures listed { FailsAsListed self.old.failing self.new.failing result }
     {
         // The places of the files move, and the new one stands in front of any other of its name.
         self.opened = None;
