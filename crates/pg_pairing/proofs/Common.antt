@@ -3,6 +3,7 @@ pub use Rattle.pg_pairing.specs.Prelude.{All, AllPairs, Any, AreOpenPairs, Avoid
 unfoldable pub use Rattle.pg_pairing.specs.Prelude.{free_points, pairs_answer}
 pub use Rattle.pg_game.proofs.FreeCounts.{passed, passed-both, passed-more, passed-none, passed-same}
 pub use Rattle.pg_game.proofs.FreePoints.{any-free_points, first_free, is_free-after, is_full-one}
+pub use Rattle.pg_game.proofs.Greatest.{free-member}
 pub use Rattle.pg_game.proofs.Limits.{point_count-le}
 pub use Rattle.pg_game.proofs.Lowest.{any_both, find_same, first_below, none_below}
 pub use Rattle.pg_game.proofs.Members.{All-from_members, Contains-filter, Contains-head, Contains-tail, apart-or_same, false-at, filter_both, list_any-none, list_any-one, member-from_any, true-at}

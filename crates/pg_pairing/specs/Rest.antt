@@ -1,6 +1,6 @@
 -- The rest of the pairs: those whose two points are both free.
-use Rattle.std.specs.Prelude.{◌≡◌, ◌≢◌, ℕ, ◌<◌, true, List, Option, Some, filter}
-use Rattle.pg_pairing.specs.Prelude.{All, AllPairs, Kind, AvoiderEnforcer, Pair, Side, X, other, Game, Position, is_free, point_count, after, is_open, IsInGame, SharesNone, PairsHold}
+use Rattle.std.specs.Prelude.{◌≡◌, ◌≢◌, ℕ, ◌<◌, true, List, Option, Some, None, filter}
+use Rattle.pg_pairing.specs.Prelude.{All, AllPairs, Kind, AvoiderEnforcer, MakerBreaker, Pair, Side, X, other, Game, Position, is_free, point_count, after, is_open, IsInGame, SharesNone, PairsHold}
 
 -- the pairs are of points of the game, all different
 pub record ArePairsOf (g : Game) (pairs : List Pair) : Type 0 where
@@ -31,3 +31,24 @@ pub record HeldBefore (g : Game) (p : Position) (side : Side) (pairs : List Pair
   pub free : is_free before reply ≡ true
   pub leads : p ≡ after g before reply
   pub held : RestHolds g before side pairs
+
+-- with the side to move, the rest of the pairs holds after its point: if it held before the last
+-- reply, if there was no reply and it holds, and in Maker-Breaker whenever it holds
+pub record KeepsRest (g : Game) (p : Position) (pairs : List Pair) (last : Option ℕ)
+    (v : ℕ) : Type 0 where
+  pub replied : (side : Side)
+      → MayClaim g.kind side
+      → p.turn ≡ side
+      → HeldBefore g p side pairs last
+      → RestHolds g (after g p v) side pairs
+  pub unreplied : (side : Side)
+      → MayClaim g.kind side
+      → p.turn ≡ side
+      → last ≡ None
+      → RestHolds g p side pairs
+      → RestHolds g (after g p v) side pairs
+  pub in_turn : (side : Side)
+      → g.kind ≡ MakerBreaker
+      → p.turn ≡ side
+      → RestHolds g p side pairs
+      → RestHolds g (after g p v) side pairs

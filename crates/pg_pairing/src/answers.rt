@@ -1,9 +1,9 @@
 //! The answer by pairs.
-ghost use Rattle.std.specs.Prelude.{◌≡◌, ℕ, ◌<◌, ◌&&◌, ◌||◌, not, false, true, None, Option};
-ghost use Rattle.std.specs.List.{All, find, list_any};
+ghost use Rattle.std.specs.Prelude.{◌≡◌, ℕ, ◌<◌, ◌&&◌, ◌||◌, not, false};
+ghost use Rattle.std.specs.List.{All, Contains, find, list_any};
 ghost use Rattle.std.specs.FinSet as set;
-ghost use Rattle.pg_pairing.specs.Prelude.{MakerBreaker, Pair, Side, is_free, point_count, free_points, is_full, after, IsPosition, is_open, has_point, is_loose, partner, free_partner, pairs_answer};
-ghost use Rattle.pg_pairing.specs.Rest.{ArePairsOf, RestHolds, MayClaim, HeldBefore};
+ghost use Rattle.pg_pairing.specs.Prelude.{free_points, is_full, IsPosition, is_open, has_point, is_loose, partner, free_partner, pairs_answer};
+ghost use Rattle.pg_pairing.specs.Rest.{ArePairsOf, KeepsRest};
 
 use crate::condition::is_outside;
 use pg_base::{MAX_MEMBERS, Pair, PointSet};
@@ -106,21 +106,8 @@ pub fn answer(g: &Game, p: &Position, pairs: &[Pair], last: Option<u16>) -> u16
     requires some_free { is_full g.now p.now ≡ false }
     requires pairs { ArePairsOf g.now pairs.now }
     ensures rule { result ≡ pairs_answer g.now p.now pairs.now last }
-    ensures within { result < point_count g.now }
-    ensures free { is_free p.now result ≡ true }
-    ensures keeps_replied { (side : Side) → MayClaim g.now.kind side
-        → p.now.turn ≡ side
-        → HeldBefore g.now p.now side pairs.now last
-        → RestHolds g.now (after g.now p.now result) side pairs.now }
-    ensures keeps_unreplied { (side : Side) → MayClaim g.now.kind side
-        → p.now.turn ≡ side
-        → last ≡ None
-        → RestHolds g.now p.now side pairs.now
-        → RestHolds g.now (after g.now p.now result) side pairs.now }
-    ensures keeps_in_turn { (side : Side) → g.now.kind ≡ MakerBreaker
-        → p.now.turn ≡ side
-        → RestHolds g.now p.now side pairs.now
-        → RestHolds g.now (after g.now p.now result) side pairs.now }
+    ensures free { Contains (free_points g.now p.now) result }
+    ensures keeps { KeepsRest g.now p.now pairs.now last result }
 {
     choose(g, p, pairs, last)
 }

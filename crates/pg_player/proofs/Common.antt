@@ -1,8 +1,9 @@
 -- What the proofs of this crate name of std and of the crates below.
-pub use Rattle.pg_player.specs.Prelude.{All, Answered, AreBelow, AreCuts, AreFreeWithE, AreTrees, AvoiderEnforcer, AvoiderHolds, Body, Cert, Claim, Coded-set, Cuts, CutsHold, CutsHoldOn, EndsRight, Field, FinSet, FollowMoves, FollowsMove, Forces, Game, Goal, HasCuts, HasJoiner, HasPairs, HasPotential, HasThreat, HasTrees, HasTurn, HasWeaker, HeldBefore, HeldUntil, HoldsPair, IsAttack, IsAttacking, IsClaim, IsCutsAnswer, IsFreeEdge, IsInGame, IsLegalPlay, IsMadeForGame, IsNoWorse, IsNoWorseThanNode, IsNodeOf, IsOwed, IsPosition, IsSound, IsThreatLine, IsTreesAnswer, IsValid, IsValidClaim, IsWithinLimits, Kind, LeadsToLine, Lines, MakerBreaker, MakerMaker, MayClaim, Move, NamesEarlier, Node, Over, Pair, Pairs, PairsHold, Passes, Position, Potential, PotentialFits, PotentialHolds, Reply, RestHolds, Room, Score, Side, Standing, Switching, TakesFree, Threat, Trees, TreesHold, TreesHoldOn, Weaker, Win, X, Y, after, arrives, avoider_answer, bias_of, coded_bool, coded_list, coded_ℕ, contains, cuts_point, free_or_lowest, free_points, is_allowed, is_free, is_full, is_over, is_same_side, judged_move, list_any, may_attack, nat_cmp, option_or, other, outcome, pairs_answer, pairs_fit, played, point_count, position_of, potential_answer, potential_point, reaches, replied_by, rest, settles_at, settles_by, shows_cuts, shows_defence, shows_trees, start, stays, stays_with_cuts, stays_with_trees, trees_point, with_e_named, with_set, with_turn}
+pub use Rattle.pg_player.specs.Prelude.{All, Answered, AreBelow, AreCuts, AreFreeWithE, AreTrees, AvoiderEnforcer, AvoiderHolds, Body, Cert, Claim, Coded-set, Cuts, CutsHold, CutsHoldOn, EndsRight, Field, FinSet, FollowMoves, FollowsMove, Forces, Game, Goal, HasCuts, HasJoiner, HasPairs, HasPotential, HasThreat, HasTrees, HasTurn, HasWeaker, HeldBefore, HeldUntil, HoldsPair, IsAttack, IsAttacking, IsClaim, IsCutsAnswer, IsFreeEdge, IsInGame, IsLegalPlay, IsMadeForGame, IsNoWorse, IsNoWorseThanNode, IsNodeOf, IsOwed, IsPosition, IsSound, IsThreatLine, IsTreesAnswer, IsValid, IsValidClaim, IsWithinLimits, KeepsRest, Kind, LeadsToLine, Lines, MakerBreaker, MakerMaker, MayClaim, Move, NamesEarlier, Node, Over, Pair, Pairs, PairsHold, Passes, Position, Potential, PotentialFits, PotentialHolds, Reply, RestHolds, Room, Score, Side, Standing, Switching, TakesFree, Threat, Trees, TreesHold, TreesHoldOn, Weaker, Win, X, Y, after, arrives, avoider_answer, bias_of, coded_bool, coded_list, coded_ℕ, contains, cuts_point, free_or_lowest, free_points, is_allowed, is_free, is_full, is_over, is_same_side, judged_move, list_any, may_attack, nat_cmp, option_or, other, outcome, pairs_answer, pairs_fit, played, point_count, position_of, potential_answer, potential_point, reaches, replied_by, rest, settles_at, settles_by, shows_cuts, shows_defence, shows_trees, start, stays, stays_with_cuts, stays_with_trees, trees_point, with_e_named, with_set, with_turn}
 unfoldable pub use Rattle.pg_player.specs.Prelude.{own_move, replied, settled_within}
 pub use Rattle.pg_avoider.proofs.AvoiderLaws.{Forces-avoider, kept-y}
 pub use Rattle.pg_check.proofs.ForcedNodes.{Forces-node, breaker_at, node_limits, pairs_at, some-left}
+pub use Rattle.pg_game.proofs.Greatest.{member-free, member-within}
 pub use Rattle.pg_game.proofs.Moves.{IsPosition-after, IsPosition-played, IsPosition-start, other_other, side≢other, turn-after_x, turn-alternates, turn-passes}
 pub use Rattle.pg_game.proofs.ThreatLaws.{Forces-attacked, near-filling, near-from, near-stays, over-filling, unfilled-going}
 pub use Rattle.pg_game.proofs.ValueLaws.{Forces-all, Forces-all-from, Forces-any, Forces-over, value-over}

@@ -1,6 +1,6 @@
 -- What an own move keeps, body by body.
 use Rattle.std.proofs.Common.{◌≡◌, ◌≢◌, ◌∙◌, ℕ, ◌<◌, Bool, true, false, ◌&&◌, ◌==◌, ◌+◌, suc, List, [], ◌∷◌, drop, get_or, length, arith, Option, Some, None, refl, sym, ap, subst, subst₂, inl, inr, ◌⊎◌, eqb-true}
-use Rattle.pg_player.proofs.Common.{cases_Bool, cases_lt, and_parts, false≢true, FinSet, nat_cmp, other, Goal, Win, Kind, MakerBreaker, MakerMaker, AvoiderEnforcer, Switching, Pair, Side, X, Y, Field, Lines, Game, Position, is_free, point_count, is_over, outcome, after, IsPosition, reaches, Forces, pairs_answer, PotentialHolds, potential_answer, AvoiderHolds, avoider_answer, may_attack, LeadsToLine, IsAttack, IsAttacking, unfilled-going, over-filling, Forces-attacked, Answered, TreesHold, CutsHold, turn-after_x, IsPosition-after, Forces-over, Forces-all, Forces-any, rest, RestHolds, MayClaim, HeldBefore, Forces-potential_breaker, Forces-potential_draw, Forces-avoider, HeldUntil, IsTreesAnswer, IsCutsAnswer, Claim, Body, Move, Pairs, Potential, Trees, Cuts, Threat, Standing, own_move, arrives, stays, potential_point, trees_point, cuts_point, stays_with_trees, stays_with_cuts, is_allowed, shows_defence, shows_trees, shows_cuts, pairs_fit, PotentialFits, with_e_named, pairs_at}
+use Rattle.pg_player.proofs.Common.{cases_Bool, cases_lt, and_parts, false≢true, FinSet, nat_cmp, other, Goal, Win, Kind, MakerBreaker, MakerMaker, AvoiderEnforcer, Switching, Pair, Side, X, Y, Field, Lines, Game, Position, is_free, point_count, is_over, outcome, after, IsPosition, reaches, Forces, pairs_answer, PotentialHolds, potential_answer, AvoiderHolds, avoider_answer, may_attack, LeadsToLine, IsAttack, IsAttacking, unfilled-going, over-filling, Forces-attacked, Answered, TreesHold, CutsHold, turn-after_x, IsPosition-after, Forces-over, Forces-all, Forces-any, rest, RestHolds, MayClaim, KeepsRest, Forces-potential_breaker, Forces-potential_draw, Forces-avoider, HeldUntil, IsTreesAnswer, IsCutsAnswer, Claim, Body, Move, Pairs, Potential, Trees, Cuts, Threat, Standing, own_move, arrives, stays, potential_point, trees_point, cuts_point, stays_with_trees, stays_with_cuts, is_allowed, shows_defence, shows_trees, shows_cuts, pairs_fit, PotentialFits, with_e_named, pairs_at}
 use Rattle.std.proofs.lemmas.List.{drop_all}
 use Rattle.std.proofs.Math.Seq.{drop-cons}
 use Rattle.pg_base.specs.declared.goal.Goal.TheVariants.{Draw as AtLeastDraw}
@@ -69,22 +69,7 @@ pub record PairsKept (g : Game) (p : Position) (pairs : List Pair) (last : Optio
   pub rule : v ≡ pairs_answer g p pairs last
   pub within : v < point_count g
   pub free : is_free p v ≡ true
-  pub replied : (side : Side)
-      → MayClaim g.kind side
-      → p.turn ≡ side
-      → HeldBefore g p side pairs last
-      → RestHolds g (after g p v) side pairs
-  pub unreplied : (side : Side)
-      → MayClaim g.kind side
-      → p.turn ≡ side
-      → last ≡ None
-      → RestHolds g p side pairs
-      → RestHolds g (after g p v) side pairs
-  pub in_turn : (side : Side)
-      → g.kind ≡ MakerBreaker
-      → p.turn ≡ side
-      → RestHolds g p side pairs
-      → RestHolds g (after g p v) side pairs
+  pub keeps : KeepsRest g p pairs last v
 
 pub keeps-pairs : (g : Game) (c : Claim) (p : Position) (pairs : List Pair) (last : Option ℕ)
     (v : ℕ)
@@ -103,10 +88,10 @@ keeps-pairs g c p pairs last v h going mine k =
     let may : MayClaim g.kind c.side = defends g.kind g.bias c.side c.goal h.stands.allowed in
     let due = h.stands.ready going mine in
     let holds : RestHolds g (after g p v) c.side pairs = elim due.state [
-      | inl b ↦ k.replied c.side may mine b
+      | inl b ↦ k.keeps.replied c.side may mine b
       | inr other ↦ elim other [
-        | inl none ↦ k.unreplied c.side may mine none.0 none.1
-        | inr breaker ↦ k.in_turn c.side breaker.0 mine breaker.1
+        | inl none ↦ k.keeps.unreplied c.side may mine none.0 none.1
+        | inr breaker ↦ k.keeps.in_turn c.side breaker.0 mine breaker.1
       ]
     ] in
     record {

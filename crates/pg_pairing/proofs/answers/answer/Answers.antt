@@ -1,5 +1,5 @@
-use Rattle.std.proofs.Common.{◌≡◌, ◌<◌, ℕ, true, Option, subst, sym}
-use Rattle.pg_pairing.proofs.Common.{after, pairs_answer, is_free, point_count}
+use Rattle.std.proofs.Common.{ℕ, Option, subst, sym}
+use Rattle.pg_pairing.proofs.Common.{Contains, after, free_points, pairs_answer, free-member}
 use Rattle.pg_pairing.specs.Rest.{RestHolds}
 use Rattle.pg_pairing.proofs.PairLoops.{pairs-few}
 use Rattle.pg_pairing.proofs.AnswerLaws.{answer-free, keeps_replied, keeps_unreplied, keeps_in_turn}
@@ -8,34 +8,30 @@ use Rattle.pg_pairing.proofs.answers.answer.Goals as goal
 pub choose-requires : goal.choose-requires
 choose-requires c = pairs-few c.args.g.now c.args.pairs.now c.requires.pairs.range
 
-pub returns-clause-within : goal.returns-clause-within
-returns-clause-within c = subst (λ (w : ℕ). w < point_count c.args.g.now) (sym c.choose.ensures)
-    (answer-free c.args.g.now c.args.p.now c.args.pairs.now c.args.last c.requires.pairs
-    c.requires.some_free).0
-
 pub returns-clause-free : goal.returns-clause-free
-returns-clause-free c = subst (λ (w : ℕ). is_free c.args.p.now w ≡ true) (sym c.choose.ensures)
-    (answer-free c.args.g.now c.args.p.now c.args.pairs.now c.args.last c.requires.pairs
-    c.requires.some_free).1
+returns-clause-free c =
+    let g = c.args.g.now in
+    let p = c.args.p.now in
+    let here =
+    answer-free g p c.args.pairs.now c.args.last c.requires.pairs c.requires.some_free in
+    subst (λ (w : ℕ). Contains (free_points g p) w) (sym c.choose.ensures)
+    (free-member g p (pairs_answer g p c.args.pairs.now c.args.last) here.0 here.1)
 
-pub returns-clause-keeps_replied : goal.returns-clause-keeps_replied
-returns-clause-keeps_replied c = λ side claims mine before. subst
-    (λ (w : ℕ). RestHolds c.args.g.now (after c.args.g.now c.args.p.now w) side c.args.pairs.now)
-    (sym c.choose.ensures)
-    (keeps_replied c.args.g.now side c.args.p.now c.args.pairs.now c.args.last claims
-    c.requires.position c.requires.pairs mine before)
-
-pub returns-clause-keeps_unreplied : goal.returns-clause-keeps_unreplied
-returns-clause-keeps_unreplied c = λ side claims mine none held.
-    let kept = keeps_unreplied c.args.g.now side c.args.p.now c.args.pairs.now claims
-    c.requires.position c.requires.pairs mine held in
-    subst
-    (λ (w : ℕ). RestHolds c.args.g.now (after c.args.g.now c.args.p.now w) side c.args.pairs.now)
-    (sym c.choose.ensures)
-    (subst (λ (r : Option ℕ). RestHolds c.args.g.now
-    (after c.args.g.now c.args.p.now (pairs_answer c.args.g.now c.args.p.now c.args.pairs.now r))
-    side c.args.pairs.now) (sym none) kept)
-
-pub returns-clause-keeps_in_turn : goal.returns-clause-keeps_in_turn
-returns-clause-keeps_in_turn c = λ side kind mine held. keeps_in_turn c.args.g.now side c.args.p.now
-    c.args.pairs.now c.choose.result kind mine held
+pub returns-clause-keeps : goal.returns-clause-keeps
+returns-clause-keeps c =
+    let g = c.args.g.now in
+    let p = c.args.p.now in
+    let pairs = c.args.pairs.now in
+    record {
+      replied = λ side claims mine before. subst
+          (λ (w : ℕ). RestHolds g (after g p w) side pairs) (sym c.choose.ensures)
+          (keeps_replied g side p pairs c.args.last claims c.requires.position c.requires.pairs mine
+          before);
+      unreplied = λ side claims mine none held. subst
+          (λ (w : ℕ). RestHolds g (after g p w) side pairs) (sym c.choose.ensures)
+          (subst (λ (r : Option ℕ). RestHolds g (after g p (pairs_answer g p pairs r)) side pairs)
+          (sym none)
+          (keeps_unreplied g side p pairs claims c.requires.position c.requires.pairs mine held));
+      in_turn = λ side kind mine held.
+          keeps_in_turn g side p pairs c.choose.result kind mine held;
+    }

@@ -1,5 +1,5 @@
 use Rattle.std.proofs.Common.{◌≡◌, ◌∙◌, subst, sym, ap, ap₂}
-use Rattle.pg_player.proofs.Common.{after, Body, Pairs, Trees, Cuts}
+use Rattle.pg_player.proofs.Common.{member-free, member-within, after, Body, Pairs, Trees, Cuts}
 use Rattle.pg_player.specs.InPlay.{InPlay, KeepsUp}
 use Rattle.pg_player.specs.Stand.{standing_of}
 use Rattle.pg_player.specs.declared.moves.Made.{Made}
@@ -72,7 +72,8 @@ returns-in-Move-clause-keeps c =
     c.requires.turn c.arrive.ensures)
 
 pub stay-requires : goal.stay-requires
-stay-requires c = small c.args.g.now c.answer-point.result c.answer-point.ensures.within
+stay-requires c = small c.args.g.now c.answer-point.result
+    (member-within c.args.g.now c.args.p.now c.answer-point.result c.answer-point.ensures.free)
 
 pub returns-in-Pairs-clause-keeps : goal.returns-in-Pairs-clause-keeps
 returns-in-Pairs-clause-keeps c =
@@ -91,11 +92,9 @@ returns-in-Pairs-clause-keeps c =
     let kept =
     keeps-pairs g claim p c.as_slice.result.now last v h c.requires.going c.requires.turn (record {
       rule = e.rule;
-      within = e.within;
-      free = e.free;
-      replied = e.keeps_replied;
-      unreplied = e.keeps_unreplied;
-      in_turn = e.keeps_in_turn;
+      within = member-within g p v e.free;
+      free = member-free g p v e.free;
+      keeps = e.keeps;
     }) in
     subst (λ (m : Made). KeepsUp g claim (record {
       body = c.args.body.now;
