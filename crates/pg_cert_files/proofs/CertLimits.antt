@@ -1,21 +1,13 @@
 -- A certificate that is read is within the limits.
 use Rattle.std.proofs.Common.{◌≡◌, ℕ, zero, suc, ◌+◌, ◌-◌, ◌<◌, ◌≤◌, false, cond, ◌||◌, inl, inr, List, [], ◌∷◌, ◌++◌, length, arith, refl, sym, ap, subst, Option, Some, None, Result, Ok, Err}
 use Rattle.std.specs.Prelude.{◌==◌, nat_lt, nat_le, fold}
-use Rattle.pg_cert_files.proofs.Common.{AllByRecursion, ltb-false, or_parts, nat_tests, length-append, All-from_recursion, sum_by_push, Bytes, number, lines, IsNode, IsClaim, IsOfVersion, IsWithinLimits, node_count}
-use Rattle.pg_cert_files.specs.Form.{has_bar}
-use Rattle.pg_cert_files.specs.NodeLine.{node_line}
-use Rattle.pg_cert_files.specs.Lines.{version_of, head_of, count_of}
+use Rattle.pg_cert_files.proofs.Common.{AllByRecursion, ltb-false, or_parts, nat_tests, length-append, All-from_recursion, sum_by_push, Bytes, number, lines, IsNode, IsClaim, IsOfVersion, IsWithinLimits, node_count, Version, Part, Node, Claim, Cert, has_bar, node_line, version_of, head_of, count_of, Fault, Head, ok_is, err_not, then_ok, chosen, done, HasBody, IsRead, node_ok}
 use Rattle.pg_cert_files.specs.CertFile.{Step, headed, claimed, claim_step, numbered, counted, behind, node_step, step_due, step, Seen, nothing, listed, taken, goes_on, after, seen, end_fault, or_at_end, fault_of, text_version, text_parts, Gathered, last_claim, closed, with_part, none_gathered, gathered, unless_faulty, certificate, at_number}
-use Rattle.pg_cert_files.specs.declared.fault.Fault.{Fault}
-use Rattle.pg_cert_files.specs.declared.fault.Fault.TheVariants as faults
-use Rattle.pg_cert_files.proofs.Common.{Version, Part}
-use Rattle.pg_cert_files.specs.declared.head.Head.{Head}
+use Rattle.pg_cert_lines.specs.declared.fault.Fault.TheVariants as faults
 use Rattle.pg_cert.specs.declared.part.Part.TheVariants as parts
 use Rattle.pg_cert_files.specs.declared.progress.Due.{Due}
 use Rattle.pg_cert_files.specs.declared.progress.Due.TheVariants as due
-use Rattle.pg_cert_files.proofs.Common.{Node, Claim, Cert}
 use Rattle.pg_cert_files.specs.declared.progress.Progress.{Progress}
-use Rattle.pg_cert_files.proofs.NodeLimits.{ok_is, err_not, then_ok, chosen, done, HasBody, IsRead, node_ok}
 use Rattle.pg_cert_files.proofs.WholeFile.{gathered_more, gathered_none}
 
 -- claims that are whole, so many, with so many nodes, whose bodies the version has

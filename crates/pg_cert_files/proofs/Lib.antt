@@ -1,22 +1,16 @@
 mod Common
-pub mod Odd
 pub mod Growing
 pub mod Stands
 pub mod WholeFile
-pub mod NodeLimits
 pub mod CertLimits
 pub mod PartsBegin
 pub mod LeastFaults
 pub mod FirstFaults
-pub mod Words
-pub mod NodeBack
 pub mod Back
 pub mod Within
 pub mod TextVersion
 pub mod ReadsWhole
-pub mod DigitRuns
-pub mod Gathering
-pub mod Outlines
+pub mod NodeSteps
 pub mod PairWords
 pub mod ShortLines
 pub mod ShortTexts

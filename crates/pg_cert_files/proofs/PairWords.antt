@@ -1,15 +1,11 @@
 -- Words that say pairs, one after the other.
 use Rattle.std.proofs.Common.{◌≡◌, ◌∙◌, ℕ, ◌<◌, Bool, true, false, List, [], ◌∷◌, ◌++◌, length, append_assoc, Result, Ok, Err, Some, refl, sym, ap, subst, inl, inr, arith}
 use Rattle.std.specs.Prelude.{◌||◌, ◌&&◌, ◌==◌, eqb}
-use Rattle.pg_cert_files.proofs.Common.{FinSet, contains, empty, insert, list_any, list_all, AllByRecursion, slice_split, onto_first, join_with_byte, nat_cmp, cases_Bool, or_left, or_right, eqb-true, nat_tests, contains-empty, length-append, All-from_recursion, list_all-append, list_any-append, join_with_byte-slice_split, slice_split-cons_yes, slice_split-cons_no, Pair, has_point, is_paired, onto, each_of, following, Bytes, parts, first_and_others, some_part}
+use Rattle.pg_cert_files.proofs.Common.{FinSet, contains, empty, insert, list_any, list_all, AllByRecursion, slice_split, onto_first, join_with_byte, nat_cmp, cases_Bool, or_left, or_right, eqb-true, nat_tests, contains-empty, length-append, All-from_recursion, list_all-append, list_any-append, join_with_byte-slice_split, slice_split-cons_yes, slice_split-cons_no, Pair, has_point, is_paired, onto, each_of, following, Bytes, parts, first_and_others, some_part, each_has_one, word_pair, Fault, HYPHEN}
 use Rattle.pg_base.specs.WordLemmas.{in_insert}
-use Rattle.pg_cert_files.specs.Form.{each_has_one}
-use Rattle.pg_cert_files.specs.NodeLine.{word_pair}
-use Rattle.pg_cert_files.specs.Numerals.{SaysFirst}
+use Rattle.pg_cert_lines.specs.Numerals.{SaysFirst}
 use Rattle.pg_cert_files.specs.Shortened.{share, clash}
 use Rattle.pg_cert_files.specs.Shortening.{ArePairs, EndsInClash, EndsInPairs, HasMet}
-use Rattle.pg_cert_files.specs.declared.fault.Fault.{Fault}
-use Rattle.pg_cert_files.specs.declared.signs.TheConstants.{HYPHEN}
 
 -- ---- the first word as text
 

@@ -1,13 +1,11 @@
 -- A file that is read whole: a reader is fed all of it, and the parts are gathered.
 use Rattle.std.proofs.Common.{◌≡◌, ℕ, ◌-◌, ◌≤◌, List, ◌++◌, length, take, drop, arith, sym, ap, subst, ◌∙◌, append_assoc, Option, refl, Ok, Err}
 use Rattle.std.specs.Prelude.{fold}
-use Rattle.pg_cert_files.proofs.Common.{append-nil, nil_from_length, take_all, length-drop, take-append-drop, Bytes, FileError}
+use Rattle.pg_cert_files.proofs.Common.{append-nil, nil_from_length, take_all, length-drop, take-append-drop, Bytes, FileError, IsWithinLimits, all_parts, Claim, Version, Cert, Part, IsReadAs}
 use Rattle.pg_text.specs.declared.error.FileError.TheVariants as outcomes
-use Rattle.pg_cert_files.proofs.Common.{IsWithinLimits, all_parts, Claim, Version, Cert, Part}
 use Rattle.pg_cert_files.specs.CertFile.{Gathered, with_part, gathered, closed, listed, certificate}
 use Rattle.pg_cert_files.specs.Gatherer.{view}
 use Rattle.pg_cert_files.specs.Pieces.{parts_told, IsFed, AreAllParts, IsEnd}
-use Rattle.pg_cert_files.specs.Views.{IsReadAs}
 use Rattle.pg_cert_files.specs.declared.cert_state.CertReader.{CertReader}
 use Rattle.pg_cert_files.specs.declared.gathered_parts.Gatherer.{Gatherer}
 use Rattle.pg_cert_files.proofs.WholeFile.{gathered_more, cert_of}

@@ -1,9 +1,8 @@
 -- A text whose line in hand is cut short says the same, cut short, whatever comes behind it.
 use Rattle.std.proofs.Common.{◌≡◌, ◌∙◌, ℕ, ◌+◌, ◌-◌, ◌<◌, ◌≤◌, Bool, true, false, List, [], ◌∷◌, ◌++◌, length, map, append_assoc, Result, Ok, Err, Option, Some, None, refl, sym, ap, ap₂, subst, inl, inr, eqb-true, arith}
 use Rattle.std.specs.Prelude.{◌==◌, nat_lt, fold, option_map}
-use Rattle.pg_cert_files.proofs.Common.{Vec, AllByRecursion, cases_Bool, nat_tests, append-nil, length-append, map-append, map_push, All-from_recursion, fold-append, Claim, Version, Node, Part}
+use Rattle.pg_cert_files.proofs.Common.{Vec, AllByRecursion, cases_Bool, nat_tests, append-nil, length-append, map-append, map_push, All-from_recursion, fold-append, Claim, Version, Node, Part, Bytes, Lacks, lines, all_append, Fault, Head}
 use Rattle.pg_cert.specs.declared.part.Part.TheVariants as parts
-use Rattle.pg_cert_files.proofs.Common.{Bytes, Lacks, lines, all_append}
 use Rattle.pg_cert_files.specs.CertFile.{Step, Seen, nothing, step, node_step, taken, after, seen, listed, or_at_end, outcome, Gathered, last_claim, closed, with_part, none_gathered, gathered, unless_faulty, certificate, fault_of, text_version, text_parts}
 use Rattle.pg_cert_files.specs.Lines.{Cut, with_byte, cut}
 use Rattle.pg_cert_files.specs.Pieces.{IsFed, size_of}
@@ -11,8 +10,6 @@ use Rattle.pg_cert_files.specs.Reader.{StandsFor, told}
 use Rattle.pg_cert_files.specs.Shortened.{AreAlike, HasBeenFed, IsFedShort, said, says, short_cert, short_claim, short_node, short_part, short_result}
 use Rattle.pg_cert_files.specs.Shortening.{IsSpare, StandsShort, short_step}
 use Rattle.pg_cert_files.specs.declared.cert_state.CertReader.{CertReader}
-use Rattle.pg_cert_files.specs.declared.fault.Fault.{Fault}
-use Rattle.pg_cert_files.specs.declared.head.Head.{Head}
 use Rattle.pg_cert_files.specs.declared.limits.TheConstants.{MAX_CERT_BYTES}
 use Rattle.pg_cert_files.specs.declared.progress.Due.{Due}
 use Rattle.pg_cert_files.specs.declared.progress.Due.TheVariants as due

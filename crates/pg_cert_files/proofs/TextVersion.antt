@@ -1,23 +1,18 @@
 -- The version of a text whose end is reached is that of its whole lines.
 use Rattle.std.proofs.Common.{◌≡◌, ℕ, ◌+◌, ◌-◌, cond, ◌⊎◌, inl, inr, List, [], ◌∷◌, length, arith, refl, sym, ap, subst, ◌∙◌, Option, Some, None, Result, Ok, Err}
 use Rattle.std.specs.Prelude.{◌==◌, ◌||◌, nat_lt, nat_le}
-use Rattle.pg_cert_files.proofs.Common.{cases_lt, Bytes, number, lines, Cert, Version, Part}
+use Rattle.pg_cert_files.proofs.Common.{cases_lt, Bytes, number, lines, Cert, Version, Part, has_bar, version_of, head_of, count_of, node_line, Fault, Head, ok_is, err_not, then_ok, chosen, done}
 use Rattle.pg_cert.specs.declared.part.Part.TheVariants as parts
 use Rattle.pg_cert_files.specs.CertFile.{Step, headed, claimed, numbered, counted, behind, step_due, step, Seen, taken, after, seen, end_fault, at_number, or_at_end, outcome, gathered, fault_of, text_version, text_parts, unless_faulty, certificate}
-use Rattle.pg_cert_files.specs.Form.{has_bar}
-use Rattle.pg_cert_files.specs.Lines.{cut, version_of, head_of, count_of}
-use Rattle.pg_cert_files.specs.NodeLine.{node_line}
+use Rattle.pg_cert_files.specs.Lines.{cut}
 use Rattle.pg_cert_files.specs.Pieces.{IsFed}
 use Rattle.pg_cert_files.specs.Reader.{told}
 use Rattle.pg_cert_files.specs.declared.cert_state.CertReader.{CertReader}
-use Rattle.pg_cert_files.specs.declared.fault.Fault.{Fault}
-use Rattle.pg_cert_files.specs.declared.fault.Fault.TheVariants as faults
-use Rattle.pg_cert_files.specs.declared.head.Head.{Head}
+use Rattle.pg_cert_lines.specs.declared.fault.Fault.TheVariants as faults
 use Rattle.pg_cert_files.specs.declared.progress.Due.{Due}
 use Rattle.pg_cert_files.specs.declared.progress.Due.TheVariants as due
 use Rattle.pg_cert_files.specs.declared.progress.Progress.{Progress}
 use Rattle.pg_cert_files.proofs.CertLimits.{IsSound, Next, IsSeen, sound_seen}
-use Rattle.pg_cert_files.proofs.NodeLimits.{ok_is, err_not, then_ok, chosen, done}
 use Rattle.pg_cert_files.proofs.Stands.{at_feed, unfinished, after_none, after_some, at_none}
 use Rattle.pg_cert_files.proofs.Growing.{told_feed}
 use Rattle.pg_cert_files.proofs.WholeFile.{too_large, fits_file}

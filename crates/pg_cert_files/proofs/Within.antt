@@ -1,15 +1,13 @@
 -- A text that grows, within the limit of a file and past it.
 use Rattle.std.proofs.Common.{◌≡◌, ℕ, ◌+◌, ◌-◌, ◌<◌, ◌≤◌, true, false, inl, inr, List, [], ◌++◌, length, take, arith, refl, sym, ap, subst, ◌∙◌, Option, Some, None, Result, Ok, Err}
 use Rattle.std.specs.Prelude.{nat_lt, is_some, IfOk, IfSome, IfNone, IsErrAnd}
-use Rattle.pg_cert_files.proofs.Common.{cases_lt, nat_tests, append-nil, take_all, length-append, length-take-le, take-append-le, take-take, take-append-add, Bytes, Part, BeginCert, FileError}
+use Rattle.pg_cert_files.proofs.Common.{cases_lt, nat_tests, append-nil, take_all, length-append, length-take-le, take-append-le, take-take, take-append-add, Bytes, Part, BeginCert, FileError, number_of, Fault}
 use Rattle.pg_text.specs.declared.error.FileError.TheVariants as outcomes
 use Rattle.pg_cert_files.specs.CertFile.{listed, fault_of, file_fault, text_version, text_parts, gathered, closed, unless_faulty, certificate}
 use Rattle.pg_cert_files.specs.Lines.{cut}
 use Rattle.pg_cert_files.specs.Reader.{StandsFor, told, IsBad, IsLinesEnd}
 use Rattle.pg_cert_files.specs.Pieces.{parts_told, size_of, IsFed, IsEnd}
-use Rattle.pg_cert_files.specs.Views.{number_of}
-use Rattle.pg_cert_files.specs.declared.fault.Fault.{Fault}
-use Rattle.pg_cert_files.specs.declared.fault.Fault.TheVariants as faults
+use Rattle.pg_cert_lines.specs.declared.fault.Fault.TheVariants as faults
 use Rattle.pg_cert_files.proofs.WholeFile.{too_large, fits_file, err_from, cert_of}
 use Rattle.pg_cert_files.proofs.CertLimits.{read_within}
 use Rattle.pg_cert_files.proofs.PartsBegin.{begin_seen, all_made}

@@ -1,13 +1,9 @@
 -- What the first fault of a file is, in words of its lines.
 use Rattle.std.specs.Prelude.{◌≡◌, ℕ, ◌+◌, ◌<◌, ◌⊎◌, ◌||◌, ◌==◌, Bool, true, false, not, nat_lt, nat_le, is_none, is_err, List, [], ◌∷◌, ◌++◌, length, Option, Some, None, Err}
-use Rattle.pg_cert_files.specs.Prelude.{Bytes, number, lines, least, MAX_CLAIMS, MAX_CLAIM_NODES, MAX_NODES}
+use Rattle.pg_cert_files.specs.Prelude.{Bytes, number, lines, least, MAX_CLAIMS, MAX_CLAIM_NODES, MAX_NODES, has_bar, Shape, shape_of, node_of, version_of, head_of, count_of, Fault}
 use Rattle.pg_cert_files.specs.declared.limits.TheConstants.{MAX_CERT_BYTES}
-use Rattle.pg_cert_files.specs.Form.{has_bar, Shape, shape_of}
-use Rattle.pg_cert_files.specs.NodeLine.{node_of}
-use Rattle.pg_cert_files.specs.Lines.{version_of, head_of, count_of}
 use Rattle.pg_cert_files.specs.CertFile.{seen, step, end_fault}
-use Rattle.pg_cert_files.specs.declared.fault.Fault.{Fault}
-use Rattle.pg_cert_files.specs.declared.fault.Fault.TheVariants as faults
+use Rattle.pg_cert_lines.specs.declared.fault.Fault.TheVariants as faults
 use Rattle.pg_cert_files.specs.declared.progress.Due.{Due}
 use Rattle.pg_cert_files.specs.declared.progress.Due.TheVariants as due
 use Rattle.pg_cert_files.specs.declared.progress.Progress.{Progress}

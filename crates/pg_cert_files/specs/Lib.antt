@@ -1,10 +1,5 @@
 pub mod Prelude
-pub mod Views
-pub mod Form
-pub mod NodeLine
 pub mod Lines
-pub mod Numerals
-pub mod Outline
 pub mod CertFile
 pub mod Steps
 pub mod Reader

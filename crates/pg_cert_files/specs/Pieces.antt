@@ -1,11 +1,9 @@
 -- What a reader of a certificate that comes in pieces stands for.
 use Rattle.std.specs.Prelude.{◌≡◌, ℕ, ◌+◌, ◌≤◌, nat_lt, if◌then◌else◌, List, ◌++◌, length, take, Option, Result, Ok, Err, IsErrAnd}
-use Rattle.pg_cert_files.specs.Prelude.{Bytes, FileError}
+use Rattle.pg_cert_files.specs.Prelude.{Bytes, FileError, IsWithinLimits, parts_of, Cert, Part, number_of}
 use Rattle.pg_text.specs.declared.error.FileError.TheVariants as outcomes
-use Rattle.pg_cert_files.specs.Prelude.{IsWithinLimits, parts_of, Cert, Part}
 use Rattle.pg_cert_files.specs.CertFile.{certificate, listed}
 use Rattle.pg_cert_files.specs.Reader.{StandsFor, told}
-use Rattle.pg_cert_files.specs.Views.{number_of}
 use Rattle.pg_cert_files.specs.declared.cert_state.CertReader.{CertReader}
 use Rattle.pg_cert_files.specs.declared.limits.TheConstants.{MAX_CERT_BYTES}
 

@@ -1,16 +1,15 @@
 -- What the definitions of this crate name of std and of the crates below.
-pub use Rattle.pg_base.specs.Goal.{goal_of, goal_word}
-pub use Rattle.pg_base.specs.Side.{side_of, side_word}
-pub use Rattle.pg_base.specs.declared.goal.Goal.{Goal}
+pub use Rattle.pg_base.specs.Goal.{goal_word}
+pub use Rattle.pg_base.specs.Side.{side_word}
 pub use Rattle.pg_base.specs.declared.limits.TheConstants.{MAX_MEMBERS}
 pub use Rattle.pg_base.specs.declared.pair.Pair.{Pair}
 pub use Rattle.pg_base.specs.declared.side.Side.{Side}
-pub use Rattle.pg_base.specs.declared.side.Side.TheVariants.{X, Y}
+pub use Rattle.pg_base.specs.declared.side.Side.TheVariants.{X}
 pub use Rattle.pg_base.specs.declared.signs.TheConstants.{BAR, LINE_FEED, SPACE}
-pub use Rattle.pg_cert.specs.Limits.{ArePoints, IsBody, IsClaim, IsNode, IsOfVersion, IsPair, IsReply, IsTurn, IsWithinLimits, has_body, node_count}
+pub use Rattle.pg_cert.specs.Limits.{IsClaim, IsNode, IsOfVersion, IsWithinLimits, node_count}
 pub use Rattle.pg_cert.specs.Parts.{BeginCert, all_parts, claim_parts, parts_of}
-pub use Rattle.pg_cert.specs.Print.{body_name, body_text, body_words, claim_words, count_words, edge_words, header, pair_word, reply_word, set_words}
-unfoldable pub use Rattle.pg_cert.specs.Print.{claim_text, node_text, printed_certificate, turn_word}
+pub use Rattle.pg_cert.specs.Print.{claim_words, count_words, header}
+unfoldable pub use Rattle.pg_cert.specs.Print.{claim_text, node_text, printed_certificate}
 pub use Rattle.pg_cert.specs.declared.cert.Cert.{Cert}
 pub use Rattle.pg_cert.specs.declared.cert.Claim.{Claim}
 pub use Rattle.pg_cert.specs.declared.cert.Version.{Version}
@@ -19,21 +18,25 @@ pub use Rattle.pg_cert.specs.declared.limits.TheConstants.{MAX_CLAIMS, MAX_CLAIM
 pub use Rattle.pg_cert.specs.declared.node.Body.{Body}
 pub use Rattle.pg_cert.specs.declared.node.Node.{Node}
 pub use Rattle.pg_cert.specs.declared.part.Part.{Part}
-pub use Rattle.pg_cert.specs.declared.reply.Reply.{Reply}
+pub use Rattle.pg_cert_lines.specs.ClaimLine.{count_of_two, version_of}
+unfoldable pub use Rattle.pg_cert_lines.specs.ClaimLine.{count_of, head_of}
+pub use Rattle.pg_cert_lines.specs.Form.{Shape, each_has_one, has_bar, turn_of, with_body, with_form}
+unfoldable pub use Rattle.pg_cert_lines.specs.Form.{shape_of}
+pub use Rattle.pg_cert_lines.specs.NodeLine.{ascending_of, field_words, formed, node_of, node_with, word_pair}
+unfoldable pub use Rattle.pg_cert_lines.specs.NodeLine.{node_line}
+pub use Rattle.pg_cert_lines.specs.Views.{IsReadAs, number_of}
+pub use Rattle.pg_cert_lines.specs.declared.fault.Fault.{Fault}
+pub use Rattle.pg_cert_lines.specs.declared.head.Head.{Head}
+pub use Rattle.pg_cert_lines.specs.declared.signs.TheConstants.{HYPHEN}
 pub use Rattle.pg_game.specs.Game.{is_touched}
 pub use Rattle.pg_game.specs.Pairs.{has_point, is_paired}
 pub use Rattle.pg_text.specs.Faults.{Fails, Gives, and_then, each_of, following, least, onto}
-pub use Rattle.pg_text.specs.Text.{Bytes, Four, Lacks, ascend_from, behind_spaces, pair_of, parts, spaced, two_parts, without_empty_end, words_of}
+pub use Rattle.pg_text.specs.Text.{Bytes, Four, Lacks, parts, spaced, two_parts, without_empty_end}
 unfoldable pub use Rattle.pg_text.specs.Text.{four_parts, lines, number}
 pub use Rattle.pg_text.specs.declared.error.FileError.{FileError}
 pub use Rattle.pg_text.specs.declared.error.LineError.{LineError}
-pub use Rattle.pg_text.specs.declared.numbers.TheConstants.{MAX_DIGITS}
-pub use Rattle.std.specs.Borrow.{Bor}
-pub use Rattle.std.specs.Char.{is_ascii_digit}
-pub use Rattle.std.specs.FinSet.{FinSet, contains, contains-empty, contains-from_list_nat, empty, from_list, from_list_push, insert, nat_cmp-IsAntisymmetric}
+pub use Rattle.std.specs.FinSet.{FinSet, contains, contains-empty, empty, from_list, insert}
 pub use Rattle.std.specs.Fmt.{decimal}
 pub use Rattle.std.specs.Global.{Vec}
-pub use Rattle.std.specs.List.{All, AllByRecursion, flat_map, join_with_byte, list_all, list_any, onto_first, slice_split}
+pub use Rattle.std.specs.List.{AllByRecursion, flat_map, join_with_byte, list_all, list_any, onto_first, slice_split}
 pub use Rattle.std.specs.Ordering.{nat_cmp}
-pub use Rattle.std.specs.Str.{bytes_eq}
-pub use Rattle.std.specs.Str.Parse.{digits_value}

@@ -1,10 +1,8 @@
 -- What a reader that is fed in pieces stands for.
 use Rattle.std.specs.Prelude.{◌≡◌, ℕ, List, ◌++◌, Option, Some, None, Result, Ok, Err, IfNone}
-use Rattle.pg_cert_files.specs.Prelude.{Bytes, FileError}
+use Rattle.pg_cert_files.specs.Prelude.{Bytes, FileError, number_of, Fault}
 use Rattle.pg_cert_files.specs.Lines.{cut}
 use Rattle.pg_cert_files.specs.CertFile.{Seen, seen, listed}
-use Rattle.pg_cert_files.specs.Views.{number_of}
-use Rattle.pg_cert_files.specs.declared.fault.Fault.{Fault}
 use Rattle.pg_text.specs.declared.error.FileError.TheVariants as outcomes
 use Rattle.pg_cert.specs.declared.part.Part.{Part}
 use Rattle.pg_cert_files.specs.declared.reader.LineReader.{LineReader}

@@ -1,14 +1,11 @@
 -- A line of pairs of which some may be left out.
 use Rattle.std.specs.Prelude.{◌≡◌, ℕ, ◌+◌, ◌<◌, true, List, ◌++◌, ◌∷◌, length, Option, Result, Ok, Err, option_map, codes}
-use Rattle.pg_cert_files.specs.Prelude.{FinSet, contains, nat_cmp, Pair, BAR, SPACE, is_paired, each_of, Bytes, Lacks, parts}
+use Rattle.pg_cert_files.specs.Prelude.{FinSet, contains, nat_cmp, Pair, BAR, SPACE, is_paired, each_of, Bytes, Lacks, parts, each_has_one, word_pair, HYPHEN}
 use Rattle.pg_cert_files.specs.CertFile.{Step, node_step}
-use Rattle.pg_cert_files.specs.Form.{each_has_one}
-use Rattle.pg_cert_files.specs.NodeLine.{word_pair}
 use Rattle.pg_cert_files.specs.Reader.{StandsFor, told}
 use Rattle.pg_cert_files.specs.Shortened.{AreAlike, clash, short_part}
 use Rattle.pg_cert_files.specs.declared.progress.Progress.{Progress}
 use Rattle.pg_cert_files.specs.declared.reader.LineReader.{LineReader}
-use Rattle.pg_cert_files.specs.declared.signs.TheConstants.{HYPHEN}
 
 -- the text begins with words that say these pairs, each with a space behind it, and this stands
 -- behind them

@@ -1,8 +1,7 @@
 -- What a step of reading returns.
 use Rattle.std.specs.Prelude.{◌≡◌, Option, Result, Ok, Err}
-use Rattle.pg_cert_files.specs.Prelude.{Fails, LineError, Part}
+use Rattle.pg_cert_files.specs.Prelude.{Fails, LineError, Part, Fault}
 use Rattle.pg_cert_files.specs.CertFile.{Step}
-use Rattle.pg_cert_files.specs.declared.fault.Fault.{Fault}
 use Rattle.pg_cert_files.specs.declared.progress.Progress.{Progress}
 
 -- a part and the progress after it, if there is no fault, unless memory ran out

@@ -3,7 +3,7 @@ ghost use Rattle.std.specs.Prelude.{◌++◌, [], List, ℕ, IfOk};
 ghost use Rattle.pg_cert.specs.Limits.{IsWithinLimits};
 ghost use Rattle.pg_cert_files.specs.CertFile.{certificate};
 ghost use Rattle.pg_cert_files.specs.Gatherer.{HasGathered};
-ghost use Rattle.pg_cert_files.specs.Views.{IsReadAs};
+ghost use Rattle.pg_cert_files.specs.Prelude.{IsReadAs};
 
 use crate::cert_state::CertReader;
 use crate::gathered_parts::Gatherer;

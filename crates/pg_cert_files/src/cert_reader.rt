@@ -7,12 +7,12 @@ ghost use Rattle.pg_cert_files.specs.Pieces.{IsFed, IsEnd, parts_told};
 ghost use Rattle.pg_cert_files.specs.declared.limits.TheConstants.{MAX_CERT_BYTES};
 
 use crate::cert_state::CertReader;
-use crate::fault::Fault;
 use crate::fed::Fed;
 use crate::limits::MAX_CERT_BYTES;
 use crate::reader::LineReader;
 use pg_base::Memory;
 use pg_cert::{Part, Version};
+use pg_cert_lines::Fault;
 use pg_text::FileError;
 use std::alloc::Global;
 

@@ -4,8 +4,8 @@ ghost use Rattle.std.specs.Prelude.{◌≡◌, IfOk, fold};
 ghost use Rattle.pg_cert_files.specs.CertFile.{with_part, none_gathered, closed, listed};
 ghost use Rattle.pg_cert_files.specs.Gatherer.{view};
 
-use crate::head::Head;
 use pg_cert::{Claim, Node, Nodes, Part};
+use pg_cert_lines::Head;
 use std::alloc::{AllocError, Global};
 
 /// The claims of parts, in order: those that are whole, and one whose nodes are gathered.

@@ -1,10 +1,9 @@
 //! What holds of the definition of reading: its faults, its limits, and that it takes back what is
 //! printed.
 ghost use Rattle.std.specs.Prelude.{◌≡◌, ◌≤◌, ℕ, List, length, Ok, Err};
-ghost use Rattle.pg_cert_files.specs.Prelude.{IsWithinLimits, printed_certificate, Cert};
+ghost use Rattle.pg_cert_files.specs.Prelude.{IsWithinLimits, printed_certificate, Cert, Fault};
 ghost use Rattle.pg_cert_files.specs.CertFile.{certificate};
 ghost use Rattle.pg_cert_files.specs.FirstFault.{IsFirstFault};
-ghost use Rattle.pg_cert_files.specs.declared.fault.Fault.{Fault};
 ghost use Rattle.pg_cert_files.specs.declared.limits.TheConstants.{MAX_CERT_BYTES};
 
 /// What reading gives is within the limits of the format.

@@ -4,10 +4,8 @@ ghost use Rattle.std.specs.Prelude.{◌≡◌};
 ghost use Rattle.pg_cert_files.specs.Steps.{Steps};
 ghost use Rattle.pg_cert_files.specs.CertFile.{step, start, header_step, claim_step, count_step, node_step, end_fault};
 
-use crate::fault::Fault;
-use crate::head::Head;
-use crate::line::{count_of, has_bar, head_of, node_line, version_of};
 use pg_cert::{MAX_CLAIM_NODES, MAX_CLAIMS, MAX_NODES, Part, Version};
+use pg_cert_lines::{Fault, Head, count_of, has_bar, head_of, node_line, version_of};
 use pg_text::{LineError, number};
 use std::alloc::Global;
 
@@ -108,7 +106,7 @@ impl Progress {
     }
 
     /// Reads a node line, after which so many others stand.
-    #[tactic(auto, using(crate::proofs::Outlines::node_steps))]
+    #[tactic(auto, using(crate::proofs::NodeSteps::node_steps))]
     fn node(
         &mut self,
         alloc: Global,

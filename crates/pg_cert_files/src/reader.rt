@@ -6,11 +6,11 @@ ghost use Rattle.pg_cert_files.specs.Steps.{Steps};
 ghost use Rattle.pg_cert_files.specs.CertFile.{step, listed, outcome, fault_of, text_parts};
 ghost use Rattle.pg_cert_files.specs.Reader.{StandsFor, told, IsLinesEnd};
 
-use crate::fault::Fault;
 use crate::fed::Fed;
 use crate::progress::Progress;
 use pg_base::Memory;
 use pg_cert::Part;
+use pg_cert_lines::Fault;
 use pg_text::{FileError, LineError, cut_at};
 use std::alloc::Global;
 

@@ -1,7 +1,7 @@
 //! A certificate from the bytes of its file.
 
 ghost use Rattle.std.specs.Prelude.{IfOk};
-ghost use Rattle.pg_cert_files.specs.Views.{IsReadAs};
+ghost use Rattle.pg_cert_files.specs.Prelude.{IsReadAs};
 ghost use Rattle.pg_cert_files.specs.CertFile.{certificate};
 ghost use Rattle.pg_cert.specs.Limits.{IsWithinLimits};
 

@@ -12,8 +12,8 @@ use crate::cert_state::CertReader;
 use crate::limits::MAX_CERT_BYTES;
 use crate::progress::Due;
 use crate::reader::LineReader;
-use crate::values::first_pair;
 use pg_base::{BAR, Memory, Pair, PointSet, SPACE};
+use pg_cert_lines::first_pair;
 use pg_text::cut_at;
 use std::alloc::Global;
 

@@ -3,7 +3,7 @@ use Rattle.std.proofs.Common.{◌≡◌, ℕ, ◌+◌, Bool, true, false, nat_lt
 use Rattle.std.specs.Prelude.{IsErrAnd}
 use Rattle.pg_evidence.proofs.Common.{append-nil, and_then, Bytes, Holding, Cert, certificate, number_of, Fault, Game, ImageCert, image_certificate, certificate_fault, or_halt, Halt}
 use Rattle.pg_io.specs.Reading.{IsFile, IsWhole, Pours}
-use Rattle.pg_cert_files.specs.declared.fault.Fault.TheVariants.{Size}
+use Rattle.pg_cert_lines.specs.declared.fault.Fault.TheVariants.{Size}
 use Rattle.pg_cert_files.specs.declared.limits.TheConstants.{MAX_CERT_BYTES}
 use Rattle.pg_talk.specs.Reading.{IsReadAs as IsHeldAs}
 use Rattle.pg_talk.proofs.Openings.{cut_same, opens_whole, read_bad, whole_read}

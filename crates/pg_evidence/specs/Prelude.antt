@@ -9,8 +9,8 @@ pub use Rattle.pg_cert.specs.declared.node.Node.{Node}
 pub use Rattle.pg_cert.specs.declared.part.Part.{Part}
 unfoldable pub use Rattle.pg_cert_files.specs.CertFile.{certificate}
 pub use Rattle.pg_cert_files.specs.Gatherer.{HasGathered}
-pub use Rattle.pg_cert_files.specs.Views.{IsReadAs, number_of}
-pub use Rattle.pg_cert_files.specs.declared.fault.Fault.{Fault}
+pub use Rattle.pg_cert_lines.specs.Views.{IsReadAs, number_of}
+pub use Rattle.pg_cert_lines.specs.declared.fault.Fault.{Fault}
 pub use Rattle.pg_check.specs.declared.checked.CheckFault.{CheckFault}
 pub use Rattle.pg_game.specs.declared.game.Game.{Game}
 unfoldable pub use Rattle.pg_image.specs.ImageFile.{image_certificate}

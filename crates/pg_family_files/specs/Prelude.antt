@@ -7,8 +7,8 @@ pub use Rattle.pg_base.specs.declared.side.Side.{Side}
 pub use Rattle.pg_base.specs.declared.signs.TheConstants.{SPACE}
 pub use Rattle.pg_cert.specs.Print.{separated, set_words}
 pub use Rattle.pg_cert.specs.declared.limits.TheConstants.{MAX_CLAIMS}
-pub use Rattle.pg_cert_files.specs.Form.{has_one_slash, is_slash}
-pub use Rattle.pg_cert_files.specs.NodeLine.{after_slash, before_slash}
+pub use Rattle.pg_cert_lines.specs.Form.{has_one_slash, is_slash}
+pub use Rattle.pg_cert_lines.specs.NodeLine.{after_slash, before_slash}
 pub use Rattle.pg_files.specs.GameFile.{begins_comment, first, first_number, is_outside, is_printable, numbers_of, rest, second_number}
 pub use Rattle.pg_files.specs.Print.{edge_words, last_lines, marked, number_words}
 pub use Rattle.pg_files.specs.Sets.{repeats, set_of}

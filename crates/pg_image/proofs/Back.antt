@@ -9,7 +9,7 @@ use Rattle.pg_image.proofs.Common.{Node, Step, start, behind, end_fault, Fault, 
 use Rattle.pg_cert_files.specs.declared.progress.Due.TheVariants as due
 use Rattle.pg_image.proofs.Common.{behind_more, number_of, GridMap}
 use Rattle.pg_cert_files.proofs.Back.{claim_step_back, count_step_back, node_step_back, node_text_is, five_word, nodes_word, goal_is_word}
-use Rattle.pg_cert_files.proofs.NodeBack.{node_line_text, side_is_word, name_is_word, body_are_words, body_quiet, line_with, line_cut, line_lacks_feed, node_lacks_feed, turn_back, node_is_back}
+use Rattle.pg_cert_lines.proofs.NodeBack.{node_line_text, side_is_word, name_is_word, body_are_words, body_quiet, line_with, line_cut, line_lacks_feed, node_lacks_feed, turn_back, node_is_back}
 use Rattle.pg_maps.proofs.Numbers.{numbered-number, number-few}
 use Rattle.pg_image.specs.Limits.{IsMarked, IsImageNode, IsImageClaim, IsImageWithinLimits, image_node_count}
 use Rattle.pg_image.specs.Print.{position_fields, image_words, image_text, image_node_text, image_claim_words, image_claim_text, image_header, printed_image_certificate}

@@ -3,7 +3,7 @@ pub use Rattle.pg_image.specs.Prelude.{All, AllByRecursion, ArePoints, BAR, Body
 unfoldable pub use Rattle.pg_image.specs.Prelude.{points_below, reading, turn_word}
 pub use Rattle.pg_cert.proofs.Printed.{begun_grows, field_grows, is_begun}
 pub use Rattle.pg_cert_files.proofs.CertLimits.{AreTold, IsSound, Next, behind_more, end_of, node_comes, node_ends, sound_headed, sound_step, told_within}
-pub use Rattle.pg_cert_files.proofs.NodeLimits.{IsFit, IsRead, IsTold, chosen, done, err_not, formed_ok, ok_is, then_ok, turn_ok, with_form_ok}
+pub use Rattle.pg_cert_lines.proofs.NodeLimits.{IsFit, IsRead, IsTold, chosen, done, err_not, formed_ok, ok_is, then_ok, turn_ok, with_form_ok}
 pub use Rattle.pg_text.proofs.Reading.{ends, first_fault, is_least, is_over, lines_few, reads_on}
 pub use Rattle.std.proofs.lemmas.Bool.{cases_Bool, false_from_ne_true, le-ltb, lt-ltb, ltb-true, or_right}
 pub use Rattle.std.proofs.lemmas.Bool.Decides.{nat_tests}

@@ -5,11 +5,12 @@ use Rattle.pg_image.proofs.Common.{bytes_eq, cases_Bool, ltb-true, and_then, lea
 use Rattle.pg_cert.specs.declared.node.Body.TheVariants as bodies
 use Rattle.pg_image.proofs.Common.{Node, behind, step, end_fault, Shape, node_of, formed, Fault}
 use Rattle.pg_cert_files.specs.FirstFault.{line_faults as version_2_faults}
-use Rattle.pg_cert_files.specs.declared.fault.Fault.TheVariants as faults
+use Rattle.pg_cert_lines.specs.declared.fault.Fault.TheVariants as faults
 use Rattle.pg_cert_files.specs.declared.progress.Due.{Due}
 use Rattle.pg_cert_files.specs.declared.progress.Due.TheVariants as due
 use Rattle.pg_image.proofs.Common.{Next, chosen, done}
-use Rattle.pg_cert_files.proofs.LeastFaults.{OnlyNumber, only_then, only_node, node_first, same, step_first, then_err}
+use Rattle.pg_cert_lines.proofs.OnlyNumbers.{OnlyNumber, only_node, only_then}
+use Rattle.pg_cert_files.proofs.LeastFaults.{node_first, same, step_first, then_err}
 use Rattle.pg_image.specs.Print.{image_header}
 use Rattle.pg_image.specs.declared.node.ImageNode.{ImageNode}
 use Rattle.pg_image.specs.FirstFault.{node_faults, line_faults, IsFirstFault}

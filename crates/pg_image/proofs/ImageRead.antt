@@ -6,10 +6,10 @@ use Rattle.pg_text.specs.Faults.{Fails, Gives, and_then}
 use Rattle.pg_text.specs.declared.error.LineError.{LineError}
 use Rattle.pg_text.specs.declared.error.LineError.TheVariants as errors
 use Rattle.pg_image.proofs.Common.{Shape, turn_of, formed, Fault}
-use Rattle.pg_cert_files.specs.Outline.{read_node, node_part}
-use Rattle.pg_cert_files.specs.declared.form.Form.TheVariants as forms
-use Rattle.pg_cert_files.specs.declared.turn.Turn.{Turn}
-use Rattle.pg_cert_files.proofs.Outlines.{node_formed}
+use Rattle.pg_cert_lines.specs.Outline.{read_node, node_part}
+use Rattle.pg_cert_lines.specs.declared.form.Form.TheVariants as forms
+use Rattle.pg_cert_lines.specs.declared.turn.Turn.{Turn}
+use Rattle.pg_cert_lines.proofs.Outlines.{node_formed}
 use Rattle.pg_image.specs.declared.node.ImageNode.{ImageNode}
 use Rattle.pg_image.specs.ImageLine.{ImageLine, with_turn, image_by, image_said}
 

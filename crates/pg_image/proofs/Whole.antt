@@ -4,7 +4,7 @@ use Rattle.std.specs.Prelude.{nat_lt}
 use Rattle.pg_image.proofs.Common.{nat_tests, and_then, reading, Bytes, lines, FileError, end_fault, Fault}
 use Rattle.pg_text.specs.Faults.{IsReadAs as IsReadBy}
 use Rattle.pg_text.specs.declared.error.FileError.TheVariants.{Bad, Memory}
-use Rattle.pg_cert_files.specs.Views.{number_of}
+use Rattle.pg_cert_lines.specs.Views.{number_of}
 use Rattle.pg_image.specs.ImageFile.{Draft, nothing, after, ended, said, image_certificate}
 
 -- a file that isn't too large

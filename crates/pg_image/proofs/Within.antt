@@ -7,8 +7,8 @@ use Rattle.pg_image.proofs.Common.{Node, Part}
 use Rattle.pg_cert.specs.declared.part.Part.TheVariants as parts
 use Rattle.pg_image.proofs.Common.{Gathered, behind, step, end_fault, listed, Shape, turn_of, formed, IsReadAs, Fault}
 use Rattle.pg_cert_files.specs.CertFile.{with_part as gathered_with, closed as all_gathered}
-use Rattle.pg_cert_files.specs.declared.fault.Fault.TheVariants as faults
-use Rattle.pg_cert_files.specs.declared.form.Form.TheVariants as forms
+use Rattle.pg_cert_lines.specs.declared.fault.Fault.TheVariants as faults
+use Rattle.pg_cert_lines.specs.declared.form.Form.TheVariants as forms
 use Rattle.pg_cert_files.specs.declared.progress.Due.{Due}
 use Rattle.pg_cert_files.specs.declared.progress.Due.TheVariants as due
 use Rattle.pg_image.proofs.Common.{Progress, Turn, AreTold, IsSound, Next, sound_headed, sound_step, node_comes, node_ends, behind_more, end_of, told_within, done, ok_is, err_not, then_ok, chosen, IsFit, IsRead, IsTold, formed_ok, with_form_ok, turn_ok, numbered}

@@ -2,7 +2,7 @@
 use Rattle.std.specs.Prelude.{◌≡◌, ℕ, ◌+◌, ◌⊎◌, Bool, not, is_none, is_err, List, [], ◌∷◌, ◌++◌, length, Option, Some, None, Ok}
 use Rattle.pg_image.specs.Prelude.{bytes_eq, IsLeast, reading, Bytes, lines, end_fault, Fault}
 use Rattle.pg_cert_files.specs.FirstFault.{line_faults as version_2_faults, IsTooLarge}
-use Rattle.pg_cert_files.specs.declared.fault.Fault.TheVariants as faults
+use Rattle.pg_cert_lines.specs.declared.fault.Fault.TheVariants as faults
 use Rattle.pg_cert_files.specs.declared.progress.Due.{Due}
 use Rattle.pg_cert_files.specs.declared.progress.Due.TheVariants as due
 use Rattle.pg_cert_files.specs.declared.progress.Progress.{Progress}

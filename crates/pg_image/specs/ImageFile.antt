@@ -4,7 +4,7 @@ use Rattle.std.specs.Prelude.{ℕ, ◌+◌, nat_lt, if◌then◌else◌, List, [
 use Rattle.pg_image.specs.Prelude.{bytes_eq, and_then, reading, Bytes, lines, Two, Part}
 use Rattle.pg_cert.specs.declared.part.Part.TheVariants as parts
 use Rattle.pg_image.specs.Prelude.{start, behind, step, end_fault, Fault}
-use Rattle.pg_cert_files.specs.declared.fault.Fault.TheVariants as faults
+use Rattle.pg_cert_lines.specs.declared.fault.Fault.TheVariants as faults
 use Rattle.pg_image.specs.Prelude.{Head, MAX_CERT_BYTES, Due}
 use Rattle.pg_cert_files.specs.declared.progress.Due.TheVariants as due
 use Rattle.pg_cert_files.specs.declared.progress.Progress.{Progress}

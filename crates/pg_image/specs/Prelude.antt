@@ -14,15 +14,15 @@ pub use Rattle.pg_cert.specs.declared.node.Body.TheVariants.{Move}
 pub use Rattle.pg_cert.specs.declared.node.Node.{Node}
 pub use Rattle.pg_cert.specs.declared.part.Part.{Part}
 pub use Rattle.pg_cert_files.specs.CertFile.{Gathered, Step, behind, end_fault, listed, start, step}
-pub use Rattle.pg_cert_files.specs.Form.{Shape, turn_of, with_form}
-pub use Rattle.pg_cert_files.specs.NodeLine.{formed, node_of}
-pub use Rattle.pg_cert_files.specs.Views.{IsReadAs}
-pub use Rattle.pg_cert_files.specs.declared.fault.Fault.{Fault}
-pub use Rattle.pg_cert_files.specs.declared.head.Head.{Head}
 pub use Rattle.pg_cert_files.specs.declared.limits.TheConstants.{MAX_CERT_BYTES}
 pub use Rattle.pg_cert_files.specs.declared.progress.Due.{Due}
 pub use Rattle.pg_cert_files.specs.declared.progress.Progress.{Progress}
-pub use Rattle.pg_cert_files.specs.declared.turn.Turn.{Turn}
+pub use Rattle.pg_cert_lines.specs.Form.{Shape, turn_of, with_form}
+pub use Rattle.pg_cert_lines.specs.NodeLine.{formed, node_of}
+pub use Rattle.pg_cert_lines.specs.Views.{IsReadAs}
+pub use Rattle.pg_cert_lines.specs.declared.fault.Fault.{Fault}
+pub use Rattle.pg_cert_lines.specs.declared.head.Head.{Head}
+pub use Rattle.pg_cert_lines.specs.declared.turn.Turn.{Turn}
 pub use Rattle.pg_maps.specs.GridMaps.{number_of, numbered}
 pub use Rattle.pg_maps.specs.declared.grid_map.GridMap.{GridMap}
 pub use Rattle.pg_maps.specs.declared.grid_map.TheConstants.{MAP_COUNT}

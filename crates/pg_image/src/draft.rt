@@ -8,7 +8,8 @@ use crate::cert::{ImageCert, ImageClaim, ImageClaims};
 use crate::image_line::{ImageWords, image_line, image_said};
 use crate::node::{ImageNode, ImageNodes};
 use pg_cert::{Part, Version};
-use pg_cert_files::{Due, Fault, Head, Progress};
+use pg_cert_files::{Due, Progress};
+use pg_cert_lines::{Fault, Head};
 use pg_text::{FileError, LineError};
 use std::alloc::{AllocError, Global};
 

@@ -6,7 +6,7 @@ ghost use Rattle.pg_image.specs.Views.{line_view};
 
 use crate::node::ImageNode;
 use pg_cert::{Body, Node, Part};
-use pg_cert_files::{Fault, Form, Outline, read_node, turn_of};
+use pg_cert_lines::{Fault, Form, Outline, read_node, turn_of};
 use pg_maps::GridMap;
 use pg_text::{LineError, first_word, four_parts};
 use std::alloc::Global;

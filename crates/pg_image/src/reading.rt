@@ -1,6 +1,6 @@
 //! A certificate with images from the bytes of its file.
 ghost use Rattle.std.specs.Prelude.{IfOk};
-ghost use Rattle.pg_cert_files.specs.Views.{IsReadAs};
+ghost use Rattle.pg_cert_lines.specs.Views.{IsReadAs};
 ghost use Rattle.pg_image.specs.Limits.{IsImageWithinLimits};
 ghost use Rattle.pg_image.specs.ImageFile.{image_certificate};
 

@@ -16,8 +16,8 @@ use Rattle.pg_cert.specs.declared.node.Body.{Body}
 use Rattle.pg_cert.specs.declared.node.Body.TheVariants.{Over, Move, All, Pairs, Potential, Trees, Cuts, Threat, Weaker}
 use Rattle.pg_cert.specs.declared.node_fault.NodeFault.{NodeFault}
 use Rattle.pg_cert.specs.declared.node_fault.NodeFault.TheVariants as faults
-use Rattle.pg_cert_files.specs.declared.fault.Fault.{Fault}
-use Rattle.pg_cert_files.specs.declared.fault.Fault.TheVariants as form_faults
+use Rattle.pg_cert_lines.specs.declared.fault.Fault.{Fault}
+use Rattle.pg_cert_lines.specs.declared.fault.Fault.TheVariants as form_faults
 use Rattle.pg_cert_files.specs.declared.limits.TheConstants.{MAX_CERT_BYTES}
 use Rattle.pg_cert_files.proofs.WholeFile.{too_large}
 use Rattle.pg_text.specs.Text.{Bytes}

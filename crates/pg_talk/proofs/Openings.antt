@@ -3,7 +3,7 @@ use Rattle.std.proofs.Common.{◌≡◌, ℕ, ◌+◌, ◌<◌, true, nat_lt, mi
 use Rattle.pg_talk.proofs.Common.{nat_tests, take_all, Bytes, Holding, IsWhole, IsFile, Cert, certificate, Refusal}
 use Rattle.std.proofs.lemmas.Bool.{cases_lt}
 use Rattle.std.specs.Prelude.{IsErrAnd}
-use Rattle.pg_cert_files.specs.declared.fault.Fault.TheVariants.{Size}
+use Rattle.pg_cert_lines.specs.declared.fault.Fault.TheVariants.{Size}
 use Rattle.pg_cert_files.specs.declared.limits.TheConstants.{MAX_CERT_BYTES}
 use Rattle.pg_talk.specs.Reading.{IsReadAs, Opens, OpensCertificate, OpensTwo, certificate_held, held_as, or_halt}
 use Rattle.pg_talk.specs.declared.halt.Halt.{Halt}

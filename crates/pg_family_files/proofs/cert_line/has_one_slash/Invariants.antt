@@ -1,5 +1,5 @@
 use Rattle.std.proofs.Common.{◌≡◌, length}
-use Rattle.pg_cert_files.specs.Form.{has_one_slash}
+use Rattle.pg_cert_lines.specs.Form.{has_one_slash}
 use Rattle.pg_family_files.proofs.cert_line.has_one_slash.Given as goal
 
 abbrev pub invariant-loop-word : goal.invariant-loop-word

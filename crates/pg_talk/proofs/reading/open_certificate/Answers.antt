@@ -1,6 +1,6 @@
 use Rattle.std.proofs.Common.{◌∙◌, ap, sym, subst, Ok, Err}
 use Rattle.pg_talk.proofs.Common.{Bytes, certificate, FileError}
-use Rattle.pg_cert_files.specs.Views.{IsReadAs, number_of}
+use Rattle.pg_cert_lines.specs.Views.{IsReadAs, number_of}
 use Rattle.pg_talk.proofs.Openings.{read_ok, read_bad, opens_certificate}
 use Rattle.pg_talk.specs.Reading.{certificate_fault}
 use Rattle.pg_talk.proofs.reading.open_certificate.Goals as goal

@@ -1,0 +1,9 @@
+mod Common
+pub mod Odd
+pub mod NodeLimits
+pub mod OnlyNumbers
+pub mod Words
+pub mod NodeBack
+pub mod DigitRuns
+pub mod Gathering
+pub mod Outlines

@@ -1,0 +1,14 @@
+use Rattle.std.proofs.Common.{length}
+use Rattle.std.specs.Prelude.{option_map}
+use Rattle.pg_text.specs.Text.{words_of}
+use Rattle.pg_cert_lines.specs.declared.signs.TheConstants.{HYPHEN}
+use Rattle.pg_cert_lines.specs.NodeLine.{word_pair}
+use Rattle.pg_cert_lines.proofs.Outlines.{AreReadTo}
+use Rattle.pg_cert_lines.proofs.values.pairs.Given as goal
+
+abbrev pub invariant-loop-rest : goal.invariant-loop-rest
+invariant-loop-rest l = AreReadTo HYPHEN word_pair (words_of (option_map (λ w. w.now) l.text))
+    l.found.items (words_of (option_map (λ w. w.now) l.rest))
+
+abbrev pub decreases-loop-rest : goal.decreases-loop-rest
+decreases-loop-rest l = length (words_of (option_map (λ w. w.now) l.rest))
